@@ -1,0 +1,24 @@
+use Rattle.std.proofs.Common.{◌≡◌, ◌∙◌}
+use Rattle.safe_bit.specs.Actions.{start_write, end_write, start_read, end_read}
+use Rattle.frames.specs.SafeLaws.{on_own_cell}
+use Rattle.frames.proofs.safe.SafeRegister.go.Goals as goal
+
+pub returns-in-WriteStart-clause-memory : goal.returns-in-WriteStart-clause-memory
+returns-in-WriteStart-clause-memory c =
+    rw c.in-WriteStart.is (c.start_write.ensures ∙ on_own_cell c.args.at (start_write c.in-WriteStart.bit) c.args.store.now c.requires.inside)
+
+pub returns-in-WriteEnd-clause-memory : goal.returns-in-WriteEnd-clause-memory
+returns-in-WriteEnd-clause-memory c =
+    rw c.in-WriteEnd.is (c.end_write.ensures ∙ on_own_cell c.args.at end_write c.args.store.now c.requires.inside)
+
+pub returns-in-ReadStart-clause-memory : goal.returns-in-ReadStart-clause-memory
+returns-in-ReadStart-clause-memory c =
+    rw c.in-ReadStart.is (c.start_read.ensures ∙ on_own_cell c.args.at start_read c.args.store.now c.requires.inside)
+
+pub returns-then-hit-clause-memory : goal.returns-then-hit-clause-memory
+returns-then-hit-clause-memory c =
+    rw c.in-ReadEnd.is (c.end_read-value.ensures.after ∙ on_own_cell c.args.at end_read c.args.store.now c.requires.inside)
+
+pub returns-else-hit-clause-memory : goal.returns-else-hit-clause-memory
+returns-else-hit-clause-memory c =
+    rw c.in-ReadEnd.is (c.end_read-value.ensures.after ∙ on_own_cell c.args.at end_read c.args.store.now c.requires.inside)

@@ -1,0 +1,6 @@
+use Rattle.std.proofs.Common.{◌≡◌, ◌∙◌}
+use Rattle.frames.specs.SafeLaws.{with_own_cell}
+use Rattle.frames.proofs.safe.SafeRegister.init.Goals as goal
+
+pub returns : goal.returns
+returns c = c.set_value.ensures ∙ with_own_cell c.args.at _ c.args.store.now c.requires.inside

@@ -1,0 +1,121 @@
+-- Configurations, one step of a schedule, and the fold that replays one.
+use Rattle.std.specs.Prelude.{◌≡◌, ℕ, ◌<◌, Bool, true, false, ◌&&◌, ◌==◌, nat_lt, List, [], ◌∷◌, Option, Some, None, slice_index_or, slice_set, replicate, IsTrue}
+use Rattle.safe_bit.specs.Memory.{Memory}
+use Rattle.frames.specs.declared.types.Op.{Op}
+use Rattle.frames.specs.declared.types.Op.TheVariants as op
+use Rattle.frames.specs.declared.types.Step.{Step}
+use Rattle.frames.specs.declared.types.Step.TheVariants as step
+use Rattle.frames.specs.declared.types.Outcome.TheVariants.{Value, Written, Spent}
+use Rattle.frames.specs.declared.types.Next.{Next}
+use Rattle.frames.specs.declared.types.Next.TheVariants.{Pending, Done}
+use Rattle.frames.specs.declared.types.Reason.TheVariants.{Busy, Idle}
+use Rattle.frames.specs.declared.types.Event.{Event}
+use Rattle.frames.specs.declared.types.Event.TheVariants.{Invoke, Got, Wrote, Refused, Void, Chosen}
+use Rattle.frames.specs.declared.types.StepEvents.{StepEvents}
+use Rattle.frames.specs.declared.running.Running.{Running}
+use Rattle.frames.specs.Behaviour.{Behaviour, Moved}
+
+-- the register, its cells and words, and per process the operation that it has pending or none
+pub record Configuration (R P : Type 0) : Type 0 where
+  pub register : R
+  pub memory : Memory
+  pub running : List (Option (Running P))
+
+-- what process p has pending; none beyond the last process
+abbrev pub running_at : {R P : Type 0} → ℕ → Configuration R P → Option (Running P)
+running_at p c = slice_index_or c.running p None
+
+-- the initial configuration: the register at a value, and nothing pending
+abbrev pub initial_configuration : {R P : Type 0} → Behaviour P → R → ℕ → Configuration R P
+initial_configuration b r v = record { register = r; memory = b.initial v; running = replicate b.processes None }
+
+-- which steps fit: an operation that fits the process, or a bit action of a process with a choice of 0 or 1
+abbrev pub fits_step : {P : Type 0} → Behaviour P → Step → Bool
+fits_step b (step.Write p v) = b.suits p (op.Write v)
+fits_step b (step.Read p) = b.suits p op.Read
+fits_step b (step.Go p c) = nat_lt p b.processes && nat_lt c 2
+
+-- what a step does for its process: the events, what the process has pending afterwards, and the memory
+pub record Acted (P : Type 0) : Type 0 where
+  pub events : StepEvents
+  pub running : Option (Running P)
+  pub memory : Memory
+
+-- the event of an operation's end, if it ends
+abbrev pub return_of : {P : Type 0} → ℕ → Next P → Option Event
+return_of who (Pending p) = None
+return_of who (Done (Value v)) = Some (Got who v)
+return_of who (Done Written) = Some (Wrote who)
+return_of who (Done (Spent layer)) = Some (Refused who layer)
+
+-- what stays pending
+abbrev pub still_running : {P : Type 0} → Op → Next P → Option (Running P)
+still_running o (Pending p) = Some (record { op = o; point = p })
+still_running o (Done outcome) = None
+
+-- the event of a hit read that ended
+abbrev pub chosen_of : ℕ → Option (ℕ × Bool) → Option Event
+chosen_of who None = None
+chosen_of who (Some bit) = Some (Chosen who bit.0 bit.1)
+
+-- two events that may be missing, in order
+abbrev pub in_order : Option Event → Option Event → StepEvents
+in_order (Some e) later = record { first = Some e; second = later }
+in_order None later = record { first = later; second = None }
+
+-- an operation after a step of it: an event of the step, then the return or the refusal
+abbrev pub acted : {P : Type 0} → ℕ → Op → Option Event → Moved P → Acted P
+acted who o event moved = record {
+  events = in_order event (return_of who moved.next);
+  running = still_running o moved.next;
+  memory = moved.memory }
+
+-- a step that isn't enabled records its reason and changes nothing
+abbrev pub not_enabled : {P : Type 0} → Event → Option (Running P) → Memory → Acted P
+not_enabled event running m = record { events = in_order (Some event) None; running = running; memory = m }
+
+-- a process invokes an operation, if it has none pending
+abbrev pub invoking : {P : Type 0} → Behaviour P → ℕ → Op → Option (Running P) → Memory → Acted P
+invoking b who o None m = acted who o (Some (Invoke who o)) (b.begins who o m)
+invoking b who o (Some r) m = not_enabled (Void who Busy) (Some r) m
+
+-- a process makes its next bit action, if it has an operation pending
+abbrev pub going : {P : Type 0} → Behaviour P → ℕ → Bool → Option (Running P) → Memory → Acted P
+going b who choice None m = not_enabled (Void who Idle) None m
+going b who choice (Some r) m =
+    let moved = b.goes r.point choice m in acted who r.op (chosen_of who moved.chosen) moved
+
+-- the process of a step, and what the step does for it
+abbrev pub process_of : Step → ℕ
+process_of (step.Write p v) = p
+process_of (step.Read p) = p
+process_of (step.Go p c) = p
+
+abbrev pub acting : {P : Type 0} → Behaviour P → Step → Option (Running P) → Memory → Acted P
+acting b (step.Write p v) running m = invoking b p (op.Write v) running m
+acting b (step.Read p) running m = invoking b p op.Read running m
+acting b (step.Go p c) running m = going b p (c == 1) running m
+
+-- one step: its events, and the configuration after it
+abbrev pub acted_on : {R P : Type 0} → Behaviour P → Configuration R P → Step → Acted P
+acted_on b c s = acting b s (running_at (process_of s) c) c.memory
+
+abbrev pub events_of : {R P : Type 0} → Behaviour P → Configuration R P → Step → StepEvents
+events_of b c s = (acted_on b c s).events
+
+-- the configuration after what a step did for process p
+abbrev pub put_acted : {R P : Type 0} → ℕ → Acted P → Configuration R P → Configuration R P
+put_acted p done c = record c { memory = done.memory; running = slice_set c.running p done.running }
+
+abbrev pub stepped : {R P : Type 0} → Behaviour P → Configuration R P → Step → Configuration R P
+stepped b c s = put_acted (process_of s) (acted_on b c s) c
+
+-- replay: the steps one after another, from a configuration
+abbrev pub replayed : {R P : Type 0} → Behaviour P → Configuration R P → List Step → Configuration R P
+replayed b c [] = c
+replayed b c (s ∷ steps) = replayed b (stepped b c s) steps
+
+-- its history: one item a step, so that an event's index is its place in the list
+abbrev pub history : {R P : Type 0} → Behaviour P → Configuration R P → List Step → List StepEvents
+history b c [] = []
+history b c (s ∷ steps) = events_of b c s ∷ history b (stepped b c s) steps

@@ -1,0 +1,84 @@
+-- The register of one safe bit: its programs are the two actions of a write and of a read (Lamport 1986).
+use Rattle.std.specs.Prelude.{◌≡◌, ℕ, ◌<◌, Bool, true, false, ◌&&◌, ◌==◌, nat_lt, List, [], ◌∷◌, Option, Some, None, if◌then◌else◌}
+use Rattle.safe_bit.specs.declared.Cell.{Cell}
+use Rattle.safe_bit.specs.Memory.{Memory, cell_at, on_cell}
+use Rattle.safe_bit.specs.Parts.{HasSize}
+use Rattle.safe_bit.specs.Actions.{idle_cell, start_write, end_write, start_read, end_read, read_gives}
+use Rattle.frames.specs.declared.types.Op.{Op}
+use Rattle.frames.specs.declared.types.Op.TheVariants as op
+use Rattle.frames.specs.declared.types.Outcome.TheVariants.{Value, Written}
+use Rattle.frames.specs.declared.types.Next.TheVariants.{Pending, Done}
+use Rattle.frames.specs.declared.types.ActionKind.TheVariants.{WriteStart, WriteEnd, ReadStart, ReadEnd}
+use Rattle.frames.specs.declared.types.FrameLayer.TheVariants as layer
+use Rattle.frames.specs.declared.types.Frame.{Frame}
+use Rattle.frames.specs.declared.types.Action.{Action}
+use Rattle.frames.specs.declared.safe.SafePoint.{SafePoint}
+use Rattle.frames.specs.declared.safe.SafePoint.TheVariants as at
+use Rattle.frames.specs.Behaviour.{Behaviour, Moved}
+
+-- the bit of a value, and the value of a bit
+abbrev pub bit_of : ℕ → Bool
+bit_of v = v == 1
+
+abbrev pub value_of : Bool → ℕ
+value_of b = if b then 1 else 0
+
+-- process 0 writes 0 and 1, process 1 reads
+abbrev pub safe_suits : ℕ → Op → Bool
+safe_suits who (op.Write v) = who == 0 && nat_lt v 2
+safe_suits who op.Read = who == 1
+
+abbrev pub safe_initial : ℕ → Memory
+safe_initial v = record { cells = idle_cell (bit_of v) ∷ []; words = [] }
+
+-- an invocation makes no action
+abbrev pub safe_begins : ℕ → Op → Memory → Moved SafePoint
+safe_begins who (op.Write v) m = record { next = Pending (at.WriteStart (bit_of v)); chosen = None; memory = m }
+safe_begins who op.Read m = record { next = Pending at.ReadStart; chosen = None; memory = m }
+
+-- a write is its start and its end, and so is a read
+abbrev pub safe_goes : SafePoint → Bool → Memory → Moved SafePoint
+safe_goes (at.WriteStart v) choice m = record { next = Pending (at.WriteEnd v); chosen = None; memory = on_cell 0 (start_write v) m }
+safe_goes (at.WriteEnd v) choice m = record { next = Done Written; chosen = None; memory = on_cell 0 end_write m }
+safe_goes at.ReadStart choice m = record { next = Pending at.ReadEnd; chosen = None; memory = on_cell 0 start_read m }
+safe_goes at.ReadEnd choice m = record {
+  next = Done (Value (value_of (read_gives choice (cell_at 0 m))));
+  chosen = if (cell_at 0 m).hit then Some (0, read_gives choice (cell_at 0 m)) else None;
+  memory = on_cell 0 end_read m }
+
+-- one frame, which tells whether the start is made
+abbrev pub safe_frame : SafePoint → Frame
+safe_frame (at.WriteStart v) = record { layer = layer.Safe; op = op.Write (value_of v); i = 0; x = 0 }
+safe_frame (at.WriteEnd v) = record { layer = layer.Safe; op = op.Write (value_of v); i = 1; x = 0 }
+safe_frame at.ReadStart = record { layer = layer.Safe; op = op.Read; i = 0; x = 0 }
+safe_frame at.ReadEnd = record { layer = layer.Safe; op = op.Read; i = 1; x = 0 }
+
+abbrev pub safe_acts : SafePoint → Action
+safe_acts (at.WriteStart v) = record { kind = WriteStart; cell = 0 }
+safe_acts (at.WriteEnd v) = record { kind = WriteEnd; cell = 0 }
+safe_acts at.ReadStart = record { kind = ReadStart; cell = 0 }
+safe_acts at.ReadEnd = record { kind = ReadEnd; cell = 0 }
+
+abbrev pub safe_behaviour : Behaviour SafePoint
+safe_behaviour = record {
+  size = record { cell = 1; word = 0 };
+  values = 2;
+  processes = 2;
+  depth = 1;
+  suits = safe_suits;
+  initial = safe_initial;
+  begins = safe_begins;
+  goes = safe_goes;
+  frames = λ p. safe_frame p ∷ [];
+  acts = safe_acts }
+
+-- a write stands in a write, and a read in a read
+abbrev pub SafeReaches : ℕ → Op → SafePoint → Type 0
+SafeReaches who (op.Write v) (at.WriteStart bit) = Unit {0}
+SafeReaches who (op.Write v) (at.WriteEnd bit) = Unit {0}
+SafeReaches who op.Read at.ReadStart = Unit {0}
+SafeReaches who op.Read at.ReadEnd = Unit {0}
+SafeReaches who (op.Write v) at.ReadStart = ⊥
+SafeReaches who (op.Write v) at.ReadEnd = ⊥
+SafeReaches who op.Read (at.WriteStart bit) = ⊥
+SafeReaches who op.Read (at.WriteEnd bit) = ⊥

@@ -1,0 +1,135 @@
+//! The words of a schedule: steps, operations, events, actions and frames.
+
+use smallvec::SmallVec;
+
+/// An operation of a register.
+#[derive(Clone, Copy, Debug, PartialEq, Eq, Default)]
+pub enum Op {
+    /// A write of a value.
+    Write(u32),
+    /// A read.
+    #[default]
+    Read,
+}
+
+/// One atomic step of a schedule.
+#[derive(Clone, Copy, Debug, PartialEq, Eq)]
+pub enum Step {
+    /// Process `p` invokes a write of `v`.
+    Write { p: u32, v: u32 },
+    /// Process `p` invokes a read.
+    Read { p: u32 },
+    /// Process `p` makes its next bit action; `c` is what a hit read of a bit gives, 0 or 1.
+    Go { p: u32, c: u32 },
+}
+
+/// The layers whose operations can be spent.
+#[derive(Clone, Copy, Debug, PartialEq, Eq)]
+pub enum Layer {
+    Stamped,
+    Matrix,
+}
+
+/// How an operation ends.
+#[derive(Clone, Copy, Debug, PartialEq, Eq)]
+pub enum Outcome {
+    /// A read gives a value.
+    Value(u32),
+    /// A write is done.
+    Written,
+    /// A layer has no stamp or tag left.
+    Spent(Layer),
+}
+
+/// Where an operation stands after a step: at a pending point, or at its end.
+#[derive(Clone, Copy, Debug, PartialEq, Eq)]
+pub enum Next<P> {
+    Pending(P),
+    Done(Outcome),
+}
+
+/// What a step of a pending operation gives: where it stands, and the bit that a hit read chose,
+/// with the value given.
+#[derive(Clone, Copy, Debug, PartialEq, Eq)]
+pub struct Turned<P> {
+    pub next: Next<P>,
+    pub chosen: Option<(u32, bool)>,
+}
+
+/// Why a step isn't enabled.
+#[derive(Clone, Copy, Debug, PartialEq, Eq)]
+pub enum Reason {
+    /// An invocation by a process that has an operation pending.
+    Busy,
+    /// A bit action of a process that has none.
+    Idle,
+}
+
+/// What a step records, its process first.
+#[derive(Clone, Copy, Debug, PartialEq, Eq)]
+pub enum Event {
+    /// An operation is invoked.
+    Invoke(u32, Op),
+    /// A read returns this value.
+    Got(u32, u32),
+    /// A write returns.
+    Wrote(u32),
+    /// An operation is refused, since a layer is spent.
+    Refused(u32, Layer),
+    /// The step wasn't enabled, and changed nothing.
+    Void(u32, Reason),
+    /// A hit read of a bit ended: the bit and the value given.
+    Chosen(u32, u32, bool),
+}
+
+/// The events of one step, in order; the second only where there is a first.
+#[derive(Clone, Copy, Debug, PartialEq, Eq)]
+pub struct StepEvents {
+    pub first: Option<Event>,
+    pub second: Option<Event>,
+}
+
+/// The four actions on a cell.
+#[derive(Clone, Copy, Debug, PartialEq, Eq)]
+pub enum ActionKind {
+    WriteStart,
+    WriteEnd,
+    ReadStart,
+    ReadEnd,
+}
+
+/// A bit action, and the cell that it reaches.
+#[derive(Clone, Copy, Debug, PartialEq, Eq)]
+pub struct Action {
+    pub kind: ActionKind,
+    pub cell: u32,
+}
+
+/// The layer that a frame is of; the matrix has one for each phase.
+#[derive(Clone, Copy, Debug, PartialEq, Eq, Default)]
+pub enum FrameLayer {
+    #[default]
+    Safe,
+    Copies,
+    Regular,
+    Unary,
+    Stamped,
+    MatrixRead,
+    MatrixWrite,
+}
+
+/// One layer's part of a pending operation: the layer's own operation, the index of the part in
+/// work, and the code, each 0 where the layer has none.
+#[derive(Clone, Copy, Debug, PartialEq, Eq, Default)]
+pub struct Frame {
+    pub layer: FrameLayer,
+    pub op: Op,
+    pub i: u32,
+    pub x: u32,
+}
+
+/// The most frames that a pending operation has.
+pub const STACK_FRAMES: usize = 8;
+
+/// The frames of a pending operation, outermost first.
+pub type Stack = SmallVec<Frame, STACK_FRAMES>;

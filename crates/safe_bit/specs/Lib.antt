@@ -1,0 +1,5 @@
+pub mod Actions
+pub mod Memory
+pub mod Windows
+pub mod Parts
+pub mod Equality

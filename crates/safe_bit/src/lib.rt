@@ -1,0 +1,184 @@
+//! Safe bits: cells of shared memory that a write and a read reach in two actions each, and words
+//! that a layer above keeps for itself.
+//!
+//! The four actions are Lamport's safe register ("On Interprocess Communication", 1986): a read that
+//! overlaps a write may give either value, any other read gives the value last written.
+#![tactic(auto)]
+
+ghost use Rattle.std.specs.Prelude.{◌≡◌, ◌<◌, ℕ, IfOk, length, Option, Some, None};
+ghost use Rattle.safe_bit.specs.Actions.{idle_cell, start_write, end_write, start_read, end_read, read_gives};
+ghost use Rattle.safe_bit.specs.Memory.{blank, cell_at, word_at, on_cell, with_word};
+
+
+use std::alloc::{AllocError, Global};
+use std::marker::Model;
+
+/// A safe bit: its value, the value being written, and what is known of the read in progress.
+#[derive(Clone, Copy, Debug, PartialEq, Eq)]
+pub struct Cell {
+    /// The value that a read which overlaps no write gives.
+    pub value: bool,
+    /// The value being written, if a write is in progress.
+    pub writing: Option<bool>,
+    /// Whether a read is in progress.
+    pub reading: bool,
+    /// Whether the read in progress has overlapped a write.
+    pub hit: bool,
+}
+
+/// Where a register's own memory begins in a store, or how much of it there is: cells and words.
+#[derive(Clone, Copy, Debug, PartialEq, Eq, Default)]
+pub struct Place {
+    /// The first cell, or the number of cells.
+    pub cell: u32,
+    /// The first word, or the number of words.
+    pub word: u32,
+}
+
+/// The shared memory: cells and words.
+#[derive(Debug, Drop)]
+pub struct Store {
+    cells: Vec<Cell>,
+    words: Vec<u32>,
+}
+
+impl Model for Store {
+    ghost use Rattle.safe_bit.specs.Memory.{Memory};
+
+    ghost Value = { Memory };
+
+    ghost view = { λ s. record { cells = s.cells.items; words = s.words.items } };
+}
+
+/// Two stores are equal where they hold the same cells and words.
+impl PartialEq for Store {
+    ghost use Rattle.std.specs.Prelude.{◌≡◌};
+    ghost use Rattle.std.specs.Bool.{Decides};
+    ghost use Rattle.safe_bit.specs.Equality.{memory_eq, memory_decides, per_from_decides};
+
+    ghost eq = { memory_eq };
+
+    ghost laws = { per_from_decides memory_eq memory_decides };
+
+    fn eq(&self, other: &Store) -> bool
+        ensures gives { result ≡ ⟦<Store as PartialEq>⟧.eq self.now other.now }
+        ensures same { Decides result (self.now ≡ other.now) }
+    {
+        self.cells == other.cells && self.words == other.words
+    }
+}
+
+impl Cell {
+    const IDLE: Cell = Cell {
+        value: false,
+        writing: None,
+        reading: false,
+        hit: false,
+    };
+}
+
+impl Store {
+    /// A store of this many cells and words, all 0 and idle.
+    pub fn new(alloc: Global, cells: u32, words: u32) -> Result<Store, AllocError>
+        ensures { IfOk result (λ store. store ≡ blank cells words) }
+    {
+        let mut store = Store {
+            cells: Vec::new(alloc),
+            words: Vec::new(alloc),
+        };
+        store.cells.resize(cells as usize, Cell::IDLE)?;
+        store.words.resize(words as usize, 0)?;
+        Ok(store)
+    }
+
+    /// A store with the same cells and words.
+    pub fn copy(&self, alloc: Global) -> Result<Store, AllocError>
+        ensures { IfOk result (λ store. store ≡ self.now) }
+    {
+        let mut store = Store {
+            cells: Vec::new(alloc),
+            words: Vec::new(alloc),
+        };
+        store.cells.extend_from_slice(&self.cells)?;
+        store.words.extend_from_slice(&self.words)?;
+        Ok(store)
+    }
+
+    /// Cell `i`.
+    pub fn cell(&self, i: u32) -> Cell
+        requires { i < length self.now.cells }
+        ensures { result ≡ cell_at i self.now }
+    {
+        self.cells[i as usize]
+    }
+
+    /// Word `i`.
+    pub fn word(&self, i: u32) -> u32
+        requires { i < length self.now.words }
+        ensures { result ≡ word_at i self.now }
+    {
+        self.words[i as usize]
+    }
+
+    /// Sets word `i` to `x`.
+    pub fn set_word(&mut self, i: u32, x: u32)
+        requires { i < length self.old.words }
+        ensures { self.new ≡ with_word i x self.old }
+    {
+        self.words[i as usize] = x;
+    }
+
+    /// Sets cell `i` to `value`; the cell is idle then.
+    pub fn set_value(&mut self, i: u32, value: bool)
+        requires { i < length self.old.cells }
+        ensures { self.new ≡ on_cell i (λ _. idle_cell value) self.old }
+    {
+        let cell = &mut self.cells[i as usize];
+        *cell = Cell {
+            value,
+            ..Cell::IDLE
+        };
+    }
+
+    /// Starts a write of `value` to cell `i`: a read in progress becomes hit.
+    pub fn start_write(&mut self, i: u32, value: bool)
+        requires { i < length self.old.cells }
+        ensures { self.new ≡ on_cell i (start_write value) self.old }
+    {
+        let cell = &mut self.cells[i as usize];
+        cell.writing = Some(value);
+        cell.hit = cell.hit || cell.reading;
+    }
+
+    /// Ends the write of cell `i`; where none is in progress, nothing changes.
+    pub fn end_write(&mut self, i: u32)
+        requires { i < length self.old.cells }
+        ensures { self.new ≡ on_cell i end_write self.old }
+    {
+        let cell = &mut self.cells[i as usize];
+        cell.value = cell.writing.take().unwrap_or(cell.value);
+    }
+
+    /// Starts a read of cell `i`, which is hit exactly where a write is in progress.
+    pub fn start_read(&mut self, i: u32)
+        requires { i < length self.old.cells }
+        ensures { self.new ≡ on_cell i start_read self.old }
+    {
+        let cell = &mut self.cells[i as usize];
+        cell.reading = true;
+        cell.hit = cell.writing.is_some();
+    }
+
+    /// Ends the read of cell `i`, and answers `choice` if the read was hit, else the value.
+    pub fn end_read(&mut self, i: u32, choice: bool) -> bool
+        requires { i < length self.old.cells }
+        ensures value { result ≡ read_gives choice (cell_at i self.old) }
+        ensures after { self.new ≡ on_cell i end_read self.old }
+    {
+        let cell = &mut self.cells[i as usize];
+        let value = if cell.hit { choice } else { cell.value };
+        cell.reading = false;
+        cell.hit = false;
+        value
+    }
+}
