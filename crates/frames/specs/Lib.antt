@@ -4,3 +4,9 @@ pub mod SafeBit
 pub mod SafeLaws
 pub mod Configuration
 pub mod Parked
+pub mod Equality
+pub mod Nested
+pub mod Sound
+pub mod NestedLaws
+pub mod Gathered
+pub mod LayerLaws

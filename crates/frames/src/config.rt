@@ -35,6 +35,27 @@ impl<R: Register> Model for Config<R> {
     ghost invariant = { λ c. IsConfiguration (R.is c.register) (R.Holds c.register) (R.Reaches c.register) c.store c.running.items };
 }
 
+/// Two configurations are equal where their registers are, and their cells, words and pending
+/// operations are the same.
+impl<R: Register> PartialEq for Config<R> {
+    ghost use Rattle.std.specs.Prelude.{◌≡◌};
+    ghost use Rattle.std.specs.Bool.{Decides};
+    ghost use Rattle.frames.specs.Equality.{configuration_eq, configuration_per, SameConfiguration};
+
+    ghost eq = { configuration_eq R.PartialEq.eq R.Pending.PartialEq.eq };
+
+    ghost laws = { configuration_per R.PartialEq.eq R.Pending.PartialEq.eq R.PartialEq.laws R.same_pending };
+
+    fn eq(&self, other: &Config<R>) -> bool
+        ensures gives { result ≡ ⟦<Config<R> as PartialEq>⟧.eq self.now other.now }
+        ensures same { Decides result (SameConfiguration R.PartialEq.eq self.now other.now) }
+    {
+        self.register == other.register
+            && self.store == other.store
+            && self.running == other.running
+    }
+}
+
 impl<R: Register> Config<R> {
     /// The initial configuration: the register at a value, and nothing pending.
     pub fn initial(alloc: Global, register: R, value: u32) -> Result<Config<R>, AllocError>

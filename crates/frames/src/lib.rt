@@ -2,6 +2,7 @@
 #![tactic(auto)]
 
 pub mod config;
+pub mod nested;
 mod own;
 pub mod register;
 pub mod running;
