@@ -9,15 +9,15 @@ use Rattle.frames.specs.declared.types.Op.{Op}
 use Rattle.frames.specs.declared.nested.Nested.{Nested}
 use Rattle.frames.specs.Behaviour.{Behaviour, IsLawful}
 use Rattle.frames.specs.Nested.{Table, layer_size, own_words, part_place, layered, layer_initial, first_parts, gathered}
-use Rattle.frames.specs.Sound.{IsTable, LayerHolds, LayerReaches}
-use Rattle.frames.specs.NestedLaws.{row_fits, advance_well, resume_well}
+use Rattle.frames.specs.Sound.{IsSoundTable, FitsBelow, LayerHolds, LayerReaches}
+use Rattle.frames.specs.NestedLaws.{row_fits, asks_fit, advance_well, resume_well}
 use Rattle.frames.specs.Gathered.{length-gathered, window-append, window-gathered, get_or-gathered}
 
 module _ {Task P : Type 0} (t : Table Task) (b : Behaviour P) (Holds : Memory → Type 0) (Reaches : ℕ → Op → P → Type 0) (Stands : ℕ → Op → Task → Type 0)
-    (lawful : IsLawful b Holds Reaches) (table : IsTable t b Stands) where
+    (lawful : IsLawful b Holds Reaches) (table : IsSoundTable t Stands) (fit_below : FitsBelow t b) where
   -- what each part holds at first
   first_holds : (v j : ℕ) → v < t.values → j < t.parts → Holds (b.initial (t.first v j))
-  first_holds v j lt few = lawful.initial_holds (t.first v j) (table.first_fits v j lt few)
+  first_holds v j lt few = lawful.initial_holds (t.first v j) (rw fit_below.same_values (table.first_fits v j lt few))
 
   cells_of : (v : ℕ) → v < t.values → (j : ℕ) → j < t.parts → length (b.initial (t.first v j)).cells ≡ b.size.cell
   cells_of v lt j few = (lawful.size_holds _ (first_holds v j lt few)).cells
@@ -46,22 +46,22 @@ module _ {Task P : Type 0} (t : Table Task) (b : Behaviour P) (Holds : Memory �
 
   pub layer_lawful : IsLawful (layered t b) (LayerHolds t b Holds) (LayerReaches t Stands Reaches)
   layer_lawful = record {
-    few_cells = table.few_cells;
-    few_words = table.few_words;
+    few_cells = fit_below.few_cells;
+    few_words = fit_below.few_words;
     few_values = table.few_values;
     few_processes = table.few_processes;
     some_frame = omega arith;
-    few_frames = omega (arith, table.room);
+    few_frames = omega (arith, fit_below.room);
     zero_writes = table.zero_writes;
     others_read = table.others_read;
     nobody_else = table.nobody_else;
     no_other_value = table.no_other_value;
     size_holds = λ m h. h.size;
     initial_holds = initial_well;
-    begins_well = λ who o m h fits. advance_well t b Holds Reaches Stands lawful table who o (t.program who o) m (table.begins_sound who o fits) h;
-    goes_well = λ who o n choice m h there. resume_well t b Holds Reaches Stands lawful table who o n choice m there h;
+    begins_well = λ who o m h fits. advance_well t b Holds Reaches Stands lawful table fit_below who o (t.program who o) m (table.begins_sound who o fits) h;
+    goes_well = λ who o n choice m h there. resume_well t b Holds Reaches Stands lawful table fit_below who o n choice m there h;
     frames_fit = λ who o n there. let f = lawful.frames_fit (t.asks n.task).who (t.asks n.task).op n.below there.below in omega arith;
     acts_own = λ who o n there.
-      let fit = table.asks_fit who o n.task there.stands in
+      let fit = asks_fit t b Holds Reaches Stands lawful table fit_below who o n.task there.stands in
       let own = lawful.acts_own (t.asks n.task).who (t.asks n.task).op n.below there.below in
       let r = row_fits (t.asks n.task).part t.parts b.size.cell fit.0 in omega arith }

@@ -10,3 +10,6 @@ pub mod Sound
 pub mod NestedLaws
 pub mod Gathered
 pub mod LayerLaws
+pub mod Settled
+pub mod InPlace
+pub mod Running

@@ -28,8 +28,11 @@ pub record Table (Task : Type 0) : Type 0 where
   pub values : ℕ
   pub processes : ℕ
   pub suits : ℕ → Op → Bool
-  -- how many parts it has, and what part j holds at first, by the layer's initial value
+  -- how many parts it has, the values and processes that each part has, and what part j holds at first,
+  -- by the layer's initial value
   pub parts : ℕ
+  pub inner_values : ℕ
+  pub inner_processes : ℕ
   pub first : ℕ → ℕ → ℕ
   -- how many words it has, what word k is at first, and a bound that it stays below
   pub words : ℕ

@@ -18,7 +18,7 @@ use Rattle.frames.specs.declared.nested.Nested.{Nested}
 use Rattle.frames.specs.Behaviour.{Behaviour, Moved, IsLawful, GoesOn, StandsWell, Answers}
 use Rattle.frames.specs.Placed.{placed_bit}
 use Rattle.frames.specs.Nested.{Program, Ends, Asks, Reads, Sets, Table, layer_size, own_words, part_place, asked, pushed, behind_part, advance, resume, layered, layer_initial, first_parts, gathered}
-use Rattle.frames.specs.Sound.{IsNotSpent, IsSound, IsTable, WordsHold, LayerHolds, LayerReaches}
+use Rattle.frames.specs.Sound.{IsNotSpent, IsSound, FitsPart, IsSoundTable, FitsBelow, WordsHold, LayerHolds, LayerReaches}
 
 -- row j of n rows of s items
 pub row_fits : (j n s : ℕ) → j < n → j * s + s ≤ n * s
@@ -73,13 +73,29 @@ module _ {Task P : Type 0} (t : Table Task) (b : Behaviour P) (Holds : Memory �
       | inr other ↦ rw (get_or-set_other m.words (own_words t b.size + i) (own_words t b.size + k) x 0 (λ e. other (omega arith))) (h.words k few) ] }
 
 module _ {Task P : Type 0} (t : Table Task) (b : Behaviour P) (Holds : Memory → Type 0) (Reaches : ℕ → Op → P → Type 0) (Stands : ℕ → Op → Task → Type 0)
-    (lawful : IsLawful b Holds Reaches) (table : IsTable t b Stands) where
+    (lawful : IsLawful b Holds Reaches) (table : IsSoundTable t Stands) (fit_below : FitsBelow t b) where
   -- a step of the layer keeps its laws
-  abbrev Good : ℕ → Op → Moved (Nested Task P) → Type 0
+  abbrev pub Good : ℕ → Op → Moved (Nested Task P) → Type 0
   Good who o moved = GoesOn (layered t b) (LayerHolds t b Holds) (LayerReaches t Stands Reaches) who o moved
 
+  -- what a task asks fits the part below
+  pub asks_fit : (who : ℕ) (o : Op) (task : Task) → Stands who o task → ((t.asks task).part < t.parts) × (b.suits (t.asks task).who (t.asks task).op ≡ true)
+  asks_fit who o task stands =
+      let fit = table.asks_fit who o task stands in
+      (fit.0, suited (t.asks task).who (t.asks task).op fit.1)
+      where
+        suited : (w : ℕ) (q : Op) → FitsPart t.inner_values t.inner_processes w q → b.suits w q ≡ true
+        suited w (op.Write v) f = rw f.0 (lawful.zero_writes v (rw fit_below.same_values f.1))
+        suited w op.Read f = lawful.others_read w f.0 (rw fit_below.same_processes f.1)
+
+  -- the program behind a task is sound
+  pub rest_sound : (who : ℕ) (o : Op) (task : Task) (outcome : Outcome) → Stands who o task → Answers b.values (t.asks task).op outcome → IsNotSpent outcome
+      → IsSound t (Stands who o) (Answers t.values o) (t.rest task outcome)
+  rest_sound who o task outcome stands answers goes_on =
+      table.rest_sound who o task outcome stands (subst (λ n. Answers n (t.asks task).op outcome) fit_below.same_values answers) goes_on
+
   -- behind a part's step
-  behind_well : (who : ℕ) (o : Op) (go_on : Outcome → Memory → Moved (Nested Task P)) (task : Task) (next : Next P) (m : Memory)
+  pub behind_well : (who : ℕ) (o : Op) (go_on : Outcome → Memory → Moved (Nested Task P)) (task : Task) (next : Next P) (m : Memory)
       → LayerHolds t b Holds m → Stands who o task
       → StandsWell (Reaches (t.asks task).who (t.asks task).op) (Answers b.values (t.asks task).op) next
       → ((outcome : Outcome) → Answers b.values (t.asks task).op outcome → IsNotSpent outcome → Good who o (go_on outcome m))
@@ -97,12 +113,12 @@ module _ {Task P : Type 0} (t : Table Task) (b : Behaviour P) (Holds : Memory �
   pub advance_well : (who : ℕ) (o : Op) (p : Program Task) (m : Memory) → IsSound t (Stands who o) (Answers t.values o) p → LayerHolds t b Holds m → Good who o (advance t b p m)
   advance_well who o (Ends outcome) m sound h = record { holds = h; own_bit = tt; stands = sound }
   advance_well who o (Asks task k) m sound h =
-      let fit = table.asks_fit who o task sound.0 in
+      let fit = asks_fit who o task sound.0 in
       let on = lawful.begins_well (t.asks task).who (t.asks task).op (part (part_place b.size (t.asks task).part) b.size m) (h.parts (t.asks task).part fit.0) fit.1 in
       behind_well who o (λ outcome n. advance t b (k outcome) n) task (asked b (t.asks task) m).next (asked b (t.asks task) m).memory
         (holds_with_part t b Holds lawful.size_holds (t.asks task).part _ m fit.0 on.holds h) sound.0 on.stands
         (λ outcome answers goes_on. advance_well who o (k outcome) (asked b (t.asks task) m).memory
-          (subst (λ q. IsSound t (Stands who o) (Answers t.values o) q) (sym (sound.1 outcome)) (table.rest_sound who o task outcome sound.0 answers goes_on))
+          (subst (λ q. IsSound t (Stands who o) (Answers t.values o) q) (sym (sound.1 outcome)) (rest_sound who o task outcome sound.0 answers goes_on))
           (holds_with_part t b Holds lawful.size_holds (t.asks task).part _ m fit.0 on.holds h))
   advance_well who o (Reads i k) m sound h = advance_well who o (k (word_at (own_words t b.size + i) m)) m (sound.1 _ (h.words i sound.0)) h
   advance_well who o (Sets i x k) m sound h =
@@ -116,10 +132,10 @@ module _ {Task P : Type 0} (t : Table Task) (b : Behaviour P) (Holds : Memory �
 
   pub resume_well : (who : ℕ) (o : Op) (n : Nested Task P) (choice : Bool) (m : Memory) → LayerReaches t Stands Reaches who o n → LayerHolds t b Holds m → Good who o (resume t b n choice m)
   resume_well who o n choice m there h =
-      let fit = table.asks_fit who o n.task there.stands in
+      let fit = asks_fit who o n.task there.stands in
       let on = lawful.goes_well (t.asks n.task).who (t.asks n.task).op n.below choice (part (part_place b.size (t.asks n.task).part) b.size m) (h.parts (t.asks n.task).part fit.0) there.below in
       let h' = holds_with_part t b Holds lawful.size_holds (t.asks n.task).part _ m fit.0 on.holds h in
       let good = behind_well who o (λ outcome m'. advance t b (t.rest n.task outcome) m') n.task (pushed b (t.asks n.task).part n.below choice m).next (pushed b (t.asks n.task).part n.below choice m).memory
           h' there.stands on.stands
-          (λ outcome answers goes_on. advance_well who o (t.rest n.task outcome) (pushed b (t.asks n.task).part n.below choice m).memory (table.rest_sound who o n.task outcome there.stands answers goes_on) h') in
+          (λ outcome answers goes_on. advance_well who o (t.rest n.task outcome) (pushed b (t.asks n.task).part n.below choice m).memory (rest_sound who o n.task outcome there.stands answers goes_on) h') in
       record { holds = good.holds; own_bit = own_bit_of_part (t.asks n.task).part _ fit.0 on.own_bit; stands = good.stands }

@@ -31,25 +31,35 @@ Falls t n (Asks task k) = t.left task < n
 Falls t n (Reads i k) = (x : ℕ) → Falls t n (k x)
 Falls t n (Sets i x k) = Falls t n k
 
--- a table over a register: Stands says in which tasks a process can stand in an operation
-pub record IsTable {Task P : Type 0} (t : Table Task) (b : Behaviour P) (Stands : ℕ → Op → Task → Type 0) : Type 0 where
-  pub few_cells : t.parts * b.size.cell ≤ 4096
-  pub few_words : t.parts * b.size.word + t.words ≤ 65536
+-- an operation that fits a part of so many values and processes
+abbrev pub FitsPart : ℕ → ℕ → ℕ → Op → Type 0
+FitsPart values processes who (op.Write v) = (who ≡ 0) × (v < values)
+FitsPart values processes who op.Read = (1 ≤ who) × (who < processes)
+
+-- a sound table, whatever stands below it: Stands says in which tasks a process can stand in an operation
+pub record IsSoundTable {Task : Type 0} (t : Table Task) (Stands : ℕ → Op → Task → Type 0) : Type 0 where
   pub few_values : t.values < 2 ^ 32
   pub few_processes : t.processes < 2 ^ 32
-  pub room : b.depth ≤ 7
   pub zero_writes : (v : ℕ) → v < t.values → t.suits 0 (op.Write v) ≡ true
   pub others_read : (who : ℕ) → 1 ≤ who → who < t.processes → t.suits who op.Read ≡ true
   pub nobody_else : (who : ℕ) (o : Op) → t.suits who o ≡ true → who < t.processes
   pub no_other_value : (who v : ℕ) → t.suits who (op.Write v) ≡ true → v < t.values
-  pub first_fits : (v j : ℕ) → v < t.values → j < t.parts → t.first v j < b.values
+  pub first_fits : (v j : ℕ) → v < t.values → j < t.parts → t.first v j < t.inner_values
   pub first_words : (v k : ℕ) → v < t.values → k < t.words → t.first_word v k < t.bound k
-  pub asks_fit : (who : ℕ) (o : Op) (task : Task) → Stands who o task → ((t.asks task).part < t.parts) × (b.suits (t.asks task).who (t.asks task).op ≡ true)
+  pub asks_fit : (who : ℕ) (o : Op) (task : Task) → Stands who o task → ((t.asks task).part < t.parts) × FitsPart t.inner_values t.inner_processes (t.asks task).who (t.asks task).op
   pub begins_sound : (who : ℕ) (o : Op) → t.suits who o ≡ true → IsSound t (Stands who o) (Answers t.values o) (t.program who o)
-  pub rest_sound : (who : ℕ) (o : Op) (task : Task) (outcome : Outcome) → Stands who o task → Answers b.values (t.asks task).op outcome → IsNotSpent outcome
+  pub rest_sound : (who : ℕ) (o : Op) (task : Task) (outcome : Outcome) → Stands who o task → Answers t.inner_values (t.asks task).op outcome → IsNotSpent outcome
       → IsSound t (Stands who o) (Answers t.values o) (t.rest task outcome)
-  pub rest_falls : (who : ℕ) (o : Op) (task : Task) (outcome : Outcome) → Stands who o task → Answers b.values (t.asks task).op outcome → IsNotSpent outcome
+  pub rest_falls : (who : ℕ) (o : Op) (task : Task) (outcome : Outcome) → Stands who o task → Answers t.inner_values (t.asks task).op outcome → IsNotSpent outcome
       → Falls t (t.left task) (t.rest task outcome)
+
+-- a register that a table can stand on
+pub record FitsBelow {Task P : Type 0} (t : Table Task) (b : Behaviour P) : Type 0 where
+  pub same_values : b.values ≡ t.inner_values
+  pub same_processes : b.processes ≡ t.inner_processes
+  pub room : b.depth ≤ 7
+  pub few_cells : t.parts * b.size.cell ≤ 4096
+  pub few_words : t.parts * b.size.word + t.words ≤ 65536
 
 -- the own words are in range: base is the first of them
 abbrev pub WordsHold : {Task : Type 0} → Table Task → ℕ → Memory → Type 0

@@ -2,6 +2,8 @@
 #![tactic(auto)]
 
 pub mod config;
+mod drive;
+pub mod layer;
 pub mod nested;
 mod own;
 pub mod register;

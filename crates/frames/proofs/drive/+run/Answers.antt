@@ -1,0 +1,277 @@
+use Rattle.std.proofs.Common.{rules, ◌≡◌, ◌≤◌, ◌<◌, ◌+◌, ◌*◌, sym, ap, subst, ◌∙◌, arith}
+use Rattle.safe_bit.specs.Parts.{with_part, with_part-own}
+use Rattle.frames.specs.declared.types.Outcome.TheVariants.{Spent}
+use Rattle.frames.specs.declared.types.Next.TheVariants.{Done}
+use Rattle.frames.specs.declared.nested.Turn.TheVariants as turn
+use Rattle.frames.specs.Behaviour.{Answers, StandsWell}
+use Rattle.frames.specs.Nested.{layer_size, own_words, asked, behind_part}
+use Rattle.frames.specs.Sound.{IsNotSpent}
+use Rattle.frames.specs.Settled.{settled, turn_left, TurnStands, run_on, follow_on}
+use Rattle.frames.specs.InPlace.{own}
+use Rattle.frames.specs.Running.{follow_well, run_well, follow_ended, ask_holds, ask_stands, rest_stands, rest_holds, rest_left, chain, lies_after}
+use Rattle.frames.proofs.drive.+run.Goals as goal
+
+pub follow-run-requires-clause-lies : goal.follow-run-requires-clause-lies
+follow-run-requires-clause-lies g measure c κs within =
+    let register = g.met.S.Register g.world.𝓛 g.world.𝓜 g.world.𝓡 ((λ s x. x), (λ x. x), (λ x. x), λ x. x) in
+    let layer = g.met.L.Layer g.world.𝓛 g.world.𝓜 g.world.𝓡 ((λ s x. x), (λ x. x), (λ x. x), λ x. x) in
+    let t = g.L.Layer.table c.args.layer.now in
+    let b = g.S.Register.is c.args.below.now in
+    let Holds = g.S.Register.Holds c.args.below.now in
+    let Reaches = g.S.Register.Reaches c.args.below.now in
+    let Stands = g.L.Layer.Stands c.args.layer.now in
+    let lawful = register.lawful c.args.below.now in
+    let table = layer.sound c.args.layer.now in
+    let fit = c.requires.fit in
+    let at = c.args.at in
+    let m = c.args.store.now in
+    let lies = c.requires.lies in
+    let who = c.requires.stands.0 in
+    let o = c.requires.stands.1.0 in
+    let task = c.args.task in
+    let outcome = c.in-Done.outcome in
+    let stands = c.requires.stands.1.1.0 in
+    let answers : Answers b.values (t.asks task).op outcome = rw c.in-Done.is at c.requires.stands.1.1.1 in
+    let goes_on : IsNotSpent outcome = search rules in
+    let holds = lies.holds in
+    let mid = (settled (own_words t b.size) (t.rest task outcome) (own t b at m)).memory in
+    let mid_holds = rest_holds t b Holds Reaches Stands lawful table fit who o task outcome (own t b at m) holds stands answers goes_on in
+    let turn_stands = rest_stands t b Holds Reaches Stands lawful table fit who o task outcome (own t b at m) holds stands answers goes_on in
+    lies_after t b Holds Reaches Stands lawful table fit at m lies mid c.after-turn.new.store c.after-turn.ensures.memory mid_holds
+
+pub follow-run-requires-clause-stands : goal.follow-run-requires-clause-stands
+follow-run-requires-clause-stands g measure c κs within =
+    let register = g.met.S.Register g.world.𝓛 g.world.𝓜 g.world.𝓡 ((λ s x. x), (λ x. x), (λ x. x), λ x. x) in
+    let layer = g.met.L.Layer g.world.𝓛 g.world.𝓜 g.world.𝓡 ((λ s x. x), (λ x. x), (λ x. x), λ x. x) in
+    let t = g.L.Layer.table c.args.layer.now in
+    let b = g.S.Register.is c.args.below.now in
+    let Holds = g.S.Register.Holds c.args.below.now in
+    let Reaches = g.S.Register.Reaches c.args.below.now in
+    let Stands = g.L.Layer.Stands c.args.layer.now in
+    let lawful = register.lawful c.args.below.now in
+    let table = layer.sound c.args.layer.now in
+    let fit = c.requires.fit in
+    let at = c.args.at in
+    let m = c.args.store.now in
+    let lies = c.requires.lies in
+    let who = c.requires.stands.0 in
+    let o = c.requires.stands.1.0 in
+    let task = c.args.task in
+    let outcome = c.in-Done.outcome in
+    let stands = c.requires.stands.1.1.0 in
+    let answers : Answers b.values (t.asks task).op outcome = rw c.in-Done.is at c.requires.stands.1.1.1 in
+    let goes_on : IsNotSpent outcome = search rules in
+    let holds = lies.holds in
+    let mid = (settled (own_words t b.size) (t.rest task outcome) (own t b at m)).memory in
+    let mid_holds = rest_holds t b Holds Reaches Stands lawful table fit who o task outcome (own t b at m) holds stands answers goes_on in
+    let turn_stands = rest_stands t b Holds Reaches Stands lawful table fit who o task outcome (own t b at m) holds stands answers goes_on in
+    (who, (o, rw c.after-turn.ensures.turn turn_stands))
+
+pub follow-returns-in-Pending-clause-memory : goal.follow-returns-in-Pending-clause-memory
+follow-returns-in-Pending-clause-memory g measure c =
+    let register = g.met.S.Register g.world.𝓛 g.world.𝓜 g.world.𝓡 ((λ s x. x), (λ x. x), (λ x. x), λ x. x) in
+    let layer = g.met.L.Layer g.world.𝓛 g.world.𝓜 g.world.𝓡 ((λ s x. x), (λ x. x), (λ x. x), λ x. x) in
+    let t = g.L.Layer.table c.args.layer.now in
+    let b = g.S.Register.is c.args.below.now in
+    let Holds = g.S.Register.Holds c.args.below.now in
+    let Reaches = g.S.Register.Reaches c.args.below.now in
+    let Stands = g.L.Layer.Stands c.args.layer.now in
+    let lawful = register.lawful c.args.below.now in
+    let table = layer.sound c.args.layer.now in
+    let fit = c.requires.fit in
+    let at = c.args.at in
+    let m = c.args.store.now in
+    let lies = c.requires.lies in
+    let who = c.requires.stands.0 in
+    let o = c.requires.stands.1.0 in
+    rw c.in-Pending.is (sym (with_part-own at (layer_size t b.size) m lies.inside))
+
+pub follow-returns-in-Done-Spent-clause-memory : goal.follow-returns-in-Done-Spent-clause-memory
+follow-returns-in-Done-Spent-clause-memory g measure c =
+    let register = g.met.S.Register g.world.𝓛 g.world.𝓜 g.world.𝓡 ((λ s x. x), (λ x. x), (λ x. x), λ x. x) in
+    let layer = g.met.L.Layer g.world.𝓛 g.world.𝓜 g.world.𝓡 ((λ s x. x), (λ x. x), (λ x. x), λ x. x) in
+    let t = g.L.Layer.table c.args.layer.now in
+    let b = g.S.Register.is c.args.below.now in
+    let Holds = g.S.Register.Holds c.args.below.now in
+    let Reaches = g.S.Register.Reaches c.args.below.now in
+    let Stands = g.L.Layer.Stands c.args.layer.now in
+    let lawful = register.lawful c.args.below.now in
+    let table = layer.sound c.args.layer.now in
+    let fit = c.requires.fit in
+    let at = c.args.at in
+    let m = c.args.store.now in
+    let lies = c.requires.lies in
+    let who = c.requires.stands.0 in
+    let o = c.requires.stands.1.0 in
+    let e : c.args.next ≡ Done (Spent c.in-Done-Spent.spent) = search rules in
+    rw e (sym (with_part-own at (layer_size t b.size) m lies.inside))
+
+pub follow-returns-in-Done : goal.follow-returns-in-Done
+follow-returns-in-Done g measure c =
+    let register = g.met.S.Register g.world.𝓛 g.world.𝓜 g.world.𝓡 ((λ s x. x), (λ x. x), (λ x. x), λ x. x) in
+    let layer = g.met.L.Layer g.world.𝓛 g.world.𝓜 g.world.𝓡 ((λ s x. x), (λ x. x), (λ x. x), λ x. x) in
+    let t = g.L.Layer.table c.args.layer.now in
+    let b = g.S.Register.is c.args.below.now in
+    let Holds = g.S.Register.Holds c.args.below.now in
+    let Reaches = g.S.Register.Reaches c.args.below.now in
+    let Stands = g.L.Layer.Stands c.args.layer.now in
+    let lawful = register.lawful c.args.below.now in
+    let table = layer.sound c.args.layer.now in
+    let fit = c.requires.fit in
+    let at = c.args.at in
+    let m = c.args.store.now in
+    let lies = c.requires.lies in
+    let who = c.requires.stands.0 in
+    let o = c.requires.stands.1.0 in
+    let task = c.args.task in
+    let outcome = c.in-Done.outcome in
+    let stands = c.requires.stands.1.1.0 in
+    let answers : Answers b.values (t.asks task).op outcome = rw c.in-Done.is at c.requires.stands.1.1.1 in
+    let goes_on : IsNotSpent outcome = search rules in
+    let holds = lies.holds in
+    let mid = (settled (own_words t b.size) (t.rest task outcome) (own t b at m)).memory in
+    let mid_holds = rest_holds t b Holds Reaches Stands lawful table fit who o task outcome (own t b at m) holds stands answers goes_on in
+    let turn_stands = rest_stands t b Holds Reaches Stands lawful table fit who o task outcome (own t b at m) holds stands answers goes_on in
+    let at_turn = c.after-turn.result in
+    let turn_there : TurnStands (Stands who o) (Answers t.values o) at_turn = rw c.after-turn.ensures.turn turn_stands in
+    let well = run_well t b Holds Reaches Stands lawful table fit who o at_turn mid turn_there mid_holds in
+    let there = chain t b Holds Reaches Stands lawful table fit (run_on t b at_turn) at m lies mid c.after-turn.new.store c.run.new.store c.run.result
+        c.after-turn.ensures.memory mid_holds well.holds c.run.ensures.next c.run.ensures.memory in
+    let e : run_on t b at_turn mid ≡ follow_on t b task c.args.next (own t b at m) =
+        ap (λ q. run_on t b q mid) c.after-turn.ensures.turn
+        ∙ sym (follow_ended t b Holds Reaches Stands lawful table fit who o task outcome (own t b at m) holds stands answers goes_on)
+        ∙ ap (λ q. follow_on t b task q (own t b at m)) (sym c.in-Done.is) in
+    record { next = there.0 ∙ ap (λ q. q.next) e; memory = there.1 ∙ ap (λ q. with_part at q.memory m) e }
+
+pub run-follow-requires-clause-lies : goal.run-follow-requires-clause-lies
+run-follow-requires-clause-lies g measure c κs within =
+    let register = g.met.S.Register g.world.𝓛 g.world.𝓜 g.world.𝓡 ((λ s x. x), (λ x. x), (λ x. x), λ x. x) in
+    let layer = g.met.L.Layer g.world.𝓛 g.world.𝓜 g.world.𝓡 ((λ s x. x), (λ x. x), (λ x. x), λ x. x) in
+    let t = g.L.Layer.table c.args.layer.now in
+    let b = g.S.Register.is c.args.below.now in
+    let Holds = g.S.Register.Holds c.args.below.now in
+    let Reaches = g.S.Register.Reaches c.args.below.now in
+    let Stands = g.L.Layer.Stands c.args.layer.now in
+    let lawful = register.lawful c.args.below.now in
+    let table = layer.sound c.args.layer.now in
+    let fit = c.requires.fit in
+    let at = c.args.at in
+    let m = c.args.store.now in
+    let lies = c.requires.lies in
+    let who = c.requires.stands.0 in
+    let o = c.requires.stands.1.0 in
+    let task = c.in-Asks.task in
+    let stands : Stands who o task = rw c.in-Asks.is at c.requires.stands.1.1 in
+    let holds = lies.holds in
+    let mid = (asked b (t.asks task) (own t b at m)).memory in
+    let mid_holds = ask_holds t b Holds Reaches Stands lawful table fit who o task (own t b at m) holds stands in
+    let below_stands = ask_stands t b Holds Reaches Stands lawful table fit who o task (own t b at m) holds stands in
+    lies_after t b Holds Reaches Stands lawful table fit at m lies mid c.ask-next.new.store c.ask-next.ensures.memory mid_holds
+
+pub run-follow-requires-clause-stands : goal.run-follow-requires-clause-stands
+run-follow-requires-clause-stands g measure c κs within =
+    let register = g.met.S.Register g.world.𝓛 g.world.𝓜 g.world.𝓡 ((λ s x. x), (λ x. x), (λ x. x), λ x. x) in
+    let layer = g.met.L.Layer g.world.𝓛 g.world.𝓜 g.world.𝓡 ((λ s x. x), (λ x. x), (λ x. x), λ x. x) in
+    let t = g.L.Layer.table c.args.layer.now in
+    let b = g.S.Register.is c.args.below.now in
+    let Holds = g.S.Register.Holds c.args.below.now in
+    let Reaches = g.S.Register.Reaches c.args.below.now in
+    let Stands = g.L.Layer.Stands c.args.layer.now in
+    let lawful = register.lawful c.args.below.now in
+    let table = layer.sound c.args.layer.now in
+    let fit = c.requires.fit in
+    let at = c.args.at in
+    let m = c.args.store.now in
+    let lies = c.requires.lies in
+    let who = c.requires.stands.0 in
+    let o = c.requires.stands.1.0 in
+    let task = c.in-Asks.task in
+    let stands : Stands who o task = rw c.in-Asks.is at c.requires.stands.1.1 in
+    let holds = lies.holds in
+    let mid = (asked b (t.asks task) (own t b at m)).memory in
+    let mid_holds = ask_holds t b Holds Reaches Stands lawful table fit who o task (own t b at m) holds stands in
+    let below_stands = ask_stands t b Holds Reaches Stands lawful table fit who o task (own t b at m) holds stands in
+    (who, (o, (stands, rw c.ask-next.ensures.next below_stands)))
+
+pub run-returns-in-Ends-clause-memory : goal.run-returns-in-Ends-clause-memory
+run-returns-in-Ends-clause-memory g measure c =
+    let register = g.met.S.Register g.world.𝓛 g.world.𝓜 g.world.𝓡 ((λ s x. x), (λ x. x), (λ x. x), λ x. x) in
+    let layer = g.met.L.Layer g.world.𝓛 g.world.𝓜 g.world.𝓡 ((λ s x. x), (λ x. x), (λ x. x), λ x. x) in
+    let t = g.L.Layer.table c.args.layer.now in
+    let b = g.S.Register.is c.args.below.now in
+    let Holds = g.S.Register.Holds c.args.below.now in
+    let Reaches = g.S.Register.Reaches c.args.below.now in
+    let Stands = g.L.Layer.Stands c.args.layer.now in
+    let lawful = register.lawful c.args.below.now in
+    let table = layer.sound c.args.layer.now in
+    let fit = c.requires.fit in
+    let at = c.args.at in
+    let m = c.args.store.now in
+    let lies = c.requires.lies in
+    let who = c.requires.stands.0 in
+    let o = c.requires.stands.1.0 in
+    rw c.in-Ends.is (sym (with_part-own at (layer_size t b.size) m lies.inside))
+
+pub run-returns-in-Asks-clause-next : goal.run-returns-in-Asks-clause-next
+run-returns-in-Asks-clause-next g measure c =
+    let register = g.met.S.Register g.world.𝓛 g.world.𝓜 g.world.𝓡 ((λ s x. x), (λ x. x), (λ x. x), λ x. x) in
+    let layer = g.met.L.Layer g.world.𝓛 g.world.𝓜 g.world.𝓡 ((λ s x. x), (λ x. x), (λ x. x), λ x. x) in
+    let t = g.L.Layer.table c.args.layer.now in
+    let b = g.S.Register.is c.args.below.now in
+    let Holds = g.S.Register.Holds c.args.below.now in
+    let Reaches = g.S.Register.Reaches c.args.below.now in
+    let Stands = g.L.Layer.Stands c.args.layer.now in
+    let lawful = register.lawful c.args.below.now in
+    let table = layer.sound c.args.layer.now in
+    let fit = c.requires.fit in
+    let at = c.args.at in
+    let m = c.args.store.now in
+    let lies = c.requires.lies in
+    let who = c.requires.stands.0 in
+    let o = c.requires.stands.1.0 in
+    let task = c.in-Asks.task in
+    let stands : Stands who o task = rw c.in-Asks.is at c.requires.stands.1.1 in
+    let holds = lies.holds in
+    let mid = (asked b (t.asks task) (own t b at m)).memory in
+    let mid_holds = ask_holds t b Holds Reaches Stands lawful table fit who o task (own t b at m) holds stands in
+    let below_stands = ask_stands t b Holds Reaches Stands lawful table fit who o task (own t b at m) holds stands in
+    let next = c.ask-next.result in
+    let next_there : StandsWell (Reaches (t.asks task).who (t.asks task).op) (Answers b.values (t.asks task).op) next = rw c.ask-next.ensures.next below_stands in
+    let well = follow_well t b Holds Reaches Stands lawful table fit who o task next mid mid_holds stands next_there in
+    let there = chain t b Holds Reaches Stands lawful table fit (follow_on t b task next) at m lies mid c.ask-next.new.store c.follow.new.store c.follow.result
+        c.ask-next.ensures.memory mid_holds well.holds c.follow.ensures.next c.follow.ensures.memory in
+    let e : follow_on t b task next mid ≡ run_on t b c.args.turn (own t b at m) =
+        ap (λ q. follow_on t b task q mid) c.ask-next.ensures.next ∙ ap (λ q. run_on t b q (own t b at m)) (sym c.in-Asks.is) in
+    there.0 ∙ ap (λ q. q.next) e
+
+pub run-returns-in-Asks-clause-memory : goal.run-returns-in-Asks-clause-memory
+run-returns-in-Asks-clause-memory g measure c =
+    let register = g.met.S.Register g.world.𝓛 g.world.𝓜 g.world.𝓡 ((λ s x. x), (λ x. x), (λ x. x), λ x. x) in
+    let layer = g.met.L.Layer g.world.𝓛 g.world.𝓜 g.world.𝓡 ((λ s x. x), (λ x. x), (λ x. x), λ x. x) in
+    let t = g.L.Layer.table c.args.layer.now in
+    let b = g.S.Register.is c.args.below.now in
+    let Holds = g.S.Register.Holds c.args.below.now in
+    let Reaches = g.S.Register.Reaches c.args.below.now in
+    let Stands = g.L.Layer.Stands c.args.layer.now in
+    let lawful = register.lawful c.args.below.now in
+    let table = layer.sound c.args.layer.now in
+    let fit = c.requires.fit in
+    let at = c.args.at in
+    let m = c.args.store.now in
+    let lies = c.requires.lies in
+    let who = c.requires.stands.0 in
+    let o = c.requires.stands.1.0 in
+    let task = c.in-Asks.task in
+    let stands : Stands who o task = rw c.in-Asks.is at c.requires.stands.1.1 in
+    let holds = lies.holds in
+    let mid = (asked b (t.asks task) (own t b at m)).memory in
+    let mid_holds = ask_holds t b Holds Reaches Stands lawful table fit who o task (own t b at m) holds stands in
+    let below_stands = ask_stands t b Holds Reaches Stands lawful table fit who o task (own t b at m) holds stands in
+    let next = c.ask-next.result in
+    let next_there : StandsWell (Reaches (t.asks task).who (t.asks task).op) (Answers b.values (t.asks task).op) next = rw c.ask-next.ensures.next below_stands in
+    let well = follow_well t b Holds Reaches Stands lawful table fit who o task next mid mid_holds stands next_there in
+    let there = chain t b Holds Reaches Stands lawful table fit (follow_on t b task next) at m lies mid c.ask-next.new.store c.follow.new.store c.follow.result
+        c.ask-next.ensures.memory mid_holds well.holds c.follow.ensures.next c.follow.ensures.memory in
+    let e : follow_on t b task next mid ≡ run_on t b c.args.turn (own t b at m) =
+        ap (λ q. follow_on t b task q mid) c.ask-next.ensures.next ∙ ap (λ q. run_on t b q (own t b at m)) (sym c.in-Asks.is) in
+    there.1 ∙ ap (λ q. with_part at q.memory m) e

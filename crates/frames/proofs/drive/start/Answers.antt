@@ -1,0 +1,34 @@
+use Rattle.std.proofs.Common.{◌≡◌, ap, ◌∙◌, arith}
+use Rattle.safe_bit.specs.Parts.{with_part}
+use Rattle.frames.specs.Behaviour.{Answers}
+use Rattle.frames.specs.Nested.{Table, layer_size, own_words}
+use Rattle.frames.specs.Settled.{settled, settled_in_place}
+use Rattle.frames.proofs.drive.start.Goals as goal
+
+pub returns-clause-turn : goal.returns-clause-turn
+returns-clause-turn g c =
+    let layer = g.met.L.Layer g.world.𝓛 g.world.𝓜 g.world.𝓡 ((λ s x. x), (λ x. x), (λ x. x), λ x. x) in
+    let sound = layer.sound c.args.layer.now in
+    let t = g.L.Layer.table c.args.layer.now in
+    let b = g.S.Register.is c.args.below.now in
+    let at = c.args.at in
+    let m = c.args.store.now in
+    let lies = c.requires.lies in
+    let p = t.program c.args.who c.args.op in
+    let there = settled_in_place t (g.L.Layer.Stands c.args.layer.now c.args.who c.args.op) (Answers t.values c.args.op) at (layer_size t b.size) (own_words t b.size) p m
+        (sound.begins_sound c.args.who c.args.op c.requires.fits) lies.inside (omega arith) lies.holds.words in
+    c.start.ensures.turn ∙ ap (λ base. (settled base p m).turn) c.words_at-base.ensures ∙ there.0
+
+pub returns-clause-memory : goal.returns-clause-memory
+returns-clause-memory g c =
+    let layer = g.met.L.Layer g.world.𝓛 g.world.𝓜 g.world.𝓡 ((λ s x. x), (λ x. x), (λ x. x), λ x. x) in
+    let sound = layer.sound c.args.layer.now in
+    let t = g.L.Layer.table c.args.layer.now in
+    let b = g.S.Register.is c.args.below.now in
+    let at = c.args.at in
+    let m = c.args.store.now in
+    let lies = c.requires.lies in
+    let p = t.program c.args.who c.args.op in
+    let there = settled_in_place t (g.L.Layer.Stands c.args.layer.now c.args.who c.args.op) (Answers t.values c.args.op) at (layer_size t b.size) (own_words t b.size) p m
+        (sound.begins_sound c.args.who c.args.op c.requires.fits) lies.inside (omega arith) lies.holds.words in
+    c.start.ensures.memory ∙ ap (λ base. (settled base p m).memory) c.words_at-base.ensures ∙ there.1

@@ -1,0 +1,129 @@
+//! The register of a layer over registers: each call runs the layer's program, part by part.
+
+ghost use Rattle.std.specs.Prelude.{◌≡◌, ℕ, ◌<◌, ◌≤◌, ◌+◌, ◌^◌, Bool, true, length};
+ghost use Rattle.safe_bit.specs.Parts.{behind, part, with_part, IsPlaced};
+ghost use Rattle.frames.specs.declared.types.Op.{Op};
+ghost use Rattle.frames.specs.Behaviour.{Answers, StandsWell};
+ghost use Rattle.frames.specs.Placed.{placed_bit};
+ghost use Rattle.frames.specs.Nested as nested;
+ghost use Rattle.frames.specs.Nested.{layer_size, own_words, asked, pushed, behind_part, advance, layered};
+ghost use Rattle.frames.specs.Sound.{FitsBelow, IsNotSpent, LayerReaches};
+ghost use Rattle.frames.specs.Settled.{settled, TurnStands, turn_left, run_on, follow_on};
+ghost use Rattle.frames.specs.InPlace.{own, LayerLies};
+
+use crate::layer::Layer;
+use crate::nested::{Ask, Nested, Turn};
+use crate::register::Register;
+use crate::types::{Next, Op, Outcome, Turned};
+use safe_bit::{Place, Store};
+
+/// Where part `part` of a layer lies.
+fn part_place<L: Layer, S: Register>(layer: &L, below: &S, at: Place, part: u32) -> Place
+    requires placed { IsPlaced at (layer_size (L.table layer.now) (S.is below.now).size) }
+    requires part { part < (L.table layer.now).parts }
+    ensures { result ≡ behind at (nested.part_place (S.is below.now).size part) }
+{
+    let size = below.size();
+    Place {
+        cell: at.cell + part * size.cell,
+        word: at.word + part * size.word,
+    }
+}
+
+/// The place of the layer's own words.
+fn words_at<L: Layer, S: Register>(layer: &L, below: &S, at: Place) -> u32
+    requires placed { IsPlaced at (layer_size (L.table layer.now) (S.is below.now).size) }
+    ensures { result ≡ at.word + own_words (L.table layer.now) (S.is below.now).size }
+{
+    at.word + layer.parts() * below.size().word
+}
+
+/// A task's part is asked for the task's operation.
+fn ask<L: Layer, S: Register>(layer: &L, below: &S, store: &mut Store, at: Place, task: L::Task) -> Next<S::Pending>
+    requires fit { FitsBelow (L.table layer.now) (S.is below.now) }
+    requires lies { LayerLies (L.table layer.now) (S.is below.now) (S.Holds below.now) at store.old }
+    requires stands { (who : ℕ) × ((op : Op) × L.Stands layer.now who op task) }
+    ensures next { result ≡ (asked (S.is below.now) ((L.table layer.now).asks task) (own (L.table layer.now) (S.is below.now) at store.old)).next }
+    ensures memory { store.new ≡ with_part at (asked (S.is below.now) ((L.table layer.now).asks task) (own (L.table layer.now) (S.is below.now) at store.old)).memory store.old }
+{
+    let ask = layer.asks(task);
+    let place = part_place(layer, below, at, ask.part);
+    below.begin(store, place, ask.who, ask.op)
+}
+
+/// A task's part makes its next bit action.
+fn push<L: Layer, S: Register>(layer: &L, below: &S, store: &mut Store, at: Place, pending: Nested<L::Task, S::Pending>, choice: bool) -> Turned<S::Pending>
+    requires fit { FitsBelow (L.table layer.now) (S.is below.now) }
+    requires lies { LayerLies (L.table layer.now) (S.is below.now) (S.Holds below.now) at store.old }
+    requires reached { (who : ℕ) × ((op : Op) × LayerReaches (L.table layer.now) (L.Stands layer.now) (S.Reaches below.now) who op pending) }
+    ensures next { result.next ≡ (pushed (S.is below.now) ((L.table layer.now).asks pending.task).part pending.below choice (own (L.table layer.now) (S.is below.now) at store.old)).next }
+    ensures chosen { result.chosen ≡ placed_bit at (pushed (S.is below.now) ((L.table layer.now).asks pending.task).part pending.below choice (own (L.table layer.now) (S.is below.now) at store.old)).chosen }
+    ensures memory { store.new ≡ with_part at (pushed (S.is below.now) ((L.table layer.now).asks pending.task).part pending.below choice (own (L.table layer.now) (S.is below.now) at store.old)).memory store.old }
+{
+    let ask = layer.asks(pending.task);
+    let place = part_place(layer, below, at, ask.part);
+    below.go(store, place, pending.below, choice)
+}
+
+/// An operation's program up to its first task or its end.
+fn start<L: Layer, S: Register>(layer: &L, below: &S, store: &mut Store, at: Place, who: u32, op: Op) -> Turn<L::Task>
+    requires lies { LayerLies (L.table layer.now) (S.is below.now) (S.Holds below.now) at store.old }
+    requires fits { (L.table layer.now).suits who op ≡ true }
+    ensures turn { result ≡ (settled (own_words (L.table layer.now) (S.is below.now).size) ((L.table layer.now).program who op) (own (L.table layer.now) (S.is below.now) at store.old)).turn }
+    ensures memory { store.new ≡ with_part at (settled (own_words (L.table layer.now) (S.is below.now).size) ((L.table layer.now).program who op) (own (L.table layer.now) (S.is below.now) at store.old)).memory store.old }
+{
+    let base = words_at(layer, below, at);
+    layer.start(store, base, who, op)
+}
+
+/// The program behind a task that ended so, up to the next task or the end.
+fn after<L: Layer, S: Register>(layer: &L, below: &S, store: &mut Store, at: Place, task: L::Task, outcome: Outcome) -> Turn<L::Task>
+    requires lies { LayerLies (L.table layer.now) (S.is below.now) (S.Holds below.now) at store.old }
+    requires stands { (who : ℕ) × ((op : Op) × L.Stands layer.now who op task) }
+    requires answers { Answers (L.table layer.now).inner_values ((L.table layer.now).asks task).op outcome }
+    requires goes_on { IsNotSpent outcome }
+    ensures turn { result ≡ (settled (own_words (L.table layer.now) (S.is below.now).size) ((L.table layer.now).rest task outcome) (own (L.table layer.now) (S.is below.now) at store.old)).turn }
+    ensures memory { store.new ≡ with_part at (settled (own_words (L.table layer.now) (S.is below.now).size) ((L.table layer.now).rest task outcome) (own (L.table layer.now) (S.is below.now) at store.old)).memory store.old }
+    ensures fewer { turn_left (L.table layer.now) result ≤ (L.table layer.now).left task }
+{
+    let base = words_at(layer, below, at);
+    layer.after(store, base, task, outcome)
+}
+
+/// The layer goes on from a turn, to its next bit action or its end.
+#[cycle(run)]
+fn run<L: Layer, S: Register>(layer: &L, below: &S, store: &mut Store, at: Place, turn: Turn<L::Task>) -> Next<Nested<L::Task, S::Pending>>
+    requires fit { FitsBelow (L.table layer.now) (S.is below.now) }
+    requires lies { LayerLies (L.table layer.now) (S.is below.now) (S.Holds below.now) at store.old }
+    requires stands { (who : ℕ) × ((op : Op) × TurnStands (L.Stands layer.now who op) (Answers (L.table layer.now).values op) turn) }
+    ensures next { result ≡ (run_on (L.table layer.now) (S.is below.now) turn (own (L.table layer.now) (S.is below.now) at store.old)).next }
+    ensures memory { store.new ≡ with_part at (run_on (L.table layer.now) (S.is below.now) turn (own (L.table layer.now) (S.is below.now) at store.old)).memory store.old }
+{
+    match turn {
+        Turn::Ends(outcome) => Next::Done(outcome),
+        Turn::Asks(task) => {
+            let next = ask(layer, below, store, at, task);
+            follow(layer, below, store, at, task, next)
+        }
+    }
+}
+
+/// The layer goes on behind a step of a task's part.
+#[cycle(run)]
+fn follow<L: Layer, S: Register>(layer: &L, below: &S, store: &mut Store, at: Place, task: L::Task, next: Next<S::Pending>) -> Next<Nested<L::Task, S::Pending>>
+    requires fit { FitsBelow (L.table layer.now) (S.is below.now) }
+    requires lies { LayerLies (L.table layer.now) (S.is below.now) (S.Holds below.now) at store.old }
+    requires stands { (who : ℕ) × ((op : Op) × (L.Stands layer.now who op task
+        × StandsWell (S.Reaches below.now ((L.table layer.now).asks task).who ((L.table layer.now).asks task).op) (Answers (S.is below.now).values ((L.table layer.now).asks task).op) next)) }
+    ensures next { result ≡ (follow_on (L.table layer.now) (S.is below.now) task next (own (L.table layer.now) (S.is below.now) at store.old)).next }
+    ensures memory { store.new ≡ with_part at (follow_on (L.table layer.now) (S.is below.now) task next (own (L.table layer.now) (S.is below.now) at store.old)).memory store.old }
+{
+    match next {
+        Next::Pending(below) => Next::Pending(Nested { task, below }),
+        Next::Done(Outcome::Spent(spent)) => Next::Done(Outcome::Spent(spent)),
+        Next::Done(outcome) => {
+            let turn = after(layer, below, store, at, task, outcome);
+            run(layer, below, store, at, turn)
+        }
+    }
+}

@@ -1,0 +1,103 @@
+//! What a layer adds to the registers below it: its parts, its own words and its programs.
+
+ghost use Rattle.std.specs.Prelude.{◌≡◌, ℕ, ◌<◌, ◌≤◌, ◌+◌, ◌^◌, Bool, true, length};
+ghost use Rattle.std.specs.Bool.{Decides};
+ghost use Rattle.frames.specs.declared.types.Op.{Op};
+ghost use Rattle.frames.specs.Behaviour.{Answers};
+ghost use Rattle.frames.specs.Nested.{Table};
+ghost use Rattle.frames.specs.Sound.{IsSoundTable, WordsHold, IsNotSpent};
+ghost use Rattle.frames.specs.Settled.{settled};
+
+use crate::nested::{Ask, Turn};
+use crate::types::{Frame, Op, Outcome};
+use safe_bit::Store;
+
+/// A layer's own rules, whatever stands below it. Its calls read and set the layer's own words alone.
+pub trait Layer: Copy + PartialEq + Send + Sync {
+    /// A point in a program: the operation of a part that is in work.
+    type Task: Copy + PartialEq + Send + Sync;
+
+    // The layer's programs, words and parts.
+    ghost table: { Self → Table Self.Task };
+
+    // The tasks in which a process can stand in an operation.
+    ghost Stands: { Self → ℕ → Op → Self.Task → Type 0 };
+
+    /// How many parts it has.
+    fn parts(&self) -> u32
+        ensures { result ≡ (table self.now).parts };
+
+    /// How many words of its own it has.
+    fn words(&self) -> u32
+        ensures { result ≡ (table self.now).words };
+
+    /// How many values it has.
+    fn values(&self) -> u32
+        ensures { result ≡ (table self.now).values };
+
+    /// How many processes it has.
+    fn processes(&self) -> u32
+        ensures { result ≡ (table self.now).processes };
+
+    /// How many values each part has to have.
+    fn inner_values(&self) -> u32
+        ensures { result ≡ (table self.now).inner_values };
+
+    /// How many processes each part has to have.
+    fn inner_processes(&self) -> u32
+        ensures { result ≡ (table self.now).inner_processes };
+
+    /// Whether the operation fits the process.
+    fn fits(&self, who: u32, op: Op) -> bool
+        ensures { result ≡ (table self.now).suits who op };
+
+    /// What a part holds at first, by the layer's initial value.
+    fn first(&self, value: u32, part: u32) -> u32
+        requires value { value < (table self.now).values }
+        requires part { part < (table self.now).parts }
+        ensures { result ≡ (table self.now).first value part };
+
+    /// What an own word is at first, by the layer's initial value.
+    fn first_word(&self, value: u32, word: u32) -> u32
+        requires value { value < (table self.now).values }
+        requires word { word < (table self.now).words }
+        ensures { result ≡ (table self.now).first_word value word };
+
+    /// An operation's program up to its first task or its end; `base` is the first own word.
+    fn start(&self, store: &mut Store, base: u32, who: u32, op: Op) -> Turn<Self::Task>
+        requires inside { base + (table self.now).words ≤ length store.old.words }
+        requires numbered { base + (table self.now).words < 2 ^ 32 }
+        requires bounded { WordsHold (table self.now) base store.old }
+        requires fits { (table self.now).suits who op ≡ true }
+        ensures turn { result ≡ (settled base ((table self.now).program who op) store.old).turn }
+        ensures memory { store.new ≡ (settled base ((table self.now).program who op) store.old).memory };
+
+    /// The program behind a task that ended so, up to the next task or the end.
+    fn after(&self, store: &mut Store, base: u32, task: Self::Task, outcome: Outcome) -> Turn<Self::Task>
+        requires inside { base + (table self.now).words ≤ length store.old.words }
+        requires numbered { base + (table self.now).words < 2 ^ 32 }
+        requires bounded { WordsHold (table self.now) base store.old }
+        requires stands { (who : ℕ) × ((op : Op) × Stands self.now who op task) }
+        requires answers { Answers (table self.now).inner_values ((table self.now).asks task).op outcome }
+        requires goes_on { IsNotSpent outcome }
+        ensures turn { result ≡ (settled base ((table self.now).rest task outcome) store.old).turn }
+        ensures memory { store.new ≡ (settled base ((table self.now).rest task outcome) store.old).memory };
+
+    /// What a task asks a part for.
+    fn asks(&self, task: Self::Task) -> Ask
+        requires stands { (who : ℕ) × ((op : Op) × Stands self.now who op task) }
+        ensures { result ≡ (table self.now).asks task };
+
+    /// The layer's own frame in a task.
+    fn frame(&self, task: Self::Task) -> Frame
+        requires stands { (who : ℕ) × ((op : Op) × Stands self.now who op task) }
+        ensures { result ≡ (table self.now).frame task };
+
+    ghost sound: { (l : Self) → IsSoundTable (table l) (Stands l) };
+
+    // Equal layers have one table.
+    ghost alike: { (a b : Self) → Self.PartialEq.eq a b ≡ true → table a ≡ table b };
+
+    // A task is equal only to itself.
+    ghost same_task: { (a b : Self.Task) → Decides (Self.Task.PartialEq.eq a b) (a ≡ b) };
+}
