@@ -4,7 +4,7 @@ ghost use Rattle.std.specs.Prelude.{◌≡◌, ℕ, ◌<◌, ◌≤◌, ◌+◌,
 ghost use Rattle.safe_bit.specs.Parts.{behind, part, with_part, IsPlaced};
 ghost use Rattle.frames.specs.declared.types.Op.{Op};
 ghost use Rattle.frames.specs.Behaviour.{Answers, StandsWell};
-ghost use Rattle.frames.specs.Placed.{placed_bit};
+ghost use Rattle.frames.specs.Placed.{placed_bit, placed_action};
 ghost use Rattle.frames.specs.Nested as nested;
 ghost use Rattle.frames.specs.Nested.{layer_size, own_words, asked, pushed, behind_part, advance, layered};
 ghost use Rattle.frames.specs.Sound.{FitsBelow, IsNotSpent, LayerReaches};
@@ -14,8 +14,82 @@ ghost use Rattle.frames.specs.InPlace.{own, LayerLies};
 use crate::layer::Layer;
 use crate::nested::{Ask, Nested, Turn};
 use crate::register::Register;
-use crate::types::{Next, Op, Outcome, Turned};
+use crate::types::{Action, Next, Op, Outcome, Stack, Turned};
 use safe_bit::{Place, Store};
+use std::alloc::Global;
+
+/// How many cells and words a layer has: those of its parts, and its own words behind them.
+pub fn size<L: Layer, S: Register>(layer: &L, below: &S) -> Place
+    requires fit { FitsBelow (L.table layer.now) (S.is below.now) }
+    ensures { result ≡ (layered (L.table layer.now) (S.is below.now)).size }
+{
+    let size = below.size();
+    Place {
+        cell: layer.parts() * size.cell,
+        word: layer.parts() * size.word + layer.words(),
+    }
+}
+
+/// The most frames of a pending operation: one more than below.
+pub fn depth<L: Layer, S: Register>(layer: &L, below: &S) -> u32
+    requires fit { FitsBelow (L.table layer.now) (S.is below.now) }
+    ensures { result ≡ (layered (L.table layer.now) (S.is below.now)).depth }
+{
+    below.depth() + 1
+}
+
+/// A process invokes an operation of the layer.
+pub fn begin<L: Layer, S: Register>(layer: &L, below: &S, store: &mut Store, at: Place, who: u32, op: Op) -> Next<Nested<L::Task, S::Pending>>
+    requires fit { FitsBelow (L.table layer.now) (S.is below.now) }
+    requires lies { LayerLies (L.table layer.now) (S.is below.now) (S.Holds below.now) at store.old }
+    requires fits { (L.table layer.now).suits who op ≡ true }
+    ensures next { result ≡ ((layered (L.table layer.now) (S.is below.now)).begins who op (own (L.table layer.now) (S.is below.now) at store.old)).next }
+    ensures memory { store.new ≡ with_part at ((layered (L.table layer.now) (S.is below.now)).begins who op (own (L.table layer.now) (S.is below.now) at store.old)).memory store.old }
+{
+    let turn = start(layer, below, store, at, who, op);
+    run(layer, below, store, at, turn)
+}
+
+/// A pending operation of the layer makes its next bit action.
+pub fn go<L: Layer, S: Register>(layer: &L, below: &S, store: &mut Store, at: Place, pending: Nested<L::Task, S::Pending>, choice: bool) -> Turned<Nested<L::Task, S::Pending>>
+    requires fit { FitsBelow (L.table layer.now) (S.is below.now) }
+    requires lies { LayerLies (L.table layer.now) (S.is below.now) (S.Holds below.now) at store.old }
+    requires reached { (who : ℕ) × ((op : Op) × LayerReaches (L.table layer.now) (L.Stands layer.now) (S.Reaches below.now) who op pending) }
+    ensures next { result.next ≡ ((layered (L.table layer.now) (S.is below.now)).goes pending choice (own (L.table layer.now) (S.is below.now) at store.old)).next }
+    ensures chosen { result.chosen ≡ placed_bit at ((layered (L.table layer.now) (S.is below.now)).goes pending choice (own (L.table layer.now) (S.is below.now) at store.old)).chosen }
+    ensures memory { store.new ≡ with_part at ((layered (L.table layer.now) (S.is below.now)).goes pending choice (own (L.table layer.now) (S.is below.now) at store.old)).memory store.old }
+{
+    let turned = push(layer, below, store, at, pending, choice);
+    let next = follow(layer, below, store, at, pending.task, turned.next);
+    Turned {
+        next,
+        chosen: turned.chosen,
+    }
+}
+
+/// The frames of a pending operation: the layer's own in front of those of the part in work.
+pub fn stack<L: Layer, S: Register>(layer: &L, below: &S, alloc: Global, pending: &Nested<L::Task, S::Pending>) -> Stack
+    requires fit { FitsBelow (L.table layer.now) (S.is below.now) }
+    requires reached { (who : ℕ) × ((op : Op) × LayerReaches (L.table layer.now) (L.Stands layer.now) (S.Reaches below.now) who op pending.now) }
+    ensures frames { result.items ≡ (layered (L.table layer.now) (S.is below.now)).frames pending.now }
+    ensures inline { result.capacity ≡ 8 }
+{
+    let mut stack = below.stack(alloc, &pending.below);
+    stack.insert(0, layer.frame(pending.task)).unwrap();
+    stack
+}
+
+/// The next bit action of a pending operation, at a place.
+pub fn action<L: Layer, S: Register>(layer: &L, below: &S, pending: &Nested<L::Task, S::Pending>, at: Place) -> Action
+    requires fit { FitsBelow (L.table layer.now) (S.is below.now) }
+    requires placed { IsPlaced at (layer_size (L.table layer.now) (S.is below.now).size) }
+    requires reached { (who : ℕ) × ((op : Op) × LayerReaches (L.table layer.now) (L.Stands layer.now) (S.Reaches below.now) who op pending.now) }
+    ensures { result ≡ placed_action at ((layered (L.table layer.now) (S.is below.now)).acts pending.now) }
+{
+    let ask = layer.asks(pending.task);
+    let place = part_place(layer, below, at, ask.part);
+    below.action(&pending.below, place)
+}
 
 /// Where part `part` of a layer lies.
 fn part_place<L: Layer, S: Register>(layer: &L, below: &S, at: Place, part: u32) -> Place
