@@ -13,3 +13,4 @@ pub mod LayerLaws
 pub mod Settled
 pub mod InPlace
 pub mod Running
+pub mod Initial

@@ -1,12 +1,13 @@
 //! The register of a layer over registers: each call runs the layer's program, part by part.
 
-ghost use Rattle.std.specs.Prelude.{◌≡◌, ℕ, ◌<◌, ◌≤◌, ◌+◌, ◌^◌, Bool, true, length};
-ghost use Rattle.safe_bit.specs.Parts.{behind, part, with_part, IsPlaced};
+ghost use Rattle.std.specs.Prelude.{◌≡◌, ℕ, [], ◌∷◌, ◌<◌, ◌≤◌, ◌+◌, ◌^◌, Bool, true, length};
+ghost use Rattle.safe_bit.specs.Parts.{behind, part, with_part, IsPlaced, LiesIn};
+ghost use Rattle.safe_bit.specs.Windows.{splice};
 ghost use Rattle.frames.specs.declared.types.Op.{Op};
 ghost use Rattle.frames.specs.Behaviour.{Answers, StandsWell};
 ghost use Rattle.frames.specs.Placed.{placed_bit, placed_action};
 ghost use Rattle.frames.specs.Nested as nested;
-ghost use Rattle.frames.specs.Nested.{layer_size, own_words, asked, pushed, behind_part, advance, layered};
+ghost use Rattle.frames.specs.Nested.{layer_size, own_words, asked, pushed, behind_part, advance, layered, first_parts, gathered};
 ghost use Rattle.frames.specs.Sound.{FitsBelow, IsNotSpent, LayerReaches};
 ghost use Rattle.frames.specs.Settled.{settled, TurnStands, turn_left, run_on, follow_on};
 ghost use Rattle.frames.specs.InPlace.{own, LayerLies};
@@ -36,6 +37,45 @@ pub fn depth<L: Layer, S: Register>(layer: &L, below: &S) -> u32
     ensures { result ≡ (layered (L.table layer.now) (S.is below.now)).depth }
 {
     below.depth() + 1
+}
+
+/// Sets the layer's own memory to the initial value.
+pub fn init<L: Layer, S: Register>(layer: &L, below: &S, store: &mut Store, at: Place, value: u32)
+    requires fit { FitsBelow (L.table layer.now) (S.is below.now) }
+    requires inside { LiesIn at (layer_size (L.table layer.now) (S.is below.now).size) store.old }
+    requires placed { IsPlaced at (layer_size (L.table layer.now) (S.is below.now).size) }
+    requires value { value < (L.table layer.now).values }
+    ensures { store.new ≡ with_part at ((layered (L.table layer.now) (S.is below.now)).initial value) store.old }
+{
+    init_parts(layer, below, store, at, value);
+    let base = words_at(layer, below, at);
+    init_words(layer, store, base, value);
+}
+
+/// Sets each part's memory at first.
+fn init_parts<L: Layer, S: Register>(layer: &L, below: &S, store: &mut Store, at: Place, value: u32)
+    requires fit { FitsBelow (L.table layer.now) (S.is below.now) }
+    requires inside { LiesIn at (layer_size (L.table layer.now) (S.is below.now).size) store.old }
+    requires placed { IsPlaced at (layer_size (L.table layer.now) (S.is below.now).size) }
+    requires value { value < (L.table layer.now).values }
+    ensures { store.new ≡ with_part at (first_parts (L.table layer.now) (S.is below.now) value (L.table layer.now).parts) store.old }
+{
+    for part in 0..layer.parts() {
+        let place = part_place(layer, below, at, part);
+        below.init(store, place, layer.first(value, part));
+    }
+}
+
+/// Sets the layer's own words at first.
+fn init_words<L: Layer>(layer: &L, store: &mut Store, base: u32, value: u32)
+    requires inside { base + (L.table layer.now).words ≤ length store.old.words }
+    requires numbered { base + (L.table layer.now).words < 2 ^ 32 }
+    requires value { value < (L.table layer.now).values }
+    ensures { store.new ≡ record store.old { words = splice base (gathered (λ k. (L.table layer.now).first_word value k ∷ []) (L.table layer.now).words) store.old.words } }
+{
+    for word in 0..layer.words() {
+        store.set_word(base + word, layer.first_word(value, word));
+    }
 }
 
 /// A process invokes an operation of the layer.

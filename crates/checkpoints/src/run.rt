@@ -1,0 +1,85 @@
+//! Runs of a segment: its steps, made from where it begins.
+
+ghost use Rattle.std.specs.Prelude.{◌≡◌, IfOk};
+ghost use Rattle.checkpoints.specs.Segment.{AllFit, IsRun};
+
+use crate::events::Events;
+use crate::replay::replay_from;
+use frames::config::Config;
+use frames::register::Register;
+use frames::types::Step;
+use std::alloc::{AllocError, Global};
+use std::marker::Model;
+
+/// A stored run of a segment: the configuration that it begins from, its steps, the configuration
+/// that it comes to, and the events of each step by its offset.
+#[derive(Drop)]
+pub struct Run<R: Register> {
+    entry: Config<R>,
+    steps: Vec<Step>,
+    exit: Config<R>,
+    events: Events,
+}
+
+impl<R: Register> Model for Run<R> {
+    ghost use Rattle.checkpoints.specs.Segment.{SegmentRun, IsRun};
+
+    ghost Value = { SegmentRun R R.Pending };
+
+    ghost view = { λ r. record { entry = r.entry; steps = r.steps.items; exit = r.exit; events = r.events } };
+
+    ghost invariant = { λ r. IsRun (R.is r.entry.register) (record { entry = r.entry; steps = r.steps.items; exit = r.exit; events = r.events }) };
+}
+
+impl<R: Register> Run<R> {
+    /// The configuration that it begins from.
+    pub fn entry(&self) -> &Config<R>
+        ensures { result.now ≡ self.now.entry }
+    {
+        &self.entry
+    }
+
+    /// Its steps.
+    pub fn steps(&self) -> &[Step]
+        ensures { result.now ≡ self.now.steps }
+    {
+        &self.steps
+    }
+
+    /// The configuration that it comes to.
+    pub fn exit(&self) -> &Config<R>
+        ensures exit { result.now ≡ self.now.exit }
+        ensures kept { IsRun (R.is self.now.entry.register) self.now }
+    {
+        &self.exit
+    }
+
+    /// The events of each step, by its offset in the segment.
+    pub fn events(&self) -> &Events
+        ensures events { result.now ≡ self.now.events }
+        ensures kept { IsRun (R.is self.now.entry.register) self.now }
+    {
+        &self.events
+    }
+}
+
+/// Makes the steps of a segment one after another, from the configuration that it begins from.
+pub fn run_segment<R: Register>(
+    alloc: Global,
+    entry: &Config<R>,
+    steps: &[Step],
+) -> Result<Run<R>, AllocError>
+    requires { AllFit (R.is entry.now.register) steps.now }
+    ensures entry { IfOk result (λ run. run.entry ≡ entry.now) }
+    ensures steps { IfOk result (λ run. run.steps ≡ steps.now) }
+{
+    let mut list = Vec::new(alloc);
+    list.extend_from_slice(steps)?;
+    let replayed = replay_from(alloc, entry.copy(alloc)?, &list)?;
+    Ok(Run {
+        entry: entry.copy(alloc)?,
+        steps: list,
+        exit: replayed.config,
+        events: replayed.events,
+    })
+}
