@@ -14,3 +14,6 @@ pub mod Settled
 pub mod InPlace
 pub mod Running
 pub mod Initial
+pub mod Fit
+pub mod OneWriter
+pub mod NestedEquality

@@ -7,6 +7,7 @@ ghost use Rattle.frames.specs.Behaviour.{Answers};
 ghost use Rattle.frames.specs.Nested.{Table};
 ghost use Rattle.frames.specs.Sound.{IsSoundTable, WordsHold, IsNotSpent};
 ghost use Rattle.frames.specs.Settled.{settled};
+ghost use Rattle.frames.specs.OneWriter as spec;
 
 use crate::nested::{Ask, Turn};
 use crate::types::{Frame, Op, Outcome};
@@ -100,4 +101,15 @@ pub trait Layer: Copy + PartialEq + Send + Sync {
 
     // A task is equal only to itself.
     ghost same_task: { (a b : Self.Task) → Decides (Self.Task.PartialEq.eq a b) (a ≡ b) };
+}
+
+/// Whether an operation fits a process of a register with one writer: process 0 writes each value
+/// below `values`, and each other process reads.
+pub fn one_writer(values: u32, processes: u32, who: u32, op: Op) -> bool
+    ensures { result ≡ spec.one_writer values processes who op }
+{
+    match op {
+        Op::Write(v) => who == 0 && v < values && processes > 0,
+        Op::Read => who >= 1 && who < processes,
+    }
 }

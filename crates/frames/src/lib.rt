@@ -2,7 +2,8 @@
 #![tactic(auto)]
 
 pub mod config;
-mod drive;
+pub mod drive;
+pub mod fit;
 pub mod layer;
 pub mod nested;
 mod own;
@@ -10,3 +11,6 @@ pub mod register;
 pub mod running;
 pub mod safe;
 pub mod types;
+
+#[cfg(test)]
+mod tests;
