@@ -2,7 +2,7 @@
 use Rattle.std.proofs.Common.{◌≡◌, Bool, true, false, ap, sym, ◌∙◌}
 use mathlib.Core.Bool.{◌&&◌}
 use Rattle.std.specs.Bool.{Decides}
-use Rattle.std.proofs.lemmas.Bool.Decides.{Decides-and, Decides-like}
+use Rattle.std.proofs.lemmas.Bool.Decides.{Decides-and, Decides-at, Decides-like}
 use Rattle.frames.specs.declared.nested.Nested.{Nested}
 use Rattle.frames.specs.Behaviour.{Behaviour}
 use Rattle.frames.specs.Nested.{Table, layered}
@@ -21,3 +21,7 @@ both_true false b h = (h, cc)
 
 pub layered_alike : {Task P : Type 0} (t u : Table Task) (a b : Behaviour P) → t ≡ u → a ≡ b → layered t a ≡ layered u b
 layered_alike t u a b p q = λ i. layered (p i) (q i)
+
+-- a test that agrees with one which decides equality decides it too
+pub decides_like : {A : Type 0} (E F : A → A → Bool) → ((x y : A) → E x y ≡ F x y) → ((x y : A) → Decides (F x y) (x ≡ y)) → (x y : A) → Decides (E x y) (x ≡ y)
+decides_like E F same d x y = Decides-at (E x y) (F x y) (same x y) (d x y)

@@ -39,6 +39,13 @@ pub fn depth<L: Layer, S: Register>(layer: &L, below: &S) -> u32
     below.depth() + 1
 }
 
+/// Whether the operation fits the process.
+pub fn fits<L: Layer>(layer: &L, who: u32, op: Op) -> bool
+    ensures { result ≡ (L.table layer.now).suits who op }
+{
+    layer.fits(who, op)
+}
+
 /// Sets the layer's own memory to the initial value.
 pub fn init<L: Layer, S: Register>(layer: &L, below: &S, store: &mut Store, at: Place, value: u32)
     requires fit { FitsBelow (L.table layer.now) (S.is below.now) }

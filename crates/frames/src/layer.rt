@@ -14,9 +14,9 @@ use crate::types::{Frame, Op, Outcome};
 use safe_bit::Store;
 
 /// A layer's own rules, whatever stands below it. Its calls read and set the layer's own words alone.
-pub trait Layer: Copy + PartialEq + Send + Sync {
+pub trait Layer: Copy + Eq {
     /// A point in a program: the operation of a part that is in work.
-    type Task: Copy + PartialEq + Send + Sync;
+    type Task: Copy + PartialEq;
 
     // The layer's programs, words and parts.
     ghost table: { Self → Table Self.Task };

@@ -14,9 +14,9 @@ use std::alloc::Global;
 
 /// A register, generic over whatever it is built of. Its operations depend on and change its own
 /// cells and words alone, in the same way at every place.
-pub trait Register: Copy + PartialEq + Send + Sync {
+pub trait Register: Copy + Eq {
     /// A point at which an operation stands between two bit actions; equal only to itself.
-    type Pending: Copy + PartialEq + Send + Sync;
+    type Pending: Copy + PartialEq;
 
     // What the register does, on its own memory alone.
     ghost is: { Self → Behaviour Self.Pending };

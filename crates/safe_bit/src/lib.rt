@@ -9,9 +9,11 @@ ghost use Rattle.std.specs.Prelude.{◌≡◌, ◌<◌, ℕ, IfOk, length, Optio
 ghost use Rattle.safe_bit.specs.Actions.{idle_cell, start_write, end_write, start_read, end_read, read_gives};
 ghost use Rattle.safe_bit.specs.Memory.{blank, cell_at, word_at, on_cell, with_word};
 
-
 use std::alloc::{AllocError, Global};
 use std::marker::Model;
+
+#[cfg(test)]
+mod tests;
 
 /// A safe bit: its value, the value being written, and what is known of the read in progress.
 #[derive(Clone, Copy, Debug, PartialEq, Eq)]

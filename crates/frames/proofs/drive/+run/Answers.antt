@@ -11,10 +11,10 @@ use Rattle.frames.specs.InPlace.{own}
 use Rattle.frames.specs.Running.{follow_well, run_well, follow_ended, ask_holds, ask_stands, rest_stands, rest_holds, rest_left, chain, lies_after}
 use Rattle.frames.proofs.drive.+run.Goals as goal
 
-pub follow-run-requires-clause-lies : goal.follow-run-requires-clause-lies
-follow-run-requires-clause-lies g measure c κs within =
-    let register = g.met.S.Register g.world.𝓛 g.world.𝓜 g.world.𝓡 ((λ s x. x), (λ x. x), (λ x. x), λ x. x) in
-    let layer = g.met.L.Layer g.world.𝓛 g.world.𝓜 g.world.𝓡 ((λ s x. x), (λ x. x), (λ x. x), λ x. x) in
+pub follow-run-requires : goal.follow-run-requires
+follow-run-requires g measure c =
+    let register = g.met.S.Register in
+    let layer = g.met.L.Layer in
     let t = g.L.Layer.table c.args.layer.now in
     let b = g.S.Register.is c.args.below.now in
     let Holds = g.S.Register.Holds c.args.below.now in
@@ -37,40 +37,17 @@ follow-run-requires-clause-lies g measure c κs within =
     let mid = (settled (own_words t b.size) (t.rest task outcome) (own t b at m)).memory in
     let mid_holds = rest_holds t b Holds Reaches Stands lawful table fit who o task outcome (own t b at m) holds stands answers goes_on in
     let turn_stands = rest_stands t b Holds Reaches Stands lawful table fit who o task outcome (own t b at m) holds stands answers goes_on in
-    lies_after t b Holds Reaches Stands lawful table fit at m lies mid c.after-turn.new.store c.after-turn.ensures.memory mid_holds
-
-pub follow-run-requires-clause-stands : goal.follow-run-requires-clause-stands
-follow-run-requires-clause-stands g measure c κs within =
-    let register = g.met.S.Register g.world.𝓛 g.world.𝓜 g.world.𝓡 ((λ s x. x), (λ x. x), (λ x. x), λ x. x) in
-    let layer = g.met.L.Layer g.world.𝓛 g.world.𝓜 g.world.𝓡 ((λ s x. x), (λ x. x), (λ x. x), λ x. x) in
-    let t = g.L.Layer.table c.args.layer.now in
-    let b = g.S.Register.is c.args.below.now in
-    let Holds = g.S.Register.Holds c.args.below.now in
-    let Reaches = g.S.Register.Reaches c.args.below.now in
-    let Stands = g.L.Layer.Stands c.args.layer.now in
-    let lawful = register.lawful c.args.below.now in
-    let table = layer.sound c.args.layer.now in
-    let fit = c.requires.fit in
-    let at = c.args.at in
-    let m = c.args.store.now in
-    let lies = c.requires.lies in
-    let who = c.requires.stands.0 in
-    let o = c.requires.stands.1.0 in
-    let task = c.args.task in
-    let outcome = c.in-Done.outcome in
-    let stands = c.requires.stands.1.1.0 in
-    let answers : Answers b.values (t.asks task).op outcome = rw c.in-Done.is at c.requires.stands.1.1.1 in
-    let goes_on : IsNotSpent outcome = search rules in
-    let holds = lies.holds in
-    let mid = (settled (own_words t b.size) (t.rest task outcome) (own t b at m)).memory in
-    let mid_holds = rest_holds t b Holds Reaches Stands lawful table fit who o task outcome (own t b at m) holds stands answers goes_on in
-    let turn_stands = rest_stands t b Holds Reaches Stands lawful table fit who o task outcome (own t b at m) holds stands answers goes_on in
-    (who, (o, rw c.after-turn.ensures.turn turn_stands))
+    let lies_there = lies_after t b Holds Reaches Stands lawful table fit at m lies mid c.after-turn.new.store c.after-turn.ensures.memory mid_holds in
+    let fewer : turn_left t c.after-turn.result ≤ t.left task = c.after-turn.ensures.fewer in
+    let was : 2 * t.left task + 1 ≡ measure = c.decreases in
+    let below : 2 * turn_left t c.after-turn.result < measure = omega (arith, fewer, was) in
+    let there : TurnStands (Stands who o) (Answers t.values o) c.after-turn.result = rw c.after-turn.ensures.turn turn_stands in
+    λ κs within. (below, (within.0, (within.1.0, (within.1.1.0, (within.1.1.1, (fit, (lies_there, (who, (o, there)))))))))
 
 pub follow-returns-in-Pending-clause-memory : goal.follow-returns-in-Pending-clause-memory
 follow-returns-in-Pending-clause-memory g measure c =
-    let register = g.met.S.Register g.world.𝓛 g.world.𝓜 g.world.𝓡 ((λ s x. x), (λ x. x), (λ x. x), λ x. x) in
-    let layer = g.met.L.Layer g.world.𝓛 g.world.𝓜 g.world.𝓡 ((λ s x. x), (λ x. x), (λ x. x), λ x. x) in
+    let register = g.met.S.Register in
+    let layer = g.met.L.Layer in
     let t = g.L.Layer.table c.args.layer.now in
     let b = g.S.Register.is c.args.below.now in
     let Holds = g.S.Register.Holds c.args.below.now in
@@ -88,8 +65,8 @@ follow-returns-in-Pending-clause-memory g measure c =
 
 pub follow-returns-in-Done-Spent-clause-memory : goal.follow-returns-in-Done-Spent-clause-memory
 follow-returns-in-Done-Spent-clause-memory g measure c =
-    let register = g.met.S.Register g.world.𝓛 g.world.𝓜 g.world.𝓡 ((λ s x. x), (λ x. x), (λ x. x), λ x. x) in
-    let layer = g.met.L.Layer g.world.𝓛 g.world.𝓜 g.world.𝓡 ((λ s x. x), (λ x. x), (λ x. x), λ x. x) in
+    let register = g.met.S.Register in
+    let layer = g.met.L.Layer in
     let t = g.L.Layer.table c.args.layer.now in
     let b = g.S.Register.is c.args.below.now in
     let Holds = g.S.Register.Holds c.args.below.now in
@@ -108,8 +85,8 @@ follow-returns-in-Done-Spent-clause-memory g measure c =
 
 pub follow-returns-in-Done : goal.follow-returns-in-Done
 follow-returns-in-Done g measure c =
-    let register = g.met.S.Register g.world.𝓛 g.world.𝓜 g.world.𝓡 ((λ s x. x), (λ x. x), (λ x. x), λ x. x) in
-    let layer = g.met.L.Layer g.world.𝓛 g.world.𝓜 g.world.𝓡 ((λ s x. x), (λ x. x), (λ x. x), λ x. x) in
+    let register = g.met.S.Register in
+    let layer = g.met.L.Layer in
     let t = g.L.Layer.table c.args.layer.now in
     let b = g.S.Register.is c.args.below.now in
     let Holds = g.S.Register.Holds c.args.below.now in
@@ -143,10 +120,10 @@ follow-returns-in-Done g measure c =
         ∙ ap (λ q. follow_on t b task q (own t b at m)) (sym c.in-Done.is) in
     record { next = there.0 ∙ ap (λ q. q.next) e; memory = there.1 ∙ ap (λ q. with_part at q.memory m) e }
 
-pub run-follow-requires-clause-lies : goal.run-follow-requires-clause-lies
-run-follow-requires-clause-lies g measure c κs within =
-    let register = g.met.S.Register g.world.𝓛 g.world.𝓜 g.world.𝓡 ((λ s x. x), (λ x. x), (λ x. x), λ x. x) in
-    let layer = g.met.L.Layer g.world.𝓛 g.world.𝓜 g.world.𝓡 ((λ s x. x), (λ x. x), (λ x. x), λ x. x) in
+pub run-follow-requires : goal.run-follow-requires
+run-follow-requires g measure c =
+    let register = g.met.S.Register in
+    let layer = g.met.L.Layer in
     let t = g.L.Layer.table c.args.layer.now in
     let b = g.S.Register.is c.args.below.now in
     let Holds = g.S.Register.Holds c.args.below.now in
@@ -166,37 +143,17 @@ run-follow-requires-clause-lies g measure c κs within =
     let mid = (asked b (t.asks task) (own t b at m)).memory in
     let mid_holds = ask_holds t b Holds Reaches Stands lawful table fit who o task (own t b at m) holds stands in
     let below_stands = ask_stands t b Holds Reaches Stands lawful table fit who o task (own t b at m) holds stands in
-    lies_after t b Holds Reaches Stands lawful table fit at m lies mid c.ask-next.new.store c.ask-next.ensures.memory mid_holds
-
-pub run-follow-requires-clause-stands : goal.run-follow-requires-clause-stands
-run-follow-requires-clause-stands g measure c κs within =
-    let register = g.met.S.Register g.world.𝓛 g.world.𝓜 g.world.𝓡 ((λ s x. x), (λ x. x), (λ x. x), λ x. x) in
-    let layer = g.met.L.Layer g.world.𝓛 g.world.𝓜 g.world.𝓡 ((λ s x. x), (λ x. x), (λ x. x), λ x. x) in
-    let t = g.L.Layer.table c.args.layer.now in
-    let b = g.S.Register.is c.args.below.now in
-    let Holds = g.S.Register.Holds c.args.below.now in
-    let Reaches = g.S.Register.Reaches c.args.below.now in
-    let Stands = g.L.Layer.Stands c.args.layer.now in
-    let lawful = register.lawful c.args.below.now in
-    let table = layer.sound c.args.layer.now in
-    let fit = c.requires.fit in
-    let at = c.args.at in
-    let m = c.args.store.now in
-    let lies = c.requires.lies in
-    let who = c.requires.stands.0 in
-    let o = c.requires.stands.1.0 in
-    let task = c.in-Asks.task in
-    let stands : Stands who o task = rw c.in-Asks.is at c.requires.stands.1.1 in
-    let holds = lies.holds in
-    let mid = (asked b (t.asks task) (own t b at m)).memory in
-    let mid_holds = ask_holds t b Holds Reaches Stands lawful table fit who o task (own t b at m) holds stands in
-    let below_stands = ask_stands t b Holds Reaches Stands lawful table fit who o task (own t b at m) holds stands in
-    (who, (o, (stands, rw c.ask-next.ensures.next below_stands)))
+    let lies_there = lies_after t b Holds Reaches Stands lawful table fit at m lies mid c.ask-next.new.store c.ask-next.ensures.memory mid_holds in
+    let was : 2 * turn_left t c.args.turn ≡ measure = c.decreases in
+    let was_asking : 2 * (t.left task + 1) ≡ measure = rw c.in-Asks.is at was in
+    let below : 2 * t.left task + 1 < measure = omega (arith, was_asking) in
+    let there : StandsWell (Reaches (t.asks task).who (t.asks task).op) (Answers b.values (t.asks task).op) c.ask-next.result = rw c.ask-next.ensures.next below_stands in
+    λ κs within. (below, (within.0, (within.1.0, (within.1.1.0, (within.1.1.1, (fit, (lies_there, (who, (o, (stands, there))))))))))
 
 pub run-returns-in-Ends-clause-memory : goal.run-returns-in-Ends-clause-memory
 run-returns-in-Ends-clause-memory g measure c =
-    let register = g.met.S.Register g.world.𝓛 g.world.𝓜 g.world.𝓡 ((λ s x. x), (λ x. x), (λ x. x), λ x. x) in
-    let layer = g.met.L.Layer g.world.𝓛 g.world.𝓜 g.world.𝓡 ((λ s x. x), (λ x. x), (λ x. x), λ x. x) in
+    let register = g.met.S.Register in
+    let layer = g.met.L.Layer in
     let t = g.L.Layer.table c.args.layer.now in
     let b = g.S.Register.is c.args.below.now in
     let Holds = g.S.Register.Holds c.args.below.now in
@@ -214,8 +171,8 @@ run-returns-in-Ends-clause-memory g measure c =
 
 pub run-returns-in-Asks-clause-next : goal.run-returns-in-Asks-clause-next
 run-returns-in-Asks-clause-next g measure c =
-    let register = g.met.S.Register g.world.𝓛 g.world.𝓜 g.world.𝓡 ((λ s x. x), (λ x. x), (λ x. x), λ x. x) in
-    let layer = g.met.L.Layer g.world.𝓛 g.world.𝓜 g.world.𝓡 ((λ s x. x), (λ x. x), (λ x. x), λ x. x) in
+    let register = g.met.S.Register in
+    let layer = g.met.L.Layer in
     let t = g.L.Layer.table c.args.layer.now in
     let b = g.S.Register.is c.args.below.now in
     let Holds = g.S.Register.Holds c.args.below.now in
@@ -246,8 +203,8 @@ run-returns-in-Asks-clause-next g measure c =
 
 pub run-returns-in-Asks-clause-memory : goal.run-returns-in-Asks-clause-memory
 run-returns-in-Asks-clause-memory g measure c =
-    let register = g.met.S.Register g.world.𝓛 g.world.𝓜 g.world.𝓡 ((λ s x. x), (λ x. x), (λ x. x), λ x. x) in
-    let layer = g.met.L.Layer g.world.𝓛 g.world.𝓜 g.world.𝓡 ((λ s x. x), (λ x. x), (λ x. x), λ x. x) in
+    let register = g.met.S.Register in
+    let layer = g.met.L.Layer in
     let t = g.L.Layer.table c.args.layer.now in
     let b = g.S.Register.is c.args.below.now in
     let Holds = g.S.Register.Holds c.args.below.now in

@@ -8,9 +8,9 @@ use Rattle.frames.specs.Running.{begin_holds, begin_stands, begin_settled, run_w
 use Rattle.frames.proofs.drive.begin.Goals as goal
 
 pub run-requires-clause-lies : goal.run-requires-clause-lies
-run-requires-clause-lies g c κs within =
-    let register = g.met.S.Register g.world.𝓛 g.world.𝓜 g.world.𝓡 ((λ s x. x), (λ x. x), (λ x. x), λ x. x) in
-    let layer = g.met.L.Layer g.world.𝓛 g.world.𝓜 g.world.𝓡 ((λ s x. x), (λ x. x), (λ x. x), λ x. x) in
+run-requires-clause-lies g c =
+    let register = g.met.S.Register in
+    let layer = g.met.L.Layer in
     let t = g.L.Layer.table c.args.layer.now in
     let b = g.S.Register.is c.args.below.now in
     let Holds = g.S.Register.Holds c.args.below.now in
@@ -31,9 +31,9 @@ run-requires-clause-lies g c κs within =
     lies_after t b Holds Reaches Stands lawful table fit at m lies mid c.start-turn.new.store c.start-turn.ensures.memory mid_holds
 
 pub run-requires-clause-stands : goal.run-requires-clause-stands
-run-requires-clause-stands g c κs within =
-    let register = g.met.S.Register g.world.𝓛 g.world.𝓜 g.world.𝓡 ((λ s x. x), (λ x. x), (λ x. x), λ x. x) in
-    let layer = g.met.L.Layer g.world.𝓛 g.world.𝓜 g.world.𝓡 ((λ s x. x), (λ x. x), (λ x. x), λ x. x) in
+run-requires-clause-stands g c =
+    let register = g.met.S.Register in
+    let layer = g.met.L.Layer in
     let t = g.L.Layer.table c.args.layer.now in
     let b = g.S.Register.is c.args.below.now in
     let Holds = g.S.Register.Holds c.args.below.now in
@@ -55,8 +55,8 @@ run-requires-clause-stands g c κs within =
 
 pub returns-clause-next : goal.returns-clause-next
 returns-clause-next g c =
-    let register = g.met.S.Register g.world.𝓛 g.world.𝓜 g.world.𝓡 ((λ s x. x), (λ x. x), (λ x. x), λ x. x) in
-    let layer = g.met.L.Layer g.world.𝓛 g.world.𝓜 g.world.𝓡 ((λ s x. x), (λ x. x), (λ x. x), λ x. x) in
+    let register = g.met.S.Register in
+    let layer = g.met.L.Layer in
     let t = g.L.Layer.table c.args.layer.now in
     let b = g.S.Register.is c.args.below.now in
     let Holds = g.S.Register.Holds c.args.below.now in
@@ -86,8 +86,8 @@ returns-clause-next g c =
 
 pub returns-clause-memory : goal.returns-clause-memory
 returns-clause-memory g c =
-    let register = g.met.S.Register g.world.𝓛 g.world.𝓜 g.world.𝓡 ((λ s x. x), (λ x. x), (λ x. x), λ x. x) in
-    let layer = g.met.L.Layer g.world.𝓛 g.world.𝓜 g.world.𝓡 ((λ s x. x), (λ x. x), (λ x. x), λ x. x) in
+    let register = g.met.S.Register in
+    let layer = g.met.L.Layer in
     let t = g.L.Layer.table c.args.layer.now in
     let b = g.S.Register.is c.args.below.now in
     let Holds = g.S.Register.Holds c.args.below.now in

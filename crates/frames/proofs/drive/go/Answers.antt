@@ -8,9 +8,9 @@ use Rattle.frames.specs.Running.{push_holds, push_stands, follow_well, chain, li
 use Rattle.frames.proofs.drive.go.Goals as goal
 
 pub follow-next-requires-clause-lies : goal.follow-next-requires-clause-lies
-follow-next-requires-clause-lies g c κs within =
-    let register = g.met.S.Register g.world.𝓛 g.world.𝓜 g.world.𝓡 ((λ s x. x), (λ x. x), (λ x. x), λ x. x) in
-    let layer = g.met.L.Layer g.world.𝓛 g.world.𝓜 g.world.𝓡 ((λ s x. x), (λ x. x), (λ x. x), λ x. x) in
+follow-next-requires-clause-lies g c =
+    let register = g.met.S.Register in
+    let layer = g.met.L.Layer in
     let t = g.L.Layer.table c.args.layer.now in
     let b = g.S.Register.is c.args.below.now in
     let Holds = g.S.Register.Holds c.args.below.now in
@@ -35,9 +35,9 @@ follow-next-requires-clause-lies g c κs within =
     lies_after t b Holds Reaches Stands lawful table fit at m lies mid c.push-turned.new.store c.push-turned.ensures.memory mid_holds
 
 pub follow-next-requires-clause-stands : goal.follow-next-requires-clause-stands
-follow-next-requires-clause-stands g c κs within =
-    let register = g.met.S.Register g.world.𝓛 g.world.𝓜 g.world.𝓡 ((λ s x. x), (λ x. x), (λ x. x), λ x. x) in
-    let layer = g.met.L.Layer g.world.𝓛 g.world.𝓜 g.world.𝓡 ((λ s x. x), (λ x. x), (λ x. x), λ x. x) in
+follow-next-requires-clause-stands g c =
+    let register = g.met.S.Register in
+    let layer = g.met.L.Layer in
     let t = g.L.Layer.table c.args.layer.now in
     let b = g.S.Register.is c.args.below.now in
     let Holds = g.S.Register.Holds c.args.below.now in
@@ -63,8 +63,8 @@ follow-next-requires-clause-stands g c κs within =
 
 pub returns-clause-next : goal.returns-clause-next
 returns-clause-next g c =
-    let register = g.met.S.Register g.world.𝓛 g.world.𝓜 g.world.𝓡 ((λ s x. x), (λ x. x), (λ x. x), λ x. x) in
-    let layer = g.met.L.Layer g.world.𝓛 g.world.𝓜 g.world.𝓡 ((λ s x. x), (λ x. x), (λ x. x), λ x. x) in
+    let register = g.met.S.Register in
+    let layer = g.met.L.Layer in
     let t = g.L.Layer.table c.args.layer.now in
     let b = g.S.Register.is c.args.below.now in
     let Holds = g.S.Register.Holds c.args.below.now in
@@ -97,8 +97,8 @@ returns-clause-next g c =
 
 pub returns-clause-memory : goal.returns-clause-memory
 returns-clause-memory g c =
-    let register = g.met.S.Register g.world.𝓛 g.world.𝓜 g.world.𝓡 ((λ s x. x), (λ x. x), (λ x. x), λ x. x) in
-    let layer = g.met.L.Layer g.world.𝓛 g.world.𝓜 g.world.𝓡 ((λ s x. x), (λ x. x), (λ x. x), λ x. x) in
+    let register = g.met.S.Register in
+    let layer = g.met.L.Layer in
     let t = g.L.Layer.table c.args.layer.now in
     let b = g.S.Register.is c.args.below.now in
     let Holds = g.S.Register.Holds c.args.below.now in

@@ -7,8 +7,8 @@ use Rattle.frames.proofs.drive.init.Goals as goal
 
 pub returns : goal.returns
 returns g c =
-    let register = g.met.S.Register g.world.𝓛 g.world.𝓜 g.world.𝓡 ((λ s x. x), (λ x. x), (λ x. x), λ x. x) in
-    let layer = g.met.L.Layer g.world.𝓛 g.world.𝓜 g.world.𝓡 ((λ s x. x), (λ x. x), (λ x. x), λ x. x) in
+    let register = g.met.S.Register in
+    let layer = g.met.L.Layer in
     let t = g.L.Layer.table c.args.layer.now in
     let b = g.S.Register.is c.args.below.now in
     let Holds = g.S.Register.Holds c.args.below.now in

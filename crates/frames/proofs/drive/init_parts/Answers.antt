@@ -1,13 +1,13 @@
-use Rattle.std.proofs.Common.{◌≡◌, ◌+◌, suc, ap, ◌∙◌, sym, arith}
-use Rattle.safe_bit.specs.Parts.{behind, with_part}
+use Rattle.std.proofs.Common.{◌≡◌, ◌+◌, suc, ap, subst, ◌∙◌, sym, arith}
+use Rattle.safe_bit.specs.Parts.{behind, with_part, LiesIn}
 use Rattle.frames.specs.Nested.{first_parts, part_place}
-use Rattle.frames.specs.Initial.{next_part}
+use Rattle.frames.specs.Initial.{next_part, next_inside, no_part}
 use Rattle.frames.proofs.drive.init_parts.Goals as goal
 
 pub loop-part-preserved : goal.loop-part-preserved
 loop-part-preserved g c =
-    let register = g.met.S.Register g.world.𝓛 g.world.𝓜 g.world.𝓡 ((λ s x. x), (λ x. x), (λ x. x), λ x. x) in
-    let layer = g.met.L.Layer g.world.𝓛 g.world.𝓜 g.world.𝓡 ((λ s x. x), (λ x. x), (λ x. x), λ x. x) in
+    let register = g.met.S.Register in
+    let layer = g.met.L.Layer in
     let t = g.L.Layer.table c.args.layer.now in
     let b = g.S.Register.is c.args.below.now in
     let Holds = g.S.Register.Holds c.args.below.now in
@@ -27,3 +27,40 @@ loop-part-preserved g c =
     ∙ ap (λ s. with_part (behind at (part_place b.size j)) (b.initial (t.first v j)) s) c.loop-part.invariant
     ∙ next_part t b Holds Reaches Stands lawful table fit v c.requires.value j at m (omega arith) c.requires.inside
     ∙ ap (λ n. with_part at (first_parts t b v n) m) after
+
+pub loop-part-init : goal.loop-part-init
+loop-part-init g c =
+    let register = g.met.S.Register in
+    let layer = g.met.L.Layer in
+    let t = g.L.Layer.table c.args.layer.now in
+    let b = g.S.Register.is c.args.below.now in
+    let Holds = g.S.Register.Holds c.args.below.now in
+    let Reaches = g.S.Register.Reaches c.args.below.now in
+    let Stands = g.L.Layer.Stands c.args.layer.now in
+    let lawful = register.lawful c.args.below.now in
+    let table = layer.sound c.args.layer.now in
+    let fit = c.requires.fit in
+    let at = c.args.at in
+    let m = c.args.store.now in
+    let v = c.args.value in
+    no_part t b Holds Reaches Stands lawful table fit v c.requires.value at m
+
+pub init-requires-clause-inside : goal.init-requires-clause-inside
+init-requires-clause-inside g c =
+    let register = g.met.S.Register in
+    let layer = g.met.L.Layer in
+    let t = g.L.Layer.table c.args.layer.now in
+    let b = g.S.Register.is c.args.below.now in
+    let Holds = g.S.Register.Holds c.args.below.now in
+    let Reaches = g.S.Register.Reaches c.args.below.now in
+    let Stands = g.L.Layer.Stands c.args.layer.now in
+    let lawful = register.lawful c.args.below.now in
+    let table = layer.sound c.args.layer.now in
+    let fit = c.requires.fit in
+    let at = c.args.at in
+    let m = c.args.store.now in
+    let v = c.args.value in
+    let j = c.loop-part.part in
+    subst (λ q. LiesIn q b.size c.loop-part.store) (sym c.part_place-place.ensures)
+      (subst (LiesIn (behind at (part_place b.size j)) b.size) (sym c.loop-part.invariant)
+        (next_inside t b Holds Reaches Stands lawful table fit v c.requires.value j at m (omega arith) c.requires.inside))

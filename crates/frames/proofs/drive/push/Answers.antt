@@ -8,8 +8,8 @@ use Rattle.frames.proofs.drive.push.Goals as goal
 
 pub go-requires-clause-holds : goal.go-requires-clause-holds
 go-requires-clause-holds g c =
-    let register = g.met.S.Register g.world.𝓛 g.world.𝓜 g.world.𝓡 ((λ s x. x), (λ x. x), (λ x. x), λ x. x) in
-    let layer = g.met.L.Layer g.world.𝓛 g.world.𝓜 g.world.𝓡 ((λ s x. x), (λ x. x), (λ x. x), λ x. x) in
+    let register = g.met.S.Register in
+    let layer = g.met.L.Layer in
     let t = g.L.Layer.table c.args.layer.now in
     let b = g.S.Register.is c.args.below.now in
     let Holds = g.S.Register.Holds c.args.below.now in
@@ -29,8 +29,8 @@ go-requires-clause-holds g c =
 
 pub returns-clause-next : goal.returns-clause-next
 returns-clause-next g c =
-    let register = g.met.S.Register g.world.𝓛 g.world.𝓜 g.world.𝓡 ((λ s x. x), (λ x. x), (λ x. x), λ x. x) in
-    let layer = g.met.L.Layer g.world.𝓛 g.world.𝓜 g.world.𝓡 ((λ s x. x), (λ x. x), (λ x. x), λ x. x) in
+    let register = g.met.S.Register in
+    let layer = g.met.L.Layer in
     let t = g.L.Layer.table c.args.layer.now in
     let b = g.S.Register.is c.args.below.now in
     let Holds = g.S.Register.Holds c.args.below.now in
@@ -51,8 +51,8 @@ returns-clause-next g c =
 
 pub returns-clause-chosen : goal.returns-clause-chosen
 returns-clause-chosen g c =
-    let register = g.met.S.Register g.world.𝓛 g.world.𝓜 g.world.𝓡 ((λ s x. x), (λ x. x), (λ x. x), λ x. x) in
-    let layer = g.met.L.Layer g.world.𝓛 g.world.𝓜 g.world.𝓡 ((λ s x. x), (λ x. x), (λ x. x), λ x. x) in
+    let register = g.met.S.Register in
+    let layer = g.met.L.Layer in
     let t = g.L.Layer.table c.args.layer.now in
     let b = g.S.Register.is c.args.below.now in
     let Holds = g.S.Register.Holds c.args.below.now in
@@ -73,8 +73,8 @@ returns-clause-chosen g c =
 
 pub returns-clause-memory : goal.returns-clause-memory
 returns-clause-memory g c =
-    let register = g.met.S.Register g.world.𝓛 g.world.𝓜 g.world.𝓡 ((λ s x. x), (λ x. x), (λ x. x), λ x. x) in
-    let layer = g.met.L.Layer g.world.𝓛 g.world.𝓜 g.world.𝓡 ((λ s x. x), (λ x. x), (λ x. x), λ x. x) in
+    let register = g.met.S.Register in
+    let layer = g.met.L.Layer in
     let t = g.L.Layer.table c.args.layer.now in
     let b = g.S.Register.is c.args.below.now in
     let Holds = g.S.Register.Holds c.args.below.now in

@@ -7,7 +7,7 @@ use Rattle.frames.proofs.drive.start.Goals as goal
 
 pub returns-clause-turn : goal.returns-clause-turn
 returns-clause-turn g c =
-    let layer = g.met.L.Layer g.world.𝓛 g.world.𝓜 g.world.𝓡 ((λ s x. x), (λ x. x), (λ x. x), λ x. x) in
+    let layer = g.met.L.Layer in
     let sound = layer.sound c.args.layer.now in
     let t = g.L.Layer.table c.args.layer.now in
     let b = g.S.Register.is c.args.below.now in
@@ -21,7 +21,7 @@ returns-clause-turn g c =
 
 pub returns-clause-memory : goal.returns-clause-memory
 returns-clause-memory g c =
-    let layer = g.met.L.Layer g.world.𝓛 g.world.𝓜 g.world.𝓡 ((λ s x. x), (λ x. x), (λ x. x), λ x. x) in
+    let layer = g.met.L.Layer in
     let sound = layer.sound c.args.layer.now in
     let t = g.L.Layer.table c.args.layer.now in
     let b = g.S.Register.is c.args.below.now in

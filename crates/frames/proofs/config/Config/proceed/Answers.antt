@@ -3,14 +3,14 @@ use Rattle.frames.proofs.Parking.{reached_there, parked_after}
 use Rattle.frames.proofs.config.Config.proceed.Goals as goal
 
 pub go_own-turned-requires-clause-reached : goal.go_own-turned-requires-clause-reached
-go_own-turned-requires-clause-reached g c κs within =
+go_own-turned-requires-clause-reached g c =
     let in_range : c.args.who < length c.self.inside.running.items = search rules in
     (c.args.who, (c.in-Some.running.op,
       reached_there (g.R.Register.Reaches c.self.inside.register) c.self.inside.running.items c.args.who c.index.result.now c.in-Some.running in_range c.index.ensures c.in-Some.is (c.self.invariant.reached c.args.who)))
 
 pub invariant_of-self : goal.invariant_of-self
 invariant_of-self g c =
-    let laws = g.met.R.Register g.world.𝓛 g.world.𝓜 g.world.𝓡 ((λ s x. x), (λ x. x), (λ x. x), λ x. x) in
+    let laws = g.met.R.Register in
     let r = c.self.inside.register in
     let in_range : c.args.who < length c.self.inside.running.items = search rules in
     parked_after (g.R.Register.is r) (g.R.Register.Holds r) (g.R.Register.Reaches r) (laws.lawful r)
