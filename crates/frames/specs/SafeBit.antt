@@ -72,12 +72,12 @@ safe_behaviour = record {
   frames = λ p. safe_frame p ∷ [];
   acts = safe_acts }
 
--- a write stands in a write, and a read in a read
+-- the writer stands in the write of its value, the reader in its read
 abbrev pub SafeReaches : ℕ → Op → SafePoint → Type 0
-SafeReaches who (op.Write v) (at.WriteStart bit) = Unit {0}
-SafeReaches who (op.Write v) (at.WriteEnd bit) = Unit {0}
-SafeReaches who op.Read at.ReadStart = Unit {0}
-SafeReaches who op.Read at.ReadEnd = Unit {0}
+SafeReaches who (op.Write v) (at.WriteStart bit) = (who ≡ 0) × (bit ≡ bit_of v)
+SafeReaches who (op.Write v) (at.WriteEnd bit) = (who ≡ 0) × (bit ≡ bit_of v)
+SafeReaches who op.Read at.ReadStart = who ≡ 1
+SafeReaches who op.Read at.ReadEnd = who ≡ 1
 SafeReaches who (op.Write v) at.ReadStart = ⊥
 SafeReaches who (op.Write v) at.ReadEnd = ⊥
 SafeReaches who op.Read (at.WriteStart bit) = ⊥

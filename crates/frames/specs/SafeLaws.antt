@@ -27,9 +27,10 @@ suits_few : (who : ℕ) (o : Op) → safe_suits who o ≡ true → who < 2
 suits_few who (op.Write v) h = grind (arith, nat_tests)
 suits_few who op.Read h = grind (arith, nat_tests)
 
-begins : (who : ℕ) (o : Op) (m : Memory) → HasSize safe_behaviour.size m → GoesOn safe_behaviour (HasSize safe_behaviour.size) SafeReaches who o (safe_begins who o m)
-begins who (op.Write v) m z = record { holds = z; own_bit = tt; stands = tt }
-begins who op.Read m z = record { holds = z; own_bit = tt; stands = tt }
+begins : (who : ℕ) (o : Op) (m : Memory) → HasSize safe_behaviour.size m → safe_suits who o ≡ true
+    → GoesOn safe_behaviour (HasSize safe_behaviour.size) SafeReaches who o (safe_begins who o m)
+begins who (op.Write v) m z fits = let zero : who ≡ 0 = grind (arith, nat_tests) in record { holds = z; own_bit = tt; stands = (zero, refl) }
+begins who op.Read m z fits = let one : who ≡ 1 = grind (arith, nat_tests) in record { holds = z; own_bit = tt; stands = one }
 
 hit_bit : (hit v : Bool) → MatchOption {T = ℕ × Bool} (if hit then Some (0, v) else None) ⊤ (λ bit. bit.0 < 1)
 hit_bit false v = tt
@@ -37,9 +38,9 @@ hit_bit true v = omega arith
 
 goes : (who : ℕ) (o : Op) (p : SafePoint) (choice : Bool) (m : Memory) → HasSize safe_behaviour.size m → SafeReaches who o p
     → GoesOn safe_behaviour (HasSize safe_behaviour.size) SafeReaches who o (safe_goes p choice m)
-goes who (op.Write v) (at.WriteStart b) choice m z r = record { holds = HasSize-on_cell _ 0 (start_write b) m z; own_bit = tt; stands = tt }
+goes who (op.Write v) (at.WriteStart b) choice m z r = record { holds = HasSize-on_cell _ 0 (start_write b) m z; own_bit = tt; stands = r }
 goes who (op.Write v) (at.WriteEnd b) choice m z r = record { holds = HasSize-on_cell _ 0 end_write m z; own_bit = tt; stands = tt }
-goes who op.Read at.ReadStart choice m z r = record { holds = HasSize-on_cell _ 0 start_read m z; own_bit = tt; stands = tt }
+goes who op.Read at.ReadStart choice m z r = record { holds = HasSize-on_cell _ 0 start_read m z; own_bit = tt; stands = r }
 goes who op.Read at.ReadEnd choice m z r = record {
   holds = HasSize-on_cell _ 0 end_read m z;
   own_bit = hit_bit (cell_at 0 m).hit (read_gives choice (cell_at 0 m));
@@ -118,7 +119,7 @@ safe_lawful = record {
   no_other_value = λ who v h. grind (arith, nat_tests);
   size_holds = λ m z. z;
   initial_holds = λ v lt. record { cells = refl; words = refl };
-  begins_well = λ who o m z fits. begins who o m z;
+  begins_well = begins;
   goes_well = goes;
   frames_fit = λ who o p r. omega arith;
   acts_own = λ who o p r. acts p }

@@ -44,9 +44,9 @@ regular_table processes = record {
   left = λ task. 0;
   frame = regular_frame }
 
--- a write stands in the write of its value, a read in its process's read
+-- the writer stands in the write of its value, a reader in its own read
 abbrev pub RegularStands : ℕ → ℕ → Op → RegularTask → Type 0
-RegularStands processes who (op.Write w) (Writing v) = v < 2
-RegularStands processes who op.Read (Reading reader) = (1 ≤ reader) × (reader < processes)
+RegularStands processes who (op.Write w) (Writing v) = (v ≡ w) × (v < 2)
+RegularStands processes who op.Read (Reading reader) = (reader ≡ who) × ((1 ≤ reader) × (reader < processes))
 RegularStands processes who (op.Write w) (Reading reader) = ⊥
 RegularStands processes who op.Read (Writing v) = ⊥

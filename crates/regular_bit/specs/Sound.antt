@@ -23,11 +23,11 @@ module _ (processes : ℕ) (some : 0 < processes) (few : processes < 2 ^ 32) whe
         by_test : (same : Bool) → IsSound (regular_table processes) (RegularStands processes who (op.Write v)) (Answers 2 (op.Write v))
             (if same then Ends Written else Sets 0 v (Asks (Writing v) Ends))
         by_test true = tt
-        by_test false = (omega arith, (lt, (lt, λ o. refl)))
+        by_test false = (omega arith, (lt, ((refl, lt), λ o. refl)))
 
   begins_sound : (who : ℕ) (o : Op) → writer.one_writer 2 processes who o ≡ true → IsSound (regular_table processes) (RegularStands processes who o) (Answers 2 o) (regular_program who o)
   begins_sound who (op.Write v) h = (omega arith, λ last low. write_sound who v last (writer.no_other_value 2 processes who v h))
-  begins_sound who op.Read h = ((writer.reader_some 2 processes who h, writer.reader_few 2 processes who h), λ o. refl)
+  begins_sound who op.Read h = ((refl, (writer.reader_some 2 processes who h, writer.reader_few 2 processes who h)), λ o. refl)
 
   rest_sound : (who : ℕ) (o : Op) (task : RegularTask) (outcome : Outcome) → RegularStands processes who o task → Answers 2 (regular_asks task).op outcome → IsNotSpent outcome → Answers 2 o outcome
   rest_sound who (op.Write w) (Writing v) Written stands answers on = tt
@@ -40,8 +40,8 @@ module _ (processes : ℕ) (some : 0 < processes) (few : processes < 2 ^ 32) whe
   rest_sound who op.Read (Reading reader) (Spent layer) stands answers on = absurd on
 
   asks_fit : (who : ℕ) (o : Op) (task : RegularTask) → RegularStands processes who o task → ((regular_asks task).part < 1) × FitsPart 2 processes (regular_asks task).who (regular_asks task).op
-  asks_fit who (op.Write w) (Writing v) stands = (omega arith, (refl, stands))
-  asks_fit who op.Read (Reading reader) stands = (omega arith, stands)
+  asks_fit who (op.Write w) (Writing v) stands = (omega arith, (refl, stands.1))
+  asks_fit who op.Read (Reading reader) stands = (omega arith, stands.1)
   asks_fit who (op.Write w) (Reading reader) stands = absurd stands
   asks_fit who op.Read (Writing v) stands = absurd stands
 
