@@ -1,5 +1,5 @@
 -- A configuration stays one after a step of a pending operation.
-use Rattle.std.proofs.Common.{◌≡◌, ℕ, ◌<◌, ◌⊎◌, Bool, Option, Some, None, List, length, set, get_or, MatchOption, slice_index_or, slice_set, refl, sym, ◌∙◌, subst, arith, inl, inr, length-set}
+use Rattle.std.proofs.Common.{◌≡◌, ℕ, ◌<◌, Bool, Option, Some, None, List, length, set, get_or, MatchOption, slice_index_or, slice_set, sym, ◌∙◌, subst, inl, inr, length-set}
 use Rattle.std.specs.Prelude.{⊤}
 use Rattle.std.proofs.lemmas.Bool.{cases_eq}
 use Rattle.std.proofs.lemmas.List.{get_or-set_same, get_or-set_other, get_or_default}
@@ -9,7 +9,7 @@ use Rattle.frames.specs.declared.types.Next.{Next}
 use Rattle.frames.specs.declared.types.Next.TheVariants.{Pending, Done}
 use Rattle.frames.specs.declared.types.Outcome.{Outcome}
 use Rattle.frames.specs.declared.running.Running.{Running}
-use Rattle.frames.specs.Behaviour.{Behaviour, IsLawful, GoesOn, StandsWell}
+use Rattle.frames.specs.Behaviour.{Behaviour, IsLawful, StandsWell}
 use Rattle.frames.specs.Configuration.{still_running}
 use Rattle.frames.specs.Parked.{IsConfiguration}
 
@@ -40,5 +40,7 @@ parked_after {P} b Holds Reaches lawful m items who r choice was lt there m' slo
       holds = subst Holds (sym at_m') on.holds;
       each = length-set items who slot ∙ was.each;
       reached = λ p. elim (cases_eq p who) as (λ _. MatchOption (get_or (set items who slot) p None) ⊤ (λ s. Reaches p s.op s.point)) [
-          inl same ↦ rw (same, get_or-set_same items who slot None lt) (subst Q (sym at_slot) (slot_after Reaches _ who r.op _ on.stands))
-        | inr other ↦ rw (get_or-set_other items who p slot None other) (was.reached p) ] }
+        | inl same ↦ rw (same, get_or-set_same items who slot None lt) (subst Q (sym at_slot) (slot_after Reaches _ who r.op _ on.stands))
+        | inr other ↦ rw (get_or-set_other items who p slot None other) (was.reached p)
+      ];
+    }

@@ -1,5 +1,5 @@
 -- Configurations, one step of a schedule, and the fold that replays one.
-use Rattle.std.specs.Prelude.{◌≡◌, ℕ, ◌<◌, Bool, true, false, ◌&&◌, ◌==◌, nat_lt, List, [], ◌∷◌, Option, Some, None, slice_index_or, slice_set, replicate, IsTrue}
+use Rattle.std.specs.Prelude.{ℕ, Bool, ◌&&◌, ◌==◌, nat_lt, List, [], ◌∷◌, Option, Some, None, slice_index_or, slice_set, replicate}
 use Rattle.safe_bit.specs.Memory.{Memory}
 use Rattle.frames.specs.declared.types.Op.{Op}
 use Rattle.frames.specs.declared.types.Op.TheVariants as op
@@ -68,7 +68,8 @@ abbrev pub acted : {P : Type 0} → ℕ → Op → Option Event → Moved P → 
 acted who o event moved = record {
   events = in_order event (return_of who moved.next);
   running = still_running o moved.next;
-  memory = moved.memory }
+  memory = moved.memory;
+}
 
 -- a step that isn't enabled records its reason and changes nothing
 abbrev pub not_enabled : {P : Type 0} → Event → Option (Running P) → Memory → Acted P

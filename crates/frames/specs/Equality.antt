@@ -1,12 +1,12 @@
 -- Equality of configurations: equal registers, and the same cells, words and pending operations.
-use Rattle.std.proofs.Common.{◌≡◌, ℕ, Bool, true, false, nat_eq, List, Option, Some, None, refl, sym, ap, ◌∙◌}
+use Rattle.std.proofs.Common.{◌≡◌, Bool, true, false, nat_eq, List, Option, refl, ap}
 use mathlib.Core.Bool.{◌&&◌}
 use Rattle.std.specs.Bool.{Decides}
 use Rattle.std.specs.Cmp.{IsPartialEquivalence, on_per, and_per}
 use Rattle.std.specs.Cmp.Lexicographic.{pointwise}
 use Rattle.std.specs.Option.{option_eq}
 use Rattle.std.specs.Ordering.{on, eq_of_both}
-use Rattle.std.proofs.lemmas.Bool.Decides.{Decides-and, Decides-at, Decides-eqb, Decides-like}
+use Rattle.std.proofs.lemmas.Bool.Decides.{Decides-and, Decides-eqb, Decides-like}
 use Rattle.std.proofs.lemmas.Slice.Eq.{slice_eq-Decides}
 use Rattle.safe_bit.specs.Equality.{memory_eq, memory_decides, option_decides, per_from_decides}
 use Rattle.frames.specs.declared.types.Op.{Op}
@@ -39,7 +39,7 @@ running_eq F a b = op_eq a.op b.op && F a.point b.point
 pub running_decides : {P : Type 0} (F : P → P → Bool) → ((x y : P) → Decides (F x y) (x ≡ y)) → (a b : Running P) → Decides (running_eq F a b) (a ≡ b)
 running_decides F d a b =
     Decides-like (running_eq F a b) (λ p. λ i. record { op = p.0 i; point = p.1 i }) (λ p. (ap (λ r. r.op) p, ap (λ r. r.point) p))
-      (Decides-and (op_eq a.op b.op) (F a.point b.point) (op_decides a.op b.op) (d a.point b.point))
+    (Decides-and (op_eq a.op b.op) (F a.point b.point) (op_decides a.op b.op) (d a.point b.point))
 
 -- the test of two configurations
 abbrev pub configuration_eq : {R P : Type 0} → (R → R → Bool) → (P → P → Bool) → Configuration R P → Configuration R P → Bool
@@ -53,12 +53,12 @@ pub configuration_per : {R P : Type 0} (E : R → R → Bool) (F : P → P → B
     → IsPartialEquivalence (configuration_eq {R = R} {P = P} E F)
 configuration_per E F per d =
     and_per (on_per (λ c. c.register) per)
-      (and_per (on_per (λ c. c.memory) (per_from_decides memory_eq memory_decides))
-        (on_per (λ c. c.running) (per_from_decides _ (slots_decide F d))))
+    (and_per (on_per (λ c. c.memory) (per_from_decides memory_eq memory_decides))
+    (on_per (λ c. c.running) (per_from_decides _ (slots_decide F d))))
 
 pub configuration_decides : {R P : Type 0} (E : R → R → Bool) (F : P → P → Bool) → ((x y : P) → Decides (F x y) (x ≡ y))
     → (a b : Configuration R P) → Decides (configuration_eq E F a b) (SameConfiguration E a b)
 configuration_decides E F d a b =
     Decides-like (configuration_eq E F a b) (λ p. record { register = p.0; memory = p.1.0; running = p.1.1 }) (λ p. (p.register, (p.memory, p.running)))
-      (Decides-and (E a.register b.register) _ (λ h. h, λ h. h)
-        (Decides-and (memory_eq a.memory b.memory) _ (memory_decides a.memory b.memory) (slots_decide F d a.running b.running)))
+    (Decides-and (E a.register b.register) _ (λ h. h, λ h. h)
+    (Decides-and (memory_eq a.memory b.memory) _ (memory_decides a.memory b.memory) (slots_decide F d a.running b.running)))

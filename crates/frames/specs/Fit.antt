@@ -1,5 +1,5 @@
 -- Which registers a layer can stand on, and why not.
-use Rattle.std.specs.Prelude.{◌≡◌, ℕ, ◌+◌, ◌*◌, ◌≤◌, Bool, ◌&&◌, ◌==◌, nat_le, Option, Some, None, if◌then◌else◌}
+use Rattle.std.specs.Prelude.{ℕ, ◌+◌, ◌*◌, Bool, ◌&&◌, ◌==◌, nat_le, Option, Some, None, if◌then◌else◌}
 use Rattle.frames.specs.declared.fit.LayerError.{LayerError}
 use Rattle.frames.specs.declared.fit.LayerError.TheVariants.{BadSize, TooManyBits}
 use Rattle.frames.specs.Behaviour.{Behaviour}

@@ -1,11 +1,11 @@
 -- A layer that lies at a place in a store: its parts and own words, found there and put back.
-use Rattle.std.proofs.Common.{◌≡◌, ℕ, ◌+◌, ◌*◌, ◌<◌, ◌≤◌, ◌^◌, Bool, true, length, Option, Some, None, refl, sym, ap, subst, ◌∙◌, arith, add_assoc}
+use Rattle.std.proofs.Common.{◌≡◌, ℕ, ◌+◌, ◌<◌, ◌≤◌, ◌^◌, Bool, true, length, Option, Some, None, refl, sym, ap, subst, ◌∙◌, arith, add_assoc}
 use Rattle.safe_bit.specs.declared.Place.{Place}
 use Rattle.safe_bit.specs.Memory.{Memory, word_at}
-use Rattle.safe_bit.specs.Parts.{HasSize, LiesIn, IsPlaced, Within, behind, part, with_part, HasSize-part, LiesIn-behind, LiesIn-with_part, LiesIn-of_size, IsPlaced-behind, part-part, with_part-part, part-with_part, word_at-part}
+use Rattle.safe_bit.specs.Parts.{LiesIn, IsPlaced, behind, part, with_part, LiesIn-behind, LiesIn-with_part, IsPlaced-behind, part-part, with_part-part, part-with_part, word_at-part}
 use Rattle.frames.specs.declared.types.Op.{Op}
 use Rattle.frames.specs.declared.nested.Ask.{Ask}
-use Rattle.frames.specs.Behaviour.{Behaviour, Moved, IsLawful}
+use Rattle.frames.specs.Behaviour.{Behaviour, IsLawful}
 use Rattle.frames.specs.Placed.{placed_bit}
 use Rattle.frames.specs.Nested.{Table, layer_size, own_words, part_place, asked, pushed}
 use Rattle.frames.specs.Sound.{WordsHold, LayerHolds}
@@ -47,7 +47,8 @@ module _ {Task P : Type 0} (t : Table Task) (b : Behaviour P) (Holds : Memory �
   lies_with inner h = record {
     inside = LiesIn-with_part at (layer_size t b.size) at (layer_size t b.size) inner m h.size lies.inside lies.inside;
     placed = lies.placed;
-    holds = subst (LayerHolds t b Holds) (sym (part-with_part at (layer_size t b.size) inner m h.size lies.inside)) h }
+    holds = subst (LayerHolds t b Holds) (sym (part-with_part at (layer_size t b.size) inner m h.size lies.inside)) h;
+  }
 
   pub own_with : (inner : Memory) → LayerHolds t b Holds inner → own t b at (with_part at inner m) ≡ inner
   own_with inner h = part-with_part at (layer_size t b.size) inner m h.size lies.inside
@@ -62,8 +63,8 @@ module _ {Task P : Type 0} (t : Table Task) (b : Behaviour P) (Holds : Memory �
   pub words_there : WordsHold t (at.word + own_words t b.size) m
   words_there k lt =
       subst (λ x. x < t.bound k)
-        (word_at-part at (layer_size t b.size) (own_words t b.size + k) m (omega arith) ∙ ap (λ i. word_at i m) (sym (add_assoc at.word (own_words t b.size) k)))
-        (lies.holds.words k lt)
+      (word_at-part at (layer_size t b.size) (own_words t b.size + k) m (omega arith) ∙ ap (λ i. word_at i m) (sym (add_assoc at.word (own_words t b.size) k)))
+      (lies.holds.words k lt)
 
   -- what part j is asked for, at its place
   pub asked_next : (a : Ask) → a.part < t.parts → (b.begins a.who a.op (part (behind at (part_place b.size a.part)) b.size m)).next ≡ (asked b a (own t b at m)).next
@@ -71,7 +72,7 @@ module _ {Task P : Type 0} (t : Table Task) (b : Behaviour P) (Holds : Memory �
 
   pub asked_memory : (a : Ask) → a.part < t.parts → b.suits a.who a.op ≡ true
       → with_part (behind at (part_place b.size a.part)) (b.begins a.who a.op (part (behind at (part_place b.size a.part)) b.size m)).memory m
-        ≡ with_part at (asked b a (own t b at m)).memory m
+      ≡ with_part at (asked b a (own t b at m)).memory m
   asked_memory a lt fits =
       put_part a.part _ lt (lawful.begins_well a.who a.op (part (behind at (part_place b.size a.part)) b.size m) (part_holds a.part lt) fits).holds
       ∙ ap (λ inner. with_part at (with_part (part_place b.size a.part) (b.begins a.who a.op inner).memory (own t b at m)) m) (sym (part_there a.part lt))
@@ -91,7 +92,7 @@ module _ {Task P : Type 0} (t : Table Task) (b : Behaviour P) (Holds : Memory �
 
   pub pushed_memory : (j : ℕ) (p : P) (choice : Bool) (who : ℕ) (o : Op) → j < t.parts → Reaches who o p
       → with_part (behind at (part_place b.size j)) (b.goes p choice (part (behind at (part_place b.size j)) b.size m)).memory m
-        ≡ with_part at (pushed b j p choice (own t b at m)).memory m
+      ≡ with_part at (pushed b j p choice (own t b at m)).memory m
   pushed_memory j p choice who o lt there =
       put_part j _ lt (lawful.goes_well who o p choice (part (behind at (part_place b.size j)) b.size m) (part_holds j lt) there).holds
       ∙ ap (λ inner. with_part at (with_part (part_place b.size j) (b.goes p choice inner).memory (own t b at m)) m) (sym (part_there j lt))
@@ -100,9 +101,9 @@ module _ {Task P : Type 0} (t : Table Task) (b : Behaviour P) (Holds : Memory �
   pub asked_holds : (a : Ask) → a.part < t.parts → b.suits a.who a.op ≡ true → LayerHolds t b Holds (asked b a (own t b at m)).memory
   asked_holds a lt fits =
       holds_with_part t b Holds lawful.size_holds a.part _ (own t b at m) lt
-        (lawful.begins_well a.who a.op (part (part_place b.size a.part) b.size (own t b at m)) (lies.holds.parts a.part lt) fits).holds lies.holds
+      (lawful.begins_well a.who a.op (part (part_place b.size a.part) b.size (own t b at m)) (lies.holds.parts a.part lt) fits).holds lies.holds
 
   pub pushed_holds : (j : ℕ) (p : P) (choice : Bool) (who : ℕ) (o : Op) → j < t.parts → Reaches who o p → LayerHolds t b Holds (pushed b j p choice (own t b at m)).memory
   pushed_holds j p choice who o lt there =
       holds_with_part t b Holds lawful.size_holds j _ (own t b at m) lt
-        (lawful.goes_well who o p choice (part (part_place b.size j) b.size (own t b at m)) (lies.holds.parts j lt) there).holds lies.holds
+      (lawful.goes_well who o p choice (part (part_place b.size j) b.size (own t b at m)) (lies.holds.parts j lt) there).holds lies.holds

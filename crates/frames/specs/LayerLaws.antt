@@ -1,14 +1,11 @@
 -- The register of a sound table over a lawful register is lawful.
-use Rattle.std.proofs.Common.{◌≡◌, ℕ, ◌+◌, ◌*◌, ◌<◌, ◌≤◌, Bool, true, List, [], ◌∷◌, ◌++◌, length, get_or, Option, Some, None, refl, sym, ap, subst, ◌∙◌, arith, length-append}
+use Rattle.std.proofs.Common.{◌≡◌, ℕ, ◌+◌, ◌*◌, ◌<◌, [], ◌∷◌, ◌++◌, length, get_or, refl, sym, ap, subst, ◌∙◌, arith, length-append}
 use Rattle.std.proofs.lemmas.List.{get_or-append-add}
-use Rattle.safe_bit.specs.declared.Place.{Place}
-use Rattle.safe_bit.specs.Memory.{Memory, word_at}
-use Rattle.safe_bit.specs.Windows.{window}
-use Rattle.safe_bit.specs.Parts.{HasSize, part, same_memory}
+use Rattle.safe_bit.specs.Memory.{Memory}
+use Rattle.safe_bit.specs.Parts.{part, same_memory}
 use Rattle.frames.specs.declared.types.Op.{Op}
-use Rattle.frames.specs.declared.nested.Nested.{Nested}
 use Rattle.frames.specs.Behaviour.{Behaviour, IsLawful}
-use Rattle.frames.specs.Nested.{Table, layer_size, own_words, part_place, layered, layer_initial, first_parts, gathered}
+use Rattle.frames.specs.Nested.{Table, part_place, layered, layer_initial, gathered}
 use Rattle.frames.specs.Sound.{IsSoundTable, FitsBelow, LayerHolds, LayerReaches}
 use Rattle.frames.specs.NestedLaws.{row_fits, asks_fit, advance_well, resume_well}
 use Rattle.frames.specs.Gathered.{length-gathered, window-append, window-gathered, get_or-gathered}
@@ -35,14 +32,15 @@ module _ {Task P : Type 0} (t : Table Task) (b : Behaviour P) (Holds : Memory �
         parts = λ j few. subst Holds (sym (same_memory (part (part_place b.size j) b.size (layer_initial t b v)) (b.initial (t.first v j))
             (window-gathered (λ j. (b.initial (t.first v j)).cells) b.size.cell t.parts j (cells_of v lt) few)
             (window-append (j * b.size.word) b.size.word (gathered (λ j. (b.initial (t.first v j)).words) t.parts) (gathered (λ k. t.first_word v k ∷ []) t.words)
-                (let r = row_fits j t.parts b.size.word few in omega arith)
-              ∙ window-gathered (λ j. (b.initial (t.first v j)).words) b.size.word t.parts j (words_of v lt) few)))
+            (let r = row_fits j t.parts b.size.word few in omega arith)
+            ∙ window-gathered (λ j. (b.initial (t.first v j)).words) b.size.word t.parts j (words_of v lt) few)))
             (first_holds v j lt few);
         words = λ k few. subst (λ x. x < t.bound k)
             (sym (ap (λ i. get_or (gathered (λ j. (b.initial (t.first v j)).words) t.parts ++ gathered (λ k. t.first_word v k ∷ []) t.words) (i + k) 0) (sym w)
-              ∙ get_or-append-add (gathered (λ j. (b.initial (t.first v j)).words) t.parts) (gathered (λ k. t.first_word v k ∷ []) t.words) k 0
-              ∙ get_or-gathered (t.first_word v) t.words k few))
-            (table.first_words v k lt few) }
+            ∙ get_or-append-add (gathered (λ j. (b.initial (t.first v j)).words) t.parts) (gathered (λ k. t.first_word v k ∷ []) t.words) k 0
+            ∙ get_or-gathered (t.first_word v) t.words k few))
+            (table.first_words v k lt few);
+      }
 
   pub layer_lawful : IsLawful (layered t b) (LayerHolds t b Holds) (LayerReaches t Stands Reaches)
   layer_lawful = record {
@@ -62,6 +60,7 @@ module _ {Task P : Type 0} (t : Table Task) (b : Behaviour P) (Holds : Memory �
     goes_well = λ who o n choice m h there. resume_well t b Holds Reaches Stands lawful table fit_below who o n choice m there h;
     frames_fit = λ who o n there. let f = lawful.frames_fit (t.asks n.task).who (t.asks n.task).op n.below there.below in omega arith;
     acts_own = λ who o n there.
-      let fit = asks_fit t b Holds Reaches Stands lawful table fit_below who o n.task there.stands in
-      let own = lawful.acts_own (t.asks n.task).who (t.asks n.task).op n.below there.below in
-      let r = row_fits (t.asks n.task).part t.parts b.size.cell fit.0 in omega arith }
+        let fit = asks_fit t b Holds Reaches Stands lawful table fit_below who o n.task there.stands in
+        let own = lawful.acts_own (t.asks n.task).who (t.asks n.task).op n.below there.below in
+        let r = row_fits (t.asks n.task).part t.parts b.size.cell fit.0 in omega arith;
+  }

@@ -1,6 +1,6 @@
 -- Nested operations: an operation of a layer is a finite program of operations on its parts, one after the other,
 -- and of accesses to the layer's own words.
-use Rattle.std.specs.Prelude.{◌≡◌, ℕ, zero, suc, ◌+◌, ◌*◌, Bool, List, [], ◌∷◌, ◌++◌, Option, Some, None}
+use Rattle.std.specs.Prelude.{ℕ, zero, suc, ◌+◌, ◌*◌, Bool, List, [], ◌∷◌, ◌++◌, None}
 use Rattle.safe_bit.specs.declared.Place.{Place}
 use Rattle.safe_bit.specs.Memory.{Memory, word_at, with_word}
 use Rattle.safe_bit.specs.Parts.{part, with_part}
@@ -99,11 +99,13 @@ gathered f (suc n) = gathered f n ++ f n
 abbrev pub first_parts : {Task P : Type 0} → Table Task → Behaviour P → ℕ → ℕ → Memory
 first_parts t b v n = record {
   cells = gathered (λ j. (b.initial (t.first v j)).cells) n;
-  words = gathered (λ j. (b.initial (t.first v j)).words) n }
+  words = gathered (λ j. (b.initial (t.first v j)).words) n;
+}
 
 abbrev pub layer_initial : {Task P : Type 0} → Table Task → Behaviour P → ℕ → Memory
 layer_initial t b v = record (first_parts t b v t.parts) {
-  words = (first_parts t b v t.parts).words ++ gathered (λ k. t.first_word v k ∷ []) t.words }
+  words = (first_parts t b v t.parts).words ++ gathered (λ k. t.first_word v k ∷ []) t.words;
+}
 
 -- a layer over a register: this is the definition of each layer's register
 abbrev pub layered : {Task P : Type 0} → Table Task → Behaviour P → Behaviour (Nested Task P)
@@ -117,4 +119,5 @@ layered t b = record {
   begins = λ who o m. advance t b (t.program who o) m;
   goes = resume t b;
   frames = λ n. t.frame n.task ∷ b.frames n.below;
-  acts = λ n. placed_action (part_place b.size (t.asks n.task).part) (b.acts n.below) }
+  acts = λ n. placed_action (part_place b.size (t.asks n.task).part) (b.acts n.below);
+}

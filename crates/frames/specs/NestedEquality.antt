@@ -1,5 +1,5 @@
 -- Pending operations of a layer are equal only to themselves, and equal layers over equal registers are one register.
-use Rattle.std.proofs.Common.{◌≡◌, Bool, true, false, ap, sym, ◌∙◌}
+use Rattle.std.proofs.Common.{◌≡◌, Bool, true, false, ap}
 use mathlib.Core.Bool.{◌&&◌}
 use Rattle.std.specs.Bool.{Decides}
 use Rattle.std.proofs.lemmas.Bool.Decides.{Decides-and, Decides-at, Decides-like}
@@ -11,7 +11,7 @@ pub nested_decides : {Task P : Type 0} (E : Task → Task → Bool) (F : P → P
     → (a b : Nested Task P) → Decides (E a.task b.task && F a.below b.below) (a ≡ b)
 nested_decides E F d e a b =
     Decides-like (E a.task b.task && F a.below b.below) (λ p. λ i. record { task = p.0 i; below = p.1 i }) (λ p. (ap (λ n. n.task) p, ap (λ n. n.below) p))
-      (Decides-and (E a.task b.task) (F a.below b.below) (d a.task b.task) (e a.below b.below))
+    (Decides-and (E a.task b.task) (F a.below b.below) (d a.task b.task) (e a.below b.below))
 
 -- both parts of a test that holds
 pub both_true : (a b : Bool) → (a && b) ≡ true → (a ≡ true) × (b ≡ true)

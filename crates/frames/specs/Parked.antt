@@ -1,5 +1,5 @@
 -- What a configuration keeps.
-use Rattle.std.specs.Prelude.{◌≡◌, ℕ, ◌<◌, List, length, Option, Some, None, slice_index_or, MatchOption, ⊤}
+use Rattle.std.specs.Prelude.{◌≡◌, ℕ, List, length, Option, None, slice_index_or, MatchOption, ⊤}
 use Rattle.safe_bit.specs.Memory.{Memory}
 use Rattle.frames.specs.declared.types.Op.{Op}
 use Rattle.frames.specs.declared.running.Running.{Running}
@@ -10,4 +10,3 @@ pub record IsConfiguration {P : Type 0} (b : Behaviour P) (Holds : Memory → Ty
   pub holds : Holds m
   pub each : length running ≡ b.processes
   pub reached : (p : ℕ) → MatchOption (slice_index_or running p None) ⊤ (λ r. Reaches p r.op r.point)
-

@@ -1,25 +1,24 @@
 -- A layer that goes on from a turn, or behind a step of a part, in its own memory.
-use Rattle.std.proofs.Common.{◌≡◌, ℕ, ◌+◌, ◌*◌, ◌<◌, ◌≤◌, Bool, true, length, refl, sym, ap, subst, ◌∙◌, arith}
+use Rattle.std.proofs.Common.{◌≡◌, ℕ, ◌+◌, ◌≤◌, Bool, true, length, sym, ap, subst, ◌∙◌, arith}
 use Rattle.safe_bit.specs.declared.Place.{Place}
 use Rattle.safe_bit.specs.Memory.{Memory}
-use Rattle.safe_bit.specs.Parts.{HasSize, LiesIn, with_part, with_part-with_part}
+use Rattle.safe_bit.specs.Parts.{with_part, with_part-with_part}
 use Rattle.frames.specs.declared.types.Op.{Op}
 use Rattle.frames.specs.declared.types.Outcome.{Outcome}
 use Rattle.frames.specs.declared.types.Outcome.TheVariants.{Value, Written, Spent}
 use Rattle.frames.specs.declared.types.Next.{Next}
-use Rattle.frames.specs.declared.types.Next.TheVariants.{Pending, Done}
+use Rattle.frames.specs.declared.types.Next.TheVariants.{Done}
 use Rattle.frames.specs.declared.nested.Turn.{Turn}
 use Rattle.frames.specs.declared.nested.Turn.TheVariants as turn
 use Rattle.frames.specs.Behaviour.{Behaviour, Moved, IsLawful, Answers, StandsWell}
-use Rattle.frames.specs.Nested.{Program, Table, layer_size, own_words, asked, pushed, behind_part, advance, resume, layered}
-use Rattle.frames.specs.Sound.{IsNotSpent, IsSound, IsSoundTable, FitsBelow, WordsHold, LayerHolds, LayerReaches}
+use Rattle.frames.specs.Nested.{Table, layer_size, own_words, asked, pushed, advance}
+use Rattle.frames.specs.Sound.{IsNotSpent, IsSoundTable, FitsBelow, LayerHolds}
 use Rattle.frames.specs.NestedLaws.{Good, asks_fit, rest_sound, behind_well, advance_well, holds_with_part}
 use Rattle.frames.specs.Settled.{settled, TurnStands, turn_left, run_on, follow_on, settled_stands, settled_falls, settled_holds, advance_settled}
 use Rattle.frames.specs.InPlace.{own, LayerLies, lies_with, own_with}
 
 module _ {Task P : Type 0} (t : Table Task) (b : Behaviour P) (Holds : Memory → Type 0) (Reaches : ℕ → Op → P → Type 0) (Stands : ℕ → Op → Task → Type 0)
     (lawful : IsLawful b Holds Reaches) (table : IsSoundTable t Stands) (fit_below : FitsBelow t b) where
-
   words_fit : (m : Memory) → LayerHolds t b Holds m → own_words t b.size + t.words ≤ length m.words
   words_fit m h = let w = h.size.words in omega arith
 
@@ -29,8 +28,8 @@ module _ {Task P : Type 0} (t : Table Task) (b : Behaviour P) (Holds : Memory �
       → Good t b Holds Reaches Stands lawful table fit_below who o (follow_on t b task next m)
   follow_well who o task next m h stands below =
       behind_well t b Holds Reaches Stands lawful table fit_below who o (λ outcome n. advance t b (t.rest task outcome) n) task next m h stands below
-        (λ outcome answers goes_on. advance_well t b Holds Reaches Stands lawful table fit_below who o (t.rest task outcome) m
-          (rest_sound t b Holds Reaches Stands lawful table fit_below who o task outcome stands answers goes_on) h)
+      (λ outcome answers goes_on. advance_well t b Holds Reaches Stands lawful table fit_below who o (t.rest task outcome) m
+      (rest_sound t b Holds Reaches Stands lawful table fit_below who o task outcome stands answers goes_on) h)
 
   -- what a task's part gives when it is asked
   pub ask_stands : (who : ℕ) (o : Op) (task : Task) (m : Memory) → LayerHolds t b Holds m → Stands who o task
@@ -83,21 +82,21 @@ module _ {Task P : Type 0} (t : Table Task) (b : Behaviour P) (Holds : Memory �
       → TurnStands (Stands who o) (Answers t.values o) (settled (own_words t b.size) (t.rest task outcome) m).turn
   rest_stands who o task outcome m h stands answers goes_on =
       settled_stands t (Stands who o) (Answers t.values o) (own_words t b.size) (t.rest task outcome) m
-        (rest_sound t b Holds Reaches Stands lawful table fit_below who o task outcome stands answers goes_on) (words_fit m h) h.words
+      (rest_sound t b Holds Reaches Stands lawful table fit_below who o task outcome stands answers goes_on) (words_fit m h) h.words
 
   pub rest_holds : (who : ℕ) (o : Op) (task : Task) (outcome : Outcome) (m : Memory) → LayerHolds t b Holds m → Stands who o task
       → Answers b.values (t.asks task).op outcome → IsNotSpent outcome
       → LayerHolds t b Holds (settled (own_words t b.size) (t.rest task outcome) m).memory
   rest_holds who o task outcome m h stands answers goes_on =
       settled_holds t b Holds lawful.size_holds (Stands who o) (Answers t.values o) (t.rest task outcome) m
-        (rest_sound t b Holds Reaches Stands lawful table fit_below who o task outcome stands answers goes_on) h
+      (rest_sound t b Holds Reaches Stands lawful table fit_below who o task outcome stands answers goes_on) h
 
   pub rest_left : (who : ℕ) (o : Op) (task : Task) (outcome : Outcome) (m : Memory) → Stands who o task
       → Answers b.values (t.asks task).op outcome → IsNotSpent outcome
       → turn_left t (settled (own_words t b.size) (t.rest task outcome) m).turn ≤ t.left task
   rest_left who o task outcome m stands answers goes_on =
       settled_falls t (Stands who o) (Answers t.values o) (own_words t b.size) (t.left task) (t.rest task outcome) m
-        (table.rest_falls who o task outcome stands (subst (λ n. Answers n (t.asks task).op outcome) fit_below.same_values answers) goes_on)
+      (table.rest_falls who o task outcome stands (subst (λ n. Answers n (t.asks task).op outcome) fit_below.same_values answers) goes_on)
 
   pub begin_stands : (who : ℕ) (o : Op) (m : Memory) → LayerHolds t b Holds m → t.suits who o ≡ true
       → TurnStands (Stands who o) (Answers t.values o) (settled (own_words t b.size) (t.program who o) m).turn
@@ -118,9 +117,10 @@ module _ {Task P : Type 0} (t : Table Task) (b : Behaviour P) (Holds : Memory �
       → r ≡ (f (own t b at first)).next → second ≡ with_part at (f (own t b at first)).memory first
       → (r ≡ (f mid).next) × (second ≡ with_part at (f mid).memory m)
   chain f at m lies mid first second r e h h' next memory =
-      let there : own t b at first ≡ mid = ap (own t b at) e ∙ own_with t b Holds Reaches lawful at m lies mid h in
-      (next ∙ ap (λ q. (f q).next) there,
-        memory ∙ ap (λ q. with_part at (f q).memory first) there ∙ ap (λ q. with_part at (f mid).memory q) e ∙ put_again at m lies mid (f mid).memory h h')
+      let there : own t b at first ≡ mid = ap (own t b at) e ∙ own_with t b Holds Reaches lawful at m lies mid h in (
+        next ∙ ap (λ q. (f q).next) there,
+        memory ∙ ap (λ q. with_part at (f q).memory first) there ∙ ap (λ q. with_part at (f mid).memory q) e ∙ put_again at m lies mid (f mid).memory h h',
+      )
 
   -- the layer lies there after a stretch of work
   pub lies_after : (at : Place) (m : Memory) → LayerLies t b Holds at m → (mid first : Memory) → first ≡ with_part at mid m → LayerHolds t b Holds mid → LayerLies t b Holds at first

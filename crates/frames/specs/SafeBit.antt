@@ -1,8 +1,6 @@
 -- The register of one safe bit: its programs are the two actions of a write and of a read (Lamport 1986).
-use Rattle.std.specs.Prelude.{◌≡◌, ℕ, ◌<◌, Bool, true, false, ◌&&◌, ◌==◌, nat_lt, List, [], ◌∷◌, Option, Some, None, if◌then◌else◌}
-use Rattle.safe_bit.specs.declared.Cell.{Cell}
+use Rattle.std.specs.Prelude.{◌≡◌, ℕ, Bool, ◌&&◌, ◌==◌, nat_lt, [], ◌∷◌, Some, None, if◌then◌else◌}
 use Rattle.safe_bit.specs.Memory.{Memory, cell_at, on_cell}
-use Rattle.safe_bit.specs.Parts.{HasSize}
 use Rattle.safe_bit.specs.Actions.{idle_cell, start_write, end_write, start_read, end_read, read_gives}
 use Rattle.frames.specs.declared.types.Op.{Op}
 use Rattle.frames.specs.declared.types.Op.TheVariants as op
@@ -44,7 +42,8 @@ safe_goes at.ReadStart choice m = record { next = Pending at.ReadEnd; chosen = N
 safe_goes at.ReadEnd choice m = record {
   next = Done (Value (value_of (read_gives choice (cell_at 0 m))));
   chosen = if (cell_at 0 m).hit then Some (0, read_gives choice (cell_at 0 m)) else None;
-  memory = on_cell 0 end_read m }
+  memory = on_cell 0 end_read m;
+}
 
 -- one frame, which tells whether the start is made
 abbrev pub safe_frame : SafePoint → Frame
@@ -70,7 +69,8 @@ safe_behaviour = record {
   begins = safe_begins;
   goes = safe_goes;
   frames = λ p. safe_frame p ∷ [];
-  acts = safe_acts }
+  acts = safe_acts;
+}
 
 -- the writer stands in the write of its value, the reader in its read
 abbrev pub SafeReaches : ℕ → Op → SafePoint → Type 0

@@ -1,11 +1,10 @@
 -- The register of one safe bit is lawful.
-use Rattle.std.proofs.Common.{◌≡◌, ℕ, ◌<◌, ◌≤◌, Bool, true, false, List, [], ◌∷◌, length, set, add-zero, ◌∙◌, Option, Some, None, refl, sym, ap, arith, rules, lit<, lit≤}
-use Rattle.std.proofs.lemmas.Grind.{common_steps}
-use Rattle.std.proofs.lemmas.Bool.Decides.{nat_tests, Decides-at, Decides-like, Decides-and}
+use Rattle.std.proofs.Common.{◌≡◌, ℕ, ◌<◌, Bool, true, false, List, [], ◌∷◌, length, set, add-zero, ◌∙◌, Some, None, refl, sym, ap, arith}
+use Rattle.std.proofs.lemmas.Bool.Decides.{nat_tests, Decides-at, Decides-like}
 use Rattle.std.specs.Bool.{Decides, if◌then◌else◌, ⊤}
 use Rattle.std.specs.Option.{MatchOption}
 use Rattle.std.specs.Cmp.{booleans_Decides}
-use mathlib.Core.Bool.{beq, ◌&&◌}
+use mathlib.Core.Bool.{beq}
 use Rattle.safe_bit.specs.Memory.{Memory, on_cell, cell_at}
 use Rattle.safe_bit.specs.Actions.{idle_cell, start_write, end_write, start_read, end_read, read_gives}
 use Rattle.safe_bit.specs.Parts.{HasSize, HasSize-on_cell, HasSize-part, LiesIn, part, with_part, on_cell-part, same_memory}
@@ -16,7 +15,7 @@ use Rattle.frames.specs.declared.types.Op.{Op}
 use Rattle.frames.specs.declared.types.Op.TheVariants as op
 use Rattle.frames.specs.declared.safe.SafePoint.{SafePoint}
 use Rattle.frames.specs.declared.safe.SafePoint.TheVariants as at
-use Rattle.frames.specs.Behaviour.{Behaviour, IsLawful, GoesOn, Moved}
+use Rattle.frames.specs.Behaviour.{IsLawful, GoesOn}
 use Rattle.frames.specs.SafeBit.{safe_behaviour, SafeReaches, safe_suits, safe_begins, safe_goes, safe_acts, value_of}
 
 value_below : (b : Bool) → value_of b < 2
@@ -44,7 +43,8 @@ goes who op.Read at.ReadStart choice m z r = record { holds = HasSize-on_cell _ 
 goes who op.Read at.ReadEnd choice m z r = record {
   holds = HasSize-on_cell _ 0 end_read m z;
   own_bit = hit_bit (cell_at 0 m).hit (read_gives choice (cell_at 0 m));
-  stands = value_below (read_gives choice (cell_at 0 m)) }
+  stands = value_below (read_gives choice (cell_at 0 m));
+}
 goes who (op.Write v) at.ReadStart choice m z r = absurd r
 goes who (op.Write v) at.ReadEnd choice m z r = absurd r
 goes who op.Read (at.WriteStart b) choice m z r = absurd r
@@ -73,8 +73,8 @@ pub with_own_cell : (at : Place) (v : Bool) (m : Memory) → LiesIn at safe_size
 with_own_cell at v m h =
     on_own_cell at (λ _. idle_cell v) m h
     ∙ ap (λ inner. with_part at inner m) (same_memory (on_cell 0 (λ _. idle_cell v) (part at safe_size m)) (record { cells = idle_cell v ∷ []; words = [] })
-        (set_single (idle_cell v) (part at safe_size m).cells (HasSize-part at safe_size m h).cells)
-        (nil_from_length (part at safe_size m).words (HasSize-part at safe_size m h).words))
+    (set_single (idle_cell v) (part at safe_size m).cells (HasSize-part at safe_size m h).cells)
+    (nil_from_length (part at safe_size m).words (HasSize-part at safe_size m h).words))
 
 abbrev pub point_eq : SafePoint → SafePoint → Bool
 point_eq (at.WriteStart b) (at.WriteStart c) = beq b c
@@ -86,24 +86,24 @@ point_eq _ _ = false
 -- a test that tells two points apart decides their equality
 pub point_decides : (E : SafePoint → SafePoint → Bool) → ((x y : SafePoint) → E x y ≡ point_eq x y) → (x y : SafePoint) → Decides (E x y) (x ≡ y)
 point_decides E e x y = Decides-at _ _ (e x y) (decided x y)
-    where
-      decided : (x y : SafePoint) → Decides (point_eq x y) (x ≡ y)
-      decided (at.WriteStart b) (at.WriteStart c) = Decides-like (beq b c) (λ p. ap at.WriteStart p) (λ p. cc) (booleans_Decides b c)
-      decided (at.WriteEnd b) (at.WriteEnd c) = Decides-like (beq b c) (λ p. ap at.WriteEnd p) (λ p. cc) (booleans_Decides b c)
-      decided at.ReadStart at.ReadStart = (λ h. refl, λ h. refl)
-      decided at.ReadEnd at.ReadEnd = (λ h. refl, λ h. refl)
-      decided (at.WriteStart b) (at.WriteEnd c) = (λ h. cc, λ h. cc)
-      decided (at.WriteStart b) at.ReadStart = (λ h. cc, λ h. cc)
-      decided (at.WriteStart b) at.ReadEnd = (λ h. cc, λ h. cc)
-      decided (at.WriteEnd b) (at.WriteStart c) = (λ h. cc, λ h. cc)
-      decided (at.WriteEnd b) at.ReadStart = (λ h. cc, λ h. cc)
-      decided (at.WriteEnd b) at.ReadEnd = (λ h. cc, λ h. cc)
-      decided at.ReadStart (at.WriteStart c) = (λ h. cc, λ h. cc)
-      decided at.ReadStart (at.WriteEnd c) = (λ h. cc, λ h. cc)
-      decided at.ReadStart at.ReadEnd = (λ h. cc, λ h. cc)
-      decided at.ReadEnd (at.WriteStart c) = (λ h. cc, λ h. cc)
-      decided at.ReadEnd (at.WriteEnd c) = (λ h. cc, λ h. cc)
-      decided at.ReadEnd at.ReadStart = (λ h. cc, λ h. cc)
+  where
+    decided : (x y : SafePoint) → Decides (point_eq x y) (x ≡ y)
+    decided (at.WriteStart b) (at.WriteStart c) = Decides-like (beq b c) (λ p. ap at.WriteStart p) (λ p. cc) (booleans_Decides b c)
+    decided (at.WriteEnd b) (at.WriteEnd c) = Decides-like (beq b c) (λ p. ap at.WriteEnd p) (λ p. cc) (booleans_Decides b c)
+    decided at.ReadStart at.ReadStart = (λ h. refl, λ h. refl)
+    decided at.ReadEnd at.ReadEnd = (λ h. refl, λ h. refl)
+    decided (at.WriteStart b) (at.WriteEnd c) = (λ h. cc, λ h. cc)
+    decided (at.WriteStart b) at.ReadStart = (λ h. cc, λ h. cc)
+    decided (at.WriteStart b) at.ReadEnd = (λ h. cc, λ h. cc)
+    decided (at.WriteEnd b) (at.WriteStart c) = (λ h. cc, λ h. cc)
+    decided (at.WriteEnd b) at.ReadStart = (λ h. cc, λ h. cc)
+    decided (at.WriteEnd b) at.ReadEnd = (λ h. cc, λ h. cc)
+    decided at.ReadStart (at.WriteStart c) = (λ h. cc, λ h. cc)
+    decided at.ReadStart (at.WriteEnd c) = (λ h. cc, λ h. cc)
+    decided at.ReadStart at.ReadEnd = (λ h. cc, λ h. cc)
+    decided at.ReadEnd (at.WriteStart c) = (λ h. cc, λ h. cc)
+    decided at.ReadEnd (at.WriteEnd c) = (λ h. cc, λ h. cc)
+    decided at.ReadEnd at.ReadStart = (λ h. cc, λ h. cc)
 
 pub safe_lawful : IsLawful safe_behaviour (HasSize safe_behaviour.size) SafeReaches
 safe_lawful = record {
@@ -122,4 +122,5 @@ safe_lawful = record {
   begins_well = begins;
   goes_well = goes;
   frames_fit = λ who o p r. omega arith;
-  acts_own = λ who o p r. acts p }
+  acts_own = λ who o p r. acts p;
+}

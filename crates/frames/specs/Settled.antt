@@ -1,19 +1,18 @@
 -- A program up to its next task or its end: what a layer does between two operations of its parts, on its own words alone.
-use Rattle.std.proofs.Common.{◌≡◌, ℕ, ◌+◌, ◌*◌, ◌<◌, ◌≤◌, ◌⊎◌, Bool, true, List, length, get_or, set, Option, Some, None, refl, sym, ap, subst, ◌∙◌, inl, inr, arith, length-set, add_assoc}
+use Rattle.std.proofs.Common.{◌≡◌, ℕ, ◌+◌, ◌<◌, ◌≤◌, length, get_or, set, None, refl, sym, ap, subst, ◌∙◌, inl, inr, arith, length-set, add_assoc}
 use Rattle.std.proofs.lemmas.Bool.{cases_eq}
 use Rattle.std.proofs.lemmas.List.{get_or-set_same, get_or-set_other}
 use Rattle.safe_bit.specs.declared.Place.{Place}
 use Rattle.safe_bit.specs.Memory.{Memory, word_at, with_word}
 use Rattle.safe_bit.specs.Parts.{HasSize, LiesIn, part, with_part, HasSize-part, HasSize-with_word, LiesIn-with_part, part-with_part, with_part-with_part, with_part-own, word_at-part, with_word-part}
-use Rattle.frames.specs.declared.types.Op.{Op}
 use Rattle.frames.specs.declared.types.Outcome.{Outcome}
 use Rattle.frames.specs.declared.types.Next.TheVariants.{Done}
 use Rattle.frames.specs.declared.types.Next.{Next}
 use Rattle.frames.specs.declared.nested.Nested.{Nested}
 use Rattle.frames.specs.declared.nested.Turn.{Turn}
 use Rattle.frames.specs.declared.nested.Turn.TheVariants as turn
-use Rattle.frames.specs.Behaviour.{Behaviour, Moved, Answers}
-use Rattle.frames.specs.Nested.{Program, Ends, Asks, Reads, Sets, Table, layer_size, own_words, asked, behind_part, advance}
+use Rattle.frames.specs.Behaviour.{Behaviour, Moved}
+use Rattle.frames.specs.Nested.{Program, Ends, Asks, Reads, Sets, Table, own_words, asked, behind_part, advance}
 use Rattle.frames.specs.Sound.{IsSound, Falls, WordsHold, LayerHolds}
 use Rattle.frames.specs.NestedLaws.{holds_with_word}
 
@@ -52,8 +51,9 @@ run_on t b (turn.Asks task) m = follow_on t b task (asked b (t.asks task) m).nex
 pub words_hold_set : {Task : Type 0} (t : Table Task) (base i x : ℕ) (m : Memory) → base + t.words ≤ length m.words → i < t.words → x < t.bound i
     → WordsHold t base m → WordsHold t base (with_word (base + i) x m)
 words_hold_set t base i x m fit lt low h k few = elim (cases_eq k i) as (λ _. get_or (set m.words (base + i) x) (base + k) 0 < t.bound k) [
-    inl same ↦ rw (same, get_or-set_same m.words (base + i) x 0 (omega arith)) low
-  | inr other ↦ rw (get_or-set_other m.words (base + i) (base + k) x 0 (λ e. other (omega arith))) (h k few) ]
+  | inl same ↦ rw (same, get_or-set_same m.words (base + i) x 0 (omega arith)) low
+  | inr other ↦ rw (get_or-set_other m.words (base + i) (base + k) x 0 (λ e. other (omega arith))) (h k few)
+]
 
 module _ {Task : Type 0} (t : Table Task) (Stands : Task → Type 0) (Answer : Outcome → Type 0) where
   -- a sound program settles on a turn that stands
@@ -81,36 +81,36 @@ module _ {Task : Type 0} (t : Table Task) (Stands : Task → Type 0) (Answer : O
   advance_settled b (Reads i k) m sound fit h = advance_settled b (k (word_at (own_words t b.size + i) m)) m (sound.1 _ (h i sound.0)) fit h
   advance_settled b (Sets i x k) m sound fit h =
       advance_settled b k (with_word (own_words t b.size + i) x m) sound.1.1 (omega (arith, length-set m.words (own_words t b.size + i) x))
-        (words_hold_set t (own_words t b.size) i x m fit sound.0 sound.1.0 h)
+      (words_hold_set t (own_words t b.size) i x m fit sound.0 sound.1.0 h)
 
   -- settling in a store is settling in the own memory that lies there
   pub settled_in_place : (at size : Place) (own : ℕ) (p : Program Task) (m : Memory) → IsSound t Stands Answer p → LiesIn at size m → own + t.words ≤ size.word
       → WordsHold t own (part at size m)
       → ((settled (at.word + own) p m).turn ≡ (settled own p (part at size m)).turn)
-        × ((settled (at.word + own) p m).memory ≡ with_part at (settled own p (part at size m)).memory m)
-        × (HasSize size (settled own p (part at size m)).memory)
+      × ((settled (at.word + own) p m).memory ≡ with_part at (settled own p (part at size m)).memory m)
+      × (HasSize size (settled own p (part at size m)).memory)
   settled_in_place at size own (Ends o) m sound lies fit h = (refl, sym (with_part-own at size m lies), HasSize-part at size m lies)
   settled_in_place at size own (Asks task k) m sound lies fit h = (refl, sym (with_part-own at size m lies), HasSize-part at size m lies)
   settled_in_place at size own (Reads i k) m sound lies fit h =
       let e : word_at (at.word + own + i) m ≡ word_at (own + i) (part at size m) = ap (λ q. word_at q m) (add_assoc at.word own i) ∙ sym (word_at-part at size (own + i) m (omega (arith, sound.0))) in
       let there = settled_in_place at size own (k (word_at (own + i) (part at size m))) m (sound.1 _ (h i sound.0)) lies fit h in
       subst (λ x. ((settled (at.word + own) (k x) m).turn ≡ (settled own (k (word_at (own + i) (part at size m))) (part at size m)).turn)
-          × ((settled (at.word + own) (k x) m).memory ≡ with_part at (settled own (k (word_at (own + i) (part at size m))) (part at size m)).memory m)
-          × (HasSize size (settled own (k (word_at (own + i) (part at size m))) (part at size m)).memory)) (sym e) there
+      × ((settled (at.word + own) (k x) m).memory ≡ with_part at (settled own (k (word_at (own + i) (part at size m))) (part at size m)).memory m)
+      × (HasSize size (settled own (k (word_at (own + i) (part at size m))) (part at size m)).memory)) (sym e) there
   settled_in_place at size own (Sets i x k) m sound lies fit h =
       let inner = with_word (own + i) x (part at size m) in
       let z = HasSize-with_word size (own + i) x (part at size m) (HasSize-part at size m lies) in
       let e : with_word (at.word + own + i) x m ≡ with_part at inner m = ap (λ q. with_word q x m) (add_assoc at.word own i) ∙ with_word-part at size (own + i) x m lies (omega (arith, sound.0)) in
       let there = settled_in_place at size own k (with_part at inner m) sound.1.1 (LiesIn-with_part at size at size inner m z lies lies) fit
-          (subst (WordsHold t own) (sym (part-with_part at size inner m z lies)) (words_hold_set t own i x (part at size m) (let l = (HasSize-part at size m lies).words in omega arith) sound.0 sound.1.0 h)) in
+      (subst (WordsHold t own) (sym (part-with_part at size inner m z lies)) (words_hold_set t own i x (part at size m) (let l = (HasSize-part at size m lies).words in omega arith) sound.0 sound.1.0 h)) in
       let at_inner : part at size (with_part at inner m) ≡ inner = part-with_part at size inner m z lies in
       let there' = subst (λ q. ((settled (at.word + own) k (with_part at inner m)).turn ≡ (settled own k q).turn)
-          × ((settled (at.word + own) k (with_part at inner m)).memory ≡ with_part at (settled own k q).memory (with_part at inner m))
-          × (HasSize size (settled own k q).memory)) at_inner there in
+      × ((settled (at.word + own) k (with_part at inner m)).memory ≡ with_part at (settled own k q).memory (with_part at inner m))
+      × (HasSize size (settled own k q).memory)) at_inner there in
       subst (λ q. ((settled (at.word + own) k q).turn ≡ (settled own k inner).turn)
-          × ((settled (at.word + own) k q).memory ≡ with_part at (settled own k inner).memory m)
-          × (HasSize size (settled own k inner).memory)) (sym e)
-        (there'.0, there'.1 ∙ with_part-with_part at size (settled own k inner).memory inner m there'.2 z lies, there'.2)
+      × ((settled (at.word + own) k q).memory ≡ with_part at (settled own k inner).memory m)
+      × (HasSize size (settled own k inner).memory)) (sym e)
+      (there'.0, there'.1 ∙ with_part-with_part at size (settled own k inner).memory inner m there'.2 z lies, there'.2)
 
 -- settling keeps what a layer's own memory keeps
 pub settled_holds : {Task P : Type 0} (t : Table Task) (b : Behaviour P) (Holds : Memory → Type 0) (sized : (m : Memory) → Holds m → HasSize b.size m)

@@ -8,10 +8,10 @@ ghost use Rattle.frames.specs.Configuration.{running_at, initial_configuration, 
 ghost use Rattle.frames.specs.Configuration as spec;
 ghost use Rattle.frames.specs.Parked.{IsConfiguration};
 
+use crate::own::{ORIGIN, begin_own, go_own, store_of};
 use crate::register::Register;
 use crate::running::Running;
 use crate::types::{Action, Event, Next, Op, Outcome, Reason, Stack, Step, StepEvents};
-use crate::own::{ORIGIN, begin_own, go_own, store_of};
 use safe_bit::Store;
 use std::alloc::{AllocError, Global};
 use std::marker::Model;

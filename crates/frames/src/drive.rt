@@ -86,7 +86,14 @@ fn init_words<L: Layer>(layer: &L, store: &mut Store, base: u32, value: u32)
 }
 
 /// A process invokes an operation of the layer.
-pub fn begin<L: Layer, S: Register>(layer: &L, below: &S, store: &mut Store, at: Place, who: u32, op: Op) -> Next<Nested<L::Task, S::Pending>>
+pub fn begin<L: Layer, S: Register>(
+    layer: &L,
+    below: &S,
+    store: &mut Store,
+    at: Place,
+    who: u32,
+    op: Op,
+) -> Next<Nested<L::Task, S::Pending>>
     requires fit { FitsBelow (L.table layer.now) (S.is below.now) }
     requires lies { LayerLies (L.table layer.now) (S.is below.now) (S.Holds below.now) at store.old }
     requires fits { (L.table layer.now).suits who op ≡ true }
@@ -98,7 +105,14 @@ pub fn begin<L: Layer, S: Register>(layer: &L, below: &S, store: &mut Store, at:
 }
 
 /// A pending operation of the layer makes its next bit action.
-pub fn go<L: Layer, S: Register>(layer: &L, below: &S, store: &mut Store, at: Place, pending: Nested<L::Task, S::Pending>, choice: bool) -> Turned<Nested<L::Task, S::Pending>>
+pub fn go<L: Layer, S: Register>(
+    layer: &L,
+    below: &S,
+    store: &mut Store,
+    at: Place,
+    pending: Nested<L::Task, S::Pending>,
+    choice: bool,
+) -> Turned<Nested<L::Task, S::Pending>>
     requires fit { FitsBelow (L.table layer.now) (S.is below.now) }
     requires lies { LayerLies (L.table layer.now) (S.is below.now) (S.Holds below.now) at store.old }
     requires reached { (who : ℕ) × ((op : Op) × LayerReaches (L.table layer.now) (L.Stands layer.now) (S.Reaches below.now) who op pending) }
@@ -115,7 +129,12 @@ pub fn go<L: Layer, S: Register>(layer: &L, below: &S, store: &mut Store, at: Pl
 }
 
 /// The frames of a pending operation: the layer's own in front of those of the part in work.
-pub fn stack<L: Layer, S: Register>(layer: &L, below: &S, alloc: Global, pending: &Nested<L::Task, S::Pending>) -> Stack
+pub fn stack<L: Layer, S: Register>(
+    layer: &L,
+    below: &S,
+    alloc: Global,
+    pending: &Nested<L::Task, S::Pending>,
+) -> Stack
     requires fit { FitsBelow (L.table layer.now) (S.is below.now) }
     requires reached { (who : ℕ) × ((op : Op) × LayerReaches (L.table layer.now) (L.Stands layer.now) (S.Reaches below.now) who op pending.now) }
     ensures frames { result.items ≡ (layered (L.table layer.now) (S.is below.now)).frames pending.now }
@@ -127,7 +146,12 @@ pub fn stack<L: Layer, S: Register>(layer: &L, below: &S, alloc: Global, pending
 }
 
 /// The next bit action of a pending operation, at a place.
-pub fn action<L: Layer, S: Register>(layer: &L, below: &S, pending: &Nested<L::Task, S::Pending>, at: Place) -> Action
+pub fn action<L: Layer, S: Register>(
+    layer: &L,
+    below: &S,
+    pending: &Nested<L::Task, S::Pending>,
+    at: Place,
+) -> Action
     requires fit { FitsBelow (L.table layer.now) (S.is below.now) }
     requires placed { IsPlaced at (layer_size (L.table layer.now) (S.is below.now).size) }
     requires reached { (who : ℕ) × ((op : Op) × LayerReaches (L.table layer.now) (L.Stands layer.now) (S.Reaches below.now) who op pending.now) }
@@ -160,7 +184,13 @@ fn words_at<L: Layer, S: Register>(layer: &L, below: &S, at: Place) -> u32
 }
 
 /// A task's part is asked for the task's operation.
-fn ask<L: Layer, S: Register>(layer: &L, below: &S, store: &mut Store, at: Place, task: L::Task) -> Next<S::Pending>
+fn ask<L: Layer, S: Register>(
+    layer: &L,
+    below: &S,
+    store: &mut Store,
+    at: Place,
+    task: L::Task,
+) -> Next<S::Pending>
     requires fit { FitsBelow (L.table layer.now) (S.is below.now) }
     requires lies { LayerLies (L.table layer.now) (S.is below.now) (S.Holds below.now) at store.old }
     requires stands { (who : ℕ) × ((op : Op) × L.Stands layer.now who op task) }
@@ -173,7 +203,14 @@ fn ask<L: Layer, S: Register>(layer: &L, below: &S, store: &mut Store, at: Place
 }
 
 /// A task's part makes its next bit action.
-fn push<L: Layer, S: Register>(layer: &L, below: &S, store: &mut Store, at: Place, pending: Nested<L::Task, S::Pending>, choice: bool) -> Turned<S::Pending>
+fn push<L: Layer, S: Register>(
+    layer: &L,
+    below: &S,
+    store: &mut Store,
+    at: Place,
+    pending: Nested<L::Task, S::Pending>,
+    choice: bool,
+) -> Turned<S::Pending>
     requires fit { FitsBelow (L.table layer.now) (S.is below.now) }
     requires lies { LayerLies (L.table layer.now) (S.is below.now) (S.Holds below.now) at store.old }
     requires reached { (who : ℕ) × ((op : Op) × LayerReaches (L.table layer.now) (L.Stands layer.now) (S.Reaches below.now) who op pending) }
@@ -187,7 +224,14 @@ fn push<L: Layer, S: Register>(layer: &L, below: &S, store: &mut Store, at: Plac
 }
 
 /// An operation's program up to its first task or its end.
-fn start<L: Layer, S: Register>(layer: &L, below: &S, store: &mut Store, at: Place, who: u32, op: Op) -> Turn<L::Task>
+fn start<L: Layer, S: Register>(
+    layer: &L,
+    below: &S,
+    store: &mut Store,
+    at: Place,
+    who: u32,
+    op: Op,
+) -> Turn<L::Task>
     requires lies { LayerLies (L.table layer.now) (S.is below.now) (S.Holds below.now) at store.old }
     requires fits { (L.table layer.now).suits who op ≡ true }
     ensures turn { result ≡ (settled (own_words (L.table layer.now) (S.is below.now).size) ((L.table layer.now).program who op) (own (L.table layer.now) (S.is below.now) at store.old)).turn }
@@ -198,7 +242,14 @@ fn start<L: Layer, S: Register>(layer: &L, below: &S, store: &mut Store, at: Pla
 }
 
 /// The program behind a task that ended so, up to the next task or the end.
-fn after<L: Layer, S: Register>(layer: &L, below: &S, store: &mut Store, at: Place, task: L::Task, outcome: Outcome) -> Turn<L::Task>
+fn after<L: Layer, S: Register>(
+    layer: &L,
+    below: &S,
+    store: &mut Store,
+    at: Place,
+    task: L::Task,
+    outcome: Outcome,
+) -> Turn<L::Task>
     requires lies { LayerLies (L.table layer.now) (S.is below.now) (S.Holds below.now) at store.old }
     requires stands { (who : ℕ) × ((op : Op) × L.Stands layer.now who op task) }
     requires answers { Answers (L.table layer.now).inner_values ((L.table layer.now).asks task).op outcome }
@@ -213,7 +264,13 @@ fn after<L: Layer, S: Register>(layer: &L, below: &S, store: &mut Store, at: Pla
 
 /// The layer goes on from a turn, to its next bit action or its end.
 #[cycle(run)]
-fn run<L: Layer, S: Register>(layer: &L, below: &S, store: &mut Store, at: Place, turn: Turn<L::Task>) -> Next<Nested<L::Task, S::Pending>>
+fn run<L: Layer, S: Register>(
+    layer: &L,
+    below: &S,
+    store: &mut Store,
+    at: Place,
+    turn: Turn<L::Task>,
+) -> Next<Nested<L::Task, S::Pending>>
     requires fit { FitsBelow (L.table layer.now) (S.is below.now) }
     requires lies { LayerLies (L.table layer.now) (S.is below.now) (S.Holds below.now) at store.old }
     requires stands { (who : ℕ) × ((op : Op) × TurnStands (L.Stands layer.now who op) (Answers (L.table layer.now).values op) turn) }
@@ -231,7 +288,14 @@ fn run<L: Layer, S: Register>(layer: &L, below: &S, store: &mut Store, at: Place
 
 /// The layer goes on behind a step of a task's part.
 #[cycle(run)]
-fn follow<L: Layer, S: Register>(layer: &L, below: &S, store: &mut Store, at: Place, task: L::Task, next: Next<S::Pending>) -> Next<Nested<L::Task, S::Pending>>
+fn follow<L: Layer, S: Register>(
+    layer: &L,
+    below: &S,
+    store: &mut Store,
+    at: Place,
+    task: L::Task,
+    next: Next<S::Pending>,
+) -> Next<Nested<L::Task, S::Pending>>
     requires fit { FitsBelow (L.table layer.now) (S.is below.now) }
     requires lies { LayerLies (L.table layer.now) (S.is below.now) (S.Holds below.now) at store.old }
     requires stands { (who : ℕ) × ((op : Op) × (L.Stands layer.now who op task

@@ -74,7 +74,13 @@ pub trait Layer: Copy + Eq {
         ensures memory { store.new ≡ (settled base ((table self.now).program who op) store.old).memory };
 
     /// The program behind a task that ended so, up to the next task or the end.
-    fn after(&self, store: &mut Store, base: u32, task: Self::Task, outcome: Outcome) -> Turn<Self::Task>
+    fn after(
+        &self,
+        store: &mut Store,
+        base: u32,
+        task: Self::Task,
+        outcome: Outcome,
+    ) -> Turn<Self::Task>
         requires inside { base + (table self.now).words ≤ length store.old.words }
         requires numbered { base + (table self.now).words < 2 ^ 32 }
         requires bounded { WordsHold (table self.now) base store.old }

@@ -10,7 +10,6 @@ mod own;
 pub mod register;
 pub mod running;
 pub mod safe;
-pub mod types;
-
 #[cfg(test)]
 mod tests;
+pub mod types;

@@ -34,7 +34,12 @@ pub fn begin_own<R: Register>(register: &R, store: &mut Store, who: u32, op: Op)
 }
 
 /// A pending operation makes its next bit action.
-pub fn go_own<R: Register>(register: &R, store: &mut Store, pending: R::Pending, choice: bool) -> Turned<R::Pending>
+pub fn go_own<R: Register>(
+    register: &R,
+    store: &mut Store,
+    pending: R::Pending,
+    choice: bool,
+) -> Turned<R::Pending>
     requires holds { R.Holds register.now store.old }
     requires reached { (who : ℕ) × ((op : Op) × R.Reaches register.now who op pending) }
     ensures next { result.next ≡ ((R.is register.now).goes pending choice store.old).next }

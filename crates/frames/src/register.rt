@@ -64,7 +64,13 @@ pub trait Register: Copy + Eq {
         ensures memory { store.new ≡ with_part at ((is self.now).begins who op (part at (is self.now).size store.old)).memory store.old };
 
     /// A pending operation makes its next bit action; the choice is what a hit read of a bit gives.
-    fn go(&self, store: &mut Store, at: Place, pending: Self::Pending, choice: bool) -> Turned<Self::Pending>
+    fn go(
+        &self,
+        store: &mut Store,
+        at: Place,
+        pending: Self::Pending,
+        choice: bool,
+    ) -> Turned<Self::Pending>
         requires inside { LiesIn at (is self.now).size store.old }
         requires placed { IsPlaced at (is self.now).size }
         requires holds { Holds self.now (part at (is self.now).size store.old) }

@@ -73,7 +73,13 @@ impl Register for Safe {
         }
     }
 
-    fn go(&self, store: &mut Store, at: Place, pending: SafePoint, choice: bool) -> Turned<SafePoint> {
+    fn go(
+        &self,
+        store: &mut Store,
+        at: Place,
+        pending: SafePoint,
+        choice: bool,
+    ) -> Turned<SafePoint> {
         match pending {
             SafePoint::WriteStart(bit) => {
                 store.start_write(at.cell, bit);

@@ -42,7 +42,8 @@ regular_table processes = record {
   asks = regular_asks;
   rest = λ task outcome. Ends outcome;
   left = λ task. 0;
-  frame = regular_frame }
+  frame = regular_frame;
+}
 
 -- the writer stands in the write of its value, a reader in its own read
 abbrev pub RegularStands : ℕ → ℕ → Op → RegularTask → Type 0

@@ -1,15 +1,15 @@
 -- The regular bit's table is sound, and its tasks are equal only to themselves.
-use Rattle.std.proofs.Common.{◌≡◌, ◌≢◌, ℕ, ◌<◌, ◌≤◌, ◌^◌, Bool, true, false, refl, ap, arith, nat_eq}
+use Rattle.std.proofs.Common.{◌≡◌, ℕ, ◌<◌, ◌^◌, Bool, true, false, refl, ap, arith, nat_eq}
 use Rattle.std.specs.Bool.{Decides}
 use Rattle.std.specs.Prelude.{◌==◌, if◌then◌else◌}
-use Rattle.std.proofs.lemmas.Bool.Decides.{Decides-at, Decides-eqb, Decides-like}
+use Rattle.std.proofs.lemmas.Bool.Decides.{Decides-eqb, Decides-like}
 use Rattle.frames.specs.declared.types.Op.{Op}
 use Rattle.frames.specs.declared.types.Op.TheVariants as op
 use Rattle.frames.specs.declared.types.Outcome.{Outcome}
 use Rattle.frames.specs.declared.types.Outcome.TheVariants.{Value, Written, Spent}
 use Rattle.frames.specs.Behaviour.{Answers}
-use Rattle.frames.specs.Nested.{Program, Ends, Asks, Reads, Sets}
-use Rattle.frames.specs.Sound.{IsSound, IsSoundTable, IsNotSpent, Falls, FitsPart}
+use Rattle.frames.specs.Nested.{Ends, Asks, Sets}
+use Rattle.frames.specs.Sound.{IsSound, IsSoundTable, IsNotSpent, FitsPart}
 use Rattle.frames.specs.OneWriter as writer
 use Rattle.regular_bit.specs.declared.task.RegularTask.{RegularTask}
 use Rattle.regular_bit.specs.declared.task.RegularTask.TheVariants.{Writing, Reading}
@@ -19,11 +19,11 @@ module _ (processes : ℕ) (some : 0 < processes) (few : processes < 2 ^ 32) whe
   write_sound : (who v last : ℕ) → v < 2 → IsSound (regular_table processes) (RegularStands processes who (op.Write v)) (Answers 2 (op.Write v))
       (if last == v then Ends Written else Sets 0 v (Asks (Writing v) Ends))
   write_sound who v last lt = by_test (last == v)
-      where
-        by_test : (same : Bool) → IsSound (regular_table processes) (RegularStands processes who (op.Write v)) (Answers 2 (op.Write v))
-            (if same then Ends Written else Sets 0 v (Asks (Writing v) Ends))
-        by_test true = tt
-        by_test false = (omega arith, (lt, ((refl, lt), λ o. refl)))
+    where
+      by_test : (same : Bool) → IsSound (regular_table processes) (RegularStands processes who (op.Write v)) (Answers 2 (op.Write v))
+          (if same then Ends Written else Sets 0 v (Asks (Writing v) Ends))
+      by_test true = tt
+      by_test false = (omega arith, (lt, ((refl, lt), λ o. refl)))
 
   begins_sound : (who : ℕ) (o : Op) → writer.one_writer 2 processes who o ≡ true → IsSound (regular_table processes) (RegularStands processes who o) (Answers 2 o) (regular_program who o)
   begins_sound who (op.Write v) h = (omega arith, λ last low. write_sound who v last (writer.no_other_value 2 processes who v h))
@@ -58,7 +58,8 @@ module _ (processes : ℕ) (some : 0 < processes) (few : processes < 2 ^ 32) whe
     asks_fit = asks_fit;
     begins_sound = begins_sound;
     rest_sound = rest_sound;
-    rest_falls = λ who o task outcome stands answers on. tt }
+    rest_falls = λ who o task outcome stands answers on. tt;
+  }
 
 -- the test of two tasks
 abbrev pub task_eq : RegularTask → RegularTask → Bool

@@ -88,7 +88,13 @@ impl Layer for RegularLayer {
         }
     }
 
-    fn after(&self, _store: &mut Store, _base: u32, _task: RegularTask, outcome: Outcome) -> Turn<RegularTask> {
+    fn after(
+        &self,
+        _store: &mut Store,
+        _base: u32,
+        _task: RegularTask,
+        outcome: Outcome,
+    ) -> Turn<RegularTask> {
         Turn::Ends(outcome)
     }
 

@@ -97,7 +97,13 @@ impl<S: Register> Register for RegularBit<S> {
         drive::begin(&self.layer, &self.below, store, at, who, op)
     }
 
-    fn go(&self, store: &mut Store, at: Place, pending: Self::Pending, choice: bool) -> Turned<Self::Pending> {
+    fn go(
+        &self,
+        store: &mut Store,
+        at: Place,
+        pending: Self::Pending,
+        choice: bool,
+    ) -> Turned<Self::Pending> {
         drive::go(&self.layer, &self.below, store, at, pending, choice)
     }
 

@@ -1,14 +1,13 @@
-use Rattle.std.proofs.Common.{rules, ◌≡◌, ◌≤◌, ◌<◌, ◌+◌, ◌*◌, sym, ap, subst, ◌∙◌, arith}
+use Rattle.std.proofs.Common.{rules, ◌≡◌, ◌≤◌, ◌<◌, ◌+◌, ◌*◌, sym, ap, ◌∙◌, arith}
 use Rattle.safe_bit.specs.Parts.{with_part, with_part-own}
 use Rattle.frames.specs.declared.types.Outcome.TheVariants.{Spent}
 use Rattle.frames.specs.declared.types.Next.TheVariants.{Done}
-use Rattle.frames.specs.declared.nested.Turn.TheVariants as turn
 use Rattle.frames.specs.Behaviour.{Answers, StandsWell}
-use Rattle.frames.specs.Nested.{layer_size, own_words, asked, behind_part}
+use Rattle.frames.specs.Nested.{layer_size, own_words, asked}
 use Rattle.frames.specs.Sound.{IsNotSpent}
 use Rattle.frames.specs.Settled.{settled, turn_left, TurnStands, run_on, follow_on}
 use Rattle.frames.specs.InPlace.{own}
-use Rattle.frames.specs.Running.{follow_well, run_well, follow_ended, ask_holds, ask_stands, rest_stands, rest_holds, rest_left, chain, lies_after}
+use Rattle.frames.specs.Running.{follow_well, run_well, follow_ended, ask_holds, ask_stands, rest_stands, rest_holds, chain, lies_after}
 use Rattle.frames.proofs.drive.+run.Goals as goal
 
 pub follow-run-requires : goal.follow-run-requires
@@ -113,11 +112,11 @@ follow-returns-in-Done g measure c =
     let turn_there : TurnStands (Stands who o) (Answers t.values o) at_turn = rw c.after-turn.ensures.turn turn_stands in
     let well = run_well t b Holds Reaches Stands lawful table fit who o at_turn mid turn_there mid_holds in
     let there = chain t b Holds Reaches Stands lawful table fit (run_on t b at_turn) at m lies mid c.after-turn.new.store c.run.new.store c.run.result
-        c.after-turn.ensures.memory mid_holds well.holds c.run.ensures.next c.run.ensures.memory in
+    c.after-turn.ensures.memory mid_holds well.holds c.run.ensures.next c.run.ensures.memory in
     let e : run_on t b at_turn mid ≡ follow_on t b task c.args.next (own t b at m) =
-        ap (λ q. run_on t b q mid) c.after-turn.ensures.turn
-        ∙ sym (follow_ended t b Holds Reaches Stands lawful table fit who o task outcome (own t b at m) holds stands answers goes_on)
-        ∙ ap (λ q. follow_on t b task q (own t b at m)) (sym c.in-Done.is) in
+    ap (λ q. run_on t b q mid) c.after-turn.ensures.turn
+    ∙ sym (follow_ended t b Holds Reaches Stands lawful table fit who o task outcome (own t b at m) holds stands answers goes_on)
+    ∙ ap (λ q. follow_on t b task q (own t b at m)) (sym c.in-Done.is) in
     record { next = there.0 ∙ ap (λ q. q.next) e; memory = there.1 ∙ ap (λ q. with_part at q.memory m) e }
 
 pub run-follow-requires : goal.run-follow-requires
@@ -196,9 +195,9 @@ run-returns-in-Asks-clause-next g measure c =
     let next_there : StandsWell (Reaches (t.asks task).who (t.asks task).op) (Answers b.values (t.asks task).op) next = rw c.ask-next.ensures.next below_stands in
     let well = follow_well t b Holds Reaches Stands lawful table fit who o task next mid mid_holds stands next_there in
     let there = chain t b Holds Reaches Stands lawful table fit (follow_on t b task next) at m lies mid c.ask-next.new.store c.follow.new.store c.follow.result
-        c.ask-next.ensures.memory mid_holds well.holds c.follow.ensures.next c.follow.ensures.memory in
+    c.ask-next.ensures.memory mid_holds well.holds c.follow.ensures.next c.follow.ensures.memory in
     let e : follow_on t b task next mid ≡ run_on t b c.args.turn (own t b at m) =
-        ap (λ q. follow_on t b task q mid) c.ask-next.ensures.next ∙ ap (λ q. run_on t b q (own t b at m)) (sym c.in-Asks.is) in
+    ap (λ q. follow_on t b task q mid) c.ask-next.ensures.next ∙ ap (λ q. run_on t b q (own t b at m)) (sym c.in-Asks.is) in
     there.0 ∙ ap (λ q. q.next) e
 
 pub run-returns-in-Asks-clause-memory : goal.run-returns-in-Asks-clause-memory
@@ -228,7 +227,7 @@ run-returns-in-Asks-clause-memory g measure c =
     let next_there : StandsWell (Reaches (t.asks task).who (t.asks task).op) (Answers b.values (t.asks task).op) next = rw c.ask-next.ensures.next below_stands in
     let well = follow_well t b Holds Reaches Stands lawful table fit who o task next mid mid_holds stands next_there in
     let there = chain t b Holds Reaches Stands lawful table fit (follow_on t b task next) at m lies mid c.ask-next.new.store c.follow.new.store c.follow.result
-        c.ask-next.ensures.memory mid_holds well.holds c.follow.ensures.next c.follow.ensures.memory in
+    c.ask-next.ensures.memory mid_holds well.holds c.follow.ensures.next c.follow.ensures.memory in
     let e : follow_on t b task next mid ≡ run_on t b c.args.turn (own t b at m) =
-        ap (λ q. follow_on t b task q mid) c.ask-next.ensures.next ∙ ap (λ q. run_on t b q (own t b at m)) (sym c.in-Asks.is) in
+    ap (λ q. follow_on t b task q mid) c.ask-next.ensures.next ∙ ap (λ q. run_on t b q (own t b at m)) (sym c.in-Asks.is) in
     there.1 ∙ ap (λ q. with_part at q.memory m) e

@@ -1,7 +1,6 @@
-use Rattle.std.proofs.Common.{◌≡◌, ap, ◌∙◌, arith}
-use Rattle.safe_bit.specs.Parts.{with_part}
+use Rattle.std.proofs.Common.{ap, ◌∙◌, arith}
 use Rattle.frames.specs.Behaviour.{Answers}
-use Rattle.frames.specs.Nested.{Table, layer_size, own_words}
+use Rattle.frames.specs.Nested.{layer_size, own_words}
 use Rattle.frames.specs.Settled.{settled, settled_in_place, settled_falls}
 use Rattle.frames.specs.InPlace.{own}
 use Rattle.frames.proofs.drive.after.Goals as goal
@@ -19,7 +18,7 @@ returns-clause-turn g c =
     let who = c.requires.stands.0 in
     let o = c.requires.stands.1.0 in
     let there = settled_in_place t (g.L.Layer.Stands c.args.layer.now who o) (Answers t.values o) at (layer_size t b.size) (own_words t b.size) p m
-        (sound.rest_sound who o c.args.task c.args.outcome c.requires.stands.1.1 c.requires.answers c.requires.goes_on) lies.inside (omega arith) lies.holds.words in
+    (sound.rest_sound who o c.args.task c.args.outcome c.requires.stands.1.1 c.requires.answers c.requires.goes_on) lies.inside (omega arith) lies.holds.words in
     c.after.ensures.turn ∙ ap (λ base. (settled base p m).turn) c.words_at-base.ensures ∙ there.0
 
 pub returns-clause-memory : goal.returns-clause-memory
@@ -35,7 +34,7 @@ returns-clause-memory g c =
     let who = c.requires.stands.0 in
     let o = c.requires.stands.1.0 in
     let there = settled_in_place t (g.L.Layer.Stands c.args.layer.now who o) (Answers t.values o) at (layer_size t b.size) (own_words t b.size) p m
-        (sound.rest_sound who o c.args.task c.args.outcome c.requires.stands.1.1 c.requires.answers c.requires.goes_on) lies.inside (omega arith) lies.holds.words in
+    (sound.rest_sound who o c.args.task c.args.outcome c.requires.stands.1.1 c.requires.answers c.requires.goes_on) lies.inside (omega arith) lies.holds.words in
     c.after.ensures.memory ∙ ap (λ base. (settled base p m).memory) c.words_at-base.ensures ∙ there.1
 
 pub returns-clause-fewer : goal.returns-clause-fewer
@@ -51,7 +50,7 @@ returns-clause-fewer g c =
     let who = c.requires.stands.0 in
     let o = c.requires.stands.1.0 in
     let there = settled_in_place t (g.L.Layer.Stands c.args.layer.now who o) (Answers t.values o) at (layer_size t b.size) (own_words t b.size) p m
-        (sound.rest_sound who o c.args.task c.args.outcome c.requires.stands.1.1 c.requires.answers c.requires.goes_on) lies.inside (omega arith) lies.holds.words in
+    (sound.rest_sound who o c.args.task c.args.outcome c.requires.stands.1.1 c.requires.answers c.requires.goes_on) lies.inside (omega arith) lies.holds.words in
     rw (c.after.ensures.turn ∙ ap (λ base. (settled base p m).turn) c.words_at-base.ensures ∙ there.0)
-      (settled_falls t (g.L.Layer.Stands c.args.layer.now who o) (Answers t.values o) (own_words t b.size) (t.left c.args.task) p (own t b at m)
-        (sound.rest_falls who o c.args.task c.args.outcome c.requires.stands.1.1 c.requires.answers c.requires.goes_on))
+    (settled_falls t (g.L.Layer.Stands c.args.layer.now who o) (Answers t.values o) (own_words t b.size) (t.left c.args.task) p (own t b at m)
+    (sound.rest_falls who o c.args.task c.args.outcome c.requires.stands.1.1 c.requires.answers c.requires.goes_on))

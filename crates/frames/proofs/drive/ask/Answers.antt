@@ -1,6 +1,6 @@
 use Rattle.std.proofs.Common.{◌≡◌, ◌<◌, sym, ap, subst, ◌∙◌, true}
-use Rattle.safe_bit.specs.Parts.{behind, part, with_part}
-use Rattle.frames.specs.Nested.{asked, part_place}
+use Rattle.safe_bit.specs.Parts.{part, with_part}
+use Rattle.frames.specs.Nested.{asked}
 use Rattle.frames.specs.NestedLaws.{asks_fit}
 use Rattle.frames.specs.InPlace.{own, part_holds, asked_next, asked_memory}
 use Rattle.frames.proofs.drive.ask.Goals as goal
@@ -19,7 +19,7 @@ begin-requires-clause-holds g c =
     let e : a ≡ t.asks c.args.task = c.asks-ask.ensures in
     let lt : a.part < t.parts = rw e fit.0 in
     subst (λ q. Holds (part q b.size c.args.store.now)) (sym c.part_place-place.ensures)
-      (part_holds t b Holds Reaches lawful c.args.at c.args.store.now c.requires.lies a.part lt)
+    (part_holds t b Holds Reaches lawful c.args.at c.args.store.now c.requires.lies a.part lt)
 
 pub returns-clause-next : goal.returns-clause-next
 returns-clause-next g c =

@@ -1,8 +1,8 @@
 use Rattle.std.proofs.Common.{◌≡◌, sym, ap, ◌∙◌}
 use Rattle.safe_bit.specs.Parts.{with_part}
-use Rattle.frames.specs.Behaviour.{Answers, StandsWell}
-use Rattle.frames.specs.Nested.{own_words, pushed, advance}
-use Rattle.frames.specs.Settled.{settled, TurnStands, run_on, follow_on}
+use Rattle.frames.specs.Behaviour.{Answers}
+use Rattle.frames.specs.Nested.{own_words, advance}
+use Rattle.frames.specs.Settled.{settled, TurnStands, run_on}
 use Rattle.frames.specs.InPlace.{own}
 use Rattle.frames.specs.Running.{begin_holds, begin_stands, begin_settled, run_well, chain, lies_after}
 use Rattle.frames.proofs.drive.begin.Goals as goal
@@ -78,10 +78,10 @@ returns-clause-next g c =
     let turn_there : TurnStands (Stands who o) (Answers t.values o) at_turn = rw c.start-turn.ensures.turn turn_stands in
     let well = run_well t b Holds Reaches Stands lawful table fit who o at_turn mid turn_there mid_holds in
     let there = chain t b Holds Reaches Stands lawful table fit (run_on t b at_turn) at m lies mid c.start-turn.new.store c.run.new.store c.run.result
-        c.start-turn.ensures.memory mid_holds well.holds c.run.ensures.next c.run.ensures.memory in
+    c.start-turn.ensures.memory mid_holds well.holds c.run.ensures.next c.run.ensures.memory in
     let e : run_on t b at_turn mid ≡ advance t b (t.program who o) (own t b at m) =
-        ap (λ q. run_on t b q mid) c.start-turn.ensures.turn
-        ∙ sym (begin_settled t b Holds Reaches Stands lawful table fit who o (own t b at m) holds c.requires.fits) in
+    ap (λ q. run_on t b q mid) c.start-turn.ensures.turn
+    ∙ sym (begin_settled t b Holds Reaches Stands lawful table fit who o (own t b at m) holds c.requires.fits) in
     there.0 ∙ ap (λ q. q.next) e
 
 pub returns-clause-memory : goal.returns-clause-memory
@@ -109,8 +109,8 @@ returns-clause-memory g c =
     let turn_there : TurnStands (Stands who o) (Answers t.values o) at_turn = rw c.start-turn.ensures.turn turn_stands in
     let well = run_well t b Holds Reaches Stands lawful table fit who o at_turn mid turn_there mid_holds in
     let there = chain t b Holds Reaches Stands lawful table fit (run_on t b at_turn) at m lies mid c.start-turn.new.store c.run.new.store c.run.result
-        c.start-turn.ensures.memory mid_holds well.holds c.run.ensures.next c.run.ensures.memory in
+    c.start-turn.ensures.memory mid_holds well.holds c.run.ensures.next c.run.ensures.memory in
     let e : run_on t b at_turn mid ≡ advance t b (t.program who o) (own t b at m) =
-        ap (λ q. run_on t b q mid) c.start-turn.ensures.turn
-        ∙ sym (begin_settled t b Holds Reaches Stands lawful table fit who o (own t b at m) holds c.requires.fits) in
+    ap (λ q. run_on t b q mid) c.start-turn.ensures.turn
+    ∙ sym (begin_settled t b Holds Reaches Stands lawful table fit who o (own t b at m) holds c.requires.fits) in
     there.1 ∙ ap (λ q. with_part at q.memory m) e

@@ -1,8 +1,8 @@
-use Rattle.std.proofs.Common.{◌≡◌, sym, ap, ◌∙◌}
+use Rattle.std.proofs.Common.{◌≡◌, ap, ◌∙◌}
 use Rattle.safe_bit.specs.Parts.{with_part}
 use Rattle.frames.specs.Behaviour.{Answers, StandsWell}
-use Rattle.frames.specs.Nested.{own_words, pushed, advance}
-use Rattle.frames.specs.Settled.{settled, TurnStands, run_on, follow_on}
+use Rattle.frames.specs.Nested.{pushed}
+use Rattle.frames.specs.Settled.{follow_on}
 use Rattle.frames.specs.InPlace.{own}
 use Rattle.frames.specs.Running.{push_holds, push_stands, follow_well, chain, lies_after}
 use Rattle.frames.proofs.drive.go.Goals as goal
@@ -90,9 +90,9 @@ returns-clause-next g c =
     let next_there : StandsWell (Reaches (t.asks task).who (t.asks task).op) (Answers b.values (t.asks task).op) next = rw c.push-turned.ensures.next below_stands in
     let well = follow_well t b Holds Reaches Stands lawful table fit who o task next mid mid_holds reached.stands next_there in
     let there = chain t b Holds Reaches Stands lawful table fit (follow_on t b task next) at m lies mid c.push-turned.new.store c.follow-next.new.store c.follow-next.result
-        c.push-turned.ensures.memory mid_holds well.holds c.follow-next.ensures.next c.follow-next.ensures.memory in
+    c.push-turned.ensures.memory mid_holds well.holds c.follow-next.ensures.next c.follow-next.ensures.memory in
     let e : follow_on t b task next mid ≡ follow_on t b task (pushed b part p c.args.choice (own t b at m)).next mid =
-        ap (λ q. follow_on t b task q mid) c.push-turned.ensures.next in
+    ap (λ q. follow_on t b task q mid) c.push-turned.ensures.next in
     there.0 ∙ ap (λ q. q.next) e
 
 pub returns-clause-memory : goal.returns-clause-memory
@@ -124,7 +124,7 @@ returns-clause-memory g c =
     let next_there : StandsWell (Reaches (t.asks task).who (t.asks task).op) (Answers b.values (t.asks task).op) next = rw c.push-turned.ensures.next below_stands in
     let well = follow_well t b Holds Reaches Stands lawful table fit who o task next mid mid_holds reached.stands next_there in
     let there = chain t b Holds Reaches Stands lawful table fit (follow_on t b task next) at m lies mid c.push-turned.new.store c.follow-next.new.store c.follow-next.result
-        c.push-turned.ensures.memory mid_holds well.holds c.follow-next.ensures.next c.follow-next.ensures.memory in
+    c.push-turned.ensures.memory mid_holds well.holds c.follow-next.ensures.next c.follow-next.ensures.memory in
     let e : follow_on t b task next mid ≡ follow_on t b task (pushed b part p c.args.choice (own t b at m)).next mid =
-        ap (λ q. follow_on t b task q mid) c.push-turned.ensures.next in
+    ap (λ q. follow_on t b task q mid) c.push-turned.ensures.next in
     there.1 ∙ ap (λ q. with_part at q.memory m) e

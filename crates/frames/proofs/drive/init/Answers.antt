@@ -1,4 +1,4 @@
-use Rattle.std.proofs.Common.{◌≡◌, ◌+◌, ap, ◌∙◌, [], ◌∷◌}
+use Rattle.std.proofs.Common.{◌+◌, ap, ◌∙◌, [], ◌∷◌}
 use Rattle.safe_bit.specs.Memory.{Memory}
 use Rattle.safe_bit.specs.Windows.{splice}
 use Rattle.frames.specs.Nested.{gathered, own_words}

@@ -62,5 +62,5 @@ init-requires-clause-inside g c =
     let v = c.args.value in
     let j = c.loop-part.part in
     subst (λ q. LiesIn q b.size c.loop-part.store) (sym c.part_place-place.ensures)
-      (subst (LiesIn (behind at (part_place b.size j)) b.size) (sym c.loop-part.invariant)
-        (next_inside t b Holds Reaches Stands lawful table fit v c.requires.value j at m (omega arith) c.requires.inside))
+    (subst (LiesIn (behind at (part_place b.size j)) b.size) (sym c.loop-part.invariant)
+    (next_inside t b Holds Reaches Stands lawful table fit v c.requires.value j at m (omega arith) c.requires.inside))

@@ -1,4 +1,4 @@
-use Rattle.std.proofs.Common.{◌≡◌, ◌<◌, ◌+◌, suc, length, ap, ◌∙◌, sym, refl, arith, [], ◌∷◌}
+use Rattle.std.proofs.Common.{◌≡◌, ◌<◌, ◌+◌, suc, length, ap, ◌∙◌, refl, arith, [], ◌∷◌}
 use Rattle.safe_bit.specs.Memory.{with_word}
 use Rattle.safe_bit.specs.Windows.{splice}
 use Rattle.safe_bit.specs.Parts.{same_memory}

@@ -1,7 +1,7 @@
-use Rattle.std.proofs.Common.{◌≡◌, ◌<◌, sym, ap, subst, ◌∙◌, true}
-use Rattle.safe_bit.specs.Parts.{behind, part, with_part}
+use Rattle.std.proofs.Common.{◌≡◌, ◌<◌, sym, ap, subst, ◌∙◌}
+use Rattle.safe_bit.specs.Parts.{part, with_part}
 use Rattle.frames.specs.Placed.{placed_bit}
-use Rattle.frames.specs.Nested.{asked, pushed, part_place}
+use Rattle.frames.specs.Nested.{pushed}
 use Rattle.frames.specs.NestedLaws.{asks_fit}
 use Rattle.frames.specs.InPlace.{own, part_holds, pushed_next, pushed_chosen, pushed_memory}
 use Rattle.frames.proofs.drive.push.Goals as goal
@@ -25,7 +25,7 @@ go-requires-clause-holds g c =
     let p = c.args.pending.below in
     let choice = c.args.choice in
     subst (λ q. Holds (part q b.size m)) (sym c.part_place-place.ensures)
-      (part_holds t b Holds Reaches lawful c.args.at m c.requires.lies a.part lt)
+    (part_holds t b Holds Reaches lawful c.args.at m c.requires.lies a.part lt)
 
 pub returns-clause-next : goal.returns-clause-next
 returns-clause-next g c =

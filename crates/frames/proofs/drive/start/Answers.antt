@@ -1,7 +1,6 @@
-use Rattle.std.proofs.Common.{◌≡◌, ap, ◌∙◌, arith}
-use Rattle.safe_bit.specs.Parts.{with_part}
+use Rattle.std.proofs.Common.{ap, ◌∙◌, arith}
 use Rattle.frames.specs.Behaviour.{Answers}
-use Rattle.frames.specs.Nested.{Table, layer_size, own_words}
+use Rattle.frames.specs.Nested.{layer_size, own_words}
 use Rattle.frames.specs.Settled.{settled, settled_in_place}
 use Rattle.frames.proofs.drive.start.Goals as goal
 
@@ -16,7 +15,7 @@ returns-clause-turn g c =
     let lies = c.requires.lies in
     let p = t.program c.args.who c.args.op in
     let there = settled_in_place t (g.L.Layer.Stands c.args.layer.now c.args.who c.args.op) (Answers t.values c.args.op) at (layer_size t b.size) (own_words t b.size) p m
-        (sound.begins_sound c.args.who c.args.op c.requires.fits) lies.inside (omega arith) lies.holds.words in
+    (sound.begins_sound c.args.who c.args.op c.requires.fits) lies.inside (omega arith) lies.holds.words in
     c.start.ensures.turn ∙ ap (λ base. (settled base p m).turn) c.words_at-base.ensures ∙ there.0
 
 pub returns-clause-memory : goal.returns-clause-memory
@@ -30,5 +29,5 @@ returns-clause-memory g c =
     let lies = c.requires.lies in
     let p = t.program c.args.who c.args.op in
     let there = settled_in_place t (g.L.Layer.Stands c.args.layer.now c.args.who c.args.op) (Answers t.values c.args.op) at (layer_size t b.size) (own_words t b.size) p m
-        (sound.begins_sound c.args.who c.args.op c.requires.fits) lies.inside (omega arith) lies.holds.words in
+    (sound.begins_sound c.args.who c.args.op c.requires.fits) lies.inside (omega arith) lies.holds.words in
     c.start.ensures.memory ∙ ap (λ base. (settled base p m).memory) c.words_at-base.ensures ∙ there.1

@@ -1,4 +1,4 @@
-use Rattle.std.proofs.Common.{◌≡◌, ◌∙◌}
+use Rattle.std.proofs.Common.{◌∙◌}
 use Rattle.frames.specs.SafeLaws.{with_own_cell}
 use Rattle.frames.proofs.safe.SafeRegister.init.Goals as goal
 
