@@ -1,0 +1,6 @@
+pub mod Splits
+pub mod Digits
+pub mod PageLines
+pub mod Fronts
+pub mod Tellings
+pub mod Streams

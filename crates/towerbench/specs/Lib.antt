@@ -1,0 +1,11 @@
+pub mod Names
+pub mod Words
+pub mod Lines
+pub mod Refusals
+pub mod Texts
+pub mod World
+pub mod Pages
+pub mod Answers
+pub mod Output
+pub mod Told
+pub mod Ranges

@@ -1,0 +1,101 @@
+-- The grammar of a line of a script.
+use Rattle.std.specs.Prelude.{ℕ, List, [], ◌∷◌, Option, Some, None, option_and_then, Bool, false, ◌==◌, ◌&&◌, ◌||◌, not, nat_le, length, codes, if◌then◌else◌}
+use Rattle.std.specs.Option.{option_map}
+use Rattle.std.specs.List.{list_all}
+use Rattle.std.specs.Str.{bytes_eq}
+use Rattle.std.specs.Char.{is_ascii_digit}
+use Rattle.std.specs.Str.Parse.{digits_value}
+use Rattle.frames.specs.declared.types.Step.{Step}
+use Rattle.frames.specs.declared.types.Step.TheVariants as step
+use Rattle.towerbench.specs.declared.command.Command.{Command}
+use Rattle.towerbench.specs.declared.command.Command.TheVariants.{Insert, State, History}
+use Rattle.towerbench.specs.declared.command.Call.{Call}
+use Rattle.towerbench.specs.declared.command.Line.{Line}
+use Rattle.towerbench.specs.declared.command.Line.TheVariants as line
+use Rattle.towerbench.specs.Names.{name}
+use Rattle.towerbench.specs.Words.{words, next, after_next, is_end}
+
+-- then, where there is a value
+infixl 10 ◌>>=◌
+abbrev pub ◌>>=◌ : {A B : Type 0} → Option A → (A → Option B) → Option B
+o >>= f = option_and_then f o
+
+-- a number: 0, or a digit from 1 on and then digits, at most 9 in all
+abbrev pub is_number : List ℕ → Bool
+is_number [] = false
+is_number (d ∷ ds) = (nat_le (length ds) 8 && (not (d == 48) || length ds == 0)) && list_all is_ascii_digit (d ∷ ds)
+
+abbrev pub number : List ℕ → Option ℕ
+number word = if is_number word then Some (digits_value 10 word) else None
+
+-- a branch: 1 to 16 bytes
+abbrev pub branch : List ℕ → Option (List ℕ)
+branch word = if length word == 0 then None else name word
+
+-- one number, or two, and no more words
+abbrev pub one_number : List (List ℕ) → Option ℕ
+one_number ws = do
+  a ← number (next ws)
+  if is_end (after_next ws) then Some a else None
+
+abbrev pub two_numbers : List (List ℕ) → Option (ℕ × ℕ)
+two_numbers ws = do
+  a ← number (next ws)
+  b ← number (next (after_next ws))
+  if is_end (after_next (after_next ws)) then Some (a, b) else None
+
+-- a step: `w P V`, `r P` or `g P C`
+abbrev pub step_of : List (List ℕ) → Option Step
+step_of ws =
+    if bytes_eq (next ws) (codes "w") then option_map (λ n. step.Write n.0 n.1) (two_numbers (after_next ws))
+    else (if bytes_eq (next ws) (codes "r") then option_map (λ p. step.Read p) (one_number (after_next ws))
+    else (if bytes_eq (next ws) (codes "g") then option_map (λ n. step.Go n.0 n.1) (two_numbers (after_next ws))
+    else None))
+
+-- a branch, a place and a step
+abbrev pub insert_of : List (List ℕ) → Option Command
+insert_of ws = do
+  b ← branch (next ws)
+  k ← number (next (after_next ws))
+  s ← step_of (after_next (after_next ws))
+  Some (Insert b k s)
+
+-- a branch and a place, and no more words
+abbrev pub place_of : List (List ℕ) → Option (List ℕ × ℕ)
+place_of ws = do
+  b ← branch (next ws)
+  k ← number (next (after_next ws))
+  if is_end (after_next (after_next ws)) then Some (b, k) else None
+
+-- a command: `insert B K STEP`, `state B K` or `history B K`
+abbrev pub command_of : List (List ℕ) → Option Command
+command_of ws =
+    if bytes_eq (next ws) (codes "insert") then insert_of (after_next ws)
+    else (if bytes_eq (next ws) (codes "state") then option_map (λ p. State p.0 p.1) (place_of (after_next ws))
+    else (if bytes_eq (next ws) (codes "history") then option_map (λ p. History p.0 p.1) (place_of (after_next ws))
+    else None))
+
+-- a call: the number of a session, and a command
+abbrev pub call_of : List (List ℕ) → Option Call
+call_of ws = do
+  s ← number (next ws)
+  c ← command_of (after_next ws)
+  Some (record { session = s; command = c })
+
+-- a byte of a call: 0x20 to 0x7E
+abbrev pub is_plain : ℕ → Bool
+is_plain b = nat_le 32 b && nat_le b 126
+
+-- what a call or none of its shapes says
+abbrev pub call_or_bad : Option Call → Line
+call_or_bad None = line.Bad
+call_or_bad (Some c) = line.Call c
+
+-- what a line calls: at most 255 plain bytes that spell a call
+abbrev pub called : List ℕ → Line
+called text = if nat_le (length text) 255 && list_all is_plain text then call_or_bad (call_of (words text)) else line.Bad
+
+-- what a line says: nothing where it is empty or begins with `#`
+abbrev pub read_line : List ℕ → Line
+read_line [] = line.Blank
+read_line (b ∷ bs) = if b == 35 then line.Blank else called (b ∷ bs)

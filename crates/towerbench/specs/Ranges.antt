@@ -1,0 +1,11 @@
+-- The ranges of a run's limits.
+use Rattle.std.specs.Prelude.{◌≤◌, ◌^◌}
+use Rattle.towerbench.specs.declared.options.Options.{Options}
+
+-- each limit lies in its range
+pub record AreLimits (o : Options) : Type 0 where
+  pub few_workers : o.workers ≤ 4
+  pub some_cells : 1 ≤ o.cells
+  pub few_cells : o.cells ≤ 2 ^ 24
+  pub some_branches : 1 ≤ o.branches
+  pub few_branches : o.branches ≤ 1024

@@ -1,0 +1,20 @@
+//! Why a run ends before its script does.
+
+use thiserror::Error;
+
+/// A fault of a run.
+#[derive(Clone, Copy, Debug, PartialEq, Eq, Error)]
+pub enum Fault {
+    /// A read failed.
+    #[error("read failed")]
+    Read,
+    /// A write failed, or took no bytes.
+    #[error("write failed")]
+    Write,
+    /// The script has no end within its limits.
+    #[error("script too long")]
+    TooLong,
+    /// There was no memory to go on.
+    #[error("memory")]
+    Memory,
+}

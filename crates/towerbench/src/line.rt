@@ -1,0 +1,150 @@
+//! What a line of a script says.
+
+ghost use Rattle.std.specs.Prelude.{◌≡◌};
+ghost use Rattle.std.specs.List.{list_all};
+ghost use Rattle.std.specs.Str.{bytes_eq};
+ghost use Rattle.towerbench.specs.Lines as spec;
+
+use crate::command::{Call, Command, Line};
+use crate::name::Name;
+use crate::number::number;
+use crate::words::Words;
+use frames::types::Step;
+
+/// The most bytes of a call.
+const MOST_BYTES: usize = 255;
+
+/// Reads a line.
+pub fn read_line(line: &[u8]) -> Line
+    ensures { result ≡ spec.read_line line.now }
+{
+    match line.first() {
+        None | Some(b'#') => Line::Blank,
+        Some(_) => called(line),
+    }
+}
+
+/// Reads a line that is neither empty nor a comment.
+fn called(line: &[u8]) -> Line
+    ensures { result ≡ spec.called line.now }
+{
+    if line.len() > MOST_BYTES || !all_plain(line) {
+        return Line::Bad;
+    }
+    match call_of(&mut Words::new(line)) {
+        None => Line::Bad,
+        Some(call) => Line::Call(call),
+    }
+}
+
+/// Whether each byte is one of 0x20 to 0x7E.
+fn all_plain(line: &[u8]) -> bool
+    ensures { result ≡ list_all spec.is_plain line.now }
+{
+    line.iter().all(|b| 0x20 <= *b && *b <= 0x7e)
+}
+
+/// Reads the number of a session, and a command.
+fn call_of(words: &mut Words<'_>) -> Option<Call>
+    ensures { result ≡ spec.call_of words.old }
+{
+    let session = number(words.next())?;
+    let command = command_of(words)?;
+    Some(Call { session, command })
+}
+
+/// Reads a command.
+fn command_of(words: &mut Words<'_>) -> Option<Command>
+    ensures { result ≡ spec.command_of words.old }
+{
+    let word = words.next();
+    if is(word, "insert") {
+        return insert_of(words);
+    }
+    if is(word, "state") {
+        let (branch, place) = place_of(words)?;
+        return Some(Command::State { branch, place });
+    }
+    if is(word, "history") {
+        let (branch, place) = place_of(words)?;
+        return Some(Command::History { branch, place });
+    }
+    None
+}
+
+/// Reads a branch, a place and a step.
+fn insert_of(words: &mut Words<'_>) -> Option<Command>
+    ensures { result ≡ spec.insert_of words.old }
+{
+    let branch = branch(words.next())?;
+    let place = number(words.next())?;
+    let step = step_of(words)?;
+    Some(Command::Insert {
+        branch,
+        place,
+        step,
+    })
+}
+
+/// Reads a branch and a place, and no more.
+fn place_of(words: &mut Words<'_>) -> Option<(Name, u32)>
+    ensures { result ≡ spec.place_of words.old }
+{
+    let branch = branch(words.next())?;
+    let place = number(words.next())?;
+    words.is_end().then_some((branch, place))
+}
+
+/// Reads a step.
+fn step_of(words: &mut Words<'_>) -> Option<Step>
+    ensures { result ≡ spec.step_of words.old }
+{
+    let word = words.next();
+    if is(word, "w") {
+        let (p, v) = two_numbers(words)?;
+        return Some(Step::Write { p, v });
+    }
+    if is(word, "r") {
+        let p = one_number(words)?;
+        return Some(Step::Read { p });
+    }
+    if is(word, "g") {
+        let (p, c) = two_numbers(words)?;
+        return Some(Step::Go { p, c });
+    }
+    None
+}
+
+/// Reads one number, and no more.
+fn one_number(words: &mut Words<'_>) -> Option<u32>
+    ensures { result ≡ spec.one_number words.old }
+{
+    let first = number(words.next())?;
+    words.is_end().then_some(first)
+}
+
+/// Reads two numbers, and no more.
+fn two_numbers(words: &mut Words<'_>) -> Option<(u32, u32)>
+    ensures { result ≡ spec.two_numbers words.old }
+{
+    let first = number(words.next())?;
+    let second = number(words.next())?;
+    words.is_end().then_some((first, second))
+}
+
+/// Reads the name of a branch, 1 to 16 bytes.
+fn branch(word: &[u8]) -> Option<Name>
+    ensures { result ≡ spec.branch word.now }
+{
+    if word.is_empty() {
+        return None;
+    }
+    Name::new(word)
+}
+
+/// Whether a word is this text.
+fn is(word: &[u8], text: &str) -> bool
+    ensures { result ≡ bytes_eq word.now text.now }
+{
+    word == text.as_bytes()
+}

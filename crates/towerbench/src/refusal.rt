@@ -1,0 +1,51 @@
+//! Refusals, each with its number and name.
+
+ghost use Rattle.std.specs.Prelude.{◌≡◌};
+ghost use Rattle.towerbench.specs.Refusals as spec;
+
+/// Why a call is refused, or a line is none.
+#[derive(Clone, Copy, Debug, PartialEq, Eq)]
+pub enum Refusal {
+    NoBranch,
+    NoPlace,
+    Full,
+    BadStep,
+    NoSession,
+    LogFull,
+    BadLine,
+    Memory,
+}
+
+impl Refusal {
+    /// Its number.
+    pub fn number(self) -> u32
+        ensures { result ≡ spec.number self }
+    {
+        match self {
+            Refusal::NoBranch => 20,
+            Refusal::NoPlace => 23,
+            Refusal::Full => 24,
+            Refusal::BadStep => 30,
+            Refusal::NoSession => 33,
+            Refusal::LogFull => 35,
+            Refusal::BadLine => 36,
+            Refusal::Memory => 40,
+        }
+    }
+
+    /// Its name.
+    pub fn name(self) -> &'static str
+        ensures { result.now ≡ spec.name self }
+    {
+        match self {
+            Refusal::NoBranch => "NoBranch",
+            Refusal::NoPlace => "NoPlace",
+            Refusal::Full => "Full",
+            Refusal::BadStep => "BadStep",
+            Refusal::NoSession => "NoSession",
+            Refusal::LogFull => "LogFull",
+            Refusal::BadLine => "BadLine",
+            Refusal::Memory => "Memory",
+        }
+    }
+}

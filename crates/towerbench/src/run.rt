@@ -1,0 +1,129 @@
+//! A run: the script comes from a reader, the answers go to a writer.
+
+ghost use Rattle.std.specs.Prelude.{◌≡◌, ◌++◌, [], ◌<◌, ◌≤◌, ◌+◌, ◌^◌, ℕ, Bool, true, List, Option, None, OnOk, IfOk, IfSome, MatchOption, length, take};
+ghost use Rattle.std.specs.Io.KnownBytes.{Appends, Consumes, IsAtEnd};
+ghost use Rattle.towerbench.specs.Ranges.{AreLimits};
+ghost use Rattle.towerbench.specs.Told.{Told};
+ghost use Rattle.towerbench.specs.Output.{output, after_lines, lines_of};
+
+use crate::conversation::Conversation;
+use crate::fault::Fault;
+use crate::options::Options;
+use std::alloc::Global;
+use std::io::{ErrorKind, Read, Write};
+
+/// The bytes that a script doesn't reach.
+const MOST_BYTES: u32 = 1 << 24;
+
+/// The most reads of a script.
+const MOST_READS: u32 = 1 << 25;
+
+/// The most bytes of one read.
+const PIECE_BYTES: usize = 4096;
+
+/// Answers a script, each line before the next read.
+pub fn run<R: Read, W: Write>(
+    alloc: Global,
+    file: Option<&[u8]>,
+    options: Options,
+    reader: &mut R,
+    writer: &mut W,
+) -> Result<(), Fault>
+    requires file { file ≡ None }
+    requires limits { AreLimits options }
+    ensures { OnOk result (IfSome (R.remaining reader.old) (λ script. (marks : ℕ → Bool)
+        × Appends (W.contents writer.old) (W.contents writer.new) (output options script marks))) }
+{
+    let mut conversation = Conversation::new(alloc);
+    let mut room = MOST_BYTES;
+    for _ in 0..MOST_READS {
+        let Some(taken) = turn(
+            alloc,
+            options.cells,
+            &mut conversation,
+            room,
+            reader,
+            writer,
+        )?
+        else {
+            return finish(alloc, options.cells, &mut conversation, writer);
+        };
+        room -= taken;
+        if room == 0 {
+            break;
+        }
+    }
+    Err(Fault::TooLong)
+}
+
+/// Answers the last line, if the script doesn't end with a line's end.
+fn finish<W: Write>(
+    alloc: Global,
+    cells: u32,
+    conversation: &mut Conversation,
+    writer: &mut W,
+) -> Result<(), Fault>
+    requires { conversation.old.lines + 1 < 2 ^ 32 }
+    ensures { OnOk result ((before : Option (List ℕ)) (seen : List ℕ)
+        → Told cells before (W.contents writer.old) seen conversation.old.book conversation.old.lines conversation.old.line.items
+        → (marks : ℕ → Bool) × Appends before (W.contents writer.new) (after_lines cells marks (lines_of seen)).text) }
+{
+    conversation.end_line(alloc, cells, writer)?;
+    let Ok(()) = writer.flush() else {
+        return Err(Fault::Write);
+    };
+    Ok(())
+}
+
+/// Reads once, and answers the lines that end in what was read. Nothing is answered at the end;
+/// else how many bytes were read, 0 where the read was interrupted.
+fn turn<R: Read, W: Write>(
+    alloc: Global,
+    cells: u32,
+    conversation: &mut Conversation,
+    room: u32,
+    reader: &mut R,
+    writer: &mut W,
+) -> Result<Option<u32>, Fault>
+    requires some { 0 < room }
+    requires lines { conversation.old.lines + room < 2 ^ 32 }
+    ensures { IfOk result (λ taken. (piece : List ℕ)
+        × Consumes (R.remaining reader.old) (R.remaining reader.new) piece
+        × MatchOption taken ((piece ≡ []) × IsAtEnd (R.remaining reader.new)) (λ n. (n ≡ length piece) × (n ≤ room))
+        × (conversation.new.lines ≤ conversation.old.lines + length piece)
+        × ((before : Option (List ℕ)) (seen : List ℕ)
+        → Told cells before (W.contents writer.old) seen conversation.old.book conversation.old.lines conversation.old.line.items
+        → Told cells before (W.contents writer.new) (seen ++ piece) conversation.new.book conversation.new.lines conversation.new.line.items)) }
+{
+    let mut buffer = [0; PIECE_BYTES];
+    let Some(n) = read_piece(reader, &mut buffer, PIECE_BYTES.min(room as usize))? else {
+        return Ok(None);
+    };
+    conversation.take(alloc, cells, &buffer[..n], writer)?;
+    let Ok(()) = writer.flush() else {
+        return Err(Fault::Write);
+    };
+    Ok(Some(n as u32))
+}
+
+/// Reads at most so many bytes to the front of a buffer: how many, 0 where the read was
+/// interrupted, and none at the end.
+fn read_piece<R: Read>(
+    reader: &mut R,
+    buffer: &mut [u8],
+    most: usize,
+) -> Result<Option<usize>, Fault>
+    requires some { 0 < most }
+    requires room { most ≤ length buffer.old }
+    ensures bound { IfOk result (λ taken. IfSome taken (λ n. n ≤ most)) }
+    ensures bytes { IfOk result (λ taken. MatchOption taken
+        (Consumes (R.remaining reader.old) (R.remaining reader.new) [] × IsAtEnd (R.remaining reader.new))
+        (λ n. Consumes (R.remaining reader.old) (R.remaining reader.new) (take n buffer.new))) }
+{
+    match reader.read(&mut buffer[..most]) {
+        Ok(0) => Ok(None),
+        Ok(n) => Ok(Some(n)),
+        Err(e) if e.kind() == ErrorKind::Interrupted => Ok(Some(0)),
+        Err(_) => Err(Fault::Read),
+    }
+}

@@ -1,0 +1,282 @@
+//! Streams that end early, fail or give their bytes slowly, and the statuses of the program.
+
+use crate::tool::tool;
+use std::alloc::{AllocError, Global};
+use std::io;
+use std::io::{ErrorKind, Read, Write};
+use std::process::Abort;
+use std::test::Fail;
+
+/// Gives a script byte by byte, each behind an interrupted read, and at the end the fault, if any.
+#[derive(Drop)]
+struct Slow<'a> {
+    script: &'a [u8],
+    ready: bool,
+    fault: Option<ErrorKind>,
+}
+
+impl Read for Slow<'_> {
+    fn read(&mut self, buf: &mut [u8]) -> io::Result<usize> {
+        if !self.ready {
+            self.ready = true;
+            return Err(io::Error::from(ErrorKind::Interrupted));
+        }
+        self.ready = false;
+        let Some((first, others)) = self.script.split_first() else {
+            return match self.fault {
+                Some(kind) => Err(io::Error::from(kind)),
+                None => Ok(0),
+            };
+        };
+        if buf.is_empty() {
+            return Ok(0);
+        }
+        buf[0] = *first;
+        self.script = others;
+        Ok(1)
+    }
+}
+
+/// Is interrupted for ever.
+#[derive(Drop)]
+struct Interrupted;
+
+impl Read for Interrupted {
+    fn read(&mut self, _buf: &mut [u8]) -> io::Result<usize> {
+        Err(io::Error::from(ErrorKind::Interrupted))
+    }
+}
+
+/// Takes no bytes: it fails, or answers that it took none.
+#[derive(Drop)]
+struct Closed {
+    fails: bool,
+}
+
+impl Write for Closed {
+    fn write(&mut self, _buf: &[u8]) -> io::Result<usize> {
+        if self.fails {
+            return Err(io::Error::from(ErrorKind::BrokenPipe));
+        }
+        Ok(0)
+    }
+
+    fn flush(&mut self) -> io::Result<()> {
+        Ok(())
+    }
+}
+
+/// Takes bytes, and fails where they are to go on.
+#[derive(Drop)]
+struct Stuck;
+
+impl Write for Stuck {
+    fn write(&mut self, buf: &[u8]) -> io::Result<usize> {
+        Ok(buf.len())
+    }
+
+    fn flush(&mut self) -> io::Result<()> {
+        Err(io::Error::from(ErrorKind::BrokenPipe))
+    }
+}
+
+/// The program's status with no words, its answers and its fault lines.
+fn told<R: Read>(alloc: Global, reader: &mut R) -> (u8, Vec<u8>, Vec<u8>) {
+    let mut out = Vec::new(alloc);
+    let mut errors = Vec::new(alloc);
+    let status = tool(alloc, Ok(Vec::new(alloc)), reader, &mut out, &mut errors);
+    (status, out, errors)
+}
+
+/// Asserts what the program tells.
+fn check<R: Read>(
+    rt: &impl Abort,
+    alloc: Global,
+    reader: &mut R,
+    status: u8,
+    want: &str,
+    fault: &str,
+) {
+    let (ended, out, errors) = told(alloc, reader);
+    assert_eq!(rt; out.as_slice(), want.as_bytes());
+    assert_eq!(rt; errors.as_slice(), fault.as_bytes());
+    assert_eq!(rt; ended, status);
+}
+
+#[test]
+fn slow_script(rt: HostRuntime) {
+    let script = b"0 insert main 0 r 1\n0 history main 1";
+    let mut reader = Slow {
+        script: script.as_slice(),
+        ready: false,
+        fault: None,
+    };
+    let want = "0: edit 1\n0: history main 1 of 1\n  0 p1 invoke read\n";
+    check(&rt, rt.alloc(), &mut reader, 0, want, "");
+}
+
+#[test]
+fn failed_read(rt: HostRuntime) {
+    let script = b"0 insert main 0 r 1\n0 history main 1";
+    let mut reader = Slow {
+        script: script.as_slice(),
+        ready: false,
+        fault: Some(ErrorKind::Other),
+    };
+    check(
+        &rt,
+        rt.alloc(),
+        &mut reader,
+        1,
+        "0: edit 1\n",
+        "towerbench: read failed\n",
+    );
+}
+
+#[test]
+fn failed_write(rt: HostRuntime) {
+    for fails in [false, true] {
+        let script = b"# nothing to write\n0 state main 0\n";
+        let mut reader = script.as_slice();
+        let mut writer = Closed { fails };
+        let mut errors = Vec::new(rt.alloc());
+        let words = Ok(Vec::new(rt.alloc()));
+        let status = tool(rt.alloc(), words, &mut reader, &mut writer, &mut errors);
+        assert_eq!(rt; errors.as_slice(), b"towerbench: write failed\n".as_slice());
+        assert_eq!(rt; status, 1);
+    }
+}
+
+#[test]
+fn failed_flush(rt: HostRuntime) {
+    let script = b"0 state main 0\n";
+    let mut reader = script.as_slice();
+    let mut errors = Vec::new(rt.alloc());
+    let words = Ok(Vec::new(rt.alloc()));
+    let status = tool(rt.alloc(), words, &mut reader, &mut Stuck, &mut errors);
+    assert_eq!(rt; errors.as_slice(), b"towerbench: write failed\n".as_slice());
+    assert_eq!(rt; status, 1);
+}
+
+/// The status stays where the fault line can't be written.
+#[test]
+fn fault_line_lost(rt: HostRuntime) {
+    let script = b"0 state main 0\n";
+    let mut reader = script.as_slice();
+    let words = Ok(Vec::new(rt.alloc()));
+    let mut errors = Closed { fails: true };
+    let mut writer = Closed { fails: false };
+    let status = tool(rt.alloc(), words, &mut reader, &mut writer, &mut errors);
+    assert_eq!(rt; status, 1);
+}
+
+/// A script of 2^24 - 1 bytes is read to its end, one byte more is too long, and the lines before
+/// are answered.
+#[test]
+fn long_scripts(rt: HostRuntime) {
+    let script = b"0 state zed 0\n";
+    let room = (1u64 << 24) - script.len() as u64;
+    let want = "0: refused 20 NoBranch\n";
+    let mut short = script.as_slice().chain(io::repeat(b'\n').take(room - 1));
+    check(&rt, rt.alloc(), &mut short, 0, want, "");
+    let mut long = script.as_slice().chain(io::repeat(b'\n').take(room));
+    check(
+        &rt,
+        rt.alloc(),
+        &mut long,
+        1,
+        want,
+        "towerbench: script too long\n",
+    );
+    check(
+        &rt,
+        rt.alloc(),
+        &mut io::repeat(b'#'),
+        1,
+        "",
+        "towerbench: script too long\n",
+    );
+}
+
+#[test]
+fn endless_interruptions(rt: HostRuntime) {
+    check(
+        &rt,
+        rt.alloc(),
+        &mut Interrupted,
+        1,
+        "",
+        "towerbench: script too long\n",
+    );
+}
+
+#[test]
+fn binary_script(rt: HostRuntime) {
+    let script = b"\x00\xff\n0 state main 0\x80\n\n0 history main 0\n";
+    let want = "line 1: refused 36 BadLine\nline 2: refused 36 BadLine\n\
+        0: history main 0 of 0\n  none\n";
+    check(&rt, rt.alloc(), &mut script.as_slice(), 0, want, "");
+}
+
+#[test]
+fn long_lines(rt: HostRuntime) -> Result<(), Fail> {
+    // 254 and 255 bytes that spell no call, 300 of them, and a comment as long
+    for (count, byte, want) in [
+        (254, b'0', "line 1: refused 36 BadLine\n"),
+        (255, b'0', "line 1: refused 36 BadLine\n"),
+        (300, b'0', "line 1: refused 36 BadLine\n"),
+        (300, b'#', ""),
+    ] {
+        let mut script = vec![in rt.alloc(); byte; count]?;
+        script.push(b'\n')?;
+        check(&rt, rt.alloc(), &mut script.as_slice(), 0, want, "");
+    }
+    Ok(())
+}
+
+#[test]
+fn carriage_returns(rt: HostRuntime) {
+    let script = b"0 state main 0\r\n\r\n# x\r\n0 history main 0\n";
+    let want = "line 1: refused 36 BadLine\nline 2: refused 36 BadLine\n\
+        0: history main 0 of 0\n  none\n";
+    check(&rt, rt.alloc(), &mut script.as_slice(), 0, want, "");
+}
+
+#[test]
+fn empty_script(rt: HostRuntime) {
+    check(&rt, rt.alloc(), &mut io::empty(), 0, "", "");
+}
+
+/// Any word is refused, and so are words that can't be read.
+#[test]
+fn words_refused(rt: HostRuntime) -> Result<(), Fail> {
+    let mut words = Vec::new(rt.alloc());
+    words
+        .push(String::from_str(rt.alloc(), "--help")?)
+        .map_err(AllocError::from)?;
+    for words in [Ok(words), Err(io::Error::from(ErrorKind::InvalidData))] {
+        let mut reader = b"0 state main 0\n".as_slice();
+        let mut out = Vec::new(rt.alloc());
+        let mut errors = Vec::new(rt.alloc());
+        let status = tool(rt.alloc(), words, &mut reader, &mut out, &mut errors);
+        assert_eq!(rt; status, 2);
+        assert!(rt; out.is_empty());
+        assert_eq!(rt;
+            errors.as_slice(),
+            b"usage: towerbench < SCRIPT\n".as_slice()
+        );
+    }
+    Ok(())
+}
+
+/// Words that there is no memory for are a fault of memory.
+#[test]
+fn words_without_memory(rt: HostRuntime) {
+    let words = Err(io::Error::from(ErrorKind::OutOfMemory));
+    let mut out = Vec::new(rt.alloc());
+    let mut errors = Vec::new(rt.alloc());
+    let status = tool(rt.alloc(), words, &mut io::empty(), &mut out, &mut errors);
+    assert_eq!(rt; status, 1);
+    assert!(rt; out.is_empty());
+    assert_eq!(rt; errors.as_slice(), b"towerbench: memory\n".as_slice());
+}
