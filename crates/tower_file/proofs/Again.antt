@@ -1,0 +1,252 @@
+-- What is spelled so is read.
+use Rattle.std.proofs.Common.{◌≡◌, ℕ, ◌+◌, ◌^◌, ◌<◌, ◌≤◌, true, false, cond, not, nat_lt, List, [], ◌∷◌, ◌++◌, length, Option, Some, None, Result, Ok, refl, sym, ap, ◌∙◌, append_assoc, arith}
+use Rattle.std.specs.Prelude.{codes}
+use Rattle.std.specs.Option.{ok_or, option_and_then}
+use Rattle.std.specs.List.{list_all, flat_map, prefix_len}
+use Rattle.std.proofs.lemmas.Bool.{and_parts, ltb-true, le-ltb}
+use Rattle.std.proofs.lemmas.Bool.Decides.{nat_tests}
+use Rattle.frames.specs.declared.types.Op.{Op}
+use Rattle.frames.specs.declared.types.Op.TheVariants as op
+use Rattle.frames.specs.declared.types.Step.{Step}
+use Rattle.frames.specs.declared.types.Step.TheVariants as step
+use Rattle.frames.specs.OneWriter.{nobody_else, no_other_value}
+use Rattle.tower_file.specs.declared.tower.TowerSpec.{TowerSpec}
+use Rattle.tower_file.specs.declared.tower.TowerSpec.TheVariants.{Safe, Copies, Regular, Unary, Stamped, Matrix}
+use Rattle.tower_file.specs.declared.fault.FaultKind.TheVariants.{BadStep}
+use Rattle.tower_file.specs.declared.fault.FileFault.{FileFault}
+use Rattle.tower_file.specs.Faults.{fault}
+use Rattle.tower_file.specs.Towers.{values_of, processes_of, is_lawful_tower, suits, fits}
+use Rattle.tower_file.specs.Files.{File, IsLawful, file_of}
+use Rattle.tower_file.specs.Words.{words, lines, is_end}
+use Rattle.tower_file.specs.Lines.{step_of, fitting_step}
+use Rattle.tower_file.specs.Spelling.{line, header, tower_text, step_text, spelling, Spells}
+use Rattle.tower_file.specs.Reading.{◌>>=◌, is_plain, first_odd, second_line, tower_of, steps_of, file_of_lines, reading_from, reading}
+use Rattle.tower_file.proofs.Numbers.{number-decimal}
+use Rattle.tower_file.proofs.Texts.{all_weaker, all_append, is_print, print_is_plain, text_prints, words-text, lines-line}
+
+-- ---- the numbers of lawful files have at most 9 digits
+
+pub record IsFew (t : TowerSpec) : Type 0 where
+  pub values : values_of t ≤ 512
+  pub processes : processes_of t ≤ 5
+
+few : (t : TowerSpec) → is_lawful_tower t ≡ true → IsFew t
+few (Safe init) h = record { values = omega arith; processes = omega arith }
+few (Copies readers init) h = record { values = omega arith; processes = grind (arith, nat_tests) }
+few (Regular readers init) h = record { values = omega arith; processes = grind (arith, nat_tests) }
+few (Unary values readers init) h = record { values = grind (arith, nat_tests); processes = grind (arith, nat_tests) }
+few (Stamped values last) h = record { values = grind (arith, nat_tests); processes = omega arith }
+few (Matrix processes values last_tag last_stamp) h = record { values = grind (arith, nat_tests); processes = grind (arith, nat_tests) }
+
+some_process : (t : TowerSpec) (who : ℕ) (o : Op) → suits t who o ≡ true → who < processes_of t
+some_process (Safe init) who o h = nobody_else 2 2 who o h
+some_process (Copies readers init) who o h = nobody_else 2 (readers + 1) who o h
+some_process (Regular readers init) who o h = nobody_else 2 (readers + 1) who o h
+some_process (Unary values readers init) who o h = nobody_else values (readers + 1) who o h
+some_process (Stamped values last) who o h = nobody_else values 2 who o h
+some_process (Matrix processes values last_tag last_stamp) who (op.Write v) h = grind (arith, nat_tests)
+some_process (Matrix processes values last_tag last_stamp) who op.Read h = grind (arith, nat_tests)
+
+some_value : (t : TowerSpec) (who v : ℕ) → suits t who (op.Write v) ≡ true → v < values_of t
+some_value (Safe init) who v h = no_other_value 2 2 who v h
+some_value (Copies readers init) who v h = no_other_value 2 (readers + 1) who v h
+some_value (Regular readers init) who v h = no_other_value 2 (readers + 1) who v h
+some_value (Unary values readers init) who v h = no_other_value values (readers + 1) who v h
+some_value (Stamped values last) who v h = no_other_value values 2 who v h
+some_value (Matrix processes values last_tag last_stamp) who v h = grind (arith, nat_tests)
+
+-- ---- the tower's line
+
+tower_prints : (t : TowerSpec) → is_lawful_tower t ≡ true → list_all is_print (tower_text t) ≡ true
+tower_prints (Safe init) h =
+    let a : init < 10 ^ 9 = grind (arith, nat_tests) in
+    text_prints (codes "safe") (init ∷ []) refl (a, tt)
+tower_prints (Copies readers init) h =
+    let a : readers < 10 ^ 9 = grind (arith, nat_tests) in
+    let b : init < 10 ^ 9 = grind (arith, nat_tests) in
+    text_prints (codes "copies") (readers ∷ init ∷ []) refl (a, (b, tt))
+tower_prints (Regular readers init) h =
+    let a : readers < 10 ^ 9 = grind (arith, nat_tests) in
+    let b : init < 10 ^ 9 = grind (arith, nat_tests) in
+    text_prints (codes "regular") (readers ∷ init ∷ []) refl (a, (b, tt))
+tower_prints (Unary values readers init) h =
+    let a : values < 10 ^ 9 = grind (arith, nat_tests) in
+    let b : readers < 10 ^ 9 = grind (arith, nat_tests) in
+    let c : init < 10 ^ 9 = grind (arith, nat_tests) in
+    text_prints (codes "unary") (values ∷ readers ∷ init ∷ []) refl (a, (b, (c, tt)))
+tower_prints (Stamped values last) h =
+    let a : values < 10 ^ 9 = grind (arith, nat_tests) in
+    let b : last < 10 ^ 9 = grind (arith, nat_tests) in
+    text_prints (codes "stamped") (values ∷ last ∷ []) refl (a, (b, tt))
+tower_prints (Matrix processes values last_tag last_stamp) h =
+    let a : processes < 10 ^ 9 = grind (arith, nat_tests) in
+    let b : values < 10 ^ 9 = grind (arith, nat_tests) in
+    let c : last_tag < 10 ^ 9 = grind (arith, nat_tests) in
+    let d : last_stamp < 10 ^ 9 = grind (arith, nat_tests) in
+    text_prints (codes "matrix") (processes ∷ values ∷ last_tag ∷ last_stamp ∷ []) refl (a, (b, (c, (d, tt))))
+
+tower_again : (t : TowerSpec) → is_lawful_tower t ≡ true → second_line false (words (tower_text t)) ≡ Ok t
+tower_again (Safe init) h =
+    let a : init < 10 ^ 9 = grind (arith, nat_tests) in
+    ap (second_line false) (words-text (codes "safe") (init ∷ []) refl (a, tt))
+    ∙ rw (number-decimal init a, h) refl
+tower_again (Copies readers init) h =
+    let a : readers < 10 ^ 9 = grind (arith, nat_tests) in
+    let b : init < 10 ^ 9 = grind (arith, nat_tests) in
+    ap (second_line false) (words-text (codes "copies") (readers ∷ init ∷ []) refl (a, (b, tt)))
+    ∙ rw (number-decimal readers a, number-decimal init b, h) refl
+tower_again (Regular readers init) h =
+    let a : readers < 10 ^ 9 = grind (arith, nat_tests) in
+    let b : init < 10 ^ 9 = grind (arith, nat_tests) in
+    ap (second_line false) (words-text (codes "regular") (readers ∷ init ∷ []) refl (a, (b, tt)))
+    ∙ rw (number-decimal readers a, number-decimal init b, h) refl
+tower_again (Unary values readers init) h =
+    let a : values < 10 ^ 9 = grind (arith, nat_tests) in
+    let b : readers < 10 ^ 9 = grind (arith, nat_tests) in
+    let c : init < 10 ^ 9 = grind (arith, nat_tests) in
+    ap (second_line false) (words-text (codes "unary") (values ∷ readers ∷ init ∷ []) refl (a, (b, (c, tt))))
+    ∙ rw (number-decimal values a, number-decimal readers b, number-decimal init c, h) refl
+tower_again (Stamped values last) h =
+    let a : values < 10 ^ 9 = grind (arith, nat_tests) in
+    let b : last < 10 ^ 9 = grind (arith, nat_tests) in
+    ap (second_line false) (words-text (codes "stamped") (values ∷ last ∷ []) refl (a, (b, tt)))
+    ∙ rw (number-decimal values a, number-decimal last b, h) refl
+tower_again (Matrix processes values last_tag last_stamp) h =
+    let a : processes < 10 ^ 9 = grind (arith, nat_tests) in
+    let b : values < 10 ^ 9 = grind (arith, nat_tests) in
+    let c : last_tag < 10 ^ 9 = grind (arith, nat_tests) in
+    let d : last_stamp < 10 ^ 9 = grind (arith, nat_tests) in
+    ap (second_line false) (words-text (codes "matrix") (processes ∷ values ∷ last_tag ∷ last_stamp ∷ []) refl (a, (b, (c, (d, tt)))))
+    ∙ rw (number-decimal processes a, number-decimal values b, number-decimal last_tag c, number-decimal last_stamp d, h) refl
+
+-- ---- the steps
+
+-- the numbers of a fitting step
+step_prints : (t : TowerSpec) (s : Step) → IsFew t → fits t s ≡ true → list_all is_print (step_text s) ≡ true
+step_prints t (step.Write p v) small h =
+    let a : p < 10 ^ 9 = omega (arith, small.processes, some_process t p (op.Write v) h) in
+    let b : v < 10 ^ 9 = omega (arith, small.values, some_value t p v h) in
+    text_prints (codes "w") (p ∷ v ∷ []) refl (a, (b, tt))
+step_prints t (step.Read p) small h =
+    let a : p < 10 ^ 9 = omega (arith, small.processes, some_process t p op.Read h) in
+    text_prints (codes "r") (p ∷ []) refl (a, tt)
+step_prints t (step.Go p c) small h =
+    let g = and_parts (nat_lt p (processes_of t)) (nat_lt c 2) h in
+    let a : p < 10 ^ 9 = omega (arith, small.processes, ltb-true p (processes_of t) g.0) in
+    let b : c < 10 ^ 9 = omega (arith, ltb-true c 2 g.1) in
+    text_prints (codes "g") (p ∷ c ∷ []) refl (a, (b, tt))
+
+step_again : (t : TowerSpec) (s : Step) → IsFew t → fits t s ≡ true → step_of (words (step_text s)) ≡ Some s
+step_again t (step.Write p v) small h =
+    let a : p < 10 ^ 9 = omega (arith, small.processes, some_process t p (op.Write v) h) in
+    let b : v < 10 ^ 9 = omega (arith, small.values, some_value t p v h) in
+    ap step_of (words-text (codes "w") (p ∷ v ∷ []) refl (a, (b, tt))) ∙ rw (number-decimal p a, number-decimal v b) refl
+step_again t (step.Read p) small h =
+    let a : p < 10 ^ 9 = omega (arith, small.processes, some_process t p op.Read h) in
+    ap step_of (words-text (codes "r") (p ∷ []) refl (a, tt)) ∙ rw (number-decimal p a) refl
+step_again t (step.Go p c) small h =
+    let g = and_parts (nat_lt p (processes_of t)) (nat_lt c 2) h in
+    let a : p < 10 ^ 9 = omega (arith, small.processes, ltb-true p (processes_of t) g.0) in
+    let b : c < 10 ^ 9 = omega (arith, ltb-true c 2 g.1) in
+    ap step_of (words-text (codes "g") (p ∷ c ∷ []) refl (a, (b, tt))) ∙ rw (number-decimal p a, number-decimal c b) refl
+
+fitting_again : (t : TowerSpec) (s : Step) → IsFew t → fits t s ≡ true → fitting_step t (step_text s) ≡ Some s
+fitting_again t s small h =
+    ap (λ (o : Option Step). option_and_then (λ x. cond (fits t x) (Some x) None) o) (step_again t s small h) ∙ ap (λ b. cond b (Some s) None) h
+
+-- the lines of steps, and nothing behind them
+abbrev step_lines : List Step → List (List ℕ)
+step_lines [] = [] ∷ []
+step_lines (s ∷ ss) = step_text s ∷ step_lines ss
+
+some_line : (ss : List Step) → is_end (step_lines ss) ≡ false
+some_line [] = refl
+some_line (s ∷ ss) = refl
+
+steps_more : (t : TowerSpec) (n : ℕ) (l : List ℕ) (ls : List (List ℕ)) → is_end ls ≡ false
+    → steps_of t n (l ∷ ls) ≡ (ok_or (fitting_step t l) (fault BadStep n) >>= λ s. steps_of t (n + 1) ls >>= λ ss. Ok (s ∷ ss))
+unfolding steps_of
+steps_more t n l [] h = absurd cc
+steps_more t n l (k ∷ ls) h = refl
+
+steps_again : (t : TowerSpec) (n : ℕ) (ss : List Step) → IsFew t → list_all (fits t) ss ≡ true → steps_of t n (step_lines ss) ≡ Ok ss
+unfolding steps_of
+steps_again t n [] small h = refl
+steps_again t n (s ∷ ss) small h =
+    let a = and_parts (fits t s) (list_all (fits t) ss) h in
+    steps_more t n (step_text s) (step_lines ss) (some_line ss)
+    ∙ ap (λ (o : Option Step). ok_or o (fault BadStep n) >>= λ x. steps_of t (n + 1) (step_lines ss) >>= λ xs. Ok (x ∷ xs)) (fitting_again t s small a.0)
+    ∙ ap (λ (r : Result (List Step) FileFault). r >>= λ xs. Ok (s ∷ xs)) (steps_again t (n + 1) ss small a.1)
+
+abbrev steps_text : List Step → List ℕ
+steps_text ss = flat_map (λ s. line (step_text s)) ss
+
+lines-steps : (t : TowerSpec) (ss : List Step) → IsFew t → list_all (fits t) ss ≡ true → lines (steps_text ss) ≡ step_lines ss
+lines-steps t [] small h = refl
+lines-steps t (s ∷ ss) small h =
+    let a = and_parts (fits t s) (list_all (fits t) ss) h in
+    lines-line (step_text s) (steps_text ss) (step_prints t s small a.0) ∙ ap (λ ls. step_text s ∷ ls) (lines-steps t ss small a.1)
+
+-- ---- plain bytes
+
+line_plain : (xs : List ℕ) → list_all is_print xs ≡ true → list_all is_plain (line xs) ≡ true
+line_plain xs h = all_append is_plain xs (10 ∷ []) (all_weaker is_print is_plain print_is_plain xs h) refl
+
+steps_plain : (t : TowerSpec) (ss : List Step) → IsFew t → list_all (fits t) ss ≡ true → list_all is_plain (steps_text ss) ≡ true
+steps_plain t [] small h = refl
+steps_plain t (s ∷ ss) small h =
+    let a = and_parts (fits t s) (list_all (fits t) ss) h in
+    all_append is_plain (line (step_text s)) (steps_text ss) (line_plain (step_text s) (step_prints t s small a.0)) (steps_plain t ss small a.1)
+
+all_before : (xs : List ℕ) → list_all is_plain xs ≡ true → prefix_len (λ x. not (not (is_plain x))) xs ≡ length xs
+all_before [] h = refl
+all_before (x ∷ xs) h =
+    let a = and_parts (is_plain x) (list_all is_plain xs) h in
+    let rest = all_before xs a.1 in
+    ap (λ b. cond (not (not b)) (1 + prefix_len (λ y. not (not (is_plain y))) xs) 0) a.0 ∙ omega (arith, rest)
+
+no_odd : (xs : List ℕ) → list_all is_plain xs ≡ true → first_odd xs ≡ None
+no_odd xs h =
+    let n : ℕ = prefix_len (λ x. not (not (is_plain x))) xs in
+    ap (λ b. cond b (Some n) None) (le-ltb n (length xs) (omega (arith, all_before xs h)))
+
+-- ---- files
+
+tower_of_lines : (t : TowerSpec) (ls : List (List ℕ)) → is_end ls ≡ false → is_lawful_tower t ≡ true → tower_of (header ∷ tower_text t ∷ ls) ≡ Ok t
+tower_of_lines t ls more h =
+    ap (λ b. second_line b (words (tower_text t))) more ∙ tower_again t h
+
+lines-spelling : (f : File) → IsLawful f → lines (spelling f) ≡ header ∷ tower_text f.spec ∷ step_lines f.steps
+lines-spelling f lawful =
+    let a = and_parts (is_lawful_tower f.spec) (list_all (fits f.spec) f.steps) lawful in
+    let small = few f.spec a.0 in
+    ap lines (append_assoc (line header) (line (tower_text f.spec)) (steps_text f.steps))
+    ∙ lines-line header (line (tower_text f.spec) ++ steps_text f.steps) refl
+    ∙ ap (λ ls. header ∷ ls) (lines-line (tower_text f.spec) (steps_text f.steps) (tower_prints f.spec a.0))
+    ∙ ap (λ ls. header ∷ tower_text f.spec ∷ ls) (lines-steps f.spec f.steps small a.1)
+
+spelling_plain : (f : File) → IsLawful f → list_all is_plain (spelling f) ≡ true
+spelling_plain f lawful =
+    let a = and_parts (is_lawful_tower f.spec) (list_all (fits f.spec) f.steps) lawful in
+    all_append is_plain (line header ++ line (tower_text f.spec)) (steps_text f.steps)
+    (all_append is_plain (line header) (line (tower_text f.spec)) refl (line_plain (tower_text f.spec) (tower_prints f.spec a.0)))
+    (steps_plain f.spec f.steps (few f.spec a.0) a.1)
+
+file_again : (f : File) → IsLawful f → file_of_lines (header ∷ tower_text f.spec ∷ step_lines f.steps) ≡ Ok f
+file_again f lawful =
+    let a = and_parts (is_lawful_tower f.spec) (list_all (fits f.spec) f.steps) lawful in
+    ap (λ (r : Result TowerSpec FileFault). r >>= λ t. steps_of t 3 (step_lines f.steps) >>= λ ss. Ok (file_of t ss)) (tower_of_lines f.spec (step_lines f.steps) (some_line f.steps) a.0)
+    ∙ ap (λ (r : Result (List Step) FileFault). r >>= λ ss. Ok (file_of f.spec ss)) (steps_again f.spec 3 f.steps (few f.spec a.0) a.1)
+
+reading-spelling : (f : File) → IsLawful f → reading (spelling f) ≡ Ok f
+reading-spelling f lawful =
+    ap (λ o. reading_from o (spelling f)) (no_odd (spelling f) (spelling_plain f lawful))
+    ∙ ap file_of_lines (lines-spelling f lawful)
+    ∙ file_again f lawful
+
+pub reading_again : (bytes : List ℕ) (f : File) → Spells bytes f → reading bytes ≡ Ok f
+reading_again bytes f s = ap reading s.spelled ∙ reading-spelling f s.lawful
+
+-- no bytes spell two files
+pub one_file : (bytes : List ℕ) (f g : File) → Spells bytes f → Spells bytes g → f ≡ g
+one_file bytes f g s u = let both = sym (reading_again bytes f s) ∙ reading_again bytes g u in cc

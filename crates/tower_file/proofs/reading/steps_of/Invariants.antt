@@ -1,0 +1,10 @@
+use Rattle.std.proofs.Common.{◌≡◌, ◌+◌, length}
+use Rattle.tower_file.specs.Reading.{steps_of}
+use Rattle.tower_file.proofs.Loop.{with_front}
+use Rattle.tower_file.proofs.reading.steps_of.Given as goal
+
+abbrev pub invariant-loop-lines : goal.invariant-loop-lines
+invariant-loop-lines l = with_front l.steps.items (steps_of l.tower (length l.steps.items + 3) l.lines) ≡ steps_of l.tower 3 l.fn.lines
+
+abbrev pub decreases-loop-lines : goal.decreases-loop-lines
+decreases-loop-lines l = length l.lines

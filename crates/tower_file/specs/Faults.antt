@@ -1,0 +1,41 @@
+-- The faults: each has a number and a name.
+use Rattle.std.specs.Prelude.{◌≡◌, ℕ, List, Result, Ok, Err, codes}
+use Rattle.tower_file.specs.declared.fault.FaultKind.{FaultKind}
+use Rattle.tower_file.specs.declared.fault.FaultKind.TheVariants.{NotAscii, BadHeader, UnknownTower, BadField, BadStep, BadSize, Memory}
+use Rattle.tower_file.specs.declared.fault.FileFault.{FileFault}
+
+abbrev pub number : FaultKind → ℕ
+number NotAscii = 10
+number BadHeader = 11
+number UnknownTower = 12
+number BadField = 13
+number BadStep = 14
+number BadSize = 15
+number Memory = 40
+
+abbrev pub name : FaultKind → List ℕ
+name NotAscii = codes "NotAscii"
+name BadHeader = codes "BadHeader"
+name UnknownTower = codes "UnknownTower"
+name BadField = codes "BadField"
+name BadStep = codes "BadStep"
+name BadSize = codes "BadSize"
+name Memory = codes "Memory"
+
+-- a fault on a line
+abbrev pub fault : FaultKind → ℕ → FileFault
+fault kind line = record { kind = kind; line = line }
+
+-- a growth was refused
+abbrev pub out_of_memory : FileFault
+out_of_memory = fault Memory 0
+
+-- A call that failed with e answers what reading gives, or a growth was refused.
+abbrev pub Fails : {Y : Type 0} → FaultKind → FileFault → Result Y FileFault → Type 0
+Fails Memory e read = e ≡ out_of_memory
+Fails _ e read = read ≡ Err e
+
+-- What a call answers, seen by view, is what reading gives, unless a growth was refused.
+abbrev pub Gives : {X Y : Type 0} → (X → Y) → Result X FileFault → Result Y FileFault → Type 0
+Gives view (Ok x) read = read ≡ Ok (view x)
+Gives view (Err e) read = Fails e.kind e read

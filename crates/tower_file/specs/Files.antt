@@ -1,0 +1,21 @@
+-- What a tower file says.
+use Rattle.std.specs.Prelude.{◌≡◌, Bool, true, ◌&&◌, List}
+use Rattle.std.specs.List.{list_all}
+use Rattle.frames.specs.declared.types.Step.{Step}
+use Rattle.tower_file.specs.declared.tower.TowerSpec.{TowerSpec}
+use Rattle.tower_file.specs.Towers.{is_lawful_tower, fits}
+
+-- a tower and a schedule
+pub record File : Type 0 where
+  pub spec : TowerSpec
+  pub steps : List Step
+
+abbrev pub file_of : TowerSpec → List Step → File
+file_of t steps = record { spec = t; steps = steps }
+
+-- the tower is lawful, and each step fits it
+abbrev pub is_lawful : File → Bool
+is_lawful f = is_lawful_tower f.spec && list_all (fits f.spec) f.steps
+
+abbrev pub IsLawful : File → Type 0
+IsLawful f = is_lawful f ≡ true

@@ -1,0 +1,46 @@
+-- What a line says: a tower or a step.
+use Rattle.std.specs.Prelude.{ℕ, List, Option, Some, None, codes, if◌then◌else◌}
+use Rattle.std.specs.Option.{option_map}
+use Rattle.std.specs.Str.{bytes_eq}
+use Rattle.frames.specs.declared.types.Step.{Step}
+use Rattle.frames.specs.declared.types.Step.TheVariants as step
+use Rattle.tower_file.specs.declared.tower.TowerSpec.{TowerSpec}
+use Rattle.tower_file.specs.declared.tower.TowerSpec.TheVariants as tower
+use Rattle.tower_file.specs.declared.line.TowerName.{TowerName}
+use Rattle.tower_file.specs.declared.line.TowerName.TheVariants.{Safe, Copies, Regular, Unary, Stamped, Matrix}
+use Rattle.tower_file.specs.Words.{◌>>=◌, words, next, after_next, one_number, two_numbers, three_numbers, four_numbers}
+use Rattle.tower_file.specs.Towers.{fits}
+
+-- the tower that a word names
+abbrev pub tower_name : List ℕ → Option TowerName
+tower_name word =
+    if bytes_eq word (codes "safe") then Some Safe
+    else (if bytes_eq word (codes "copies") then Some Copies
+    else (if bytes_eq word (codes "regular") then Some Regular
+    else (if bytes_eq word (codes "unary") then Some Unary
+    else (if bytes_eq word (codes "stamped") then Some Stamped
+    else (if bytes_eq word (codes "matrix") then Some Matrix
+    else None)))))
+
+-- its fields, and no more words
+abbrev pub fields_of : TowerName → List (List ℕ) → Option TowerSpec
+fields_of Safe ws = option_map (λ init. tower.Safe init) (one_number ws)
+fields_of Copies ws = option_map (λ n. tower.Copies n.0 n.1) (two_numbers ws)
+fields_of Regular ws = option_map (λ n. tower.Regular n.0 n.1) (two_numbers ws)
+fields_of Unary ws = option_map (λ n. tower.Unary n.0 n.1 n.2) (three_numbers ws)
+fields_of Stamped ws = option_map (λ n. tower.Stamped n.0 n.1) (two_numbers ws)
+fields_of Matrix ws = option_map (λ n. tower.Matrix n.0 n.1 n.2 n.3) (four_numbers ws)
+
+-- a step: `w P V`, `r P` or `g P C`
+abbrev pub step_of : List (List ℕ) → Option Step
+step_of ws =
+    if bytes_eq (next ws) (codes "w") then option_map (λ n. step.Write n.0 n.1) (two_numbers (after_next ws))
+    else (if bytes_eq (next ws) (codes "r") then option_map (λ p. step.Read p) (one_number (after_next ws))
+    else (if bytes_eq (next ws) (codes "g") then option_map (λ n. step.Go n.0 n.1) (two_numbers (after_next ws))
+    else None))
+
+-- the step of a line, where it fits the tower
+abbrev pub fitting_step : TowerSpec → List ℕ → Option Step
+fitting_step t line = do
+  s ← step_of (words line)
+  if fits t s then Some s else None

@@ -1,0 +1,63 @@
+-- The six towers: their values and processes, which are lawful, and which steps fit them.
+use Rattle.std.specs.Prelude.{ℕ, ◌+◌, ◌*◌, Bool, ◌&&◌, nat_lt, nat_le}
+use Rattle.frames.specs.declared.types.Op.{Op}
+use Rattle.frames.specs.declared.types.Op.TheVariants as op
+use Rattle.frames.specs.declared.types.Step.{Step}
+use Rattle.frames.specs.declared.types.Step.TheVariants as step
+use Rattle.frames.specs.OneWriter.{one_writer}
+use Rattle.tower_file.specs.declared.tower.TowerSpec.{TowerSpec}
+use Rattle.tower_file.specs.declared.tower.TowerSpec.TheVariants.{Safe, Copies, Regular, Unary, Stamped, Matrix}
+
+abbrev pub values_of : TowerSpec → ℕ
+values_of (Safe init) = 2
+values_of (Copies readers init) = 2
+values_of (Regular readers init) = 2
+values_of (Unary values readers init) = values
+values_of (Stamped values last) = values
+values_of (Matrix processes values last_tag last_stamp) = values
+
+-- process 0 and the readers; in the matrix all are alike
+abbrev pub processes_of : TowerSpec → ℕ
+processes_of (Safe init) = 2
+processes_of (Copies readers init) = readers + 1
+processes_of (Regular readers init) = readers + 1
+processes_of (Unary values readers init) = readers + 1
+processes_of (Stamped values last) = 2
+processes_of (Matrix processes values last_tag last_stamp) = processes
+
+-- whether a number lies between two others, these included
+abbrev pub is_in : ℕ → ℕ → ℕ → Bool
+is_in least most n = nat_le least n && nat_le n most
+
+-- a matrix has at most 512 codes, and at most 4,096 bits: one for each code, writer and reader
+abbrev pub is_small_matrix : ℕ → ℕ → ℕ → ℕ → Bool
+is_small_matrix processes values last_tag last_stamp =
+    let codes = (last_stamp + 1) * (last_tag + 1) * processes * values in
+    nat_le codes 512 && nat_le (processes * processes * codes) 4096
+
+-- each number lies in its range, and the tower isn't too large
+abbrev pub is_lawful_tower : TowerSpec → Bool
+is_lawful_tower (Safe init) = nat_lt init 2
+is_lawful_tower (Copies readers init) = is_in 1 4 readers && nat_lt init 2
+is_lawful_tower (Regular readers init) = is_in 1 4 readers && nat_lt init 2
+is_lawful_tower (Unary values readers init) = (is_in 2 512 values && is_in 1 4 readers) && nat_lt init values
+is_lawful_tower (Stamped values last) = (is_in 2 512 values && nat_lt last 512) && nat_le ((last + 1) * values) 512
+is_lawful_tower (Matrix processes values last_tag last_stamp) =
+    ((is_in 2 4 processes && is_in 2 512 values) && nat_lt last_tag 512 && nat_lt last_stamp 512)
+    && is_small_matrix processes values last_tag last_stamp
+
+-- which operations fit a process: in the matrix each process reads and writes each value; every other tower has one writer
+abbrev pub suits : TowerSpec → ℕ → Op → Bool
+suits (Matrix processes values last_tag last_stamp) who (op.Write v) = nat_lt who processes && nat_lt v values
+suits (Matrix processes values last_tag last_stamp) who op.Read = nat_lt who processes
+suits (Safe init) who o = one_writer 2 2 who o
+suits (Copies readers init) who o = one_writer 2 (readers + 1) who o
+suits (Regular readers init) who o = one_writer 2 (readers + 1) who o
+suits (Unary values readers init) who o = one_writer values (readers + 1) who o
+suits (Stamped values last) who o = one_writer values 2 who o
+
+-- which steps fit: an operation that fits its process, or a bit action of a process with a choice of 0 or 1
+abbrev pub fits : TowerSpec → Step → Bool
+fits t (step.Write p v) = suits t p (op.Write v)
+fits t (step.Read p) = suits t p op.Read
+fits t (step.Go p c) = nat_lt p (processes_of t) && nat_lt c 2

@@ -1,0 +1,74 @@
+-- The parts of a text: the lines of a file, and the words of a line.
+use Rattle.std.specs.Prelude.{ℕ, List, [], ◌∷◌, Option, Some, None, option_and_then, Bool, true, false, ◌==◌, ◌&&◌, ◌||◌, not, nat_le, length, if◌then◌else◌}
+use Rattle.std.specs.List.{list_all, slice_split}
+use Rattle.std.specs.Char.{is_ascii_digit}
+use Rattle.std.specs.Str.Parse.{digits_value}
+
+-- what stands between the bytes c of a text
+abbrev pub parts : ℕ → List ℕ → List (List ℕ)
+parts c text = slice_split (λ b. b == c) text
+
+-- between line ends; the last part is what stands behind the last line end
+abbrev pub lines : List ℕ → List (List ℕ)
+lines text = parts 10 text
+
+-- between spaces
+abbrev pub words : List ℕ → List (List ℕ)
+words line = parts 32 line
+
+-- the parts of which this text is left, if any
+abbrev pub parts_left : ℕ → Option (List ℕ) → List (List ℕ)
+parts_left c None = []
+parts_left c (Some text) = parts c text
+
+-- the next part, empty where there is none
+abbrev pub next : List (List ℕ) → List ℕ
+next [] = []
+next (part ∷ others) = part
+
+-- the parts after it
+abbrev pub after_next : List (List ℕ) → List (List ℕ)
+after_next [] = []
+after_next (part ∷ others) = others
+
+-- whether there is no part
+abbrev pub is_end : List (List ℕ) → Bool
+is_end [] = true
+is_end (part ∷ others) = false
+
+-- then, where there is a value
+infixl 10 ◌>>=◌
+abbrev pub ◌>>=◌ : {A B : Type 0} → Option A → (A → Option B) → Option B
+o >>= f = option_and_then f o
+
+-- a number: 0, or a digit from 1 on and then digits, at most 9 in all
+abbrev pub is_number : List ℕ → Bool
+is_number [] = false
+is_number (d ∷ ds) = (nat_le (length ds) 8 && (not (d == 48) || length ds == 0)) && list_all is_ascii_digit (d ∷ ds)
+
+abbrev pub number : List ℕ → Option ℕ
+number word = if is_number word then Some (digits_value 10 word) else None
+
+-- so many numbers, and no more words
+abbrev pub one_number : List (List ℕ) → Option ℕ
+one_number ws = do
+  a ← number (next ws)
+  if is_end (after_next ws) then Some a else None
+
+abbrev pub two_numbers : List (List ℕ) → Option (ℕ × ℕ)
+two_numbers ws = do
+  a ← number (next ws)
+  b ← one_number (after_next ws)
+  Some (a, b)
+
+abbrev pub three_numbers : List (List ℕ) → Option (ℕ × ℕ × ℕ)
+three_numbers ws = do
+  a ← number (next ws)
+  b ← two_numbers (after_next ws)
+  Some (a, b.0, b.1)
+
+abbrev pub four_numbers : List (List ℕ) → Option (ℕ × ℕ × ℕ × ℕ)
+four_numbers ws = do
+  a ← number (next ws)
+  b ← three_numbers (after_next ws)
+  Some (a, b.0, b.1, b.2)

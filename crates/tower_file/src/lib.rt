@@ -1,0 +1,40 @@
+//! Tower files: a register tower and a schedule of steps, as text.
+//!
+//! A file is lines of bytes 0x20 to 0x7E, each ended by a line feed. A line is words with one space
+//! between each two. A number is `0`, or a digit 1 to 9 followed by digits, at most 9 digits in all.
+//! The first line is `tower 1`. The second is one of
+//!
+//! - `safe INIT`,
+//! - `copies READERS INIT` and `regular READERS INIT`,
+//! - `unary VALUES READERS INIT`,
+//! - `stamped VALUES LAST`, with (LAST + 1) * VALUES at most 512,
+//! - `matrix PROCESSES VALUES TAG STAMP`, with CODES = (STAMP + 1) * (TAG + 1) * PROCESSES * VALUES at
+//!   most 512, and PROCESSES * PROCESSES * CODES at most 4,096.
+//!
+//! READERS is 1 to 4, VALUES 2 to 512, PROCESSES 2 to 4, LAST, TAG and STAMP 0 to 511, and INIT below
+//! VALUES, or below 2 where there is none. Each further line is a step that fits the tower: `w P V`,
+//! `r P`, or `g P C` with C 0 or 1. In a matrix each process writes and reads; elsewhere process 0
+//! writes, and processes 1 to READERS read (1 reader where there is no READERS).
+//!
+//! [`parse`] tells the first fault in the order of [`FaultKind`]'s numbers, but that BadStep (14) comes
+//! behind BadSize (15). One tower and one list of steps have one spelling ([`laws::one_spelling`]).
+#![tactic(auto)]
+
+mod fault;
+mod file;
+pub mod laws;
+mod line;
+mod number;
+mod parts;
+mod reading;
+mod tower;
+mod writing;
+
+pub use fault::{FaultKind, FileFault};
+pub use file::TowerFile;
+pub use reading::parse;
+pub use tower::TowerSpec;
+pub use writing::print;
+
+#[cfg(test)]
+mod tests;

@@ -1,0 +1,122 @@
+//! What a line says: a tower or a step.
+
+ghost use Rattle.std.specs.Prelude.{◌≡◌};
+ghost use Rattle.std.specs.Str.{bytes_eq};
+ghost use Rattle.tower_file.specs.Lines as spec;
+
+use crate::number::{four_numbers, one_number, three_numbers, two_numbers};
+use crate::parts::Parts;
+use crate::tower::TowerSpec;
+use frames::types::Step;
+
+/// The first word of a tower's line.
+#[derive(Clone, Copy, Debug, PartialEq, Eq)]
+pub enum TowerName {
+    Safe,
+    Copies,
+    Regular,
+    Unary,
+    Stamped,
+    Matrix,
+}
+
+/// The tower that a word names.
+pub fn tower_name(word: &[u8]) -> Option<TowerName>
+    ensures { result ≡ spec.tower_name word.now }
+{
+    if is(word, "safe") {
+        return Some(TowerName::Safe);
+    }
+    if is(word, "copies") {
+        return Some(TowerName::Copies);
+    }
+    if is(word, "regular") {
+        return Some(TowerName::Regular);
+    }
+    if is(word, "unary") {
+        return Some(TowerName::Unary);
+    }
+    if is(word, "stamped") {
+        return Some(TowerName::Stamped);
+    }
+    if is(word, "matrix") {
+        return Some(TowerName::Matrix);
+    }
+    None
+}
+
+/// Reads the fields of a tower, and no more.
+pub fn fields_of(name: TowerName, words: &mut Parts<'_>) -> Option<TowerSpec>
+    ensures { result ≡ spec.fields_of name words.old }
+{
+    match name {
+        TowerName::Safe => {
+            let init = one_number(words)?;
+            Some(TowerSpec::Safe { init })
+        }
+        TowerName::Copies => {
+            let (readers, init) = two_numbers(words)?;
+            Some(TowerSpec::Copies { readers, init })
+        }
+        TowerName::Regular => {
+            let (readers, init) = two_numbers(words)?;
+            Some(TowerSpec::Regular { readers, init })
+        }
+        TowerName::Unary => {
+            let (values, readers, init) = three_numbers(words)?;
+            Some(TowerSpec::Unary {
+                values,
+                readers,
+                init,
+            })
+        }
+        TowerName::Stamped => {
+            let (values, last) = two_numbers(words)?;
+            Some(TowerSpec::Stamped { values, last })
+        }
+        TowerName::Matrix => {
+            let (processes, values, last_tag, last_stamp) = four_numbers(words)?;
+            Some(TowerSpec::Matrix {
+                processes,
+                values,
+                last_tag,
+                last_stamp,
+            })
+        }
+    }
+}
+
+/// Reads the step of a line, where it fits the tower.
+pub fn fitting_step(tower: &TowerSpec, line: &[u8]) -> Option<Step>
+    ensures { result ≡ spec.fitting_step tower.now line.now }
+{
+    let step = step_of(&mut Parts::new(line, b' '))?;
+    tower.fits(step).then_some(step)
+}
+
+/// Reads a step.
+fn step_of(words: &mut Parts<'_>) -> Option<Step>
+    ensures { result ≡ spec.step_of words.old }
+{
+    let word = words.next();
+    if is(word, "w") {
+        let (p, v) = two_numbers(words)?;
+        return Some(Step::Write { p, v });
+    }
+    if is(word, "r") {
+        let p = one_number(words)?;
+        return Some(Step::Read { p });
+    }
+    if is(word, "g") {
+        let (p, c) = two_numbers(words)?;
+        return Some(Step::Go { p, c });
+    }
+    None
+}
+
+/// Whether a word is this text.
+pub fn is(word: &[u8], text: &str) -> bool
+    ensures { result ≡ bytes_eq word.now text.now }
+{
+    word == text.as_bytes()
+}

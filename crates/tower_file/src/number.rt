@@ -1,0 +1,96 @@
+//! Numbers in a line.
+
+ghost use Rattle.std.specs.Prelude.{◌≡◌, ◌≤◌, length, true};
+ghost use Rattle.std.specs.List.{list_all};
+ghost use Rattle.std.specs.Char.{is_ascii_digit};
+ghost use Rattle.std.specs.Str.Parse.{digits_value};
+ghost use Rattle.tower_file.specs.Words as spec;
+
+use crate::parts::Parts;
+
+/// The most digits of a number.
+const MOST_DIGITS: usize = 9;
+
+/// The number that a word writes: 0, or a digit from 1 on and more digits, at most 9 in all.
+fn number(word: &[u8]) -> Option<u32>
+    ensures { result ≡ spec.number word.now }
+{
+    if is_number(word) {
+        Some(value(word))
+    } else {
+        None
+    }
+}
+
+/// Whether a word is a number.
+fn is_number(word: &[u8]) -> bool
+    ensures { result ≡ spec.is_number word.now }
+{
+    let Some((first, others)) = word.split_first() else {
+        return false;
+    };
+    others.len() < MOST_DIGITS && (*first != b'0' || others.is_empty()) && all_digits(word)
+}
+
+/// Whether each byte is a digit.
+fn all_digits(word: &[u8]) -> bool
+    ensures { result ≡ list_all is_ascii_digit word.now }
+{
+    word.iter().all(|b| b.is_ascii_digit())
+}
+
+/// The number that digits write.
+fn value(word: &[u8]) -> u32
+    requires short { length word.now ≤ 9 }
+    requires digits { list_all is_ascii_digit word.now ≡ true }
+    ensures { result ≡ digits_value 10 word.now }
+{
+    let mut value = 0;
+    for digit in word {
+        value = value * 10 + u32::from(digit - b'0');
+    }
+    value
+}
+
+/// Reads the next word as a number.
+fn next_number(words: &mut Parts<'_>) -> Option<u32>
+    ensures number { result ≡ spec.number (spec.next words.old) }
+    ensures left { words.new ≡ spec.after_next words.old }
+{
+    number(words.next())
+}
+
+/// Reads one number, and no more.
+pub fn one_number(words: &mut Parts<'_>) -> Option<u32>
+    ensures { result ≡ spec.one_number words.old }
+{
+    let first = next_number(words)?;
+    words.is_end().then_some(first)
+}
+
+/// Reads two numbers, and no more.
+pub fn two_numbers(words: &mut Parts<'_>) -> Option<(u32, u32)>
+    ensures { result ≡ spec.two_numbers words.old }
+{
+    let first = next_number(words)?;
+    let second = one_number(words)?;
+    Some((first, second))
+}
+
+/// Reads three numbers, and no more.
+pub fn three_numbers(words: &mut Parts<'_>) -> Option<(u32, u32, u32)>
+    ensures { result ≡ spec.three_numbers words.old }
+{
+    let first = next_number(words)?;
+    let (second, third) = two_numbers(words)?;
+    Some((first, second, third))
+}
+
+/// Reads four numbers, and no more.
+pub fn four_numbers(words: &mut Parts<'_>) -> Option<(u32, u32, u32, u32)>
+    ensures { result ≡ spec.four_numbers words.old }
+{
+    let first = next_number(words)?;
+    let (second, third, fourth) = three_numbers(words)?;
+    Some((first, second, third, fourth))
+}

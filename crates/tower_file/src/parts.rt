@@ -1,0 +1,70 @@
+//! The parts of a text: the lines of a file, and the words of a line.
+
+ghost use Rattle.std.specs.Prelude.{◌≡◌, ◌∷◌};
+ghost use Rattle.std.specs.Option.{option_map};
+ghost use Rattle.tower_file.specs.Words.{parts, parts_left, next, after_next, is_end};
+
+use bstr::ByteSlice;
+use std::marker::Model;
+
+/// The parts that are left of a text: what stands between its bytes of one kind.
+#[derive(Drop)]
+pub struct Parts<'a> {
+    text: Option<&'a [u8]>,
+    separator: u8,
+}
+
+impl<'a> Model for Parts<'a> {
+    ghost use Rattle.std.specs.Prelude.{ℕ, List};
+    ghost use Rattle.std.specs.Option.{option_map};
+    ghost use Rattle.tower_file.specs.Words.{parts_left};
+
+    ghost Value = { List (List ℕ) };
+
+    ghost view = { λ p. parts_left p.separator (option_map (λ t. t.now) p.text) };
+}
+
+impl<'a> Parts<'a> {
+    /// The parts of a text.
+    pub fn new(text: &'a [u8], separator: u8) -> Parts<'a>
+        ensures { result ≡ parts separator text.now }
+    {
+        Parts {
+            text: Some(text),
+            separator,
+        }
+    }
+
+    /// The next part, empty where there is none.
+    pub fn next(&mut self) -> &'a [u8]
+        ensures part { result.now ≡ next self.old }
+        ensures left { self.new ≡ after_next self.old }
+    {
+        let Some(text) = self.text else {
+            return &[];
+        };
+        let (part, left) = first_part(text, self.separator);
+        self.text = left;
+        part
+    }
+
+    /// Whether no part is left.
+    pub fn is_end(&self) -> bool
+        ensures { result ≡ is_end self.now }
+    {
+        self.text.is_none()
+    }
+}
+
+/// The first part of a text, and what is left after the separator behind it.
+fn first_part(text: &[u8], separator: u8) -> (&[u8], Option<&[u8]>)
+    ensures { parts separator text.now ≡ result.0.now ∷ parts_left separator (option_map (λ t. t.now) result.1) }
+{
+    match text.find_byte(separator) {
+        None => (text, None),
+        Some(end) => {
+            let (part, behind) = text.split_at(end);
+            (part, Some(&behind[1..]))
+        }
+    }
+}

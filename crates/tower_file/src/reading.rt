@@ -1,0 +1,127 @@
+//! Reading a tower file.
+
+ghost use Rattle.std.specs.Prelude.{◌≡◌, ◌≢◌, ◌∷◌, ◌≤◌, ◌<◌, length, true, Ok, Err, OnOk, IfOk, IfErr};
+ghost use Rattle.tower_file.specs.declared.fault.FaultKind.TheVariants.{Memory};
+ghost use Rattle.tower_file.specs.Faults as faults;
+ghost use Rattle.tower_file.specs.Faults.{Gives, out_of_memory};
+ghost use Rattle.tower_file.specs.Towers.{is_lawful_tower};
+ghost use Rattle.tower_file.specs.Files.{File, IsLawful, file_of};
+ghost use Rattle.tower_file.specs.Words.{lines, after_next, is_end};
+ghost use Rattle.tower_file.specs.Spelling.{Spells};
+ghost use Rattle.tower_file.specs.Reading as spec;
+
+use crate::fault::{FaultKind, FileFault};
+use crate::file::TowerFile;
+use crate::line::{fields_of, fitting_step, is, tower_name};
+use crate::parts::Parts;
+use crate::tower::TowerSpec;
+use frames::types::Step;
+use std::alloc::Global;
+
+/// The place of the first byte that is neither a line end nor one of 0x20 to 0x7E.
+fn first_odd(bytes: &[u8]) -> Option<usize>
+    ensures { result ≡ spec.first_odd bytes.now }
+{
+    bytes.iter().position(|b| !is_plain(*b))
+}
+
+/// Whether a file may have this byte.
+fn is_plain(b: u8) -> bool
+    ensures { result ≡ spec.is_plain b }
+{
+    b == b'\n' || (0x20 <= b && b <= 0x7e)
+}
+
+/// The line of the byte at a place.
+fn line_at(place: usize, bytes: &[u8]) -> u64
+    requires { place ≤ length bytes.now }
+    ensures { result ≡ spec.line_at place bytes.now }
+{
+    bytes[..place].iter().filter(|b| **b == b'\n').count() as u64 + 1
+}
+
+/// A fault on a line.
+fn fault(kind: FaultKind, line: u64) -> FileFault
+    ensures { result ≡ faults.fault kind line }
+{
+    FileFault { kind, line }
+}
+
+/// Reads the header and the tower.
+fn tower_of(lines: &mut Parts<'_>) -> Result<TowerSpec, FileFault>
+    ensures tower { result ≡ spec.tower_of lines.old }
+    ensures lawful { IfOk result (λ tower. is_lawful_tower tower ≡ true) }
+    ensures left { OnOk result (lines.new ≡ after_next (after_next lines.old)) }
+{
+    if !is(lines.next(), "tower 1") || lines.is_end() {
+        return Err(fault(FaultKind::BadHeader, 1));
+    }
+    let line = lines.next();
+    let is_cut = lines.is_end();
+    let mut words = Parts::new(line, b' ');
+    let Some(name) = tower_name(words.next()) else {
+        return Err(fault(FaultKind::UnknownTower, 2));
+    };
+    if is_cut {
+        return Err(fault(FaultKind::BadField, 2));
+    }
+    let Some(tower) = fields_of(name, &mut words) else {
+        return Err(fault(FaultKind::BadField, 2));
+    };
+    if !tower.is_lawful() {
+        return Err(fault(FaultKind::BadSize, 2));
+    }
+    Ok(tower)
+}
+
+/// Reads the steps: the lines that are left, of which the first is the file's third.
+fn steps_of(alloc: Global, tower: &TowerSpec, lines: &mut Parts<'_>) -> Result<Vec<Step>, FileFault>
+    ensures { Gives (λ steps. steps.items) result (spec.steps_of tower.now 3 lines.old) }
+{
+    let mut steps = Vec::new(alloc);
+    while !lines.is_end() {
+        let line = lines.next();
+        let number = steps.len() as u64 + 3;
+        if lines.is_end() {
+            if line.is_empty() {
+                return Ok(steps);
+            }
+            return Err(fault(FaultKind::BadStep, number));
+        }
+        let Some(step) = fitting_step(tower, line) else {
+            return Err(fault(FaultKind::BadStep, number));
+        };
+        steps.push(step)?;
+    }
+    Ok(steps)
+}
+
+/// Reads a file. A growth is asked for behind the tower alone.
+fn file_of(alloc: Global, bytes: &[u8]) -> Result<TowerFile, FileFault>
+    ensures exact { Gives (λ f. f) result (spec.reading bytes.now) }
+    ensures memory { IfErr result (λ e. e.kind ≡ Memory → spec.HasTower bytes.now) }
+{
+    if let Some(place) = first_odd(bytes) {
+        return Err(fault(FaultKind::NotAscii, line_at(place, bytes)));
+    }
+    let mut lines = Parts::new(bytes, b'\n');
+    let tower = tower_of(&mut lines)?;
+    let steps = steps_of(alloc, &tower, &mut lines)?;
+    Ok(TowerFile::of_lawful(tower, steps))
+}
+
+/// The file that the bytes spell, or their first fault.
+pub fn parse(alloc: Global, bytes: &[u8]) -> Result<TowerFile, FileFault>
+    // What is read is spelled so.
+    ensures found { IfOk result (λ f. Spells bytes.now f) }
+    // What is spelled so is read, unless a growth is refused.
+    ensures only { (f : File) → Spells bytes.now f → Gives (λ f. f) result (Ok f) }
+    // Else the first fault is told, unless a growth is refused.
+    ensures exact { Gives (λ f. f) result (spec.reading bytes.now) }
+    ensures fault { IfErr result (λ e. e.kind ≢ Memory → (f : File) → Spells bytes.now f → ⊥) }
+    // A growth is asked for only where none of the faults of the first two lines is there, nor a byte
+    // that isn't plain.
+    ensures memory { IfErr result (λ e. e.kind ≡ Memory → (e.line ≡ 0) × spec.HasTower bytes.now) }
+{
+    file_of(alloc, bytes)
+}

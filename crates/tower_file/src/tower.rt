@@ -1,0 +1,169 @@
+//! The six towers: their values and processes, which are lawful, and which steps fit them.
+
+ghost use Rattle.std.specs.Prelude.{◌≡◌, ◌<◌, ◌≤◌};
+ghost use Rattle.std.specs.List.{list_all};
+ghost use Rattle.tower_file.specs.Towers as spec;
+
+use frames::types::{Op, Step};
+
+/// A tower, by its name and numbers.
+#[derive(Clone, Copy, Debug, PartialEq, Eq)]
+pub enum TowerSpec {
+    /// A safe bit.
+    Safe {
+        init: u32,
+    },
+    /// Copies of a safe bit, one for each reader.
+    Copies {
+        readers: u32,
+        init: u32,
+    },
+    /// A regular bit.
+    Regular {
+        readers: u32,
+        init: u32,
+    },
+    /// A unary number.
+    Unary {
+        values: u32,
+        readers: u32,
+        init: u32,
+    },
+    /// A stamped register.
+    Stamped {
+        values: u32,
+        last: u32,
+    },
+    /// A matrix of stamped registers.
+    Matrix {
+        processes: u32,
+        values: u32,
+        last_tag: u32,
+        last_stamp: u32,
+    },
+}
+
+impl TowerSpec {
+    /// How many values it has.
+    fn values(&self) -> u32
+        ensures { result ≡ spec.values_of self.now }
+    {
+        match self {
+            TowerSpec::Safe { .. } | TowerSpec::Copies { .. } | TowerSpec::Regular { .. } => 2,
+            TowerSpec::Unary { values, .. }
+            | TowerSpec::Stamped { values, .. }
+            | TowerSpec::Matrix { values, .. } => *values,
+        }
+    }
+
+    /// How many processes it has.
+    fn processes(&self) -> u64
+        ensures { result ≡ spec.processes_of self.now }
+    {
+        match self {
+            TowerSpec::Safe { .. } | TowerSpec::Stamped { .. } => 2,
+            TowerSpec::Copies { readers, .. }
+            | TowerSpec::Regular { readers, .. }
+            | TowerSpec::Unary { readers, .. } => u64::from(*readers) + 1,
+            TowerSpec::Matrix { processes, .. } => u64::from(*processes),
+        }
+    }
+
+    /// Whether its numbers lie in their ranges, and it isn't too large.
+    pub fn is_lawful(&self) -> bool
+        ensures { result ≡ spec.is_lawful_tower self.now }
+    {
+        match *self {
+            TowerSpec::Safe { init } => init < 2,
+            TowerSpec::Copies { readers, init } | TowerSpec::Regular { readers, init } => {
+                is_reader_count(readers) && init < 2
+            }
+            TowerSpec::Unary {
+                values,
+                readers,
+                init,
+            } => is_value_count(values) && is_reader_count(readers) && init < values,
+            TowerSpec::Stamped { values, last } => {
+                is_value_count(values) && last < 512 && (last + 1) * values <= 512
+            }
+            TowerSpec::Matrix {
+                processes,
+                values,
+                last_tag,
+                last_stamp,
+            } => {
+                is_in(2, 4, processes)
+                    && is_value_count(values)
+                    && last_tag < 512
+                    && last_stamp < 512
+                    && is_small_matrix(processes, values, last_tag, last_stamp)
+            }
+        }
+    }
+
+    /// Whether a step fits the tower.
+    pub fn fits(&self, step: Step) -> bool
+        ensures { result ≡ spec.fits self.now step }
+    {
+        match step {
+            Step::Write { p, v } => self.suits(p, Op::Write(v)),
+            Step::Read { p } => self.suits(p, Op::Read),
+            Step::Go { p, c } => u64::from(p) < self.processes() && c < 2,
+        }
+    }
+
+    /// Whether an operation fits a process: the matrix has many writers, every other tower one.
+    fn suits(&self, who: u32, op: Op) -> bool
+        ensures { result ≡ spec.suits self.now who op }
+    {
+        let values = self.values();
+        let processes = self.processes();
+        let who = u64::from(who);
+        match (self, op) {
+            (TowerSpec::Matrix { .. }, Op::Write(v)) => who < processes && v < values,
+            (TowerSpec::Matrix { .. }, Op::Read) => who < processes,
+            (_, Op::Write(v)) => who == 0 && v < values && 0 < processes,
+            (_, Op::Read) => 1 <= who && who < processes,
+        }
+    }
+}
+
+/// Whether each step fits the tower.
+pub(crate) fn all_fit(tower: &TowerSpec, steps: &[Step]) -> bool
+    ensures { result ≡ list_all (spec.fits tower.now) steps.now }
+{
+    steps.iter().all(|step| tower.fits(*step))
+}
+
+/// Whether a number lies between two others, these included.
+fn is_in(least: u32, most: u32, n: u32) -> bool
+    ensures { result ≡ spec.is_in least most n }
+{
+    least <= n && n <= most
+}
+
+/// Whether a tower may have this many readers.
+fn is_reader_count(readers: u32) -> bool
+    ensures { result ≡ spec.is_in 1 4 readers }
+{
+    is_in(1, 4, readers)
+}
+
+/// Whether a tower may have this many values.
+fn is_value_count(values: u32) -> bool
+    ensures { result ≡ spec.is_in 2 512 values }
+{
+    is_in(2, 512, values)
+}
+
+/// Whether a matrix has few enough codes and bits, its numbers being in their ranges.
+fn is_small_matrix(processes: u32, values: u32, last_tag: u32, last_stamp: u32) -> bool
+    requires processes { processes ≤ 4 }
+    requires values { values ≤ 512 }
+    requires last_tag { last_tag < 512 }
+    requires last_stamp { last_stamp < 512 }
+    ensures { result ≡ spec.is_small_matrix processes values last_tag last_stamp }
+{
+    let codes = (last_stamp + 1) * (last_tag + 1) * processes * values;
+    codes <= 512 && processes * processes * codes <= 4096
+}

@@ -1,0 +1,69 @@
+//! Writing a tower file.
+
+ghost use Rattle.std.specs.Prelude.{◌≡◌, ◌++◌, OnOk, IfOk};
+ghost use Rattle.tower_file.specs.Spelling.{Spells, text, line, tower_text, step_text};
+
+use crate::file::TowerFile;
+use crate::tower::TowerSpec;
+use frames::types::Step;
+use std::alloc::{AllocError, Global};
+use std::io::Write;
+
+/// The spelling of a file.
+pub fn print(alloc: Global, file: &TowerFile) -> Result<Vec<u8>, AllocError>
+    ensures { IfOk result (λ bytes. Spells bytes.items file.now) }
+{
+    let mut out = Vec::new(alloc);
+    push_line(&mut out, "tower 1", &[])?;
+    push_tower(&mut out, &file.spec())?;
+    for step in file.steps() {
+        push_step(&mut out, *step)?;
+    }
+    Ok(out)
+}
+
+/// Adds the line of a tower.
+fn push_tower(out: &mut Vec<u8>, tower: &TowerSpec) -> Result<(), AllocError>
+    ensures { OnOk result (out.new.items ≡ out.old.items ++ line (tower_text tower.now)) }
+{
+    match *tower {
+        TowerSpec::Safe { init } => push_line(out, "safe", &[init]),
+        TowerSpec::Copies { readers, init } => push_line(out, "copies", &[readers, init]),
+        TowerSpec::Regular { readers, init } => push_line(out, "regular", &[readers, init]),
+        TowerSpec::Unary {
+            values,
+            readers,
+            init,
+        } => push_line(out, "unary", &[values, readers, init]),
+        TowerSpec::Stamped { values, last } => push_line(out, "stamped", &[values, last]),
+        TowerSpec::Matrix {
+            processes,
+            values,
+            last_tag,
+            last_stamp,
+        } => push_line(out, "matrix", &[processes, values, last_tag, last_stamp]),
+    }
+}
+
+/// Adds the line of a step.
+fn push_step(out: &mut Vec<u8>, step: Step) -> Result<(), AllocError>
+    ensures { OnOk result (out.new.items ≡ out.old.items ++ line (step_text step)) }
+{
+    match step {
+        Step::Write { p, v } => push_line(out, "w", &[p, v]),
+        Step::Read { p } => push_line(out, "r", &[p]),
+        Step::Go { p, c } => push_line(out, "g", &[p, c]),
+    }
+}
+
+/// Adds a line of a word and numbers.
+fn push_line(out: &mut Vec<u8>, word: &str, numbers: &[u32]) -> Result<(), AllocError>
+    ensures { OnOk result (out.new.items ≡ out.old.items ++ line (text word.now numbers.now)) }
+{
+    out.extend_from_slice(word.as_bytes())?;
+    for number in numbers {
+        write!(out, " {number}").map_err(|_| AllocError)?;
+    }
+    out.push(b'\n')?;
+    Ok(())
+}
