@@ -12,15 +12,18 @@ use crate::types::{Action, Next, Op, Stack, Turned};
 use safe_bit::{Place, Store};
 use std::alloc::Global;
 
-/// A register, generic over whatever it is built of. Its operations depend on and change its own
-/// cells and words alone, in the same way at every place.
-pub trait Register: Copy + Eq {
+/// What a register does, apart from its calls: all that a type over registers needs to know of one.
+pub trait Behaves {
     /// A point at which an operation stands between two bit actions; equal only to itself.
     type Pending: Copy + PartialEq;
 
     // What the register does, on its own memory alone.
     ghost is: { Self → Behaviour Self.Pending };
+}
 
+/// A register, generic over whatever it is built of. Its operations depend on and change its own
+/// cells and words alone, in the same way at every place.
+pub trait Register: Behaves + Copy + Eq {
     // What its own memory keeps: its size, and words in range.
     ghost Holds: { Self → Memory → Type 0 };
 
@@ -29,39 +32,39 @@ pub trait Register: Copy + Eq {
 
     /// How many cells and words are its own, at most 4,096 and 65,536.
     fn size(&self) -> Place
-        ensures { result ≡ (is self.now).size };
+        ensures { result ≡ (Self.is self.now).size };
 
     /// How many values it has: 0 up to one less than this.
     fn values(&self) -> u32
-        ensures { result ≡ (is self.now).values };
+        ensures { result ≡ (Self.is self.now).values };
 
     /// How many processes it has: 0 up to one less than this.
     fn processes(&self) -> u32
-        ensures { result ≡ (is self.now).processes };
+        ensures { result ≡ (Self.is self.now).processes };
 
     /// The most frames of a pending operation, 1 to 8.
     fn depth(&self) -> u32
-        ensures { result ≡ (is self.now).depth };
+        ensures { result ≡ (Self.is self.now).depth };
 
     /// Whether the operation fits the process.
     fn fits(&self, who: u32, op: Op) -> bool
-        ensures { result ≡ (is self.now).suits who op };
+        ensures { result ≡ (Self.is self.now).suits who op };
 
     /// Sets its own memory to the initial value.
     fn init(&self, store: &mut Store, at: Place, value: u32)
-        requires inside { LiesIn at (is self.now).size store.old }
-        requires placed { IsPlaced at (is self.now).size }
-        requires value { value < (is self.now).values }
-        ensures { store.new ≡ with_part at ((is self.now).initial value) store.old };
+        requires inside { LiesIn at (Self.is self.now).size store.old }
+        requires placed { IsPlaced at (Self.is self.now).size }
+        requires value { value < (Self.is self.now).values }
+        ensures { store.new ≡ with_part at ((Self.is self.now).initial value) store.old };
 
     /// A process invokes an operation.
     fn begin(&self, store: &mut Store, at: Place, who: u32, op: Op) -> Next<Self::Pending>
-        requires inside { LiesIn at (is self.now).size store.old }
-        requires placed { IsPlaced at (is self.now).size }
-        requires holds { Holds self.now (part at (is self.now).size store.old) }
-        requires fits { (is self.now).suits who op ≡ true }
-        ensures next { result ≡ ((is self.now).begins who op (part at (is self.now).size store.old)).next }
-        ensures memory { store.new ≡ with_part at ((is self.now).begins who op (part at (is self.now).size store.old)).memory store.old };
+        requires inside { LiesIn at (Self.is self.now).size store.old }
+        requires placed { IsPlaced at (Self.is self.now).size }
+        requires holds { Holds self.now (part at (Self.is self.now).size store.old) }
+        requires fits { (Self.is self.now).suits who op ≡ true }
+        ensures next { result ≡ ((Self.is self.now).begins who op (part at (Self.is self.now).size store.old)).next }
+        ensures memory { store.new ≡ with_part at ((Self.is self.now).begins who op (part at (Self.is self.now).size store.old)).memory store.old };
 
     /// A pending operation makes its next bit action; the choice is what a hit read of a bit gives.
     fn go(
@@ -71,30 +74,30 @@ pub trait Register: Copy + Eq {
         pending: Self::Pending,
         choice: bool,
     ) -> Turned<Self::Pending>
-        requires inside { LiesIn at (is self.now).size store.old }
-        requires placed { IsPlaced at (is self.now).size }
-        requires holds { Holds self.now (part at (is self.now).size store.old) }
+        requires inside { LiesIn at (Self.is self.now).size store.old }
+        requires placed { IsPlaced at (Self.is self.now).size }
+        requires holds { Holds self.now (part at (Self.is self.now).size store.old) }
         requires reached { (who : ℕ) × ((op : Op) × Reaches self.now who op pending) }
-        ensures next { result.next ≡ ((is self.now).goes pending choice (part at (is self.now).size store.old)).next }
-        ensures chosen { result.chosen ≡ placed_bit at ((is self.now).goes pending choice (part at (is self.now).size store.old)).chosen }
-        ensures memory { store.new ≡ with_part at ((is self.now).goes pending choice (part at (is self.now).size store.old)).memory store.old };
+        ensures next { result.next ≡ ((Self.is self.now).goes pending choice (part at (Self.is self.now).size store.old)).next }
+        ensures chosen { result.chosen ≡ placed_bit at ((Self.is self.now).goes pending choice (part at (Self.is self.now).size store.old)).chosen }
+        ensures memory { store.new ≡ with_part at ((Self.is self.now).goes pending choice (part at (Self.is self.now).size store.old)).memory store.old };
 
     /// The frames of a pending operation, outermost first. It never asks the allocator.
     fn stack(&self, alloc: Global, pending: &Self::Pending) -> Stack
         requires reached { (who : ℕ) × ((op : Op) × Reaches self.now who op pending.now) }
-        ensures frames { result.items ≡ (is self.now).frames pending.now }
+        ensures frames { result.items ≡ (Self.is self.now).frames pending.now }
         ensures inline { result.capacity ≡ 8 };
 
     /// The next bit action of a pending operation, at a place.
     fn action(&self, pending: &Self::Pending, at: Place) -> Action
-        requires placed { IsPlaced at (is self.now).size }
+        requires placed { IsPlaced at (Self.is self.now).size }
         requires reached { (who : ℕ) × ((op : Op) × Reaches self.now who op pending.now) }
-        ensures { result ≡ placed_action at ((is self.now).acts pending.now) };
+        ensures { result ≡ placed_action at ((Self.is self.now).acts pending.now) };
 
-    ghost lawful: { (r : Self) → IsLawful (is r) (Holds r) (Reaches r) };
+    ghost lawful: { (r : Self) → IsLawful (Self.is r) (Holds r) (Reaches r) };
 
     // Equal registers answer alike.
-    ghost alike: { (a b : Self) → Self.PartialEq.eq a b ≡ true → is a ≡ is b };
+    ghost alike: { (a b : Self) → Self.PartialEq.eq a b ≡ true → Self.is a ≡ Self.is b };
 
     // A pending operation is equal only to itself.
     ghost same_pending: { (a b : Self.Pending) → Decides (Self.Pending.PartialEq.eq a b) (a ≡ b) };

@@ -7,7 +7,7 @@ ghost use Rattle.safe_bit.specs.Parts.{HasSize, LiesIn, IsPlaced, part, with_par
 ghost use Rattle.frames.specs.declared.types.Op.{Op};
 ghost use Rattle.frames.specs.SafeBit.{safe_behaviour, SafeReaches, safe_frame, bit_of, value_of};
 
-use crate::register::Register;
+use crate::register::{Behaves, Register};
 use crate::types::{Action, ActionKind, Frame, FrameLayer, Next, Op, Outcome, Stack, Turned};
 use safe_bit::{Place, Store};
 use smallvec::SmallVec;
@@ -26,14 +26,16 @@ pub enum SafePoint {
 #[derive(Clone, Copy, Debug, PartialEq, Eq)]
 pub struct Safe;
 
+impl Behaves for Safe {
+    type Pending = SafePoint;
+
+    ghost is = { λ _. safe_behaviour };
+}
+
 impl Register for Safe {
     ghost use Rattle.std.specs.Prelude.{refl};
     ghost use Rattle.frames.specs.SafeLaws.{safe_lawful, point_decides};
     ghost use Rattle.frames.specs.declared.safe.SafePoint.TheVariants.{WriteStart, WriteEnd, ReadStart, ReadEnd};
-
-    type Pending = SafePoint;
-
-    ghost is = { λ _. safe_behaviour };
 
     ghost Holds = { λ _. HasSize safe_behaviour.size };
 

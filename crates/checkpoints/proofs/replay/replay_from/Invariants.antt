@@ -5,7 +5,7 @@ use Rattle.checkpoints.proofs.replay.replay_from.Given as goal
 -- what is still to come makes it the whole replay
 abbrev pub invariant-loop-step : goal.invariant-loop-step
 invariant-loop-step g l =
-    let b = g.R.Register.is l.fn.entry.register in
+    let b = g.R.Behaves.is l.fn.entry.register in
     let later = drop l.step-index l.steps in
     record {
       register : l.config.register ≡ l.fn.entry.register;

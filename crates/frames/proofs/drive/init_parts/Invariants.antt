@@ -5,4 +5,4 @@ use Rattle.frames.proofs.drive.init_parts.Given as goal
 
 -- the parts before this one are set
 abbrev pub invariant-loop-part : goal.invariant-loop-part
-invariant-loop-part g l = l.store ≡ with_part l.at (first_parts (g.L.Layer.table l.layer) (g.S.Register.is l.below) l.value l.part) l.initial.store
+invariant-loop-part g l = l.store ≡ with_part l.at (first_parts (g.L.Layer.table l.layer) (g.S.Behaves.is l.below) l.value l.part) l.initial.store

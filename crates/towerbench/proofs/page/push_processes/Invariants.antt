@@ -6,4 +6,4 @@ use Rattle.towerbench.proofs.page.push_processes.Given as goal
 
 abbrev pub invariant-loop-p : goal.invariant-loop-p
 invariant-loop-p g l =
-    l.out.items ≡ l.initial.out.items ++ flat_map (λ p. process_line (g.R.Register.is l.config.register) p (running_at p l.config)) (range_with_len 0 l.p)
+    l.out.items ≡ l.initial.out.items ++ flat_map (λ p. process_line (g.R.Behaves.is l.config.register) p (running_at p l.config)) (range_with_len 0 l.p)

@@ -17,7 +17,7 @@ invariant_of-self g c =
     let laws = g.met.R.Register in
     let r = c.self.inside.register in
     let in_range : c.args.who < length c.self.inside.running.items = search rules in
-    parked_after (g.R.Register.is r) (g.R.Register.Holds r) (g.R.Register.Reaches r) (laws.lawful r)
+    parked_after (g.R.Behaves.is r) (g.R.Register.Holds r) (g.R.Register.Reaches r) (laws.lawful r)
     c.self.inside.store c.self.inside.running.items c.args.who c.in-Some.running c.args.choice c.self.invariant in_range
     (reached_there (g.R.Register.Reaches r) c.self.inside.running.items c.args.who c.index.result.now c.in-Some.running in_range c.index.ensures c.in-Some.is (c.self.invariant.reached c.args.who))
     c.go_own-turned.new.store c.still_running.result c.go_own-turned.ensures.memory (search rules)
