@@ -1,0 +1,77 @@
+-- Copies of a register of one reader, one copy for each reader (Lamport 1986, construction 1; Herlihy and Shavit, chapter 4).
+-- That a write writes the copies in the readers' order is this project's own.
+use Rattle.std.specs.Prelude.{◌≡◌, ℕ, zero, suc, ◌+◌, ◌-◌, ◌<◌, ◌≤◌, ◌&&◌, nat_le, Option, Some, if◌then◌else◌}
+use Rattle.frames.specs.declared.types.Op.{Op}
+use Rattle.frames.specs.declared.types.Op.TheVariants as op
+use Rattle.frames.specs.declared.types.Outcome.{Outcome}
+use Rattle.frames.specs.declared.types.Outcome.TheVariants.{Written}
+use Rattle.frames.specs.declared.types.FrameLayer.TheVariants as layer
+use Rattle.frames.specs.declared.types.Frame.{Frame}
+use Rattle.frames.specs.declared.nested.Ask.{Ask}
+use Rattle.frames.specs.declared.fit.LayerError.{LayerError}
+use Rattle.frames.specs.declared.fit.LayerError.TheVariants.{BadSize}
+use Rattle.frames.specs.Behaviour.{Behaviour}
+use Rattle.frames.specs.Fit.{refusal_below}
+use Rattle.frames.specs.Nested.{Program, Ends, Asks, Table}
+use Rattle.frames.specs.OneWriter.{one_writer}
+use Rattle.reader_copies.specs.declared.task.CopiesTask.{CopiesTask}
+use Rattle.reader_copies.specs.declared.task.CopiesTask.TheVariants.{Writing, Reading}
+
+-- write the value to so many copies, one after the other, beginning with that for this reader
+abbrev pub write_from : ℕ → ℕ → ℕ → Program CopiesTask
+write_from v reader zero = Ends Written
+write_from v reader (suc behind) = Asks (Writing v reader) (λ o. write_from v (reader + 1) behind)
+
+-- a write writes the copies for readers 1 up to the last; a reader reads its own copy
+abbrev pub copies_program : ℕ → ℕ → Op → Program CopiesTask
+copies_program readers who (op.Write v) = write_from v 1 readers
+copies_program readers who op.Read = Asks (Reading who) Ends
+
+-- behind the copy for one reader the write goes on to the copies for the readers after it
+abbrev pub copies_rest : ℕ → CopiesTask → Outcome → Program CopiesTask
+copies_rest readers (Writing v reader) o = write_from v (reader + 1) (readers - reader)
+copies_rest readers (Reading reader) o = Ends o
+
+abbrev pub copies_left : ℕ → CopiesTask → ℕ
+copies_left readers (Writing v reader) = readers - reader
+copies_left readers (Reading reader) = 0
+
+-- the copy for reader 1 is the first part; in each copy process 0 writes and process 1 reads
+abbrev pub copies_asks : CopiesTask → Ask
+copies_asks (Writing v reader) = record { part = reader - 1; who = 0; op = op.Write v }
+copies_asks (Reading reader) = record { part = reader - 1; who = 1; op = op.Read }
+
+abbrev pub copies_frame : CopiesTask → Frame
+copies_frame (Writing v reader) = record { layer = layer.Copies; op = op.Write v; i = reader; x = 0 }
+copies_frame (Reading reader) = record { layer = layer.Copies; op = op.Read; i = reader; x = 0 }
+
+-- the layer for so many readers, over a register of so many values
+abbrev pub copies_table : ℕ → ℕ → Table CopiesTask
+copies_table readers values = record {
+  values = values;
+  processes = readers + 1;
+  suits = one_writer values (readers + 1);
+  parts = readers;
+  inner_values = values;
+  inner_processes = 2;
+  first = λ value part. value;
+  words = 0;
+  first_word = λ value word. 0;
+  bound = λ word. 0;
+  program = copies_program readers;
+  asks = copies_asks;
+  rest = copies_rest readers;
+  left = copies_left readers;
+  frame = copies_frame;
+}
+
+-- the writer stands at some reader's copy, in the write of its value; a reader stands in the read of its own copy
+abbrev pub CopiesStands : ℕ → ℕ → ℕ → Op → CopiesTask → Type 0
+CopiesStands readers values who (op.Write w) (Writing v reader) = (v ≡ w) × ((v < values) × ((1 ≤ reader) × (reader ≤ readers)))
+CopiesStands readers values who op.Read (Reading reader) = (reader ≡ who) × ((1 ≤ reader) × (reader ≤ readers))
+CopiesStands readers values who (op.Write w) (Reading reader) = ⊥
+CopiesStands readers values who op.Read (Writing v reader) = ⊥
+
+-- why there can be no copies for so many readers: there are 1 to 4
+abbrev pub copies_refusal : {P : Type 0} → ℕ → Behaviour P → Option LayerError
+copies_refusal readers b = if nat_le 1 readers && nat_le readers 4 then refusal_below (copies_table readers b.values) b else Some BadSize

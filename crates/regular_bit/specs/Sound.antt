@@ -1,0 +1,78 @@
+-- The regular bit's table is sound, and its tasks are equal only to themselves.
+use Rattle.std.proofs.Common.{◌≡◌, ℕ, ◌<◌, ◌^◌, Bool, true, false, refl, ap, arith, nat_eq}
+use Rattle.std.specs.Bool.{Decides}
+use Rattle.std.specs.Prelude.{◌==◌, if◌then◌else◌}
+use Rattle.std.proofs.lemmas.Bool.Decides.{Decides-eqb, Decides-like}
+use Rattle.frames.specs.declared.types.Op.{Op}
+use Rattle.frames.specs.declared.types.Op.TheVariants as op
+use Rattle.frames.specs.declared.types.Outcome.{Outcome}
+use Rattle.frames.specs.declared.types.Outcome.TheVariants.{Value, Written, Spent}
+use Rattle.frames.specs.Behaviour.{Answers}
+use Rattle.frames.specs.Nested.{Ends, Asks, Sets}
+use Rattle.frames.specs.Sound.{IsSound, IsSoundTable, IsNotSpent, FitsPart}
+use Rattle.frames.specs.OneWriter as writer
+use Rattle.regular_bit.specs.declared.task.RegularTask.{RegularTask}
+use Rattle.regular_bit.specs.declared.task.RegularTask.TheVariants.{Writing, Reading}
+use Rattle.regular_bit.specs.Program.{regular_program, regular_table, regular_asks, RegularStands}
+
+module _ (processes : ℕ) (some : 0 < processes) (few : processes < 2 ^ 32) where
+  write_sound : (who v last : ℕ) → v < 2 → IsSound (regular_table processes) (RegularStands processes who (op.Write v)) (Answers 2 (op.Write v))
+      (if last == v then Ends Written else Sets 0 v (Asks (Writing v) Ends))
+  write_sound who v last lt = by_test (last == v)
+    where
+      by_test : (same : Bool) → IsSound (regular_table processes) (RegularStands processes who (op.Write v)) (Answers 2 (op.Write v))
+          (if same then Ends Written else Sets 0 v (Asks (Writing v) Ends))
+      by_test true = tt
+      by_test false = (omega arith, (lt, ((refl, lt), λ o. refl)))
+
+  begins_sound : (who : ℕ) (o : Op) → writer.one_writer 2 processes who o ≡ true → IsSound (regular_table processes) (RegularStands processes who o) (Answers 2 o) (regular_program who o)
+  begins_sound who (op.Write v) h = (omega arith, λ last low. write_sound who v last (writer.no_other_value 2 processes who v h))
+  begins_sound who op.Read h = ((refl, (writer.reader_some 2 processes who h, writer.reader_few 2 processes who h)), λ o. refl)
+
+  rest_sound : (who : ℕ) (o : Op) (task : RegularTask) (outcome : Outcome) → RegularStands processes who o task → Answers 2 (regular_asks task).op outcome → IsNotSpent outcome → Answers 2 o outcome
+  rest_sound who (op.Write w) (Writing v) Written stands answers on = tt
+  rest_sound who (op.Write w) (Writing v) (Value x) stands answers on = absurd answers
+  rest_sound who op.Read (Reading reader) (Value x) stands answers on = answers
+  rest_sound who op.Read (Reading reader) Written stands answers on = absurd answers
+  rest_sound who (op.Write w) (Reading reader) outcome stands answers on = absurd stands
+  rest_sound who op.Read (Writing v) outcome stands answers on = absurd stands
+  rest_sound who (op.Write w) (Writing v) (Spent layer) stands answers on = absurd on
+  rest_sound who op.Read (Reading reader) (Spent layer) stands answers on = absurd on
+
+  asks_fit : (who : ℕ) (o : Op) (task : RegularTask) → RegularStands processes who o task → ((regular_asks task).part < 1) × FitsPart 2 processes (regular_asks task).who (regular_asks task).op
+  asks_fit who (op.Write w) (Writing v) stands = (omega arith, (refl, stands.1))
+  asks_fit who op.Read (Reading reader) stands = (omega arith, stands.1)
+  asks_fit who (op.Write w) (Reading reader) stands = absurd stands
+  asks_fit who op.Read (Writing v) stands = absurd stands
+
+  pub regular_sound : IsSoundTable (regular_table processes) (RegularStands processes)
+  regular_sound = record {
+    few_values = omega arith;
+    few_processes = few;
+    zero_writes = λ v lt. writer.zero_writes 2 processes v some lt;
+    others_read = λ who above below. writer.others_read 2 processes who above below;
+    nobody_else = λ who o h. writer.nobody_else 2 processes who o h;
+    no_other_value = λ who v h. writer.no_other_value 2 processes who v h;
+    first_fits = λ v j lt below. lt;
+    first_words = λ v k lt below. lt;
+    asks_fit = asks_fit;
+    begins_sound = begins_sound;
+    rest_sound = rest_sound;
+    rest_falls = λ who o task outcome stands answers on. tt;
+  }
+
+-- the test of two tasks
+abbrev pub task_eq : RegularTask → RegularTask → Bool
+task_eq (Writing v) (Writing w) = nat_eq v w
+task_eq (Reading p) (Reading q) = nat_eq p q
+task_eq (Writing v) (Reading q) = false
+task_eq (Reading p) (Writing w) = false
+
+pub task_decides : (a b : RegularTask) → Decides (task_eq a b) (a ≡ b)
+task_decides (Writing v) (Writing w) = Decides-like (nat_eq v w) (λ p. ap Writing p) (λ p. cc) (Decides-eqb v w)
+task_decides (Reading p) (Reading q) = Decides-like (nat_eq p q) (λ e. ap Reading e) (λ e. cc) (Decides-eqb p q)
+task_decides (Writing v) (Reading q) = (λ h. cc, λ h. cc)
+task_decides (Reading p) (Writing w) = (λ h. cc, λ h. cc)
+
+pub table_alike : (p q : ℕ) → nat_eq p q ≡ true → regular_table p ≡ regular_table q
+table_alike p q h = ap regular_table ((Decides-eqb p q).0 h)

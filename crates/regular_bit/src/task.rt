@@ -1,0 +1,10 @@
+//! The points of a regular bit's programs.
+
+/// The operation of the register below that is in work.
+#[derive(Clone, Copy, Debug, PartialEq, Eq)]
+pub enum RegularTask {
+    /// A write of this value.
+    Writing(u32),
+    /// A read by this process.
+    Reading(u32),
+}

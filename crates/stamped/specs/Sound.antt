@@ -1,0 +1,118 @@
+-- The stamped register's table is sound, and its tasks are equal only to themselves.
+use Rattle.std.proofs.Common.{◌≡◌, ◌≢◌, ℕ, ◌+◌, ◌*◌, ◌<◌, ◌≤◌, max, Bool, true, false, refl, arith, nat_eq}
+use Rattle.std.specs.Bool.{Decides}
+use Rattle.std.specs.Prelude.{◌==◌, if◌then◌else◌, ◌&&◌}
+use Rattle.std.proofs.lemmas.Bool.{eqb-false}
+use Rattle.std.proofs.lemmas.Bool.Decides.{Decides-and, Decides-eqb, Decides-like}
+use Rattle.std.proofs.lemmas.Nat.{mul-add-lt, mod_below, mod-mul-add}
+use Rattle.frames.specs.declared.types.Op.{Op}
+use Rattle.frames.specs.declared.types.Op.TheVariants as op
+use Rattle.frames.specs.declared.types.Layer.TheVariants as spent
+use Rattle.frames.specs.declared.types.Outcome.{Outcome}
+use Rattle.frames.specs.declared.types.Outcome.TheVariants.{Value, Written, Spent}
+use Rattle.frames.specs.Behaviour.{Answers}
+use Rattle.frames.specs.Nested.{Ends, Asks, Sets}
+use Rattle.frames.specs.Sound.{IsSound, IsSoundTable, IsNotSpent, Falls, FitsPart}
+use Rattle.frames.specs.OneWriter as writer
+use Rattle.frames.specs.NestedEquality.{both_true}
+use Rattle.stamped.specs.declared.task.StampedTask.{StampedTask}
+use Rattle.stamped.specs.declared.task.StampedTask.TheVariants.{Writing, Reading}
+use Rattle.stamped.specs.Program.{stamped_program, stamped_table, stamped_asks, stamped_rest, codes, StampedStands}
+
+-- a code below the last stamp's
+pub code_fits : (values last stamp v : ℕ) → stamp < last → v < values → (stamp + 1) * values + v < codes values last
+code_fits values last stamp v before lt = let h = mul-add-lt (stamp + 1) values v (last + 1) (omega arith) lt in omega (arith, h)
+
+-- an initial value is a code
+pub value_fits : (values last v : ℕ) → v < values → v < codes values last
+value_fits values last v lt = let h = mul-add-lt 0 values v (last + 1) (omega arith) lt in omega (arith, h)
+
+module _ (values last : ℕ) (some : 2 ≤ values) (few : values ≤ 512) where
+  write_sound : (who v stamp : ℕ) → who ≡ 0 → v < values → stamp < last + 1 → IsSound (stamped_table values last) (StampedStands values last who (op.Write v)) (Answers values (op.Write v))
+      (if stamp == last then Ends (Spent spent.Stamped) else Sets 0 (stamp + 1) (Asks (Writing v ((stamp + 1) * values + v)) Ends))
+  write_sound who v stamp zero lt low = by_test (stamp == last) refl
+    where
+      by_test : (end : Bool) → (stamp == last) ≡ end → IsSound (stamped_table values last) (StampedStands values last who (op.Write v)) (Answers values (op.Write v))
+          (if end then Ends (Spent spent.Stamped) else Sets 0 (stamp + 1) (Asks (Writing v ((stamp + 1) * values + v)) Ends))
+      by_test true e = tt
+      by_test false e =
+          let other : stamp ≢ last = eqb-false stamp last e in
+          let before : stamp < last = omega arith in
+          (omega arith, (omega arith, ((zero, (refl, (mod-mul-add (stamp + 1) values v lt, code_fits values last stamp v before lt))), λ o. refl)))
+
+  begins_sound : (who : ℕ) (o : Op) → writer.one_writer values 2 who o ≡ true → IsSound (stamped_table values last) (StampedStands values last who o) (Answers values o) (stamped_program values last who o)
+  begins_sound who (op.Write v) h = (omega arith, λ stamp low. write_sound who v stamp (writer.writer_zero values 2 who v h) (writer.no_other_value values 2 who v h) low)
+  begins_sound who op.Read h = (let above = writer.reader_some values 2 who h in let below = writer.reader_few values 2 who h in omega arith, λ o. refl)
+
+  greater_fits : (best code : ℕ) → best < codes values last → code < codes values last → max best code < codes values last
+  greater_fits best code p q = let n = codes values last in omega arith
+
+  rest_sound : (who : ℕ) (o : Op) (task : StampedTask) (outcome : Outcome) → StampedStands values last who o task → Answers (codes values last) (stamped_asks task).op outcome → IsNotSpent outcome
+      → IsSound (stamped_table values last) (StampedStands values last who o) (Answers values o) (stamped_rest values task outcome)
+  rest_sound who (op.Write w) (Writing v code) Written stands answers on = tt
+  rest_sound who (op.Write w) (Writing v code) (Value x) stands answers on = absurd answers
+  rest_sound who (op.Write w) (Writing v code) (Spent layer) stands answers on = absurd on
+  rest_sound who op.Read Reading (Value code) stands answers on =
+      (omega arith, λ best low. (omega arith, (greater_fits best code low answers, mod_below (max best code) values (omega arith))))
+  rest_sound who op.Read Reading Written stands answers on = absurd answers
+  rest_sound who op.Read Reading (Spent layer) stands answers on = absurd on
+  rest_sound who (op.Write w) Reading outcome stands answers on = absurd stands
+  rest_sound who op.Read (Writing v code) outcome stands answers on = absurd stands
+
+  asks_fit : (who : ℕ) (o : Op) (task : StampedTask) → StampedStands values last who o task → ((stamped_asks task).part < 1) × FitsPart (codes values last) 2 (stamped_asks task).who (stamped_asks task).op
+  asks_fit who (op.Write w) (Writing v code) stands = (omega arith, (refl, stands.1.1.1))
+  asks_fit who op.Read Reading stands = (omega arith, (omega arith, omega arith))
+  asks_fit who (op.Write w) Reading stands = absurd stands
+  asks_fit who op.Read (Writing v code) stands = absurd stands
+
+  first_words : (v k : ℕ) → v < values → k < 2 → (stamped_table values last).first_word v k < (stamped_table values last).bound k
+  first_words v k lt low = by_test (k == 0)
+    where
+      by_test : (first : Bool) → (if first then 0 else v) < (if first then last + 1 else codes values last)
+      by_test true = omega arith
+      by_test false = value_fits values last v lt
+
+  -- nothing follows a task
+  rest_falls : (who : ℕ) (o : Op) (task : StampedTask) (outcome : Outcome) → StampedStands values last who o task → Answers (codes values last) (stamped_asks task).op outcome → IsNotSpent outcome
+      → Falls (stamped_table values last) 0 (stamped_rest values task outcome)
+  rest_falls who o (Writing v code) outcome stands answers on = tt
+  rest_falls who o Reading Written stands answers on = tt
+  rest_falls who o Reading (Value code) stands answers on = λ best. tt
+  rest_falls who o Reading (Spent layer) stands answers on = tt
+
+  pub stamped_sound : IsSoundTable (stamped_table values last) (StampedStands values last)
+  stamped_sound = record {
+    few_values = omega arith;
+    few_processes = omega arith;
+    zero_writes = λ v lt. writer.zero_writes values 2 v (omega arith) lt;
+    others_read = λ who above below. writer.others_read values 2 who above below;
+    nobody_else = λ who o h. writer.nobody_else values 2 who o h;
+    no_other_value = λ who v h. writer.no_other_value values 2 who v h;
+    first_fits = λ v j lt below. value_fits values last v lt;
+    first_words = first_words;
+    asks_fit = asks_fit;
+    begins_sound = begins_sound;
+    rest_sound = rest_sound;
+    rest_falls = rest_falls;
+  }
+
+-- the test of two tasks
+abbrev pub task_eq : StampedTask → StampedTask → Bool
+task_eq (Writing v x) (Writing w y) = nat_eq v w && nat_eq x y
+task_eq Reading Reading = true
+task_eq (Writing v x) Reading = false
+task_eq Reading (Writing w y) = false
+
+pub task_decides : (a b : StampedTask) → Decides (task_eq a b) (a ≡ b)
+task_decides (Writing v x) (Writing w y) =
+    Decides-like (nat_eq v w && nat_eq x y) (λ p. λ i. Writing (p.0 i) (p.1 i)) (λ p. (cc, cc)) (Decides-and (nat_eq v w) (nat_eq x y) (Decides-eqb v w) (Decides-eqb x y))
+task_decides Reading Reading = (λ h. refl, λ h. refl)
+task_decides (Writing v x) Reading = (λ h. cc, λ h. cc)
+task_decides Reading (Writing w y) = (λ h. cc, λ h. cc)
+
+pub table_alike : (v w l m : ℕ) → (nat_eq v w && nat_eq l m) ≡ true → stamped_table v l ≡ stamped_table w m
+table_alike v w l m h =
+    let both = both_true (nat_eq v w) (nat_eq l m) h in
+    let e = (Decides-eqb v w).0 both.0 in
+    let f = (Decides-eqb l m).0 both.1 in
+    λ i. stamped_table (e i) (f i)

@@ -1,0 +1,46 @@
+-- Within the limits of a tower, each of its layers can stand on the one below.
+use Rattle.std.proofs.Common.{◌≡◌, ℕ, ◌+◌, ◌*◌, ◌≤◌, Option, None, Some, Result, Ok, Err, arith, rules}
+use Rattle.std.proofs.lemmas.Bool.Decides.{nat_tests}
+use Rattle.std.proofs.Math.Nat.{mul-le-mul, mul-le-mul_right}
+use Rattle.std.specs.Prelude.{MatchResult, IsOk}
+use Rattle.frames.specs.Fit.{refusal_below}
+use Rattle.frames.specs.SafeBit.{safe_behaviour}
+use Rattle.reader_copies.specs.Program.{copies_refusal}
+use Rattle.regular_bit.specs.Program.{regular_table}
+use Rattle.unary_number.specs.Program.{unary_refusal}
+use Rattle.stamped.specs.Limits.{stamped_refusal}
+use Rattle.matrix.specs.Limits.{matrix_refusal}
+use Rattle.towers.specs.Towers.{copies_tower, regular_tower, unary_tower, stamped_tower}
+
+pub copies_stand : (readers : ℕ) → 1 ≤ readers → readers ≤ 4 → copies_refusal readers safe_behaviour ≡ None
+copies_stand readers some few = grind (arith, nat_tests)
+
+pub regular_stands : (readers : ℕ) → 1 ≤ readers → readers ≤ 4 → refusal_below (regular_table (readers + 1)) (copies_tower readers) ≡ None
+regular_stands readers some few = grind (arith, nat_tests)
+
+pub unary_stands : (values readers : ℕ) → 2 ≤ values → values ≤ 512 → 1 ≤ readers → readers ≤ 4 → unary_refusal values (regular_tower readers) ≡ None
+unary_stands values readers two most some few =
+    let product : values * readers ≤ 512 * 4 = mul-le-mul most few in
+    grind (arith, nat_tests)
+
+pub stamped_stands : (values last : ℕ) → 2 ≤ values → values ≤ 512 → last ≤ 511 → (last + 1) * values ≤ 512 → stamped_refusal values last (unary_tower ((last + 1) * values) 1) ≡ None
+stamped_stands values last two few stamps most = grind (arith, nat_tests)
+
+pub matrix_stands : (n values tag stamp : ℕ) → 2 ≤ n → n ≤ 4 → 2 ≤ values → values ≤ 512 → tag ≤ 511 → (stamp + 1) * ((tag + 1) * n * values) ≤ 512
+    → n * n * ((stamp + 1) * ((tag + 1) * n * values)) ≤ 4096
+    → matrix_refusal n values tag (stamped_tower ((tag + 1) * n * values) stamp) ≡ None
+matrix_stands n values tag stamp two four some few tags most cells =
+    let square : n * n ≤ 4 * 4 = mul-le-mul four four in
+    let inner : (tag + 1) * n * values ≤ 512 = omega (arith, mul-le-mul_right ((tag + 1) * n * values) (one_le stamp)) in
+    grind (arith, nat_tests)
+  where
+    one_le : (k : ℕ) → 1 ≤ k + 1
+    one_le k = omega arith
+
+-- what is refused for no cause is there
+pub ok_unless_refused : {A E : Type 0} (Q : A → Type 0) (r : Result A E) (refusal : Option E) → refusal ≡ None → MatchResult r Q (λ e. refusal ≡ Some e) → IsOk r
+ok_unless_refused Q (Ok x) refusal none h = search rules
+ok_unless_refused Q (Err e) refusal none h = absurd (never refusal e none h)
+  where
+    never : {E : Type 0} (q : Option E) (e : E) → q ≡ None → q ≡ Some e → ⊥
+    never q e none some = cc

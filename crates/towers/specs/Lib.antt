@@ -1,0 +1,4 @@
+pub mod Towers
+pub mod Built
+pub mod Neighbours
+pub mod ReadFirst

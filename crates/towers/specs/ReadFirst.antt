@@ -1,0 +1,92 @@
+-- A register of 8 values that has to be read before it can be written: what the tests build a matrix of, to see a row that is spent
+-- at its second part.
+use Rattle.std.proofs.Common.{◌≡◌, ℕ, ◌<◌, Bool, true, false, refl, arith}
+use Rattle.std.specs.Prelude.{◌==◌, if◌then◌else◌}
+use Rattle.frames.specs.declared.types.Op.{Op}
+use Rattle.frames.specs.declared.types.Op.TheVariants as op
+use Rattle.frames.specs.declared.types.Layer.TheVariants.{Stamped}
+use Rattle.frames.specs.declared.types.Outcome.{Outcome}
+use Rattle.frames.specs.declared.types.Outcome.TheVariants.{Value, Written, Spent}
+use Rattle.frames.specs.declared.types.FrameLayer.TheVariants.{Regular}
+use Rattle.frames.specs.declared.nested.Ask.{Ask}
+use Rattle.frames.specs.Behaviour.{Answers}
+use Rattle.frames.specs.Nested.{Program, Ends, Asks, Reads, Sets, Table}
+use Rattle.frames.specs.Sound.{IsSound, IsSoundTable, IsNotSpent, FitsPart}
+use Rattle.frames.specs.OneWriter as writer
+
+-- the task is the operation itself; word 0 is 1 once the register was read
+abbrev pub read_first_program : ℕ → Op → Program Op
+read_first_program who (op.Write v) = Reads 0 (λ read. if read == 0 then Ends (Spent Stamped) else Asks (op.Write v) Ends)
+read_first_program who op.Read = Sets 0 1 (Asks op.Read Ends)
+
+abbrev pub read_first_asks : Op → Ask
+read_first_asks (op.Write v) = record { part = 0; who = 0; op = op.Write v }
+read_first_asks op.Read = record { part = 0; who = 1; op = op.Read }
+
+abbrev pub read_first_table : Table Op
+read_first_table = record {
+  values = 8;
+  processes = 2;
+  suits = writer.one_writer 8 2;
+  parts = 1;
+  inner_values = 8;
+  inner_processes = 2;
+  first = λ value part. value;
+  words = 1;
+  first_word = λ value word. 0;
+  bound = λ word. 2;
+  program = read_first_program;
+  asks = read_first_asks;
+  rest = λ task outcome. Ends outcome;
+  left = λ task. 0;
+  frame = λ task. record { layer = Regular; op = task; i = 0; x = 0 };
+}
+
+abbrev pub ReadFirstStands : ℕ → Op → Op → Type 0
+ReadFirstStands who (op.Write w) (op.Write v) = v < 8
+ReadFirstStands who op.Read op.Read = Unit {0}
+ReadFirstStands who (op.Write w) op.Read = ⊥
+ReadFirstStands who op.Read (op.Write v) = ⊥
+
+write_sound : (who v read : ℕ) → v < 8 → IsSound read_first_table (ReadFirstStands who (op.Write v)) (Answers 8 (op.Write v)) (if read == 0 then Ends (Spent Stamped) else Asks (op.Write v) Ends)
+write_sound who v read lt = by_test (read == 0)
+  where
+    by_test : (unread : Bool) → IsSound read_first_table (ReadFirstStands who (op.Write v)) (Answers 8 (op.Write v)) (if unread then Ends (Spent Stamped) else Asks (op.Write v) Ends)
+    by_test true = tt
+    by_test false = (lt, λ o. refl)
+
+begins_sound : (who : ℕ) (o : Op) → writer.one_writer 8 2 who o ≡ true → IsSound read_first_table (ReadFirstStands who o) (Answers 8 o) (read_first_program who o)
+begins_sound who (op.Write v) h = (omega arith, λ read low. write_sound who v read (writer.no_other_value 8 2 who v h))
+begins_sound who op.Read h = (omega arith, (omega arith, (tt, λ o. refl)))
+
+rest_sound : (who : ℕ) (o task : Op) (outcome : Outcome) → ReadFirstStands who o task → Answers 8 (read_first_asks task).op outcome → IsNotSpent outcome → Answers 8 o outcome
+rest_sound who (op.Write w) (op.Write v) Written stands answers on = tt
+rest_sound who (op.Write w) (op.Write v) (Value x) stands answers on = absurd answers
+rest_sound who (op.Write w) (op.Write v) (Spent layer) stands answers on = absurd on
+rest_sound who op.Read op.Read (Value x) stands answers on = answers
+rest_sound who op.Read op.Read Written stands answers on = absurd answers
+rest_sound who op.Read op.Read (Spent layer) stands answers on = absurd on
+rest_sound who (op.Write w) op.Read outcome stands answers on = absurd stands
+rest_sound who op.Read (op.Write v) outcome stands answers on = absurd stands
+
+asks_fit : (who : ℕ) (o task : Op) → ReadFirstStands who o task → ((read_first_asks task).part < 1) × FitsPart 8 2 (read_first_asks task).who (read_first_asks task).op
+asks_fit who (op.Write w) (op.Write v) stands = (omega arith, (refl, stands))
+asks_fit who op.Read op.Read stands = (omega arith, (omega arith, omega arith))
+asks_fit who (op.Write w) op.Read stands = absurd stands
+asks_fit who op.Read (op.Write v) stands = absurd stands
+
+pub read_first_sound : IsSoundTable read_first_table ReadFirstStands
+read_first_sound = record {
+  few_values = omega arith;
+  few_processes = omega arith;
+  zero_writes = λ v lt. writer.zero_writes 8 2 v (omega arith) lt;
+  others_read = λ who above below. writer.others_read 8 2 who above below;
+  nobody_else = λ who o h. writer.nobody_else 8 2 who o h;
+  no_other_value = λ who v h. writer.no_other_value 8 2 who v h;
+  first_fits = λ v j lt below. lt;
+  first_words = λ v k lt below. omega arith;
+  asks_fit = asks_fit;
+  begins_sound = begins_sound;
+  rest_sound = rest_sound;
+  rest_falls = λ who o task outcome stands answers on. tt;
+}

@@ -1,0 +1,90 @@
+//! The six towers, built from their numbers: a safe bit, copies of it for readers, a regular bit, a
+//! unary number, a stamped register, and a matrix of stamped registers for many writers.
+#![tactic(auto)]
+
+#[cfg(test)]
+mod tests;
+
+ghost use Rattle.std.specs.Prelude.{◌≡◌, ◌≤◌, ◌+◌, ◌*◌};
+ghost use Rattle.towers.specs.Towers.{copies_tower, regular_tower, unary_tower, stamped_tower, matrix_tower};
+
+use frames::register::Behaves;
+use frames::safe::Safe;
+use matrix::Matrix;
+use reader_copies::Copies;
+use regular_bit::RegularBit;
+use stamped::Stamped;
+use unary_number::Unary;
+
+/// Copies of a safe bit.
+pub type CopiesTower = Copies<Safe>;
+
+/// A regular bit over copies.
+pub type RegularTower = RegularBit<CopiesTower>;
+
+/// A unary number over regular bits.
+pub type UnaryTower = Unary<RegularTower>;
+
+/// A stamped register over a unary number.
+pub type StampedTower = Stamped<UnaryTower>;
+
+/// A matrix of stamped registers.
+pub type MatrixTower = Matrix<StampedTower>;
+
+/// Copies of a safe bit for 1 to 4 readers.
+pub fn copies(readers: u32) -> CopiesTower
+    requires some { 1 ≤ readers }
+    requires few { readers ≤ 4 }
+    ensures { ⟦<CopiesTower as Behaves>⟧.is result ≡ copies_tower readers }
+{
+    Copies::new(Safe, readers).unwrap()
+}
+
+/// A regular bit for 1 to 4 readers.
+pub fn regular(readers: u32) -> RegularTower
+    requires some { 1 ≤ readers }
+    requires few { readers ≤ 4 }
+    ensures { ⟦<RegularTower as Behaves>⟧.is result ≡ regular_tower readers }
+{
+    RegularBit::new(copies(readers)).unwrap()
+}
+
+/// A unary number of 2 to 512 values for 1 to 4 readers.
+pub fn unary(values: u32, readers: u32) -> UnaryTower
+    requires two { 2 ≤ values }
+    requires most { values ≤ 512 }
+    requires some { 1 ≤ readers }
+    requires few { readers ≤ 4 }
+    ensures { ⟦<UnaryTower as Behaves>⟧.is result ≡ unary_tower values readers }
+{
+    Unary::new(regular(readers), values).unwrap()
+}
+
+/// A stamped register of 2 to 512 values and a last stamp of at most 511, with at most 512 codes.
+pub fn stamped(values: u32, last: u32) -> StampedTower
+    requires two { 2 ≤ values }
+    requires few { values ≤ 512 }
+    requires stamps { last ≤ 511 }
+    requires most { (last + 1) * values ≤ 512 }
+    ensures { ⟦<StampedTower as Behaves>⟧.is result ≡ stamped_tower values last }
+{
+    let codes = unary((last + 1) * values, 1);
+    Stamped::new(codes, values, last).unwrap()
+}
+
+/// A matrix of 2 to 4 processes, 2 to 512 values and a last tag of at most 511, over stamped registers
+/// with a last stamp: at most 512 codes below and 4,096 bits in all.
+pub fn matrix(processes: u32, values: u32, tag: u32, stamp: u32) -> MatrixTower
+    requires two { 2 ≤ processes }
+    requires four { processes ≤ 4 }
+    requires some { 2 ≤ values }
+    requires few { values ≤ 512 }
+    requires tags { tag ≤ 511 }
+    requires stamps { stamp ≤ 511 }
+    requires most { (stamp + 1) * ((tag + 1) * processes * values) ≤ 512 }
+    requires cells { processes * processes * ((stamp + 1) * ((tag + 1) * processes * values)) ≤ 4096 }
+    ensures { ⟦<MatrixTower as Behaves>⟧.is result ≡ matrix_tower processes values tag stamp }
+{
+    let part = stamped((tag + 1) * processes * values, stamp);
+    Matrix::new(part, processes, values, tag).unwrap()
+}

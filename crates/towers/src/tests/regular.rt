@@ -1,0 +1,93 @@
+//! Regular bits over copies of safe bits: which can be built, how large they are, and their steps.
+
+use super::{frame, replayed, stands_in, told};
+use crate::regular;
+use frames::fit::LayerError;
+use frames::safe::Safe;
+use frames::types::{Action, ActionKind, Event, FrameLayer, Op, Step};
+use reader_copies::Copies;
+use regular_bit::RegularBit;
+use safe_bit::{Place, Store};
+use std::test::Fail;
+use unary_number::Unary;
+
+#[test]
+fn sizes(rt: HostRuntime) -> Result<(), Fail> {
+    let alone = RegularBit::new(Safe)?;
+    assert_eq!(rt; told(&alone), (Place { cell: 1, word: 1 }, 2, 2, 2));
+    assert_eq!(rt; told(&regular(1)), (Place { cell: 1, word: 1 }, 2, 2, 3));
+    let of_four_readers = regular(4);
+    assert_eq!(rt;
+        told(&of_four_readers),
+        (Place { cell: 4, word: 1 }, 2, 5, 3)
+    );
+    assert!(rt; of_four_readers == of_four_readers.clone()?);
+    Ok(())
+}
+
+#[test]
+fn registers_below(rt: HostRuntime) -> Result<(), Fail> {
+    let three_values = Unary::new(Safe, 3)?;
+    assert_eq!(rt;
+        RegularBit::new(three_values).err(),
+        Some(LayerError::BadSize)
+    );
+    let seven = Copies::new(
+        Copies::new(
+            Copies::new(Copies::new(Copies::new(Copies::new(Safe, 1)?, 1)?, 1)?, 1)?,
+            1,
+        )?,
+        1,
+    )?;
+    let eight = RegularBit::new(seven)?;
+    assert_eq!(rt; RegularBit::new(eight).err(), Some(LayerError::BadSize));
+    Ok(())
+}
+
+#[test]
+fn regular_same_value(rt: HostRuntime) -> Result<(), Fail> {
+    let steps = [Step::Write { p: 0, v: 0 }];
+    let history = [(0, Event::Invoke(0, Op::Write(0))), (0, Event::Wrote(0))];
+    let config = replayed(&rt, rt.alloc(), regular(1), &steps, &history)?;
+    let idle = Store::new(rt.alloc(), 1, 1)?;
+    assert!(rt; *config.store() == idle);
+    assert_eq!(rt; config.op(0), None);
+    assert_eq!(rt; config.op(1), None);
+    Ok(())
+}
+
+/// A write of 1 that stands at its first copy's end, and a read by process 2 of the other copy.
+const WRITE_AND_READ: [Step; 5] = [
+    Step::Write { p: 0, v: 1 },
+    Step::Go { p: 0, c: 0 },
+    Step::Read { p: 2 },
+    Step::Go { p: 2, c: 0 },
+    Step::Go { p: 2, c: 0 },
+];
+
+#[test]
+fn word_is_set_first(rt: HostRuntime) -> Result<(), Fail> {
+    let history = [
+        (0, Event::Invoke(0, Op::Write(1))),
+        (2, Event::Invoke(2, Op::Read)),
+        (4, Event::Got(2, 0)),
+    ];
+    let config = replayed(&rt, rt.alloc(), regular(2), &WRITE_AND_READ, &history)?;
+    let mut begun = Store::new(rt.alloc(), 2, 1)?;
+    begun.set_word(0, 1);
+    begun.start_write(0, true);
+    assert!(rt; *config.store() == begun);
+    let writing = [
+        frame(FrameLayer::Regular, Op::Write(1), 0),
+        frame(FrameLayer::Copies, Op::Write(1), 1),
+        frame(FrameLayer::Safe, Op::Write(1), 1),
+    ];
+    stands_in(&rt, rt.alloc(), &config, 0, &writing);
+    let action = Action {
+        kind: ActionKind::WriteEnd,
+        cell: 0,
+    };
+    assert_eq!(rt; config.action(0), Some(action));
+    assert_eq!(rt; config.op(2), None);
+    Ok(())
+}

@@ -1,0 +1,98 @@
+-- A unary number of M values over M bits (Lamport 1986, construction of a regular register of many values from regular bits;
+-- Herlihy and Shavit, chapter 4). Value x is a 1 in bit x below which each bit is 0. What a scan that finds no 1 answers is this
+-- project's own.
+use Rattle.std.specs.Prelude.{◌≡◌, ℕ, zero, suc, ◌+◌, ◌-◌, ◌<◌, ◌≤◌, ◌==◌, ◌&&◌, nat_le, Option, Some, if◌then◌else◌}
+use Rattle.frames.specs.declared.types.Op.{Op}
+use Rattle.frames.specs.declared.types.Op.TheVariants as op
+use Rattle.frames.specs.declared.types.Outcome.{Outcome}
+use Rattle.frames.specs.declared.types.Outcome.TheVariants.{Value, Written, Spent}
+use Rattle.frames.specs.declared.types.FrameLayer.TheVariants.{Unary}
+use Rattle.frames.specs.declared.types.Frame.{Frame}
+use Rattle.frames.specs.declared.nested.Ask.{Ask}
+use Rattle.frames.specs.declared.fit.LayerError.{LayerError}
+use Rattle.frames.specs.declared.fit.LayerError.TheVariants.{BadSize}
+use Rattle.frames.specs.Behaviour.{Behaviour}
+use Rattle.frames.specs.Fit.{refusal_below}
+use Rattle.frames.specs.Nested.{Program, Ends, Asks, Table}
+use Rattle.frames.specs.OneWriter.{one_writer}
+use Rattle.unary_number.specs.declared.task.UnaryTask.{UnaryTask}
+use Rattle.unary_number.specs.declared.task.UnaryTask.TheVariants.{Setting, Clearing, Looking}
+
+-- a write of x clears the i bits below bit i, downward, and ends behind bit 0
+abbrev pub clears_below : ℕ → ℕ → Program UnaryTask
+clears_below x zero = Ends Written
+clears_below x (suc i) = Asks (Clearing x i) (λ outcome. clears_below x i)
+
+-- a look at bit i that finds 1 ends the read by i; behind one that finds 0 the read goes on
+abbrev pub behind_look : ℕ → Program UnaryTask → Outcome → Program UnaryTask
+behind_look i onward (Value bit) = if bit == 1 then Ends (Value i) else onward
+behind_look i onward Written = Ends Written
+behind_look i onward (Spent layer) = Ends (Spent layer)
+
+-- behind bit i come this many more bits to look at, upward; behind the last bit the scan has found none
+abbrev pub looks_above : Outcome → ℕ → ℕ → ℕ → Program UnaryTask
+looks_above none who i zero = Ends none
+looks_above none who i (suc left) = Asks (Looking who (suc i) left) (λ outcome. behind_look (suc i) (looks_above none who (suc i) left) outcome)
+
+-- a write of x sets bit x and then clears the bits below it; a read looks from bit 0 upward for the first 1
+abbrev pub unary_program : Outcome → ℕ → ℕ → Op → Program UnaryTask
+unary_program none values who (op.Write x) = Asks (Setting x) (λ outcome. clears_below x x)
+unary_program none values who op.Read = Asks (Looking who 0 (values - 1)) (λ outcome. behind_look 0 (looks_above none who 0 (values - 1)) outcome)
+
+-- the same programs, from behind a task
+abbrev pub unary_rest : Outcome → UnaryTask → Outcome → Program UnaryTask
+unary_rest none (Setting x) outcome = clears_below x x
+unary_rest none (Clearing x i) outcome = clears_below x i
+unary_rest none (Looking who i left) outcome = behind_look i (looks_above none who i left) outcome
+
+abbrev pub unary_asks : UnaryTask → Ask
+unary_asks (Setting x) = record { part = x; who = 0; op = op.Write 1 }
+unary_asks (Clearing x i) = record { part = i; who = 0; op = op.Write 0 }
+unary_asks (Looking who i left) = record { part = i; who = who; op = op.Read }
+
+abbrev pub unary_left : UnaryTask → ℕ
+unary_left (Setting x) = x
+unary_left (Clearing x i) = i
+unary_left (Looking who i left) = left
+
+abbrev pub unary_frame : UnaryTask → Frame
+unary_frame (Setting x) = record { layer = Unary; op = op.Write x; i = x; x = 0 }
+unary_frame (Clearing x i) = record { layer = Unary; op = op.Write x; i = i; x = 0 }
+unary_frame (Looking who i left) = record { layer = Unary; op = op.Read; i = i; x = 0 }
+
+-- the layer over registers of so many processes: `none` is the answer of a scan that finds no 1
+abbrev pub unary_table : Outcome → ℕ → ℕ → Table UnaryTask
+unary_table none values processes = record {
+  values = values;
+  processes = processes;
+  suits = one_writer values processes;
+  parts = values;
+  inner_values = 2;
+  inner_processes = processes;
+  first = λ value bit. if bit == value then 1 else 0;
+  words = 0;
+  first_word = λ value word. 0;
+  bound = λ word. 0;
+  program = unary_program none values;
+  asks = unary_asks;
+  rest = unary_rest none;
+  left = unary_left;
+  frame = unary_frame;
+}
+
+-- the register's own table: a scan that finds none answers the greatest value
+abbrev pub unary_number : ℕ → ℕ → Table UnaryTask
+unary_number values processes = unary_table (Value (values - 1)) values processes
+
+-- a write of x stands at bit x or at a bit below it; a read stands in its process's look at a bit, with the number of bits behind it
+abbrev pub UnaryStands : ℕ → ℕ → ℕ → Op → UnaryTask → Type 0
+UnaryStands values processes who (op.Write w) (Setting x) = (x ≡ w) × (w < values)
+UnaryStands values processes who (op.Write w) (Clearing x i) = (x ≡ w) × (i < w) × (w < values)
+UnaryStands values processes who op.Read (Looking reader i left) = (reader ≡ who) × (1 ≤ who) × (who < processes) × (i + left + 1 ≡ values)
+UnaryStands values processes who (op.Write w) (Looking reader i left) = ⊥
+UnaryStands values processes who op.Read (Setting x) = ⊥
+UnaryStands values processes who op.Read (Clearing x i) = ⊥
+
+-- why there is no unary number of so many values over a register, if there is none: it has 2 to 512 values
+abbrev pub unary_refusal : {P : Type 0} → ℕ → Behaviour P → Option LayerError
+unary_refusal values b = if nat_le 2 values && nat_le values 512 then refusal_below (unary_number values b.processes) b else Some BadSize

@@ -1,0 +1,146 @@
+-- The unary number's table is sound, and its tasks are equal only to themselves.
+use Rattle.std.proofs.Common.{◌≡◌, ℕ, zero, suc, ◌+◌, ◌-◌, ◌<◌, ◌≤◌, ◌^◌, Bool, true, false, refl, ap, arith, nat_eq}
+use mathlib.Core.Bool.{◌&&◌}
+use Rattle.std.specs.Bool.{Decides}
+use Rattle.std.specs.Prelude.{◌==◌, if◌then◌else◌}
+use Rattle.std.proofs.lemmas.Bool.Decides.{Decides-and, Decides-eqb, Decides-like}
+use Rattle.frames.specs.declared.types.Op.{Op}
+use Rattle.frames.specs.declared.types.Op.TheVariants as op
+use Rattle.frames.specs.declared.types.Outcome.{Outcome}
+use Rattle.frames.specs.declared.types.Outcome.TheVariants.{Value, Written, Spent}
+use Rattle.frames.specs.Behaviour.{Answers}
+use Rattle.frames.specs.Nested.{Ends}
+use Rattle.frames.specs.Sound.{IsSound, IsSoundTable, IsNotSpent, Falls, FitsPart}
+use Rattle.frames.specs.OneWriter as writer
+use Rattle.unary_number.specs.declared.task.UnaryTask.{UnaryTask}
+use Rattle.unary_number.specs.declared.task.UnaryTask.TheVariants.{Setting, Clearing, Looking}
+use Rattle.unary_number.specs.Program.{clears_below, behind_look, looks_above, unary_program, unary_rest, unary_asks, unary_left, unary_table, unary_number, UnaryStands}
+
+module _ (none : Outcome) (values processes : ℕ) (two : 2 ≤ values) (few_values : values < 2 ^ 32) (some : 0 < processes) (few : processes < 2 ^ 32)
+    (answered : Answers values op.Read none) where
+  first_bit : (value bit : ℕ) → (if bit == value then 1 else 0) < 2
+  first_bit value bit = by_test (bit == value)
+    where
+      by_test : (same : Bool) → (if same then 1 else 0) < 2
+      by_test true = omega arith
+      by_test false = omega arith
+
+  clears_sound : (who w x i : ℕ) → x ≡ w → i ≤ w → w < values → IsSound (unary_table none values processes) (UnaryStands values processes who (op.Write w)) (Answers values (op.Write w)) (clears_below x i)
+  clears_sound who w x zero same below low = tt
+  clears_sound who w x (suc i) same below low = ((same, omega arith, low), λ o. refl)
+
+  looks_sound : (who reader i left : ℕ) → reader ≡ who → 1 ≤ who → who < processes → i + left + 1 ≡ values
+      → IsSound (unary_table none values processes) (UnaryStands values processes who op.Read) (Answers values op.Read) (looks_above none reader i left)
+  looks_sound who reader i zero same above below all = answered
+  looks_sound who reader i (suc left) same above below all = ((same, above, below, omega arith), λ o. refl)
+
+  looked_sound : (who reader i left bit : ℕ) → reader ≡ who → 1 ≤ who → who < processes → i + left + 1 ≡ values
+      → IsSound (unary_table none values processes) (UnaryStands values processes who op.Read) (Answers values op.Read) (behind_look i (looks_above none reader i left) (Value bit))
+  looked_sound who reader i left bit same above below all = by_test (bit == 1)
+    where
+      by_test : (found : Bool) → IsSound (unary_table none values processes) (UnaryStands values processes who op.Read) (Answers values op.Read)
+          (if found then Ends (Value i) else looks_above none reader i left)
+      by_test true = omega arith
+      by_test false = looks_sound who reader i left same above below all
+
+  clears_fall : (w i n : ℕ) → i ≤ n → Falls (unary_table none values processes) n (clears_below w i)
+  clears_fall w zero n le = tt
+  clears_fall w (suc i) n le = omega arith
+
+  looks_fall : (who i left : ℕ) → Falls (unary_table none values processes) left (looks_above none who i left)
+  looks_fall who i zero = tt
+  looks_fall who i (suc left) = omega arith
+
+  look_falls : (who i left bit : ℕ) → Falls (unary_table none values processes) left (behind_look i (looks_above none who i left) (Value bit))
+  look_falls who i left bit = by_test (bit == 1)
+    where
+      by_test : (found : Bool) → Falls (unary_table none values processes) left (if found then Ends (Value i) else looks_above none who i left)
+      by_test true = tt
+      by_test false = looks_fall who i left
+
+  begins_sound : (who : ℕ) (o : Op) → writer.one_writer values processes who o ≡ true
+      → IsSound (unary_table none values processes) (UnaryStands values processes who o) (Answers values o) (unary_program none values who o)
+  begins_sound who (op.Write x) h = ((refl, writer.no_other_value values processes who x h), λ o. refl)
+  begins_sound who op.Read h = ((refl, writer.reader_some values processes who h, writer.reader_few values processes who h, omega arith), λ o. refl)
+
+  asks_fit : (who : ℕ) (o : Op) (task : UnaryTask) → UnaryStands values processes who o task
+      → ((unary_asks task).part < values) × FitsPart 2 processes (unary_asks task).who (unary_asks task).op
+  asks_fit who (op.Write w) (Setting x) stands = (omega (arith, stands.0, stands.1), (refl, omega arith))
+  asks_fit who (op.Write w) (Clearing x i) stands = (omega (arith, stands.1, stands.2), (refl, omega arith))
+  asks_fit who op.Read (Looking reader i left) stands = (omega (arith, stands.3), (omega (arith, stands.0, stands.1), omega (arith, stands.0, stands.2)))
+  asks_fit who (op.Write w) (Looking reader i left) stands = absurd stands
+  asks_fit who op.Read (Setting x) stands = absurd stands
+  asks_fit who op.Read (Clearing x i) stands = absurd stands
+
+  rest_sound : (who : ℕ) (o : Op) (task : UnaryTask) (outcome : Outcome) → UnaryStands values processes who o task → Answers 2 (unary_asks task).op outcome → IsNotSpent outcome
+      → IsSound (unary_table none values processes) (UnaryStands values processes who o) (Answers values o) (unary_rest none task outcome)
+  rest_sound who (op.Write w) (Setting x) outcome stands answers on = clears_sound who w x x stands.0 (omega (arith, stands.0)) stands.1
+  rest_sound who (op.Write w) (Clearing x i) outcome stands answers on = clears_sound who w x i stands.0 (omega (arith, stands.1)) stands.2
+  rest_sound who op.Read (Looking reader i left) (Value bit) stands answers on =
+      looked_sound who reader i left bit stands.0 stands.1 stands.2 stands.3
+  rest_sound who op.Read (Looking reader i left) Written stands answers on = absurd answers
+  rest_sound who op.Read (Looking reader i left) (Spent layer) stands answers on = absurd on
+  rest_sound who (op.Write w) (Looking reader i left) outcome stands answers on = absurd stands
+  rest_sound who op.Read (Setting x) outcome stands answers on = absurd stands
+  rest_sound who op.Read (Clearing x i) outcome stands answers on = absurd stands
+
+  rest_falls : (who : ℕ) (o : Op) (task : UnaryTask) (outcome : Outcome) → UnaryStands values processes who o task → Answers 2 (unary_asks task).op outcome → IsNotSpent outcome
+      → Falls (unary_table none values processes) (unary_left task) (unary_rest none task outcome)
+  rest_falls who o (Setting x) outcome stands answers on = clears_fall x x x (omega arith)
+  rest_falls who o (Clearing x i) outcome stands answers on = clears_fall x i i (omega arith)
+  rest_falls who o (Looking reader i left) (Value bit) stands answers on = look_falls reader i left bit
+  rest_falls who o (Looking reader i left) Written stands answers on = tt
+  rest_falls who o (Looking reader i left) (Spent layer) stands answers on = tt
+
+  pub unary_sound : IsSoundTable (unary_table none values processes) (UnaryStands values processes)
+  unary_sound = record {
+    few_values = few_values;
+    few_processes = few;
+    zero_writes = λ v lt. writer.zero_writes values processes v some lt;
+    others_read = λ who above below. writer.others_read values processes who above below;
+    nobody_else = λ who o h. writer.nobody_else values processes who o h;
+    no_other_value = λ who v h. writer.no_other_value values processes who v h;
+    first_fits = λ v j lt below. first_bit v j;
+    first_words = λ v k lt below. omega arith;
+    asks_fit = asks_fit;
+    begins_sound = begins_sound;
+    rest_sound = rest_sound;
+    rest_falls = rest_falls;
+  }
+
+-- the register's own table: the answer of a scan that finds none is one of its values
+pub number_sound : (values processes : ℕ) → 2 ≤ values → values ≤ 512 → 0 < processes → processes < 2 ^ 32 → IsSoundTable (unary_number values processes) (UnaryStands values processes)
+number_sound values processes two few_values some few =
+    let greatest : Answers values op.Read (Value (values - 1)) = omega arith in
+    unary_sound (Value (values - 1)) values processes two (omega arith) some few greatest
+
+-- the test of two tasks
+abbrev pub task_eq : UnaryTask → UnaryTask → Bool
+task_eq (Setting x) (Setting y) = nat_eq x y
+task_eq (Clearing x i) (Clearing y j) = nat_eq x y && nat_eq i j
+task_eq (Looking p i m) (Looking q j n) = nat_eq p q && (nat_eq i j && nat_eq m n)
+task_eq (Setting x) (Clearing y j) = false
+task_eq (Setting x) (Looking q j n) = false
+task_eq (Clearing x i) (Setting y) = false
+task_eq (Clearing x i) (Looking q j n) = false
+task_eq (Looking p i m) (Setting y) = false
+task_eq (Looking p i m) (Clearing y j) = false
+
+pub task_decides : (a b : UnaryTask) → Decides (task_eq a b) (a ≡ b)
+task_decides (Setting x) (Setting y) = Decides-like (nat_eq x y) (λ p. ap Setting p) (λ p. cc) (Decides-eqb x y)
+task_decides (Clearing x i) (Clearing y j) =
+    Decides-like (nat_eq x y && nat_eq i j) (λ e. λ k. Clearing (e.0 k) (e.1 k)) (λ e. (cc, cc)) (Decides-and (nat_eq x y) (nat_eq i j) (Decides-eqb x y) (Decides-eqb i j))
+task_decides (Looking p i m) (Looking q j n) =
+    Decides-like (nat_eq p q && (nat_eq i j && nat_eq m n)) (λ e. λ k. Looking (e.0 k) (e.1.0 k) (e.1.1 k)) (λ e. (cc, (cc, cc)))
+    (Decides-and (nat_eq p q) (nat_eq i j && nat_eq m n) (Decides-eqb p q) (Decides-and (nat_eq i j) (nat_eq m n) (Decides-eqb i j) (Decides-eqb m n)))
+task_decides (Setting x) (Clearing y j) = (λ h. cc, λ h. cc)
+task_decides (Setting x) (Looking q j n) = (λ h. cc, λ h. cc)
+task_decides (Clearing x i) (Setting y) = (λ h. cc, λ h. cc)
+task_decides (Clearing x i) (Looking q j n) = (λ h. cc, λ h. cc)
+task_decides (Looking p i m) (Setting y) = (λ h. cc, λ h. cc)
+task_decides (Looking p i m) (Clearing y j) = (λ h. cc, λ h. cc)
+
+pub table_alike : (m n p q : ℕ) → nat_eq m n && nat_eq p q ≡ true → unary_number m p ≡ unary_number n q
+table_alike m n p q h =
+    let both = (Decides-and (nat_eq m n) (nat_eq p q) (Decides-eqb m n) (Decides-eqb p q)).0 h in
+    λ i. unary_number (both.0 i) (both.1 i)
