@@ -1,12 +1,16 @@
 -- What a line of a script answers, and what it leaves.
 use Rattle.std.specs.Prelude.{ℕ, ◌++◌, Bool, true, false, List, [], Option, Some, None, take, length, codes}
 use Rattle.frames.specs.declared.types.Step.{Step}
+use Rattle.frames.specs.declared.types.Event.{Event}
 use Rattle.frames.specs.declared.safe.Safe.{Safe}
 use Rattle.frames.specs.declared.safe.SafePoint.{SafePoint}
 use Rattle.frames.specs.Configuration.{Configuration, initial_configuration, replayed, history}
 use Rattle.frames.specs.SafeBit.{safe_behaviour}
+use Rattle.checkpoints.specs.Events.{indexed}
 use Rattle.towerbench.specs.declared.command.Command.{Command}
-use Rattle.towerbench.specs.declared.command.Command.TheVariants.{Insert, State, History}
+use Rattle.towerbench.specs.declared.command.Command.TheVariants.{Edit, Look}
+use Rattle.towerbench.specs.declared.command.Query.{Query}
+use Rattle.towerbench.specs.declared.command.Query.TheVariants.{State, Bits, History, Steps}
 use Rattle.towerbench.specs.declared.command.Call.{Call}
 use Rattle.towerbench.specs.declared.command.Line.{Line}
 use Rattle.towerbench.specs.declared.command.Line.TheVariants as line
@@ -15,25 +19,27 @@ use Rattle.towerbench.specs.declared.refusal.Refusal.TheVariants.{Memory}
 use Rattle.towerbench.specs.declared.reply.Reply.TheVariants.{Refused}
 use Rattle.towerbench.specs.Refusals.{first_refusal}
 use Rattle.towerbench.specs.Lines.{read_line}
-use Rattle.towerbench.specs.World.{World, Acted, insert_by, look_refusals}
+use Rattle.towerbench.specs.World.{World, Acted, edit_by, look_refusals}
 use Rattle.towerbench.specs.Texts.{answer_text, bad_line_text}
-use Rattle.towerbench.specs.Pages.{page_head, state_lines, event_lines, or_none}
+use Rattle.towerbench.specs.Pages.{page_head, steps_head, state_lines, memory_lines, history_lines, step_lines}
 
 -- the safe bit at 0, with nothing pending
 abbrev pub first_configuration : Configuration Safe SafePoint
 first_configuration = initial_configuration safe_behaviour (record {}) 0
 
--- the page of the configuration after the first steps of the branch
-abbrev pub state_page : ℕ → ℕ → List Step → List ℕ
-state_page session place steps =
-    page_head session (codes "state") place (length steps)
-    ++ state_lines safe_behaviour (replayed safe_behaviour first_configuration (take place steps))
+-- the configuration after some steps, and their events, each with the index of its step
+abbrev pub after : List Step → Configuration Safe SafePoint
+after steps = replayed safe_behaviour first_configuration steps
 
--- the page of the events of the first steps of the branch
-abbrev pub history_page : ℕ → ℕ → List Step → List ℕ
-history_page session place steps =
-    page_head session (codes "history") place (length steps)
-    ++ or_none (event_lines 0 (history safe_behaviour first_configuration (take place steps)))
+abbrev pub events : List Step → List (ℕ × Event)
+events steps = indexed 0 (history safe_behaviour first_configuration steps)
+
+-- the page of a look at the branch of these steps: a place is after the first so many
+abbrev pub page : ℕ → Query → List Step → List ℕ
+page session (State place) steps = page_head session (codes "state") place (length steps) ++ state_lines safe_behaviour (after (take place steps))
+page session (Bits place) steps = page_head session (codes "bits") place (length steps) ++ memory_lines (after (take place steps)).memory
+page session (History place) steps = page_head session (codes "history") place (length steps) ++ history_lines (events (take place steps))
+page session Steps steps = steps_head session (length steps) ++ step_lines steps
 
 -- a page, or the refusal of the look
 abbrev pub page_unless : Option Refusal → ℕ → List ℕ → List ℕ
@@ -55,11 +61,9 @@ abbrev pub replied : ℕ → Acted → Answered
 replied session acted = record { world = acted.world; text = answer_text session acted.reply }
 
 abbrev pub performed : ℕ → ℕ → Command → World → Answered
-performed cells session (Insert branch place step) w = replied session (insert_by cells session branch place step w)
-performed cells session (State branch place) w =
-    record { world = w; text = page_unless (first_refusal (look_refusals branch place w)) session (state_page session place w.steps) }
-performed cells session (History branch place) w =
-    record { world = w; text = page_unless (first_refusal (look_refusals branch place w)) session (history_page session place w.steps) }
+performed cells session (Edit branch edit) w = replied session (edit_by cells session branch edit w)
+performed cells session (Look branch query) w =
+    record { world = w; text = page_unless (first_refusal (look_refusals branch query w)) session (page session query w.steps) }
 
 -- a call; refused memory, it leaves the world
 abbrev pub answer_call : ℕ → Bool → Call → World → Answered

@@ -4,6 +4,7 @@ pub mod Lines
 pub mod Refusals
 pub mod Texts
 pub mod World
+pub mod Numbered
 pub mod Pages
 pub mod Answers
 pub mod Output

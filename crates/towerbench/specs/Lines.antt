@@ -8,7 +8,9 @@ use Rattle.std.specs.Str.Parse.{digits_value}
 use Rattle.frames.specs.declared.types.Step.{Step}
 use Rattle.frames.specs.declared.types.Step.TheVariants as step
 use Rattle.towerbench.specs.declared.command.Command.{Command}
-use Rattle.towerbench.specs.declared.command.Command.TheVariants.{Insert, State, History}
+use Rattle.towerbench.specs.declared.command.Command.TheVariants.{Edit, Look}
+use Rattle.towerbench.specs.declared.command.Edit.TheVariants.{Insert, Remove, Replace}
+use Rattle.towerbench.specs.declared.command.Query.TheVariants.{State, Bits, History, Steps}
 use Rattle.towerbench.specs.declared.command.Call.{Call}
 use Rattle.towerbench.specs.declared.command.Line.{Line}
 use Rattle.towerbench.specs.declared.command.Line.TheVariants as line
@@ -52,13 +54,11 @@ step_of ws =
     else (if bytes_eq (next ws) (codes "g") then option_map (λ n. step.Go n.0 n.1) (two_numbers (after_next ws))
     else None))
 
--- a branch, a place and a step
-abbrev pub insert_of : List (List ℕ) → Option Command
-insert_of ws = do
+-- a branch, and no more words
+abbrev pub branch_of : List (List ℕ) → Option (List ℕ)
+branch_of ws = do
   b ← branch (next ws)
-  k ← number (next (after_next ws))
-  s ← step_of (after_next (after_next ws))
-  Some (Insert b k s)
+  if is_end (after_next ws) then Some b else None
 
 -- a branch and a place, and no more words
 abbrev pub place_of : List (List ℕ) → Option (List ℕ × ℕ)
@@ -67,13 +67,30 @@ place_of ws = do
   k ← number (next (after_next ws))
   if is_end (after_next (after_next ws)) then Some (b, k) else None
 
--- a command: `insert B K STEP`, `state B K` or `history B K`
+-- a branch, a place and a step
+abbrev pub step_at : List (List ℕ) → Option (List ℕ × ℕ × Step)
+step_at ws = do
+  b ← branch (next ws)
+  k ← number (next (after_next ws))
+  s ← step_of (after_next (after_next ws))
+  Some (b, k, s)
+
+-- a look by its word: `steps B`, `state B K`, `bits B K` or `history B K`
+abbrev pub look_of : List ℕ → List (List ℕ) → Option Command
+look_of word ws =
+    if bytes_eq word (codes "steps") then option_map (λ b. Look b Steps) (branch_of ws)
+    else (if bytes_eq word (codes "state") then option_map (λ p. Look p.0 (State p.1)) (place_of ws)
+    else (if bytes_eq word (codes "bits") then option_map (λ p. Look p.0 (Bits p.1)) (place_of ws)
+    else (if bytes_eq word (codes "history") then option_map (λ p. Look p.0 (History p.1)) (place_of ws)
+    else None)))
+
+-- a command: `insert B K STEP`, `remove B K`, `replace B K STEP`, or a look
 abbrev pub command_of : List (List ℕ) → Option Command
 command_of ws =
-    if bytes_eq (next ws) (codes "insert") then insert_of (after_next ws)
-    else (if bytes_eq (next ws) (codes "state") then option_map (λ p. State p.0 p.1) (place_of (after_next ws))
-    else (if bytes_eq (next ws) (codes "history") then option_map (λ p. History p.0 p.1) (place_of (after_next ws))
-    else None))
+    if bytes_eq (next ws) (codes "insert") then option_map (λ p. Edit p.0 (Insert p.1 p.2)) (step_at (after_next ws))
+    else (if bytes_eq (next ws) (codes "remove") then option_map (λ p. Edit p.0 (Remove p.1)) (place_of (after_next ws))
+    else (if bytes_eq (next ws) (codes "replace") then option_map (λ p. Edit p.0 (Replace p.1 p.2)) (step_at (after_next ws))
+    else look_of (next ws) (after_next ws)))
 
 -- a call: the number of a session, and a command
 abbrev pub call_of : List (List ℕ) → Option Call

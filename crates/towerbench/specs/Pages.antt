@@ -1,5 +1,5 @@
 -- The bytes of pages: a first line, and lines that begin with two spaces.
-use Rattle.std.specs.Prelude.{ℕ, ◌+◌, List, [], ◌∷◌, ◌++◌, Option, Some, None, Bool, codes, map, if◌then◌else◌}
+use Rattle.std.specs.Prelude.{ℕ, List, [], ◌∷◌, ◌++◌, Option, Some, None, Bool, codes, map, if◌then◌else◌}
 use Rattle.std.specs.List.{flat_map, range_with_len}
 use Rattle.std.specs.Fmt.{decimal}
 use Rattle.safe_bit.specs.declared.Cell.{Cell}
@@ -15,16 +15,21 @@ use Rattle.frames.specs.declared.types.Reason.{Reason}
 use Rattle.frames.specs.declared.types.Reason.TheVariants.{Busy, Idle}
 use Rattle.frames.specs.declared.types.Event.{Event}
 use Rattle.frames.specs.declared.types.Event.TheVariants.{Invoke, Got, Wrote, Refused, Void, Chosen}
-use Rattle.frames.specs.declared.types.StepEvents.{StepEvents}
+use Rattle.frames.specs.declared.types.Step.{Step}
+use Rattle.frames.specs.declared.types.Step.TheVariants as step
 use Rattle.frames.specs.declared.running.Running.{Running}
 use Rattle.frames.specs.Behaviour.{Behaviour}
 use Rattle.frames.specs.Configuration.{Configuration, running_at}
 use Rattle.towerbench.specs.Texts.{line_end}
+use Rattle.towerbench.specs.Numbered.{numbered}
 
--- the first line of a page of the branch `main` at a place, and how long the branch is
+-- how the first line of a page of the branch `main` begins
+abbrev pub page_title : ℕ → List ℕ → List ℕ
+page_title session kind = decimal session ++ codes ": " ++ kind ++ codes " main "
+
+-- the first line of a page at a place, and how long the branch is
 abbrev pub page_head : ℕ → List ℕ → ℕ → ℕ → List ℕ
-page_head session kind place len =
-    decimal session ++ codes ": " ++ kind ++ codes " main " ++ decimal place ++ codes " of " ++ decimal len ++ line_end
+page_head session kind place len = page_title session kind ++ decimal place ++ codes " of " ++ decimal len ++ line_end
 
 -- an operation, and a bit action with its cell
 abbrev pub op_text : Op → List ℕ
@@ -74,6 +79,41 @@ words_line m = codes "  words" ++ words_text m.words ++ line_end
 abbrev pub state_lines : {R P : Type 0} → Behaviour P → Configuration R P → List ℕ
 state_lines b c = process_lines b c ++ bits_line c.memory ++ words_line c.memory
 
+-- a cell: its number, its value, the value being written or a dash, and a dash where it isn't read,
+-- `r` where it is, and `h` where that read is hit
+abbrev pub bit_name : Bool → List ℕ
+bit_name v = if v then codes "1" else codes "0"
+
+abbrev pub writing_name : Option Bool → List ℕ
+writing_name None = codes "-"
+writing_name (Some v) = bit_name v
+
+abbrev pub reading_name : Cell → List ℕ
+reading_name c = if c.reading then (if c.hit then codes "h" else codes "r") else codes "-"
+
+abbrev pub cell_line : ℕ → Cell → List ℕ
+cell_line j c =
+    codes "  " ++ decimal j ++ codes " " ++ bit_name c.value ++ codes " " ++ writing_name c.writing ++ codes " " ++ reading_name c ++ line_end
+
+-- a line for each cell, numbered from 0, and the line of all words
+abbrev pub memory_lines : Memory → List ℕ
+memory_lines m = numbered cell_line 0 m.cells ++ words_line m
+
+-- the first line of the page of a branch's steps, and a line for each of them with its index
+abbrev pub steps_head : ℕ → ℕ → List ℕ
+steps_head session len = page_title session (codes "steps") ++ decimal len ++ line_end
+
+abbrev pub step_text : Step → List ℕ
+step_text (step.Write p v) = codes "w " ++ decimal p ++ codes " " ++ decimal v
+step_text (step.Read p) = codes "r " ++ decimal p
+step_text (step.Go p c) = codes "g " ++ decimal p ++ codes " " ++ decimal c
+
+abbrev pub step_line : ℕ → Step → List ℕ
+step_line i s = codes "  " ++ decimal i ++ codes " " ++ step_text s ++ line_end
+
+abbrev pub step_lines : List Step → List ℕ
+step_lines steps = numbered step_line 0 steps
+
 -- an event: its process and its name
 abbrev pub layer_name : Layer → List ℕ
 layer_name Stamped = codes "stamped"
@@ -102,20 +142,11 @@ event_name (Refused p layer) = codes "refused spent " ++ layer_name layer
 event_name (Void p reason) = codes "void " ++ reason_name reason
 event_name (Chosen p bit v) = codes "chosen bit " ++ decimal bit ++ codes " value " ++ decimal (bit_value v)
 
--- the line of an event of the step with this index
-abbrev pub event_text : ℕ → Event → List ℕ
-event_text i e = codes "  " ++ decimal i ++ codes " p" ++ decimal (event_process e) ++ codes " " ++ event_name e ++ line_end
+-- the line of an event, with the index of its step
+abbrev pub event_line : ℕ × Event → List ℕ
+event_line e = codes "  " ++ decimal e.0 ++ codes " p" ++ decimal (event_process e.1) ++ codes " " ++ event_name e.1 ++ line_end
 
-abbrev pub event_if_any : ℕ → Option Event → List ℕ
-event_if_any i None = []
-event_if_any i (Some e) = event_text i e
-
--- the events of steps, in order, each with the index of its step, counted from i
-abbrev pub event_lines : ℕ → List StepEvents → List ℕ
-event_lines i [] = []
-event_lines i (e ∷ es) = event_if_any i e.first ++ event_if_any i e.second ++ event_lines (i + 1) es
-
--- `none` where there are no lines
-abbrev pub or_none : List ℕ → List ℕ
-or_none [] = codes "  none" ++ line_end
-or_none (b ∷ text) = b ∷ text
+-- the page of events, each with the index of its step; `none` where there are none
+abbrev pub history_lines : List (ℕ × Event) → List ℕ
+history_lines [] = codes "  none" ++ line_end
+history_lines (e ∷ es) = flat_map event_line (e ∷ es)

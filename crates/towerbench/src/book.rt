@@ -1,11 +1,12 @@
 //! The book: the branch `main` and its counts.
 
-ghost use Rattle.std.specs.Prelude.{◌≡◌, ◌≢◌, ◌≤◌, ◌<◌, ◌+◌, true, None, OnOk, OnErr, IfOk, All, length};
+ghost use Rattle.std.specs.Prelude.{◌≡◌, ◌≢◌, ◌≤◌, ◌<◌, ◌+◌, true, false, None, OnOk, OnErr, IfOk, All, length};
 ghost use Rattle.frames.specs.Configuration.{fits_step};
 ghost use Rattle.frames.specs.SafeBit.{safe_behaviour};
 ghost use Rattle.towerbench.specs.Refusals.{first_refusal};
-ghost use Rattle.towerbench.specs.World.{opening, is_main, insert_refusals, look_refusals, insert_by, inserted, refused, log_limit};
+ghost use Rattle.towerbench.specs.World.{opening, is_main, fits_edit, is_misplaced, overfills, edit_refusals, is_beyond, look_refusals, edit_by, accepted, edited, refused, log_limit};
 
+use crate::command::{Edit, Query};
 use crate::name::Name;
 use crate::refusal::Refusal;
 use crate::reply::Reply;
@@ -61,21 +62,20 @@ impl Book {
         self.steps.as_slice()
     }
 
-    /// Inserts a step before the cell at a place, or at the end. Want of memory changes nothing.
-    pub fn insert(
+    /// Makes an edit, or refuses it. Want of memory changes nothing.
+    pub fn act(
         &mut self,
         cells: u32,
         session: u32,
         branch: &Name,
-        place: u32,
-        step: Step,
+        edit: Edit,
     ) -> Result<Reply, AllocError>
-        ensures ok { IfOk result (λ reply. insert_by cells session branch.now place step self.old ≡ record { world = self.new; reply = reply }) }
-        ensures last { OnErr result (first_refusal (insert_refusals cells session branch.now place step self.old) ≡ None) }
+        ensures ok { IfOk result (λ reply. edit_by cells session branch.now edit self.old ≡ record { world = self.new; reply = reply }) }
+        ensures last { OnErr result (first_refusal (edit_refusals cells session branch.now edit self.old) ≡ None) }
         ensures err { OnErr result (self.new ≡ self.old) }
     {
-        match self.insert_refusal(cells, session, branch, place, step) {
-            None => self.put(place, step),
+        match self.edit_refusal(cells, session, branch, edit) {
+            None => self.make(edit),
             Some(refusal) => {
                 self.count(refusal);
                 Ok(Reply::Refused(refusal))
@@ -83,20 +83,69 @@ impl Book {
         }
     }
 
-    /// Puts in a step that nothing refuses. Want of memory changes nothing.
-    fn put(&mut self, place: u32, step: Step) -> Result<Reply, AllocError>
+    /// Makes an edit that nothing refuses. Want of memory changes nothing.
+    fn make(&mut self, edit: Edit) -> Result<Reply, AllocError>
+        requires fits { fits_edit edit ≡ true }
+        requires place { is_misplaced edit (length self.old.steps) ≡ false }
+        requires logged { self.old.logged < log_limit }
+        ensures world { OnOk result (self.new ≡ edited edit self.old) }
+        ensures reply { IfOk result (λ reply. reply ≡ Reply.Edited (self.old.edits + 1)) }
+        ensures err { OnErr result (self.new ≡ self.old) }
+    {
+        match edit {
+            Edit::Insert { place, step } => self.insert(place, step),
+            Edit::Remove { place } => Ok(self.remove(place)),
+            Edit::Replace { place, step } => Ok(self.replace(place, step)),
+        }
+    }
+
+    /// Puts a new cell before the cell at a place, or at the end. Want of memory changes nothing.
+    fn insert(&mut self, place: u32, step: Step) -> Result<Reply, AllocError>
         requires place { place ≤ length self.old.steps }
         requires fits { fits_step safe_behaviour step ≡ true }
         requires logged { self.old.logged < log_limit }
-        ensures world { OnOk result (self.new ≡ inserted place step self.old) }
+        ensures world { OnOk result (self.new ≡ edited (Edit.Insert place step) self.old) }
         ensures reply { IfOk result (λ reply. reply ≡ Reply.Edited (self.old.edits + 1)) }
         ensures err { OnErr result (self.new ≡ self.old) }
     {
         self.steps.insert(place as usize, step)?;
+        let reply = self.accept();
+        self.made += 1;
+        Ok(reply)
+    }
+
+    /// Takes out the cell at a place; no cell is given back.
+    fn remove(&mut self, place: u32) -> Reply
+        requires place { place < length self.old.steps }
+        requires logged { self.old.logged < log_limit }
+        ensures world { self.new ≡ edited (Edit.Remove place) self.old }
+        ensures reply { result ≡ Reply.Edited (self.old.edits + 1) }
+    {
+        self.steps.remove(place as usize);
+        self.accept()
+    }
+
+    /// Gives the cell at a place another step; it stays the same cell.
+    fn replace(&mut self, place: u32, step: Step) -> Reply
+        requires place { place < length self.old.steps }
+        requires fits { fits_step safe_behaviour step ≡ true }
+        requires logged { self.old.logged < log_limit }
+        ensures world { self.new ≡ edited (Edit.Replace place step) self.old }
+        ensures reply { result ≡ Reply.Edited (self.old.edits + 1) }
+    {
+        self.steps[place as usize] = step;
+        self.accept()
+    }
+
+    /// Counts an accepted edit.
+    fn accept(&mut self) -> Reply
+        requires { self.old.logged < log_limit }
+        ensures world { self.new ≡ accepted self.old }
+        ensures reply { result ≡ Reply.Edited (self.old.edits + 1) }
+    {
         self.edits += 1;
         self.logged += 1;
-        self.made += 1;
-        Ok(Reply::Edited(self.edits))
+        Reply::Edited(self.edits)
     }
 
     /// Counts a refused command, unless the log is full.
@@ -110,28 +159,21 @@ impl Book {
     }
 
     /// Why a look is refused, if it is.
-    pub fn look_refusal(&self, branch: &Name, place: u32) -> Option<Refusal>
-        ensures { result ≡ first_refusal (look_refusals branch.now place self.now) }
+    pub fn look_refusal(&self, branch: &Name, query: Query) -> Option<Refusal>
+        ensures { result ≡ first_refusal (look_refusals branch.now query self.now) }
     {
         if !is_main(branch) {
             return Some(Refusal::NoBranch);
         }
-        if place as usize > self.steps.len() {
+        if is_beyond(query, self.steps.len()) {
             return Some(Refusal::NoPlace);
         }
         None
     }
 
-    /// Why an insert is refused, if it is.
-    fn insert_refusal(
-        &self,
-        cells: u32,
-        session: u32,
-        branch: &Name,
-        place: u32,
-        step: Step,
-    ) -> Option<Refusal>
-        ensures { result ≡ first_refusal (insert_refusals cells session branch.now place step self.now) }
+    /// Why an edit is refused, if it is.
+    fn edit_refusal(&self, cells: u32, session: u32, branch: &Name, edit: Edit) -> Option<Refusal>
+        ensures { result ≡ first_refusal (edit_refusals cells session branch.now edit self.now) }
     {
         if self.logged >= LOG_LIMIT {
             return Some(Refusal::LogFull);
@@ -139,16 +181,62 @@ impl Book {
         if session > LAST_SESSION {
             return Some(Refusal::NoSession);
         }
-        if !fits(step) {
+        if !fits_edit(edit) {
             return Some(Refusal::BadStep);
         }
-        if let Some(refusal) = self.look_refusal(branch, place) {
-            return Some(refusal);
+        if !is_main(branch) {
+            return Some(Refusal::NoBranch);
         }
-        if self.made >= cells {
+        if is_misplaced(edit, self.steps.len()) {
+            return Some(Refusal::NoPlace);
+        }
+        if overfills(cells, edit, self.made) {
             return Some(Refusal::Full);
         }
         None
+    }
+}
+
+/// Whether the step that an edit brings, if any, fits a safe bit.
+fn fits_edit(edit: Edit) -> bool
+    ensures { result ≡ fits_edit edit }
+{
+    match edit {
+        Edit::Insert { step, .. } | Edit::Replace { step, .. } => fits(step),
+        Edit::Remove { .. } => true,
+    }
+}
+
+/// Whether an edit is out of place in a branch of this length: an insert beyond its end, any other
+/// where no cell is.
+fn is_misplaced(edit: Edit, len: usize) -> bool
+    ensures { result ≡ is_misplaced edit len }
+{
+    match edit {
+        Edit::Insert { place, .. } => place as usize > len,
+        Edit::Remove { place } | Edit::Replace { place, .. } => place as usize >= len,
+    }
+}
+
+/// Whether an edit makes more cells than there may be: an insert makes one, any other none.
+fn overfills(cells: u32, edit: Edit, made: u32) -> bool
+    ensures { result ≡ overfills cells edit made }
+{
+    match edit {
+        Edit::Insert { .. } => made >= cells,
+        Edit::Remove { .. } | Edit::Replace { .. } => false,
+    }
+}
+
+/// Whether a look is at a place beyond the end of a branch of this length.
+fn is_beyond(query: Query, len: usize) -> bool
+    ensures { result ≡ is_beyond query len }
+{
+    match query {
+        Query::State { place } | Query::Bits { place } | Query::History { place } => {
+            place as usize > len
+        }
+        Query::Steps => false,
     }
 }
 

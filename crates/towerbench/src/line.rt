@@ -5,7 +5,7 @@ ghost use Rattle.std.specs.List.{list_all};
 ghost use Rattle.std.specs.Str.{bytes_eq};
 ghost use Rattle.towerbench.specs.Lines as spec;
 
-use crate::command::{Call, Command, Line};
+use crate::command::{Call, Command, Edit, Line, Query};
 use crate::name::Name;
 use crate::number::number;
 use crate::words::Words;
@@ -59,31 +59,56 @@ fn command_of(words: &mut Words<'_>) -> Option<Command>
 {
     let word = words.next();
     if is(word, "insert") {
-        return insert_of(words);
+        let (branch, place, step) = step_at(words)?;
+        let edit = Edit::Insert { place, step };
+        return Some(Command::Edit { branch, edit });
+    }
+    if is(word, "remove") {
+        let (branch, place) = place_of(words)?;
+        let edit = Edit::Remove { place };
+        return Some(Command::Edit { branch, edit });
+    }
+    if is(word, "replace") {
+        let (branch, place, step) = step_at(words)?;
+        let edit = Edit::Replace { place, step };
+        return Some(Command::Edit { branch, edit });
+    }
+    look_of(word, words)
+}
+
+/// Reads a look that begins with this word.
+fn look_of(word: &[u8], words: &mut Words<'_>) -> Option<Command>
+    ensures { result ≡ spec.look_of word.now words.old }
+{
+    if is(word, "steps") {
+        let branch = branch_of(words)?;
+        let query = Query::Steps;
+        return Some(Command::Look { branch, query });
     }
     if is(word, "state") {
         let (branch, place) = place_of(words)?;
-        return Some(Command::State { branch, place });
+        let query = Query::State { place };
+        return Some(Command::Look { branch, query });
+    }
+    if is(word, "bits") {
+        let (branch, place) = place_of(words)?;
+        let query = Query::Bits { place };
+        return Some(Command::Look { branch, query });
     }
     if is(word, "history") {
         let (branch, place) = place_of(words)?;
-        return Some(Command::History { branch, place });
+        let query = Query::History { place };
+        return Some(Command::Look { branch, query });
     }
     None
 }
 
-/// Reads a branch, a place and a step.
-fn insert_of(words: &mut Words<'_>) -> Option<Command>
-    ensures { result ≡ spec.insert_of words.old }
+/// Reads a branch, and no more.
+fn branch_of(words: &mut Words<'_>) -> Option<Name>
+    ensures { result ≡ spec.branch_of words.old }
 {
     let branch = branch(words.next())?;
-    let place = number(words.next())?;
-    let step = step_of(words)?;
-    Some(Command::Insert {
-        branch,
-        place,
-        step,
-    })
+    words.is_end().then_some(branch)
 }
 
 /// Reads a branch and a place, and no more.
@@ -93,6 +118,16 @@ fn place_of(words: &mut Words<'_>) -> Option<(Name, u32)>
     let branch = branch(words.next())?;
     let place = number(words.next())?;
     words.is_end().then_some((branch, place))
+}
+
+/// Reads a branch, a place and a step.
+fn step_at(words: &mut Words<'_>) -> Option<(Name, u32, Step)>
+    ensures { result ≡ spec.step_at words.old }
+{
+    let branch = branch(words.next())?;
+    let place = number(words.next())?;
+    let step = step_of(words)?;
+    Some((branch, place, step))
 }
 
 /// Reads a step.

@@ -1,20 +1,24 @@
-//! A workbench for runs of a register: a script of inserts and looks comes in, the answers go out.
+//! A workbench for runs of a register: a script of edits and looks comes in, the answers go out.
 #![tactic(auto)]
 
 pub mod answer;
 pub mod book;
 pub mod command;
 pub mod conversation;
+#[cfg(test)]
+mod edit_tests;
 pub mod fault;
+pub mod history;
 pub mod line;
+pub mod look;
 pub mod name;
 pub mod number;
 pub mod options;
 pub mod page;
 pub mod refusal;
-pub mod replay;
 pub mod reply;
 pub mod run;
+pub mod schedule;
 #[cfg(test)]
 mod stream_tests;
 #[cfg(test)]

@@ -1,17 +1,25 @@
-//! The lines of pages.
+//! The lines of pages of a configuration.
 
 ghost use Rattle.std.specs.Prelude.{◌≡◌, ◌++◌, OnOk, Option, length};
 ghost use Rattle.safe_bit.specs.Memory.{Memory};
 ghost use Rattle.safe_bit.specs.Parts.{HasSize};
 ghost use Rattle.frames.specs.Configuration.{running_at};
+ghost use Rattle.towerbench.specs.Numbered.{numbered};
 ghost use Rattle.towerbench.specs.Pages as spec;
 
 use frames::config::Config;
 use frames::register::Register;
-use frames::types::{Action, ActionKind, Event, Layer, Op, Reason};
-use safe_bit::Store;
+use frames::types::{Action, ActionKind, Op};
+use safe_bit::{Cell, Store};
 use std::io;
 use std::io::Write;
+
+/// Adds the beginning of the first line of a page of the branch `main`.
+pub fn push_title(out: &mut Vec<u8>, session: u32, kind: &str) -> io::Result<()>
+    ensures { OnOk result (out.new.items ≡ out.old.items ++ spec.page_title session kind.now) }
+{
+    write!(out, "{session}: {kind} main ")
+}
 
 /// Adds the first line of a page of the branch `main` at a place.
 pub fn push_head(
@@ -23,7 +31,7 @@ pub fn push_head(
 ) -> io::Result<()>
     ensures { OnOk result (out.new.items ≡ out.old.items ++ spec.page_head session kind.now place len) }
 {
-    write!(out, "{session}: {kind} main ")?;
+    push_title(out, session, kind)?;
     writeln!(out, "{place} of {len}")
 }
 
@@ -73,7 +81,7 @@ fn push_busy(out: &mut Vec<u8>, p: u32, op: Op, action: Action) -> io::Result<()
 }
 
 /// Adds an operation.
-fn push_op(out: &mut Vec<u8>, op: Op) -> io::Result<()>
+pub fn push_op(out: &mut Vec<u8>, op: Op) -> io::Result<()>
     ensures { OnOk result (out.new.items ≡ out.old.items ++ spec.op_text op) }
 {
     match op {
@@ -123,75 +131,61 @@ fn push_words(out: &mut Vec<u8>, store: &Store, words: u32) -> io::Result<()>
     writeln!(out)
 }
 
-/// Adds the line of an event of the step with this index, if there is one.
-pub fn push_event(out: &mut Vec<u8>, i: usize, event: Option<Event>) -> io::Result<()>
-    ensures { OnOk result (out.new.items ≡ out.old.items ++ spec.event_if_any i event) }
+/// Adds the lines of all cells and words.
+pub fn push_memory<R: Register>(out: &mut Vec<u8>, config: &Config<R>) -> io::Result<()>
+    requires { HasSize (R.is config.now.register).size config.now.memory }
+    ensures { OnOk result (out.new.items ≡ out.old.items ++ spec.memory_lines config.now.memory) }
 {
-    let Some(event) = event else {
-        return Ok(());
-    };
-    let p = event_process(event);
-    write!(out, "  {i} p{p} ")?;
-    push_event_name(out, event)?;
-    writeln!(out)
+    let size = config.register().size();
+    push_cells(out, config.store(), size.cell)?;
+    push_words(out, config.store(), size.word)
 }
 
-/// The process of an event.
-fn event_process(event: Event) -> u32
-    ensures { result ≡ spec.event_process event }
+/// Adds a line for each cell.
+fn push_cells(out: &mut Vec<u8>, store: &Store, cells: u32) -> io::Result<()>
+    requires { length store.now.cells ≡ cells }
+    ensures { OnOk result (out.new.items ≡ out.old.items ++ numbered spec.cell_line 0 store.now.cells) }
 {
-    match event {
-        Event::Invoke(p, _)
-        | Event::Got(p, _)
-        | Event::Wrote(p)
-        | Event::Refused(p, _)
-        | Event::Void(p, _)
-        | Event::Chosen(p, _, _) => p,
+    for i in 0..cells {
+        push_cell(out, i, store.cell(i))?;
+    }
+    Ok(())
+}
+
+/// Adds the line of a cell.
+fn push_cell(out: &mut Vec<u8>, i: u32, cell: Cell) -> io::Result<()>
+    ensures { OnOk result (out.new.items ≡ out.old.items ++ spec.cell_line i cell) }
+{
+    let value = bit_name(cell.value);
+    let writing = writing_name(cell.writing);
+    let reading = reading_name(cell);
+    write!(out, "  {i} {value} ")?;
+    writeln!(out, "{writing} {reading}")
+}
+
+/// A bit as a digit.
+fn bit_name(value: bool) -> &'static str
+    ensures { result.now ≡ spec.bit_name value }
+{
+    if value { "1" } else { "0" }
+}
+
+/// The value being written, or a dash.
+fn writing_name(writing: Option<bool>) -> &'static str
+    ensures { result.now ≡ spec.writing_name writing }
+{
+    match writing {
+        None => "-",
+        Some(value) => bit_name(value),
     }
 }
 
-/// Adds what happened to the process of an event.
-fn push_event_name(out: &mut Vec<u8>, event: Event) -> io::Result<()>
-    ensures { OnOk result (out.new.items ≡ out.old.items ++ spec.event_name event) }
+/// A dash where a cell isn't read, `r` where it is, and `h` where that read is hit.
+fn reading_name(cell: Cell) -> &'static str
+    ensures { result.now ≡ spec.reading_name cell }
 {
-    match event {
-        Event::Invoke(_, op) => {
-            write!(out, "invoke ")?;
-            push_op(out, op)
-        }
-        Event::Got(_, v) => write!(out, "return {v}"),
-        Event::Wrote(_) => write!(out, "return written"),
-        Event::Refused(_, layer) => {
-            let layer = layer_name(layer);
-            write!(out, "refused spent {layer}")
-        }
-        Event::Void(_, reason) => {
-            let reason = reason_name(reason);
-            write!(out, "void {reason}")
-        }
-        Event::Chosen(_, bit, value) => {
-            let value = u32::from(value);
-            write!(out, "chosen bit {bit} value {value}")
-        }
+    if !cell.reading {
+        return "-";
     }
-}
-
-/// The name of a layer that is spent.
-fn layer_name(layer: Layer) -> &'static str
-    ensures { result.now ≡ spec.layer_name layer }
-{
-    match layer {
-        Layer::Stamped => "stamped",
-        Layer::Matrix => "matrix",
-    }
-}
-
-/// Why a step wasn't enabled.
-fn reason_name(reason: Reason) -> &'static str
-    ensures { result.now ≡ spec.reason_name reason }
-{
-    match reason {
-        Reason::Busy => "busy",
-        Reason::Idle => "idle",
-    }
+    if cell.hit { "h" } else { "r" }
 }

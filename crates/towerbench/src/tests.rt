@@ -10,7 +10,13 @@ use std::process::Abort;
 use std::test::Fail;
 
 /// Asserts what a script answers, where at most so many cells may be made.
-fn check(rt: &impl Abort, alloc: Global, cells: u32, script: &str, want: &str) -> Result<(), Fault>
+pub fn check(
+    rt: &impl Abort,
+    alloc: Global,
+    cells: u32,
+    script: &str,
+    want: &str,
+) -> Result<(), Fault>
     requires some { 1 ≤ cells }
     requires few { cells ≤ 2 ^ 24 }
 {
@@ -169,6 +175,14 @@ fn bad_lines(rt: HostRuntime) -> Result<(), Fail> {
         "0 insert main 0 w 0",
         "0 insert main 0 r 1 0",
         "0 insert main 0 x 1",
+        "0 remove main",
+        "0 remove main 0 r 1",
+        "0 replace main 0",
+        "0 replace main 0 w 0",
+        "0 steps",
+        "0 steps main 0",
+        "0 bits main",
+        "0 bits main 0 0",
         "0 join",
         "0 branches",
         "0 state main 0\r",
