@@ -32,7 +32,7 @@ pub read_line-front : (text : List ℕ) → read_line (take 256 text) ≡ read_l
 read_line-front [] = refl
 read_line-front (b ∷ bs) = ap (λ l. cond (b == 35) line.Blank l) (called-front b bs)
 
-pub answer_line-front : (cells : ℕ) (memory : Bool) (n : ℕ) (text : List ℕ) (w : World) → answer_line cells memory n (take 256 text) w ≡ answer_line cells memory n text w
+pub answer_line-front : {P : Type 0} (cells : ℕ) (memory : Bool) (n : ℕ) (text : List ℕ) (w : World P) → answer_line cells memory n (take 256 text) w ≡ answer_line cells memory n text w
 answer_line-front cells memory n text w = ap (λ l. answer_to cells memory n l w) (read_line-front text)
 
 -- a byte more, kept where there is room

@@ -11,9 +11,9 @@ appends_kept (Some xs) None c s h k = absurd h
 appends_kept (Some xs) (Some ys) None s h k = absurd k
 appends_kept (Some xs) (Some ys) (Some zs) s h k = k ∙ h
 
-pub told_kept : (cells : ℕ) (before now next : Option (List ℕ)) (seen : List ℕ) (world : World) (lines : ℕ) (line : List ℕ)
-    → Told cells before now seen world lines line → Keeps now next → Told cells before next seen world lines line
-told_kept cells before now next seen world lines line t k = record {
+pub told_kept : {P : Type 0} (start : World P) (cells : ℕ) (before now next : Option (List ℕ)) (seen : List ℕ) (world : World P) (lines : ℕ) (line : List ℕ)
+    → Told start cells before now seen world lines line → Keeps now next → Told start cells before next seen world lines line
+told_kept start cells before now next seen world lines line t k = record {
   marks = t.marks;
   whole = t.whole;
   rest = t.rest;

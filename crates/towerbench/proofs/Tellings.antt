@@ -4,7 +4,7 @@ use Rattle.std.proofs.lemmas.Bool.Decides.{nat_tests}
 use Rattle.std.specs.List.{fold}
 use Rattle.std.specs.Io.KnownBytes.{Appends}
 use Rattle.std.proofs.lemmas.List.Sums.{fold_push}
-use Rattle.towerbench.specs.World.{World, opening}
+use Rattle.towerbench.specs.World.{World}
 use Rattle.towerbench.specs.Answers.{Answered, answer_line}
 use Rattle.towerbench.specs.Output.{Progress, beginning, next_line, after_lines, lines_of, is_line_end}
 use Rattle.towerbench.specs.Told.{Told}
@@ -24,21 +24,21 @@ mark_before marks n memory k h = ap (λ b. cond b memory (marks k)) (sym (other 
     other : (i j : ℕ) → i < j → nat_eq i j ≡ false
     other i j l = grind (arith, nat_tests)
 
-module _ (cells : ℕ) where
+module _ {P : Type 0} (cells : ℕ) where
   -- what lines leave depends on their own marks alone
-  same_marks : (old new : ℕ → Bool) (lines : List (List ℕ)) (p : Progress) → ((k : ℕ) → k ≤ p.lines + length lines → old k ≡ new k)
+  same_marks : (old new : ℕ → Bool) (lines : List (List ℕ)) (p : Progress P) → ((k : ℕ) → k ≤ p.lines + length lines → old k ≡ new k)
       → fold (next_line cells old) p lines ≡ fold (next_line cells new) p lines
   same_marks old new [] p h = refl
   same_marks old new (line ∷ lines) p h =
       same_marks old new lines (next_line cells old p line) (λ k le. h k (omega arith))
       ∙ ap (fold' new lines p line) (h (p.lines + 1) (omega arith))
     where
-      fold' : (ℕ → Bool) → List (List ℕ) → Progress → List ℕ → Bool → Progress
+      fold' : (ℕ → Bool) → List (List ℕ) → Progress P → List ℕ → Bool → Progress P
       fold' marks ls q l memory =
           let answered = answer_line cells memory (q.lines + 1) l q.world in
           fold (next_line cells marks) (record { world = answered.world; lines = q.lines + 1; text = q.text ++ answered.text }) ls
 
-  count_lines : (marks : ℕ → Bool) (lines : List (List ℕ)) (p : Progress) → (fold (next_line cells marks) p lines).lines ≡ p.lines + length lines
+  count_lines : (marks : ℕ → Bool) (lines : List (List ℕ)) (p : Progress P) → (fold (next_line cells marks) p lines).lines ≡ p.lines + length lines
   count_lines marks [] p = omega arith
   count_lines marks (line ∷ lines) p = omega (arith, count_lines marks lines (next_line cells marks p line))
 
@@ -53,19 +53,19 @@ appends_none None = tt
 appends_none (Some xs) = sym (append-nil xs)
 
 -- the answer to a line, and where its bytes went
-abbrev pub AnswersLine : ℕ → ℕ → List ℕ → World → World → Option (List ℕ) → Option (List ℕ) → Type 0
+abbrev pub AnswersLine : {P : Type 0} → ℕ → ℕ → List ℕ → World P → World P → Option (List ℕ) → Option (List ℕ) → Type 0
 AnswersLine cells n line old new before after =
     (memory : Bool) × ((text : List ℕ) × (answer_line cells memory n line old ≡ record { world = new; text = text }) × Appends before after text)
 
 -- all lines are answered, the last one too
-pub record AnswersAll (cells : ℕ) (before now : Option (List ℕ)) (script : List ℕ) (world : World) (lines : ℕ) : Type 0 where
+pub record AnswersAll {P : Type 0} (start : World P) (cells : ℕ) (before now : Option (List ℕ)) (script : List ℕ) (world : World P) (lines : ℕ) : Type 0 where
   pub marks : ℕ → Bool
-  pub same_world : world ≡ (after_lines cells marks (lines_of script)).world
-  pub same_lines : lines ≡ (after_lines cells marks (lines_of script)).lines
-  pub wrote : Appends before now (after_lines cells marks (lines_of script)).text
+  pub same_world : world ≡ (after_lines start cells marks (lines_of script)).world
+  pub same_lines : lines ≡ (after_lines start cells marks (lines_of script)).lines
+  pub wrote : Appends before now (after_lines start cells marks (lines_of script)).text
 
-module _ (cells : ℕ) (before now : Option (List ℕ)) (seen : List ℕ) (world : World) (lines : ℕ) (line : List ℕ) where
-  pub told_start : seen ≡ [] → world ≡ opening → lines ≡ 0 → line ≡ [] → Told cells now now seen world lines line
+module _ {P : Type 0} (start : World P) (cells : ℕ) (before now : Option (List ℕ)) (seen : List ℕ) (world : World P) (lines : ℕ) (line : List ℕ) where
+  pub told_start : seen ≡ [] → world ≡ start → lines ≡ 0 → line ≡ [] → Told start cells now now seen world lines line
   told_start s w n l = record {
     marks = λ _. false;
     whole = [];
@@ -77,9 +77,9 @@ module _ (cells : ℕ) (before now : Option (List ℕ)) (seen : List ℕ) (world
     wrote = appends_none now;
   }
 
-  pub told_other : Told cells before now seen world lines line → (b : ℕ) (new_world : World) (new_lines : ℕ) (new_line : List ℕ) → is_line_end b ≡ false
+  pub told_other : Told start cells before now seen world lines line → (b : ℕ) (new_world : World P) (new_lines : ℕ) (new_line : List ℕ) → is_line_end b ≡ false
       → new_world ≡ world → new_lines ≡ lines → new_line ≡ cond (nat_lt (length line) 256) (line ++ b ∷ []) line
-      → Told cells before now (seen ++ b ∷ []) new_world new_lines new_line
+      → Told start cells before now (seen ++ b ∷ []) new_world new_lines new_line
   told_other t b new_world new_lines new_line h w n l = record {
     marks = t.marks;
     whole = t.whole;
@@ -91,8 +91,8 @@ module _ (cells : ℕ) (before now : Option (List ℕ)) (seen : List ℕ) (world
     wrote = t.wrote;
   }
 
-  pub told_all : Told cells before now seen world lines line → (new_world : World) (new_now : Option (List ℕ))
-      → AnswersLine cells (lines + 1) line world new_world now new_now → AnswersAll cells before new_now seen new_world (lines + 1)
+  pub told_all : Told start cells before now seen world lines line → (new_world : World P) (new_now : Option (List ℕ))
+      → AnswersLine cells (lines + 1) line world new_world now new_now → AnswersAll start cells before new_now seen new_world (lines + 1)
   told_all t new_world new_now a = record {
     marks = new_marks;
     same_world = ap (λ q. q.world) (sym all_lines);
@@ -100,8 +100,8 @@ module _ (cells : ℕ) (before now : Option (List ℕ)) (seen : List ℕ) (world
     wrote = subst_text (appends_more before now new_now p.text text t.wrote a.1.2);
   }
     where
-      p : Progress
-      p = after_lines cells t.marks t.whole
+      p : Progress P
+      p = after_lines start cells t.marks t.whole
 
       text : List ℕ
       text = a.1.0
@@ -110,10 +110,10 @@ module _ (cells : ℕ) (before now : Option (List ℕ)) (seen : List ℕ) (world
       new_marks = mark t.marks (lines + 1) a.0
 
       counted : p.lines ≡ length t.whole
-      counted = omega (arith, count_lines cells t.marks t.whole beginning)
+      counted = omega (arith, count_lines cells t.marks t.whole (beginning start))
 
-      same_before : after_lines cells new_marks t.whole ≡ p
-      same_before = sym (same_marks cells t.marks new_marks t.whole beginning
+      same_before : after_lines start cells new_marks t.whole ≡ p
+      same_before = sym (same_marks cells t.marks new_marks t.whole (beginning start)
           (λ k le. mark_before t.marks (lines + 1) a.0 k (omega (arith, counted, t.same_lines))))
 
       answered : answer_line cells (new_marks (p.lines + 1)) (p.lines + 1) t.rest p.world ≡ record { world = new_world; text = text }
@@ -125,23 +125,23 @@ module _ (cells : ℕ) (before now : Option (List ℕ)) (seen : List ℕ) (world
           ∙ ap (λ l. answer_line cells a.0 (lines + 1) l world) (sym t.kept)
           ∙ a.1.1
 
-      after_one : Progress → Answered → Progress
+      after_one : Progress P → Answered P → Progress P
       after_one q given = record { world = given.world; lines = q.lines + 1; text = q.text ++ given.text }
 
-      all_lines : after_lines cells new_marks (lines_of seen) ≡ record { world = new_world; lines = lines + 1; text = p.text ++ text }
+      all_lines : after_lines start cells new_marks (lines_of seen) ≡ record { world = new_world; lines = lines + 1; text = p.text ++ text }
       all_lines =
-          ap (after_lines cells new_marks) t.cut
-          ∙ fold_push (next_line cells new_marks) beginning t.whole t.rest
+          ap (after_lines start cells new_marks) t.cut
+          ∙ fold_push (next_line cells new_marks) (beginning start) t.whole t.rest
           ∙ ap (λ q. next_line cells new_marks q t.rest) same_before
           ∙ ap (after_one p) answered
           ∙ ap (λ n. record { world = new_world; lines = n + 1; text = p.text ++ text }) (sym t.same_lines)
 
-      subst_text : Appends before new_now (p.text ++ text) → Appends before new_now (after_lines cells new_marks (lines_of seen)).text
+      subst_text : Appends before new_now (p.text ++ text) → Appends before new_now (after_lines start cells new_marks (lines_of seen)).text
       subst_text h = rw all_lines h
 
-  pub told_line : Told cells before now seen world lines line → (new_world : World) (new_lines : ℕ) (new_line : List ℕ) (new_now : Option (List ℕ))
+  pub told_line : Told start cells before now seen world lines line → (new_world : World P) (new_lines : ℕ) (new_line : List ℕ) (new_now : Option (List ℕ))
       → AnswersLine cells (lines + 1) line world new_world now new_now → new_lines ≡ lines + 1 → new_line ≡ []
-      → Told cells before new_now (seen ++ 10 ∷ []) new_world new_lines new_line
+      → Told start cells before new_now (seen ++ 10 ∷ []) new_world new_lines new_line
   told_line t new_world new_lines new_line new_now a n l =
       let all = told_all t new_world new_now a in
       record {

@@ -7,6 +7,7 @@ pub mod World
 pub mod Numbered
 pub mod Pages
 pub mod Answers
+pub mod Alone
 pub mod Output
 pub mod Told
 pub mod Ranges

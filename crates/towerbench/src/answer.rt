@@ -2,7 +2,7 @@
 
 ghost use Rattle.std.specs.Prelude.{◌≡◌, Bool, OnOk, [], is_ok, if◌then◌else◌};
 ghost use Rattle.towerbench.specs.Refusals.{first_refusal};
-ghost use Rattle.towerbench.specs.World.{look_refusals};
+ghost use Rattle.towerbench.specs.World.{world_of, look_refusals};
 ghost use Rattle.towerbench.specs.Texts.{answer_text};
 ghost use Rattle.towerbench.specs.Answers as spec;
 
@@ -14,20 +14,21 @@ use crate::name::Name;
 use crate::refusal::Refusal;
 use crate::reply::Reply;
 use crate::text::{push_bad_line, push_reply};
+use frames::register::Register;
 use std::alloc::{AllocError, Global};
 use std::io;
 
 /// Answers line `number`, in place of what `out` held. An error comes only where there is no memory
 /// for a line of the answer.
-pub fn answer_line(
+pub fn answer_line<R: Register>(
     out: &mut Vec<u8>,
     alloc: Global,
-    book: &mut Book,
+    book: &mut Book<R>,
     cells: u32,
     number: u32,
     line: &[u8],
 ) -> Result<(), AllocError>
-    ensures { OnOk result ((memory : Bool) × (spec.answer_line cells memory number line.now book.old ≡ record { world = book.new; text = out.new.items })) }
+    ensures { OnOk result ((memory : Bool) × (spec.answer_line cells memory number line.now (world_of R.is book.old) ≡ record { world = world_of R.is book.new; text = out.new.items })) }
 {
     out.clear();
     match read_line(line) {
@@ -38,15 +39,15 @@ pub fn answer_line(
 }
 
 /// Answers a call.
-fn answer_call(
+fn answer_call<R: Register>(
     out: &mut Vec<u8>,
     alloc: Global,
-    book: &mut Book,
+    book: &mut Book<R>,
     cells: u32,
     call: Call,
 ) -> Result<(), AllocError>
     requires { out.old.items ≡ [] }
-    ensures { OnOk result ((memory : Bool) × (spec.answer_call cells memory call book.old ≡ record { world = book.new; text = out.new.items })) }
+    ensures { OnOk result ((memory : Bool) × (spec.answer_call cells memory call (world_of R.is book.old) ≡ record { world = world_of R.is book.new; text = out.new.items })) }
 {
     let session = call.session;
     match call.command {
@@ -60,21 +61,21 @@ fn answer_call(
 }
 
 /// Answers a look.
-fn answer_look(
+fn answer_look<R: Register>(
     out: &mut Vec<u8>,
     alloc: Global,
-    book: &Book,
+    book: &Book<R>,
     session: u32,
     branch: &Name,
     query: Query,
 ) -> Result<(), AllocError>
     requires { out.old.items ≡ [] }
-    ensures { OnOk result ((memory : Bool) × (out.new.items ≡ spec.look_text memory session (first_refusal (look_refusals branch.now query book.now)) (spec.page session query book.now.steps))) }
+    ensures { OnOk result ((memory : Bool) × (out.new.items ≡ spec.look_text memory session (first_refusal (look_refusals branch.now query (world_of R.is book.now))) (spec.page session query (world_of R.is book.now)))) }
 {
     if let Some(refusal) = book.look_refusal(branch, query) {
         return push_reply(out, session, Reply::Refused(refusal));
     }
-    let page = push_page(out, alloc, session, query, book.steps());
+    let page = push_page(out, alloc, session, query, book);
     page_or_memory(out, session, page)
 }
 

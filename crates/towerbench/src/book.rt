@@ -1,19 +1,17 @@
-//! The book: the branch `main` and its counts.
+//! The book: a register, and the branch `main` with its counts.
 
-ghost use Rattle.std.specs.Prelude.{◌≡◌, ◌≢◌, ◌≤◌, ◌<◌, ◌+◌, true, false, None, OnOk, OnErr, IfOk, All, length};
+ghost use Rattle.std.specs.Prelude.{◌≡◌, ◌≢◌, ◌≤◌, ◌<◌, ◌+◌, ◌^◌, true, false, None, OnOk, OnErr, IfOk, All, length};
 ghost use Rattle.frames.specs.Configuration.{fits_step};
-ghost use Rattle.frames.specs.SafeBit.{safe_behaviour};
 ghost use Rattle.towerbench.specs.Refusals.{first_refusal};
-ghost use Rattle.towerbench.specs.World.{opening, is_main, fits_edit, is_misplaced, overfills, edit_refusals, is_beyond, look_refusals, edit_by, accepted, edited, refused, log_limit};
+ghost use Rattle.towerbench.specs.World.{world_of, opening, is_main, fits_edit, is_misplaced, overfills, edit_refusals, is_beyond, look_refusals, edit_by, accepted, edited, refused, log_limit};
 
 use crate::command::{Edit, Query};
 use crate::name::Name;
 use crate::refusal::Refusal;
 use crate::reply::Reply;
 use frames::register::Register;
-use frames::safe::Safe;
 use frames::types::{Op, Step};
-use std::alloc::{AllocError, Global};
+use std::alloc::AllocError;
 use std::marker::Model;
 
 /// The most commands that are logged.
@@ -22,42 +20,66 @@ const LOG_LIMIT: u32 = 1 << 20;
 /// The greatest number of a session.
 const LAST_SESSION: u32 = 15;
 
-/// The steps of the branch `main`, and the counts of edits, of logged commands and of cells made.
+/// A register and its initial value, the steps of the branch `main`, and the counts of edits, of
+/// logged commands and of cells made.
 #[derive(Drop)]
-pub struct Book {
+pub struct Book<R: Register> {
+    register: R,
+    value: u32,
     steps: Vec<Step>,
     edits: u32,
     logged: u32,
     made: u32,
 }
 
-impl Model for Book {
-    ghost use Rattle.towerbench.specs.World.{World, IsWorld};
+impl<R: Register> Model for Book<R> {
+    ghost use Rattle.towerbench.specs.World.{Held, IsWorld, world_of};
 
-    ghost Value = { World };
+    ghost Value = { Held R };
 
-    ghost view = { λ b. record { steps = b.steps.items; edits = b.edits; logged = b.logged; made = b.made } };
+    ghost view = { λ b. record { register = b.register; value = b.value; steps = b.steps.items; edits = b.edits; logged = b.logged; made = b.made } };
 
-    ghost invariant = { λ b. IsWorld (record { steps = b.steps.items; edits = b.edits; logged = b.logged; made = b.made }) };
+    ghost invariant = { λ b. IsWorld (world_of R.is (record { register = b.register; value = b.value; steps = b.steps.items; edits = b.edits; logged = b.logged; made = b.made })) };
 }
 
-impl Book {
-    /// The book before the first call.
-    pub fn new(alloc: Global) -> Book
-        ensures { result ≡ opening }
+impl<R: Register> Book<R> {
+    /// The book before the first call: a register at a value, and steps that fit it.
+    pub fn new(register: R, value: u32, steps: Vec<Step>) -> Book<R>
+        requires value { value < (R.is register).values }
+        requires fit { All (λ s. fits_step (R.is register) s ≡ true) steps.items }
+        requires few { length steps.items < 2 ^ 32 }
+        ensures { world_of R.is result ≡ opening (R.is register) value steps.items }
     {
+        let made = steps.len() as u32;
         Book {
-            steps: Vec::new(alloc),
+            register,
+            value,
+            steps,
             edits: 0,
             logged: 0,
-            made: 0,
+            made,
         }
+    }
+
+    /// The register.
+    pub fn register(&self) -> R
+        ensures { result ≡ self.now.register }
+    {
+        self.register
+    }
+
+    /// The register's initial value.
+    pub fn value(&self) -> u32
+        ensures value { result ≡ self.now.value }
+        ensures is_value { result < (R.is self.now.register).values }
+    {
+        self.value
     }
 
     /// The steps, each of which fits.
     pub fn steps(&self) -> &[Step]
         ensures steps { result.now ≡ self.now.steps }
-        ensures fit { All (λ s. fits_step safe_behaviour s ≡ true) self.now.steps }
+        ensures fit { All (λ s. fits_step (R.is self.now.register) s ≡ true) self.now.steps }
     {
         self.steps.as_slice()
     }
@@ -70,12 +92,12 @@ impl Book {
         branch: &Name,
         edit: Edit,
     ) -> Result<Reply, AllocError>
-        ensures ok { IfOk result (λ reply. edit_by cells session branch.now edit self.old ≡ record { world = self.new; reply = reply }) }
-        ensures last { OnErr result (first_refusal (edit_refusals cells session branch.now edit self.old) ≡ None) }
+        ensures ok { IfOk result (λ reply. edit_by cells session branch.now edit (world_of R.is self.old) ≡ record { world = world_of R.is self.new; reply = reply }) }
+        ensures last { OnErr result (first_refusal (edit_refusals cells session branch.now edit (world_of R.is self.old)) ≡ None) }
         ensures err { OnErr result (self.new ≡ self.old) }
     {
         match self.edit_refusal(cells, session, branch, edit) {
-            None => self.make(edit),
+            None => self.make(cells, edit),
             Some(refusal) => {
                 self.count(refusal);
                 Ok(Reply::Refused(refusal))
@@ -84,27 +106,29 @@ impl Book {
     }
 
     /// Makes an edit that nothing refuses. Want of memory changes nothing.
-    fn make(&mut self, edit: Edit) -> Result<Reply, AllocError>
-        requires fits { fits_edit edit ≡ true }
+    fn make(&mut self, cells: u32, edit: Edit) -> Result<Reply, AllocError>
+        requires fits { fits_edit (R.is self.old.register) edit ≡ true }
         requires place { is_misplaced edit (length self.old.steps) ≡ false }
+        requires room { overfills cells edit self.old.made ≡ false }
         requires logged { self.old.logged < log_limit }
-        ensures world { OnOk result (self.new ≡ edited edit self.old) }
+        ensures world { OnOk result (world_of R.is self.new ≡ edited edit (world_of R.is self.old)) }
         ensures reply { IfOk result (λ reply. reply ≡ Reply.Edited (self.old.edits + 1)) }
         ensures err { OnErr result (self.new ≡ self.old) }
     {
         match edit {
-            Edit::Insert { place, step } => self.insert(place, step),
+            Edit::Insert { place, step } => self.insert(cells, place, step),
             Edit::Remove { place } => Ok(self.remove(place)),
             Edit::Replace { place, step } => Ok(self.replace(place, step)),
         }
     }
 
     /// Puts a new cell before the cell at a place, or at the end. Want of memory changes nothing.
-    fn insert(&mut self, place: u32, step: Step) -> Result<Reply, AllocError>
+    fn insert(&mut self, cells: u32, place: u32, step: Step) -> Result<Reply, AllocError>
         requires place { place ≤ length self.old.steps }
-        requires fits { fits_step safe_behaviour step ≡ true }
+        requires room { self.old.made < cells }
+        requires fits { fits_step (R.is self.old.register) step ≡ true }
         requires logged { self.old.logged < log_limit }
-        ensures world { OnOk result (self.new ≡ edited (Edit.Insert place step) self.old) }
+        ensures world { OnOk result (world_of R.is self.new ≡ edited (Edit.Insert place step) (world_of R.is self.old)) }
         ensures reply { IfOk result (λ reply. reply ≡ Reply.Edited (self.old.edits + 1)) }
         ensures err { OnErr result (self.new ≡ self.old) }
     {
@@ -118,7 +142,7 @@ impl Book {
     fn remove(&mut self, place: u32) -> Reply
         requires place { place < length self.old.steps }
         requires logged { self.old.logged < log_limit }
-        ensures world { self.new ≡ edited (Edit.Remove place) self.old }
+        ensures world { world_of R.is self.new ≡ edited (Edit.Remove place) (world_of R.is self.old) }
         ensures reply { result ≡ Reply.Edited (self.old.edits + 1) }
     {
         self.steps.remove(place as usize);
@@ -128,9 +152,9 @@ impl Book {
     /// Gives the cell at a place another step; it stays the same cell.
     fn replace(&mut self, place: u32, step: Step) -> Reply
         requires place { place < length self.old.steps }
-        requires fits { fits_step safe_behaviour step ≡ true }
+        requires fits { fits_step (R.is self.old.register) step ≡ true }
         requires logged { self.old.logged < log_limit }
-        ensures world { self.new ≡ edited (Edit.Replace place step) self.old }
+        ensures world { world_of R.is self.new ≡ edited (Edit.Replace place step) (world_of R.is self.old) }
         ensures reply { result ≡ Reply.Edited (self.old.edits + 1) }
     {
         self.steps[place as usize] = step;
@@ -140,7 +164,7 @@ impl Book {
     /// Counts an accepted edit.
     fn accept(&mut self) -> Reply
         requires { self.old.logged < log_limit }
-        ensures world { self.new ≡ accepted self.old }
+        ensures world { world_of R.is self.new ≡ accepted (world_of R.is self.old) }
         ensures reply { result ≡ Reply.Edited (self.old.edits + 1) }
     {
         self.edits += 1;
@@ -151,7 +175,7 @@ impl Book {
     /// Counts a refused command, unless the log is full.
     fn count(&mut self, refusal: Refusal)
         requires { refusal ≢ Refusal.LogFull → self.old.logged < log_limit }
-        ensures { self.new ≡ refused refusal self.old }
+        ensures { world_of R.is self.new ≡ refused refusal (world_of R.is self.old) }
     {
         if refusal != Refusal::LogFull {
             self.logged += 1;
@@ -160,7 +184,7 @@ impl Book {
 
     /// Why a look is refused, if it is.
     pub fn look_refusal(&self, branch: &Name, query: Query) -> Option<Refusal>
-        ensures { result ≡ first_refusal (look_refusals branch.now query self.now) }
+        ensures { result ≡ first_refusal (look_refusals branch.now query (world_of R.is self.now)) }
     {
         if !is_main(branch) {
             return Some(Refusal::NoBranch);
@@ -173,7 +197,7 @@ impl Book {
 
     /// Why an edit is refused, if it is.
     fn edit_refusal(&self, cells: u32, session: u32, branch: &Name, edit: Edit) -> Option<Refusal>
-        ensures { result ≡ first_refusal (edit_refusals cells session branch.now edit self.now) }
+        ensures { result ≡ first_refusal (edit_refusals cells session branch.now edit (world_of R.is self.now)) }
     {
         if self.logged >= LOG_LIMIT {
             return Some(Refusal::LogFull);
@@ -181,7 +205,7 @@ impl Book {
         if session > LAST_SESSION {
             return Some(Refusal::NoSession);
         }
-        if !fits_edit(edit) {
+        if !fits_edit(&self.register, edit) {
             return Some(Refusal::BadStep);
         }
         if !is_main(branch) {
@@ -197,12 +221,12 @@ impl Book {
     }
 }
 
-/// Whether the step that an edit brings, if any, fits a safe bit.
-fn fits_edit(edit: Edit) -> bool
-    ensures { result ≡ fits_edit edit }
+/// Whether the step that an edit brings, if any, fits the register.
+fn fits_edit<R: Register>(register: &R, edit: Edit) -> bool
+    ensures { result ≡ fits_edit (R.is register.now) edit }
 {
     match edit {
-        Edit::Insert { step, .. } | Edit::Replace { step, .. } => fits(step),
+        Edit::Insert { step, .. } | Edit::Replace { step, .. } => fits(register, step),
         Edit::Remove { .. } => true,
     }
 }
@@ -240,14 +264,14 @@ fn is_beyond(query: Query, len: usize) -> bool
     }
 }
 
-/// Whether a step fits a safe bit.
-fn fits(step: Step) -> bool
-    ensures { result ≡ fits_step safe_behaviour step }
+/// Whether a step fits the register.
+fn fits<R: Register>(register: &R, step: Step) -> bool
+    ensures { result ≡ fits_step (R.is register.now) step }
 {
     match step {
-        Step::Write { p, v } => Safe.fits(p, Op::Write(v)),
-        Step::Read { p } => Safe.fits(p, Op::Read),
-        Step::Go { p, c } => p < Safe.processes() && c < 2,
+        Step::Write { p, v } => register.fits(p, Op::Write(v)),
+        Step::Read { p } => register.fits(p, Op::Read),
+        Step::Go { p, c } => p < register.processes() && c < 2,
     }
 }
 

@@ -2,13 +2,14 @@
 
 ghost use Rattle.std.specs.Prelude.{◌≡◌, ◌++◌, ◌∷◌, [], ◌<◌, ◌≤◌, ◌+◌, ◌^◌, ℕ, Bool, List, Option, OnOk, length, nat_lt, if◌then◌else◌};
 ghost use Rattle.std.specs.Io.KnownBytes.{Appends};
-ghost use Rattle.towerbench.specs.World.{World, opening};
+ghost use Rattle.towerbench.specs.World.{World, world_of};
 ghost use Rattle.towerbench.specs.Answers as spec;
 ghost use Rattle.towerbench.specs.Told.{Told};
 
 use crate::answer::answer_line;
 use crate::book::Book;
 use crate::fault::Fault;
+use frames::register::Register;
 use std::alloc::{AllocError, Global};
 use std::io::Write;
 
@@ -17,22 +18,22 @@ const KEPT_BYTES: usize = 256;
 
 /// The book, the line that has not ended yet, how many lines have, and room for an answer.
 #[derive(Drop)]
-pub struct Conversation {
-    pub book: Book,
+pub struct Conversation<R: Register> {
+    pub book: Book<R>,
     pub line: Vec<u8>,
     pub lines: u32,
     answer: Vec<u8>,
 }
 
-impl Conversation {
+impl<R: Register> Conversation<R> {
     /// The conversation before the script.
-    pub fn new(alloc: Global) -> Conversation
-        ensures book { result.book ≡ opening }
+    pub fn new(alloc: Global, book: Book<R>) -> Conversation<R>
+        ensures book { result.book ≡ book }
         ensures line { result.line.items ≡ [] }
         ensures lines { result.lines ≡ 0 }
     {
         Conversation {
-            book: Book::new(alloc),
+            book,
             line: Vec::new(alloc),
             lines: 0,
             answer: Vec::new(alloc),
@@ -48,9 +49,9 @@ impl Conversation {
         writer: &mut W,
     ) -> Result<(), Fault>
         requires { self.old.lines + length piece.now < 2 ^ 32 }
-        ensures told { OnOk result ((before : Option (List ℕ)) (seen : List ℕ)
-            → Told cells before (W.contents writer.old) seen self.old.book self.old.lines self.old.line.items
-            → Told cells before (W.contents writer.new) (seen ++ piece.now) self.new.book self.new.lines self.new.line.items) }
+        ensures told { OnOk result ((start : World R.Pending) (before : Option (List ℕ)) (seen : List ℕ)
+            → Told start cells before (W.contents writer.old) seen (world_of R.is self.old.book) self.old.lines self.old.line.items
+            → Told start cells before (W.contents writer.new) (seen ++ piece.now) (world_of R.is self.new.book) self.new.lines self.new.line.items) }
         ensures lines { self.new.lines ≤ self.old.lines + length piece.now }
     {
         for byte in piece {
@@ -68,9 +69,9 @@ impl Conversation {
         writer: &mut W,
     ) -> Result<(), Fault>
         requires { self.old.lines + 1 < 2 ^ 32 }
-        ensures told { OnOk result ((before : Option (List ℕ)) (seen : List ℕ)
-            → Told cells before (W.contents writer.old) seen self.old.book self.old.lines self.old.line.items
-            → Told cells before (W.contents writer.new) (seen ++ byte ∷ []) self.new.book self.new.lines self.new.line.items) }
+        ensures told { OnOk result ((start : World R.Pending) (before : Option (List ℕ)) (seen : List ℕ)
+            → Told start cells before (W.contents writer.old) seen (world_of R.is self.old.book) self.old.lines self.old.line.items
+            → Told start cells before (W.contents writer.new) (seen ++ byte ∷ []) (world_of R.is self.new.book) self.new.lines self.new.line.items) }
         ensures lines { self.new.lines ≤ self.old.lines + 1 }
     {
         if byte == b'\n' {
@@ -93,7 +94,7 @@ impl Conversation {
         ensures lines { self.new.lines ≡ self.old.lines + 1 }
         ensures line { OnOk result (self.new.line.items ≡ []) }
         ensures answer { OnOk result ((memory : Bool) × ((text : List ℕ)
-            × (spec.answer_line cells memory (self.old.lines + 1) self.old.line.items self.old.book ≡ record { world = self.new.book; text = text })
+            × (spec.answer_line cells memory (self.old.lines + 1) self.old.line.items (world_of R.is self.old.book) ≡ record { world = world_of R.is self.new.book; text = text })
             × Appends (W.contents writer.old) (W.contents writer.new) text)) }
     {
         self.lines += 1;

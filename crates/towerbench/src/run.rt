@@ -2,13 +2,18 @@
 
 ghost use Rattle.std.specs.Prelude.{◌≡◌, ◌++◌, [], ◌<◌, ◌≤◌, ◌+◌, ◌^◌, ℕ, Bool, true, List, Option, None, OnOk, IfOk, IfSome, MatchOption, length, take};
 ghost use Rattle.std.specs.Io.KnownBytes.{Appends, Consumes, IsAtEnd};
+ghost use Rattle.frames.specs.SafeBit.{safe_behaviour};
+ghost use Rattle.towerbench.specs.World.{World, opening, world_of};
 ghost use Rattle.towerbench.specs.Ranges.{AreLimits};
 ghost use Rattle.towerbench.specs.Told.{Told};
 ghost use Rattle.towerbench.specs.Output.{output, after_lines, lines_of};
 
+use crate::book::Book;
 use crate::conversation::Conversation;
 use crate::fault::Fault;
 use crate::options::Options;
+use frames::register::Register;
+use frames::safe::Safe;
 use std::alloc::Global;
 use std::io::{ErrorKind, Read, Write};
 
@@ -32,21 +37,33 @@ pub fn run<R: Read, W: Write>(
     requires file { file ≡ None }
     requires limits { AreLimits options }
     ensures { OnOk result (IfSome (R.remaining reader.old) (λ script. (marks : ℕ → Bool)
-        × Appends (W.contents writer.old) (W.contents writer.new) (output options script marks))) }
+        × Appends (W.contents writer.old) (W.contents writer.new) (output (opening safe_behaviour 0 []) options.cells script marks))) }
 {
-    let mut conversation = Conversation::new(alloc);
+    converse(
+        alloc,
+        Book::new(Safe, 0, Vec::new(alloc)),
+        options.cells,
+        reader,
+        writer,
+    )
+}
+
+/// Answers a script on a book, each line before the next read.
+fn converse<B: Register, R: Read, W: Write>(
+    alloc: Global,
+    book: Book<B>,
+    cells: u32,
+    reader: &mut R,
+    writer: &mut W,
+) -> Result<(), Fault>
+    ensures { OnOk result (IfSome (R.remaining reader.old) (λ script. (marks : ℕ → Bool)
+        × Appends (W.contents writer.old) (W.contents writer.new) (output (world_of B.is book) cells script marks))) }
+{
+    let mut conversation = Conversation::new(alloc, book);
     let mut room = MOST_BYTES;
     for _ in 0..MOST_READS {
-        let Some(taken) = turn(
-            alloc,
-            options.cells,
-            &mut conversation,
-            room,
-            reader,
-            writer,
-        )?
-        else {
-            return finish(alloc, options.cells, &mut conversation, writer);
+        let Some(taken) = turn(alloc, cells, &mut conversation, room, reader, writer)? else {
+            return finish(alloc, cells, &mut conversation, writer);
         };
         room -= taken;
         if room == 0 {
@@ -57,16 +74,16 @@ pub fn run<R: Read, W: Write>(
 }
 
 /// Answers the last line, if the script doesn't end with a line's end.
-fn finish<W: Write>(
+fn finish<B: Register, W: Write>(
     alloc: Global,
     cells: u32,
-    conversation: &mut Conversation,
+    conversation: &mut Conversation<B>,
     writer: &mut W,
 ) -> Result<(), Fault>
     requires { conversation.old.lines + 1 < 2 ^ 32 }
-    ensures { OnOk result ((before : Option (List ℕ)) (seen : List ℕ)
-        → Told cells before (W.contents writer.old) seen conversation.old.book conversation.old.lines conversation.old.line.items
-        → (marks : ℕ → Bool) × Appends before (W.contents writer.new) (after_lines cells marks (lines_of seen)).text) }
+    ensures { OnOk result ((start : World B.Pending) (before : Option (List ℕ)) (seen : List ℕ)
+        → Told start cells before (W.contents writer.old) seen (world_of B.is conversation.old.book) conversation.old.lines conversation.old.line.items
+        → (marks : ℕ → Bool) × Appends before (W.contents writer.new) (after_lines start cells marks (lines_of seen)).text) }
 {
     conversation.end_line(alloc, cells, writer)?;
     let Ok(()) = writer.flush() else {
@@ -77,10 +94,10 @@ fn finish<W: Write>(
 
 /// Reads once, and answers the lines that end in what was read. Nothing is answered at the end;
 /// else how many bytes were read, 0 where the read was interrupted.
-fn turn<R: Read, W: Write>(
+fn turn<B: Register, R: Read, W: Write>(
     alloc: Global,
     cells: u32,
-    conversation: &mut Conversation,
+    conversation: &mut Conversation<B>,
     room: u32,
     reader: &mut R,
     writer: &mut W,
@@ -91,9 +108,9 @@ fn turn<R: Read, W: Write>(
         × Consumes (R.remaining reader.old) (R.remaining reader.new) piece
         × MatchOption taken ((piece ≡ []) × IsAtEnd (R.remaining reader.new)) (λ n. (n ≡ length piece) × (n ≤ room))
         × (conversation.new.lines ≤ conversation.old.lines + length piece)
-        × ((before : Option (List ℕ)) (seen : List ℕ)
-        → Told cells before (W.contents writer.old) seen conversation.old.book conversation.old.lines conversation.old.line.items
-        → Told cells before (W.contents writer.new) (seen ++ piece) conversation.new.book conversation.new.lines conversation.new.line.items)) }
+        × ((start : World B.Pending) (before : Option (List ℕ)) (seen : List ℕ)
+        → Told start cells before (W.contents writer.old) seen (world_of B.is conversation.old.book) conversation.old.lines conversation.old.line.items
+        → Told start cells before (W.contents writer.new) (seen ++ piece) (world_of B.is conversation.new.book) conversation.new.lines conversation.new.line.items)) }
 {
     let mut buffer = [0; PIECE_BYTES];
     let Some(n) = read_piece(reader, &mut buffer, PIECE_BYTES.min(room as usize))? else {

@@ -2,6 +2,8 @@
 
 ghost use Rattle.std.specs.Prelude.{◌≡◌, ◌≢◌, ◌≤◌, ℕ, Bool, [], IfOk, IfSome};
 ghost use Rattle.std.specs.Io.KnownBytes.{Appends, Keeps};
+ghost use Rattle.frames.specs.SafeBit.{safe_behaviour};
+ghost use Rattle.towerbench.specs.World.{opening};
 ghost use Rattle.towerbench.specs.Output.{output};
 
 use crate::fault::Fault;
@@ -30,7 +32,7 @@ pub fn tool<R: Read, W: Write, E: Write>(
     ensures words { IfOk words (λ ws. ws.items ≢ [] → (result ≡ 2) × Keeps (W.contents writer.old) (W.contents writer.new)) }
     ensures status { result ≤ 2 }
     ensures done { result ≡ 0 → IfSome (R.remaining reader.old) (λ script. (marks : ℕ → Bool)
-        × Appends (W.contents writer.old) (W.contents writer.new) (output DEFAULTS script marks)) }
+        × Appends (W.contents writer.old) (W.contents writer.new) (output (opening safe_behaviour 0 []) DEFAULTS.cells script marks)) }
 {
     let given = match words {
         Ok(words) => !words.is_empty(),

@@ -15,5 +15,5 @@ returns g c =
       bytes,
       (sym size, omega (arith, bound)),
       c.take.ensures.lines,
-      λ before seen t. told_kept c.args.cells before _ (g.W.Write.contents c.flush.new.self) _ _ _ _ (c.in_ok-take.ensures.told before seen t) c.flush.ensures.bytes,
+      λ start before seen t. told_kept start c.args.cells before _ (g.W.Write.contents c.flush.new.self) _ _ _ _ (c.in_ok-take.ensures.told start before seen t) c.flush.ensures.bytes,
     )
