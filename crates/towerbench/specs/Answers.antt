@@ -7,7 +7,7 @@ use Rattle.checkpoints.specs.Events.{indexed}
 use Rattle.towerbench.specs.declared.command.Command.{Command}
 use Rattle.towerbench.specs.declared.command.Command.TheVariants.{Edit, Look}
 use Rattle.towerbench.specs.declared.command.Query.{Query}
-use Rattle.towerbench.specs.declared.command.Query.TheVariants.{State, Bits, History, Steps}
+use Rattle.towerbench.specs.declared.command.Query.TheVariants.{State, Process, Pending, Bits, History, Steps}
 use Rattle.towerbench.specs.declared.command.Call.{Call}
 use Rattle.towerbench.specs.declared.command.Line.{Line}
 use Rattle.towerbench.specs.declared.command.Line.TheVariants as line
@@ -18,7 +18,8 @@ use Rattle.towerbench.specs.Refusals.{first_refusal}
 use Rattle.towerbench.specs.Lines.{read_line}
 use Rattle.towerbench.specs.World.{World, Acted, edit_by, look_refusals}
 use Rattle.towerbench.specs.Texts.{answer_text, bad_line_text}
-use Rattle.towerbench.specs.Pages.{page_head, steps_head, state_lines, memory_lines, history_lines, step_lines}
+use Rattle.towerbench.specs.Frames.{pending_lines}
+use Rattle.towerbench.specs.Pages.{page_head, steps_head, state_lines, one_process, memory_lines, history_lines, step_lines}
 
 -- a register alone: its cells, words and pending operations
 abbrev pub Alone : Type 0 → Type 0
@@ -42,6 +43,8 @@ steps_page session steps = steps_head session (length steps) ++ step_lines steps
 -- the page of a look at the branch: a place is after the first so many steps
 abbrev pub page : {P : Type 0} → ℕ → Query → World P → List ℕ
 page session (State place) w = page_head session (codes "state") place (length w.steps) ++ state_lines w.tower (shown w place)
+page session (Process place p) w = page_head session (codes "process") place (length w.steps) ++ one_process w.tower p (shown w place)
+page session (Pending place) w = page_head session (codes "pending") place (length w.steps) ++ pending_lines w.tower (shown w place)
 page session (Bits place) w = page_head session (codes "bits") place (length w.steps) ++ memory_lines (shown w place).memory
 page session (History place) w = page_head session (codes "history") place (length w.steps) ++ history_lines (recorded w place)
 page session Steps w = steps_page session w.steps

@@ -6,6 +6,7 @@ pub mod Texts
 pub mod World
 pub mod Numbered
 pub mod Pages
+pub mod Frames
 pub mod Answers
 pub mod Alone
 pub mod Output

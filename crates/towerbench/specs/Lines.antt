@@ -10,7 +10,8 @@ use Rattle.frames.specs.declared.types.Step.TheVariants as step
 use Rattle.towerbench.specs.declared.command.Command.{Command}
 use Rattle.towerbench.specs.declared.command.Command.TheVariants.{Edit, Look}
 use Rattle.towerbench.specs.declared.command.Edit.TheVariants.{Insert, Remove, Replace}
-use Rattle.towerbench.specs.declared.command.Query.TheVariants.{State, Bits, History, Steps}
+use Rattle.towerbench.specs.declared.command.Query.{Query}
+use Rattle.towerbench.specs.declared.command.Query.TheVariants.{State, Process, Pending, Bits, History, Steps}
 use Rattle.towerbench.specs.declared.command.Call.{Call}
 use Rattle.towerbench.specs.declared.command.Line.{Line}
 use Rattle.towerbench.specs.declared.command.Line.TheVariants as line
@@ -67,6 +68,14 @@ place_of ws = do
   k ← number (next (after_next ws))
   if is_end (after_next (after_next ws)) then Some (b, k) else None
 
+-- a branch, a place and a process, and no more words
+abbrev pub process_at : List (List ℕ) → Option (List ℕ × ℕ × ℕ)
+process_at ws = do
+  b ← branch (next ws)
+  k ← number (next (after_next ws))
+  p ← number (next (after_next (after_next ws)))
+  if is_end (after_next (after_next (after_next ws))) then Some (b, k, p) else None
+
 -- a branch, a place and a step
 abbrev pub step_at : List (List ℕ) → Option (List ℕ × ℕ × Step)
 step_at ws = do
@@ -75,14 +84,27 @@ step_at ws = do
   s ← step_of (after_next (after_next ws))
   Some (b, k, s)
 
--- a look by its word: `steps B`, `state B K`, `bits B K` or `history B K`
+-- a look at a place, by its word
+abbrev pub query_at : List ℕ → ℕ → Option Query
+query_at word place =
+    if bytes_eq word (codes "state") then Some (State place)
+    else (if bytes_eq word (codes "pending") then Some (Pending place)
+    else (if bytes_eq word (codes "bits") then Some (Bits place)
+    else (if bytes_eq word (codes "history") then Some (History place)
+    else None)))
+
+abbrev pub place_look_of : List ℕ → List (List ℕ) → Option Command
+place_look_of word ws = do
+  p ← place_of ws
+  q ← query_at word p.1
+  Some (Look p.0 q)
+
+-- a look by its word: `steps B`, `process B K P`, or another word with `B K`
 abbrev pub look_of : List ℕ → List (List ℕ) → Option Command
 look_of word ws =
     if bytes_eq word (codes "steps") then option_map (λ b. Look b Steps) (branch_of ws)
-    else (if bytes_eq word (codes "state") then option_map (λ p. Look p.0 (State p.1)) (place_of ws)
-    else (if bytes_eq word (codes "bits") then option_map (λ p. Look p.0 (Bits p.1)) (place_of ws)
-    else (if bytes_eq word (codes "history") then option_map (λ p. Look p.0 (History p.1)) (place_of ws)
-    else None)))
+    else (if bytes_eq word (codes "process") then option_map (λ p. Look p.0 (Process p.1 p.2)) (process_at ws)
+    else place_look_of word ws)
 
 -- a command: `insert B K STEP`, `remove B K`, `replace B K STEP`, or a look
 abbrev pub command_of : List (List ℕ) → Option Command

@@ -1,5 +1,5 @@
 -- The bytes of pages: a first line, and lines that begin with two spaces.
-use Rattle.std.specs.Prelude.{ℕ, List, [], ◌∷◌, ◌++◌, Option, Some, None, Bool, codes, map, if◌then◌else◌}
+use Rattle.std.specs.Prelude.{ℕ, List, [], ◌∷◌, ◌++◌, Option, Some, None, Bool, nat_lt, codes, map, if◌then◌else◌}
 use Rattle.std.specs.List.{flat_map, range_with_len}
 use Rattle.std.specs.Fmt.{decimal}
 use Rattle.safe_bit.specs.declared.Cell.{Cell}
@@ -56,6 +56,13 @@ process_line b p (Some r) = busy_line p r.op (b.acts r.point)
 
 abbrev pub process_lines : {R P : Type 0} → Behaviour P → Configuration R P → List ℕ
 process_lines b c = flat_map (λ p. process_line b p (running_at p c)) (range_with_len 0 b.processes)
+
+-- the page of one process: none where the register has no process of this number
+abbrev pub no_process_line : ℕ → List ℕ
+no_process_line p = codes "  p" ++ decimal p ++ codes " none" ++ line_end
+
+abbrev pub one_process : {R P : Type 0} → Behaviour P → ℕ → Configuration R P → List ℕ
+one_process b p c = if nat_lt p b.processes then process_line b p (running_at p c) else no_process_line p
 
 -- the values of all cells, as digits
 abbrev pub bit_digit : Cell → ℕ

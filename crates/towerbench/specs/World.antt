@@ -8,7 +8,7 @@ use Rattle.frames.specs.Configuration.{fits_step}
 use Rattle.towerbench.specs.declared.command.Edit.{Edit}
 use Rattle.towerbench.specs.declared.command.Edit.TheVariants.{Insert, Remove, Replace}
 use Rattle.towerbench.specs.declared.command.Query.{Query}
-use Rattle.towerbench.specs.declared.command.Query.TheVariants.{State, Bits, History, Steps}
+use Rattle.towerbench.specs.declared.command.Query.TheVariants.{State, Process, Pending, Bits, History, Steps}
 use Rattle.towerbench.specs.declared.refusal.Refusal.{Refusal}
 use Rattle.towerbench.specs.declared.refusal.Refusal.TheVariants.{NoBranch, NoPlace, Full, BadStep, NoSession, LogFull}
 use Rattle.towerbench.specs.declared.reply.Reply.{Reply}
@@ -82,6 +82,8 @@ edit_refusals cells session branch edit w =
 -- whether a look is at a place beyond the end of a branch of this length
 abbrev pub is_beyond : Query → ℕ → Bool
 is_beyond (State place) len = nat_lt len place
+is_beyond (Process place p) len = nat_lt len place
+is_beyond (Pending place) len = nat_lt len place
 is_beyond (Bits place) len = nat_lt len place
 is_beyond (History place) len = nat_lt len place
 is_beyond Steps len = false

@@ -257,9 +257,11 @@ fn is_beyond(query: Query, len: usize) -> bool
     ensures { result ≡ is_beyond query len }
 {
     match query {
-        Query::State { place } | Query::Bits { place } | Query::History { place } => {
-            place as usize > len
-        }
+        Query::State { place }
+        | Query::Process { place, .. }
+        | Query::Pending { place }
+        | Query::Bits { place }
+        | Query::History { place } => place as usize > len,
         Query::Steps => false,
     }
 }

@@ -19,6 +19,10 @@ pub enum Edit {
 pub enum Query {
     /// The configuration at a place.
     State { place: u32 },
+    /// One process at a place.
+    Process { place: u32, process: u32 },
+    /// What each process has pending at a place, in frames.
+    Pending { place: u32 },
     /// Each cell and each word at a place.
     Bits { place: u32 },
     /// The events up to a place.

@@ -85,20 +85,38 @@ fn look_of(word: &[u8], words: &mut Words<'_>) -> Option<Command>
         let query = Query::Steps;
         return Some(Command::Look { branch, query });
     }
-    if is(word, "state") {
-        let (branch, place) = place_of(words)?;
-        let query = Query::State { place };
+    if is(word, "process") {
+        let (branch, place, process) = process_at(words)?;
+        let query = Query::Process { place, process };
         return Some(Command::Look { branch, query });
+    }
+    place_look_of(word, words)
+}
+
+/// Reads a look at a place, by its word.
+fn place_look_of(word: &[u8], words: &mut Words<'_>) -> Option<Command>
+    ensures { result ≡ spec.place_look_of word.now words.old }
+{
+    let (branch, place) = place_of(words)?;
+    let query = query_at(word, place)?;
+    Some(Command::Look { branch, query })
+}
+
+/// The look at a place that a word calls.
+fn query_at(word: &[u8], place: u32) -> Option<Query>
+    ensures { result ≡ spec.query_at word.now place }
+{
+    if is(word, "state") {
+        return Some(Query::State { place });
+    }
+    if is(word, "pending") {
+        return Some(Query::Pending { place });
     }
     if is(word, "bits") {
-        let (branch, place) = place_of(words)?;
-        let query = Query::Bits { place };
-        return Some(Command::Look { branch, query });
+        return Some(Query::Bits { place });
     }
     if is(word, "history") {
-        let (branch, place) = place_of(words)?;
-        let query = Query::History { place };
-        return Some(Command::Look { branch, query });
+        return Some(Query::History { place });
     }
     None
 }
@@ -118,6 +136,16 @@ fn place_of(words: &mut Words<'_>) -> Option<(Name, u32)>
     let branch = branch(words.next())?;
     let place = number(words.next())?;
     words.is_end().then_some((branch, place))
+}
+
+/// Reads a branch, a place and a process, and no more words.
+fn process_at(words: &mut Words<'_>) -> Option<(Name, u32, u32)>
+    ensures { result ≡ spec.process_at words.old }
+{
+    let branch = branch(words.next())?;
+    let place = number(words.next())?;
+    let process = number(words.next())?;
+    words.is_end().then_some((branch, place, process))
 }
 
 /// Reads a branch, a place and a step.

@@ -3,14 +3,16 @@
 ghost use Rattle.std.specs.Prelude.{◌≡◌, ◌++◌, ◌≤◌, OnOk, IfOk, true, false, length, All};
 ghost use Rattle.checkpoints.specs.Events.{indexed};
 ghost use Rattle.towerbench.specs.World.{world_of, is_beyond};
-ghost use Rattle.towerbench.specs.Pages.{state_lines, memory_lines, history_lines};
+ghost use Rattle.towerbench.specs.Pages.{state_lines, one_process, memory_lines, history_lines};
+ghost use Rattle.towerbench.specs.Frames.{pending_lines};
 ghost use Rattle.towerbench.specs.Alone.{alone};
 ghost use Rattle.towerbench.specs.Answers as spec;
 
 use crate::book::Book;
 use crate::command::Query;
 use crate::history::push_history;
-use crate::page::{push_head, push_memory, push_state};
+use crate::page::{push_head, push_memory, push_one_process, push_state};
+use crate::pending::push_pending;
 use crate::schedule::{push_steps, push_steps_head};
 use checkpoints::replay::{Replayed, replay};
 use frames::register::Register;
@@ -31,6 +33,10 @@ pub fn push_page<R: Register>(
 {
     match query {
         Query::State { place } => push_state_page(out, alloc, session, place, book),
+        Query::Process { place, process } => {
+            push_process_page(out, alloc, session, place, process, book)
+        }
+        Query::Pending { place } => push_pending_page(out, alloc, session, place, book),
         Query::Bits { place } => push_bits_page(out, alloc, session, place, book),
         Query::History { place } => push_history_page(out, alloc, session, place, book),
         Query::Steps => push_steps_page(out, session, book.steps()),
@@ -83,6 +89,66 @@ fn push_state_at<R: Register>(
 {
     let replayed = replay_to(alloc, place, book)?;
     push_state(out, &replayed.config)
+}
+
+/// Adds the page of one process at a place.
+fn push_process_page<R: Register>(
+    out: &mut Vec<u8>,
+    alloc: Global,
+    session: u32,
+    place: u32,
+    process: u32,
+    book: &Book<R>,
+) -> io::Result<()>
+    requires { place ≤ length book.now.steps }
+    ensures { OnOk result (out.new.items ≡ out.old.items ++ spec.page session (Query.Process place process) (world_of R.is book.now)) }
+{
+    push_head(out, session, "process", place, book.steps().len())?;
+    push_process_at(out, alloc, place, process, book)
+}
+
+/// Adds the line of one process at a place.
+fn push_process_at<R: Register>(
+    out: &mut Vec<u8>,
+    alloc: Global,
+    place: u32,
+    process: u32,
+    book: &Book<R>,
+) -> io::Result<()>
+    requires { place ≤ length book.now.steps }
+    ensures { OnOk result (out.new.items ≡ out.old.items ++ one_process (R.is book.now.register) process (spec.shown (world_of R.is book.now) place)) }
+{
+    let replayed = replay_to(alloc, place, book)?;
+    push_one_process(out, &replayed.config, process)
+}
+
+/// Adds the page of what is pending at a place.
+fn push_pending_page<R: Register>(
+    out: &mut Vec<u8>,
+    alloc: Global,
+    session: u32,
+    place: u32,
+    book: &Book<R>,
+) -> io::Result<()>
+    requires { place ≤ length book.now.steps }
+    ensures { OnOk result (out.new.items ≡ out.old.items ++ spec.page session (Query.Pending place) (world_of R.is book.now)) }
+{
+    push_head(out, session, "pending", place, book.steps().len())?;
+    push_pending_at(out, alloc, place, book)
+}
+
+/// Adds the lines of what is pending at a place.
+fn push_pending_at<R: Register>(
+    out: &mut Vec<u8>,
+    alloc: Global,
+    place: u32,
+    book: &Book<R>,
+) -> io::Result<()>
+    requires { place ≤ length book.now.steps }
+    ensures { OnOk result (out.new.items ≡ out.old.items ++ pending_lines (R.is book.now.register) (spec.shown (world_of R.is book.now) place)) }
+{
+    let replayed = replay_to(alloc, place, book)?;
+    push_pending(out, alloc, &replayed.config)
 }
 
 /// Adds the page of the cells and words at a place.

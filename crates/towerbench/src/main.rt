@@ -15,6 +15,7 @@ pub mod name;
 pub mod number;
 pub mod options;
 pub mod page;
+pub mod pending;
 pub mod refusal;
 pub mod reply;
 pub mod run;

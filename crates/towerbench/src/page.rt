@@ -69,6 +69,20 @@ fn push_process<R: Register>(out: &mut Vec<u8>, config: &Config<R>, p: u32) -> i
     push_busy(out, p, op, action)
 }
 
+/// Adds the line of one process, which the register may not have.
+pub fn push_one_process<R: Register>(
+    out: &mut Vec<u8>,
+    config: &Config<R>,
+    p: u32,
+) -> io::Result<()>
+    ensures { OnOk result (out.new.items ≡ out.old.items ++ spec.one_process (R.is config.now.register) p config.now) }
+{
+    if p < config.register().processes() {
+        return push_process(out, config, p);
+    }
+    writeln!(out, "  p{p} none")
+}
+
 /// Adds the line of a process with an operation pending.
 fn push_busy(out: &mut Vec<u8>, p: u32, op: Op, action: Action) -> io::Result<()>
     ensures { OnOk result (out.new.items ≡ out.old.items ++ spec.busy_line p op action) }
