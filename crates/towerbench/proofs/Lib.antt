@@ -4,3 +4,4 @@ pub mod PageLines
 pub mod Fronts
 pub mod Tellings
 pub mod Streams
+pub mod Opened

@@ -12,3 +12,4 @@ pub mod Alone
 pub mod Output
 pub mod Told
 pub mod Ranges
+pub mod Opening

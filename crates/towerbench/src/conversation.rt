@@ -8,7 +8,7 @@ ghost use Rattle.towerbench.specs.Told.{Told};
 
 use crate::answer::answer_line;
 use crate::book::Book;
-use crate::fault::Fault;
+use crate::fault::StreamFault;
 use frames::register::Register;
 use std::alloc::{AllocError, Global};
 use std::io::Write;
@@ -47,7 +47,7 @@ impl<R: Register> Conversation<R> {
         cells: u32,
         piece: &[u8],
         writer: &mut W,
-    ) -> Result<(), Fault>
+    ) -> Result<(), StreamFault>
         requires { self.old.lines + length piece.now < 2 ^ 32 }
         ensures told { OnOk result ((start : World R.Pending) (before : Option (List ℕ)) (seen : List ℕ)
             → Told start cells before (W.contents writer.old) seen (world_of R.is self.old.book) self.old.lines self.old.line.items
@@ -67,7 +67,7 @@ impl<R: Register> Conversation<R> {
         cells: u32,
         byte: u8,
         writer: &mut W,
-    ) -> Result<(), Fault>
+    ) -> Result<(), StreamFault>
         requires { self.old.lines + 1 < 2 ^ 32 }
         ensures told { OnOk result ((start : World R.Pending) (before : Option (List ℕ)) (seen : List ℕ)
             → Told start cells before (W.contents writer.old) seen (world_of R.is self.old.book) self.old.lines self.old.line.items
@@ -78,7 +78,7 @@ impl<R: Register> Conversation<R> {
             return self.end_line(alloc, cells, writer);
         }
         let Ok(()) = self.keep(byte) else {
-            return Err(Fault::Memory);
+            return Err(StreamFault::Memory);
         };
         Ok(())
     }
@@ -89,7 +89,7 @@ impl<R: Register> Conversation<R> {
         alloc: Global,
         cells: u32,
         writer: &mut W,
-    ) -> Result<(), Fault>
+    ) -> Result<(), StreamFault>
         requires { self.old.lines + 1 < 2 ^ 32 }
         ensures lines { self.new.lines ≡ self.old.lines + 1 }
         ensures line { OnOk result (self.new.line.items ≡ []) }
@@ -100,10 +100,10 @@ impl<R: Register> Conversation<R> {
         self.lines += 1;
         let out = &mut self.answer;
         let Ok(()) = answer_line(out, alloc, &mut self.book, cells, self.lines, &self.line) else {
-            return Err(Fault::Memory);
+            return Err(StreamFault::Memory);
         };
         let Ok(()) = writer.write_all(&self.answer) else {
-            return Err(Fault::Write);
+            return Err(StreamFault::Write);
         };
         self.line.clear();
         Ok(())

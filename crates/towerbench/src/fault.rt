@@ -1,10 +1,15 @@
 //! Why a run ends before its script does.
 
-use thiserror::Error;
+ghost use Rattle.std.specs.Prelude.{◌≡◌};
+ghost use Rattle.towerbench.specs.Opening as spec;
 
-/// A fault of a run.
+use crate::refusal::Refusal;
+use thiserror::Error;
+use tower_file::{FaultKind, FileFault};
+
+/// A fault of a script's streams.
 #[derive(Clone, Copy, Debug, PartialEq, Eq, Error)]
-pub enum Fault {
+pub enum StreamFault {
     /// A read failed.
     #[error("read failed")]
     Read,
@@ -17,4 +22,53 @@ pub enum Fault {
     /// There was no memory to go on.
     #[error("memory")]
     Memory,
+}
+
+/// A fault of a run: of its file, or of its script's streams.
+#[derive(Clone, Copy, Debug, PartialEq, Eq, Error)]
+pub enum Fault {
+    /// The tower file spells none.
+    #[error("file {0}")]
+    File(FileFault),
+    /// The tower file can't be opened within the limits.
+    #[error("open refused {0}")]
+    Refused(Refusal),
+    /// A read failed.
+    #[error("read failed")]
+    Read,
+    /// A write failed, or took no bytes.
+    #[error("write failed")]
+    Write,
+    /// The script has no end within its limits.
+    #[error("script too long")]
+    TooLong,
+    /// There was no memory to go on.
+    #[error("memory")]
+    Memory,
+}
+
+impl From<StreamFault> for Fault {
+    ghost use Rattle.std.specs.Prelude.{◌≡◌};
+    ghost use Rattle.towerbench.specs.Opening.{of_streams};
+
+    ghost from_gives = { λ fault e. e ≡ of_streams fault };
+
+    fn from(fault: StreamFault) -> Fault {
+        match fault {
+            StreamFault::Read => Fault::Read,
+            StreamFault::Write => Fault::Write,
+            StreamFault::TooLong => Fault::TooLong,
+            StreamFault::Memory => Fault::Memory,
+        }
+    }
+}
+
+/// The fault of a run that a file's fault is: one for want of memory has no line.
+pub fn of_file(fault: FileFault) -> Fault
+    ensures { result ≡ spec.of_file fault }
+{
+    match fault.kind {
+        FaultKind::Memory => Fault::Memory,
+        _ => Fault::File(fault),
+    }
 }

@@ -3,16 +3,26 @@
 ghost use Rattle.std.specs.Prelude.{◌≡◌};
 ghost use Rattle.towerbench.specs.Refusals as spec;
 
+use thiserror::Error;
+
 /// Why a call is refused, or a line is none.
-#[derive(Clone, Copy, Debug, PartialEq, Eq)]
+#[derive(Clone, Copy, Debug, PartialEq, Eq, Error)]
 pub enum Refusal {
+    #[error("20 NoBranch")]
     NoBranch,
+    #[error("23 NoPlace")]
     NoPlace,
+    #[error("24 Full")]
     Full,
+    #[error("30 BadStep")]
     BadStep,
+    #[error("33 NoSession")]
     NoSession,
+    #[error("35 LogFull")]
     LogFull,
+    #[error("36 BadLine")]
     BadLine,
+    #[error("40 Memory")]
     Memory,
 }
 

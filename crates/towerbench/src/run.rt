@@ -1,8 +1,11 @@
 //! A run: the script comes from a reader, the answers go to a writer.
 
-ghost use Rattle.std.specs.Prelude.{◌≡◌, ◌++◌, [], ◌<◌, ◌≤◌, ◌+◌, ◌^◌, ℕ, Bool, true, List, Option, None, OnOk, IfOk, IfSome, MatchOption, length, take};
+ghost use Rattle.std.specs.Prelude.{◌≡◌, ◌++◌, [], ◌<◌, ◌≤◌, ◌+◌, ◌^◌, ℕ, Bool, true, List, Option, Ok, OnOk, IfOk, IfErr, IfSome, All, MatchOption, length, take};
 ghost use Rattle.std.specs.Io.KnownBytes.{Appends, Consumes, IsAtEnd};
-ghost use Rattle.frames.specs.SafeBit.{safe_behaviour};
+ghost use Rattle.std.specs.Option.{option_map};
+ghost use Rattle.frames.specs.Configuration.{fits_step};
+ghost use Rattle.tower_file.specs.Files.{File};
+ghost use Rattle.towerbench.specs.Opening.{opened, output_on, OpensWith, BeginsWith};
 ghost use Rattle.towerbench.specs.World.{World, opening, world_of};
 ghost use Rattle.towerbench.specs.Ranges.{AreLimits};
 ghost use Rattle.towerbench.specs.Told.{Told};
@@ -10,12 +13,16 @@ ghost use Rattle.towerbench.specs.Output.{output, after_lines, lines_of};
 
 use crate::book::Book;
 use crate::conversation::Conversation;
-use crate::fault::Fault;
+use crate::fault::{Fault, StreamFault, of_file};
 use crate::options::Options;
+use crate::refusal::Refusal;
 use frames::register::Register;
 use frames::safe::Safe;
+use frames::types::Step;
 use std::alloc::Global;
 use std::io::{ErrorKind, Read, Write};
+use tower_file::{TowerFile, TowerSpec, parse};
+use towers::{copies, matrix, regular, stamped, unary};
 
 /// The bytes that a script doesn't reach.
 const MOST_BYTES: u32 = 1 << 24;
@@ -26,7 +33,8 @@ const MOST_READS: u32 = 1 << 25;
 /// The most bytes of one read.
 const PIECE_BYTES: usize = 4096;
 
-/// Answers a script, each line before the next read.
+/// Answers a script, each line before the next read. It works on the tower and the steps of a file,
+/// or on a safe bit at 0 where there is none.
 pub fn run<R: Read, W: Write>(
     alloc: Global,
     file: Option<&[u8]>,
@@ -34,18 +42,96 @@ pub fn run<R: Read, W: Write>(
     reader: &mut R,
     writer: &mut W,
 ) -> Result<(), Fault>
-    requires file { file ≡ None }
     requires limits { AreLimits options }
-    ensures { OnOk result (IfSome (R.remaining reader.old) (λ script. (marks : ℕ → Bool)
-        × Appends (W.contents writer.old) (W.contents writer.new) (output (opening safe_behaviour 0 []) options.cells script marks))) }
+    ensures output { OnOk result (IfSome (R.remaining reader.old) (λ script. (f : File) × ((opened (option_map (λ bytes. bytes.now) file.entry) ≡ Ok f)
+        × ((marks : ℕ → Bool) × Appends (W.contents writer.old) (W.contents writer.new) (output_on f options.cells script marks))))) }
+    ensures fault { IfErr result (OpensWith options.cells (option_map (λ bytes. bytes.now) file.entry)) }
 {
+    let Some(bytes) = file else {
+        return begin(alloc, Safe, 0, &[], options.cells, reader, writer);
+    };
+    match parse(alloc, bytes) {
+        Ok(file) => run_file(alloc, &file, options.cells, reader, writer),
+        Err(fault) => Err(of_file(fault)),
+    }
+}
+
+/// Answers a script on the tower and the steps of a file.
+fn run_file<R: Read, W: Write>(
+    alloc: Global,
+    file: &TowerFile,
+    cells: u32,
+    reader: &mut R,
+    writer: &mut W,
+) -> Result<(), Fault>
+    ensures output { OnOk result (IfSome (R.remaining reader.old) (λ script. (marks : ℕ → Bool)
+        × Appends (W.contents writer.old) (W.contents writer.new) (output_on file.now cells script marks))) }
+    ensures fault { IfErr result (BeginsWith cells file.now.steps) }
+{
+    let steps = file.steps();
+    match file.spec() {
+        TowerSpec::Safe { init } => begin(alloc, Safe, init, steps, cells, reader, writer),
+        TowerSpec::Copies { readers, init } => {
+            begin(alloc, copies(readers), init, steps, cells, reader, writer)
+        }
+        TowerSpec::Regular { readers, init } => {
+            begin(alloc, regular(readers), init, steps, cells, reader, writer)
+        }
+        TowerSpec::Unary {
+            values,
+            readers,
+            init,
+        } => {
+            let register = unary(values, readers);
+            begin(alloc, register, init, steps, cells, reader, writer)
+        }
+        TowerSpec::Stamped { values, last } => {
+            let register = stamped(values, last);
+            begin(alloc, register, 0, steps, cells, reader, writer)
+        }
+        TowerSpec::Matrix {
+            processes,
+            values,
+            last_tag,
+            last_stamp,
+        } => {
+            let register = matrix(processes, values, last_tag, last_stamp);
+            begin(alloc, register, 0, steps, cells, reader, writer)
+        }
+    }
+}
+
+/// Answers a script on a register at a value, and steps that fit it.
+fn begin<B: Register, R: Read, W: Write>(
+    alloc: Global,
+    register: B,
+    value: u32,
+    steps: &[Step],
+    cells: u32,
+    reader: &mut R,
+    writer: &mut W,
+) -> Result<(), Fault>
+    requires value { value < (B.is register).values }
+    requires fit { All (λ s. fits_step (B.is register) s ≡ true) steps.now }
+    ensures output { OnOk result (IfSome (R.remaining reader.old) (λ script. (marks : ℕ → Bool)
+        × Appends (W.contents writer.old) (W.contents writer.new) (output (opening (B.is register) value steps.now) cells script marks))) }
+    ensures fault { IfErr result (BeginsWith cells steps.now) }
+{
+    if steps.len() > cells as usize {
+        return Err(Fault::Refused(Refusal::Full));
+    }
+    let mut kept = Vec::new(alloc);
+    let Ok(()) = kept.extend_from_slice(steps) else {
+        return Err(Fault::Memory);
+    };
     converse(
         alloc,
-        Book::new(Safe, 0, Vec::new(alloc)),
-        options.cells,
+        Book::new(register, value, kept),
+        cells,
         reader,
         writer,
-    )
+    )?;
+    Ok(())
 }
 
 /// Answers a script on a book, each line before the next read.
@@ -55,7 +141,7 @@ fn converse<B: Register, R: Read, W: Write>(
     cells: u32,
     reader: &mut R,
     writer: &mut W,
-) -> Result<(), Fault>
+) -> Result<(), StreamFault>
     ensures { OnOk result (IfSome (R.remaining reader.old) (λ script. (marks : ℕ → Bool)
         × Appends (W.contents writer.old) (W.contents writer.new) (output (world_of B.is book) cells script marks))) }
 {
@@ -70,7 +156,7 @@ fn converse<B: Register, R: Read, W: Write>(
             break;
         }
     }
-    Err(Fault::TooLong)
+    Err(StreamFault::TooLong)
 }
 
 /// Answers the last line, if the script doesn't end with a line's end.
@@ -79,7 +165,7 @@ fn finish<B: Register, W: Write>(
     cells: u32,
     conversation: &mut Conversation<B>,
     writer: &mut W,
-) -> Result<(), Fault>
+) -> Result<(), StreamFault>
     requires { conversation.old.lines + 1 < 2 ^ 32 }
     ensures { OnOk result ((start : World B.Pending) (before : Option (List ℕ)) (seen : List ℕ)
         → Told start cells before (W.contents writer.old) seen (world_of B.is conversation.old.book) conversation.old.lines conversation.old.line.items
@@ -87,7 +173,7 @@ fn finish<B: Register, W: Write>(
 {
     conversation.end_line(alloc, cells, writer)?;
     let Ok(()) = writer.flush() else {
-        return Err(Fault::Write);
+        return Err(StreamFault::Write);
     };
     Ok(())
 }
@@ -101,7 +187,7 @@ fn turn<B: Register, R: Read, W: Write>(
     room: u32,
     reader: &mut R,
     writer: &mut W,
-) -> Result<Option<u32>, Fault>
+) -> Result<Option<u32>, StreamFault>
     requires some { 0 < room }
     requires lines { conversation.old.lines + room < 2 ^ 32 }
     ensures { IfOk result (λ taken. (piece : List ℕ)
@@ -118,7 +204,7 @@ fn turn<B: Register, R: Read, W: Write>(
     };
     conversation.take(alloc, cells, &buffer[..n], writer)?;
     let Ok(()) = writer.flush() else {
-        return Err(Fault::Write);
+        return Err(StreamFault::Write);
     };
     Ok(Some(n as u32))
 }
@@ -129,7 +215,7 @@ fn read_piece<R: Read>(
     reader: &mut R,
     buffer: &mut [u8],
     most: usize,
-) -> Result<Option<usize>, Fault>
+) -> Result<Option<usize>, StreamFault>
     requires some { 0 < most }
     requires room { most ≤ length buffer.old }
     ensures bound { IfOk result (λ taken. IfSome taken (λ n. n ≤ most)) }
@@ -141,6 +227,6 @@ fn read_piece<R: Read>(
         Ok(0) => Ok(None),
         Ok(n) => Ok(Some(n)),
         Err(e) if e.kind() == ErrorKind::Interrupted => Ok(Some(0)),
-        Err(_) => Err(Fault::Read),
+        Err(_) => Err(StreamFault::Read),
     }
 }

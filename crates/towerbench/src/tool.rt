@@ -1,10 +1,9 @@
 //! What the program does with its words and its streams.
 
-ghost use Rattle.std.specs.Prelude.{◌≡◌, ◌≢◌, ◌≤◌, ℕ, Bool, [], IfOk, IfSome};
+ghost use Rattle.std.specs.Prelude.{◌≡◌, ◌≢◌, ◌≤◌, ℕ, Bool, [], None, Ok, IfOk, IfSome};
 ghost use Rattle.std.specs.Io.KnownBytes.{Appends, Keeps};
-ghost use Rattle.frames.specs.SafeBit.{safe_behaviour};
-ghost use Rattle.towerbench.specs.World.{opening};
-ghost use Rattle.towerbench.specs.Output.{output};
+ghost use Rattle.tower_file.specs.Files.{File};
+ghost use Rattle.towerbench.specs.Opening.{opened, output_on};
 
 use crate::fault::Fault;
 use crate::options::Options;
@@ -31,8 +30,8 @@ pub fn tool<R: Read, W: Write, E: Write>(
 ) -> u8
     ensures words { IfOk words (λ ws. ws.items ≢ [] → (result ≡ 2) × Keeps (W.contents writer.old) (W.contents writer.new)) }
     ensures status { result ≤ 2 }
-    ensures done { result ≡ 0 → IfSome (R.remaining reader.old) (λ script. (marks : ℕ → Bool)
-        × Appends (W.contents writer.old) (W.contents writer.new) (output (opening safe_behaviour 0 []) DEFAULTS.cells script marks)) }
+    ensures done { result ≡ 0 → IfSome (R.remaining reader.old) (λ script. (f : File) × ((opened None ≡ Ok f)
+        × ((marks : ℕ → Bool) × Appends (W.contents writer.old) (W.contents writer.new) (output_on f DEFAULTS.cells script marks)))) }
 {
     let given = match words {
         Ok(words) => !words.is_empty(),
