@@ -1,13 +1,13 @@
 //! Worked schedules of towers, step by step: histories, memory, frames and bit actions; which towers
 //! can be built, and how large they are.
 
-mod copies;
-mod matrix;
+mod copies_rows;
+mod matrix_rows;
 mod neighbours;
 mod read_first;
-mod regular;
-mod stamped;
-mod unary;
+mod regular_rows;
+mod stamped_rows;
+mod unary_rows;
 
 use checkpoints::replay::replay;
 use frames::config::Config;
