@@ -5,3 +5,4 @@ pub mod Fronts
 pub mod Tellings
 pub mod Streams
 pub mod Opened
+pub mod CommandLines

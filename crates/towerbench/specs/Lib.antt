@@ -13,3 +13,4 @@ pub mod Output
 pub mod Told
 pub mod Ranges
 pub mod Opening
+pub mod CommandLine

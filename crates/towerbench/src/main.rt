@@ -4,6 +4,9 @@
 pub mod answer;
 pub mod book;
 pub mod command;
+pub mod command_line;
+#[cfg(test)]
+mod command_line_tests;
 pub mod conversation;
 #[cfg(test)]
 mod edit_tests;
@@ -26,6 +29,9 @@ mod stream_tests;
 mod tests;
 pub mod text;
 pub mod tool;
+pub mod tower_source;
+#[cfg(test)]
+mod tower_source_tests;
 pub mod words;
 
 use std::process::ExitCode;

@@ -7,20 +7,42 @@ use frames::safe::Safe;
 use frames::types::{Action, ActionKind, Event, FrameLayer, Op, Step};
 use reader_copies::Copies;
 use safe_bit::{Place, Store};
+use std::alloc::{AllocError, Global};
+use std::process::Abort;
 use std::test::Fail;
 
-#[test]
-fn one_to_four_readers(rt: HostRuntime) {
+/// Asserts how many readers copies can have, and how large they are.
+fn limits<S: Register>(rt: &impl Abort, below: S) {
     for readers in [0, 5, u32::MAX] {
         assert_eq!(rt;
-            Copies::new(Safe, readers),
-            Err(LayerError::BadSize),
+            Copies::new(below, readers).err(),
+            Some(LayerError::BadSize),
             "{readers}"
         );
     }
-    for readers in [1, 2, 3, 4] {
-        assert!(rt; Copies::new(Safe, readers).is_ok(), "{readers}");
+    for readers in 1..5 {
+        match Copies::new(below, readers) {
+            Ok(copies) => {
+                let size = Place {
+                    cell: readers,
+                    word: 0,
+                };
+                assert_eq!(rt; told(&copies), (size, 2, readers + 1, 2), "{readers}");
+            }
+            Err(error) => assert!(rt; false, "{error}"),
+        }
     }
+}
+
+#[test]
+fn one_to_four_readers(rt: HostRuntime) -> Result<(), Fail> {
+    limits(&rt, Safe);
+    let of_two_readers = Copies::new(Safe, 2)?;
+    assert_eq!(rt;
+        Copies::new(of_two_readers, 1).err(),
+        Some(LayerError::BadSize)
+    );
+    Ok(())
 }
 
 #[test]
@@ -34,24 +56,6 @@ fn copies_of_one_reader_up_to_depth_8(rt: HostRuntime) -> Result<(), Fail> {
     let eight = Copies::new(seven, 1)?;
     assert_eq!(rt; eight.depth(), 8);
     assert_eq!(rt; Copies::new(eight, 1).err(), Some(LayerError::BadSize));
-    Ok(())
-}
-
-#[test]
-fn copies_of_several_readers_below(rt: HostRuntime) -> Result<(), Fail> {
-    let below = Copies::new(Safe, 2)?;
-    assert_eq!(rt; Copies::new(below, 1).err(), Some(LayerError::BadSize));
-    Ok(())
-}
-
-#[test]
-fn sizes(rt: HostRuntime) -> Result<(), Fail> {
-    for (readers, told_of) in [
-        (1, (Place { cell: 1, word: 0 }, 2, 2, 2)),
-        (4, (Place { cell: 4, word: 0 }, 2, 5, 2)),
-    ] {
-        assert_eq!(rt; told(&Copies::new(Safe, readers)?), told_of, "{readers}");
-    }
     Ok(())
 }
 
@@ -70,9 +74,12 @@ const WRITE_BETWEEN_TWO_READS: [Step; 11] = [
     Step::Go { p: 2, c: 0 },
 ];
 
-#[test]
-fn write_between_two_reads(rt: HostRuntime) -> Result<(), Fail> {
-    let copies = Copies::new(Safe, 2)?;
+/// A write of two copies, a read between them, and one beside the second.
+fn write_between_two_reads<R: Register>(
+    rt: &impl Abort,
+    alloc: Global,
+    register: R,
+) -> Result<(), AllocError> {
     let history = [
         (0, Event::Invoke(0, Op::Write(1))),
         (3, Event::Invoke(1, Op::Read)),
@@ -83,25 +90,31 @@ fn write_between_two_reads(rt: HostRuntime) -> Result<(), Fail> {
         (10, Event::Got(2, 0)),
     ];
     let steps = WRITE_BETWEEN_TWO_READS;
-    let config = replayed(&rt, rt.alloc(), copies, &steps[..9], &history[..4])?;
+    let config = replayed(rt, alloc, register, &steps[..9], &history[..4])?;
     let writing = [
         frame(FrameLayer::Copies, Op::Write(1), 2),
         frame(FrameLayer::Safe, Op::Write(1), 1),
     ];
-    stands_in(&rt, rt.alloc(), &config, 0, &writing);
+    stands_in(rt, alloc, &config, 0, &writing);
     let reading = [
         frame(FrameLayer::Copies, Op::Read, 2),
         frame(FrameLayer::Safe, Op::Read, 1),
     ];
-    stands_in(&rt, rt.alloc(), &config, 2, &reading);
+    stands_in(rt, alloc, &config, 2, &reading);
     for (p, kind) in [(0, ActionKind::WriteEnd), (2, ActionKind::ReadEnd)] {
         assert_eq!(rt; config.action(p), Some(Action { kind, cell: 1 }), "{p}");
     }
-    let config = replayed(&rt, rt.alloc(), copies, &steps, &history)?;
-    let mut both = Store::new(rt.alloc(), 2, 0)?;
+    let config = replayed(rt, alloc, register, &steps, &history)?;
+    let mut both = Store::new(alloc, 2, 0)?;
     both.set_value(0, true);
     both.set_value(1, true);
     assert!(rt; *config.store() == both);
-    assert!(rt; config.register() == copies);
+    assert!(rt; config.register() == register);
+    Ok(())
+}
+
+#[test]
+fn copies_rows(rt: HostRuntime) -> Result<(), Fail> {
+    write_between_two_reads(&rt, rt.alloc(), Copies::new(Safe, 2)?)?;
     Ok(())
 }

@@ -12,6 +12,7 @@ use frames::types::{Event, Frame, FrameLayer, Layer, Op, Step};
 use matrix::Matrix;
 use safe_bit::{Place, Store};
 use std::alloc::{AllocError, Global};
+use std::process::Abort;
 use std::test::Fail;
 use unary_number::Unary;
 
@@ -59,9 +60,13 @@ fn looked_at(alloc: Global) -> Result<Store, AllocError>
     Ok(store)
 }
 
-#[test]
-fn matrix_spent(rt: HostRuntime) -> Result<(), Fail> {
-    let steps = after_a_write(rt.alloc(), Step::Write { p: 1, v: 0 }, 30)?;
+/// Process 1 looks at its column behind a write, and is spent.
+fn matrix_spent<R: Register>(
+    rt: &impl Abort,
+    alloc: Global,
+    register: R,
+) -> Result<(), AllocError> {
+    let steps = after_a_write(alloc, Step::Write { p: 1, v: 0 }, 30)?;
     assert_eq!(rt; steps.len(), 44);
     let history = [
         (0, Event::Invoke(0, Op::Write(1))),
@@ -69,26 +74,30 @@ fn matrix_spent(rt: HostRuntime) -> Result<(), Fail> {
         (13, Event::Invoke(1, Op::Write(0))),
         (43, Event::Refused(1, Layer::Matrix)),
     ];
-    let config = replayed(&rt, rt.alloc(), matrix(2, 2, 1, 3), &steps, &history)?;
-    let store = looked_at(rt.alloc())?;
+    let config = replayed(rt, alloc, register, &steps, &history)?;
+    let store = looked_at(alloc)?;
     assert!(rt; *config.store() == store);
     for p in [0, 1] {
-        stands_in(&rt, rt.alloc(), &config, p, &[]);
+        stands_in(rt, alloc, &config, p, &[]);
     }
     Ok(())
 }
 
-#[test]
-fn read_writes_its_row(rt: HostRuntime) -> Result<(), Fail> {
-    let steps = after_a_write(rt.alloc(), Step::Read { p: 1 }, 38)?;
+/// Process 1 reads behind a write: it writes the code that it found to its row.
+fn read_writes_its_row<R: Register>(
+    rt: &impl Abort,
+    alloc: Global,
+    register: R,
+) -> Result<(), AllocError> {
+    let steps = after_a_write(alloc, Step::Read { p: 1 }, 38)?;
     let history = [
         (0, Event::Invoke(0, Op::Write(1))),
         (12, Event::Wrote(0)),
         (13, Event::Invoke(1, Op::Read)),
         (51, Event::Got(1, 1)),
     ];
-    let config = replayed(&rt, rt.alloc(), matrix(2, 2, 1, 3), &steps, &history)?;
-    let mut store = looked_at(rt.alloc())?;
+    let config = replayed(rt, alloc, register, &steps, &history)?;
+    let mut store = looked_at(alloc)?;
     store.set_value(64, false);
     store.set_word(68, 0);
     store.set_value(77, true);
@@ -103,15 +112,19 @@ fn read_writes_its_row(rt: HostRuntime) -> Result<(), Fail> {
     Ok(())
 }
 
-#[test]
-fn matrix_first_read_spent(rt: HostRuntime) -> Result<(), Fail> {
-    let steps = invoked(rt.alloc(), Step::Read { p: 0 }, 0, 4)?;
+/// A read that is spent as it begins to write its row.
+fn matrix_first_read_spent<R: Register>(
+    rt: &impl Abort,
+    alloc: Global,
+    register: R,
+) -> Result<(), AllocError> {
+    let steps = invoked(alloc, Step::Read { p: 0 }, 0, 4)?;
     let history = [
         (0, Event::Invoke(0, Op::Read)),
         (4, Event::Refused(0, Layer::Stamped)),
     ];
-    let config = replayed(&rt, rt.alloc(), matrix(2, 2, 1, 0), &steps, &history)?;
-    stands_in(&rt, rt.alloc(), &config, 0, &[]);
+    let config = replayed(rt, alloc, register, &steps, &history)?;
+    stands_in(rt, alloc, &config, 0, &[]);
     Ok(())
 }
 
@@ -120,11 +133,15 @@ fn coded(layer: FrameLayer, op: Op, x: u32) -> Frame {
     Frame { layer, op, i: 0, x }
 }
 
-#[test]
-fn matrix_pending(rt: HostRuntime) -> Result<(), Fail> {
+/// A write in its column, and then in its row.
+fn matrix_pending<R: Register>(
+    rt: &impl Abort,
+    alloc: Global,
+    register: R,
+) -> Result<(), AllocError> {
     let history = [(0, Event::Invoke(0, Op::Write(1)))];
-    let steps = invoked(rt.alloc(), Step::Write { p: 0, v: 1 }, 0, 0)?;
-    let config = replayed(&rt, rt.alloc(), matrix(2, 2, 1, 3), &steps, &history)?;
+    let steps = invoked(alloc, Step::Write { p: 0, v: 1 }, 0, 0)?;
+    let config = replayed(rt, alloc, register, &steps, &history)?;
     let reading = [
         frame(FrameLayer::MatrixRead, Op::Write(1), 0),
         frame(FrameLayer::Stamped, Op::Read, 0),
@@ -133,10 +150,10 @@ fn matrix_pending(rt: HostRuntime) -> Result<(), Fail> {
         frame(FrameLayer::Copies, Op::Read, 1),
         frame(FrameLayer::Safe, Op::Read, 0),
     ];
-    stands_in(&rt, rt.alloc(), &config, 0, &reading);
-    stands_in(&rt, rt.alloc(), &config, 1, &[]);
-    let steps = invoked(rt.alloc(), Step::Write { p: 0, v: 1 }, 0, 4)?;
-    let config = replayed(&rt, rt.alloc(), matrix(2, 2, 1, 3), &steps, &history)?;
+    stands_in(rt, alloc, &config, 0, &reading);
+    stands_in(rt, alloc, &config, 1, &[]);
+    let steps = invoked(alloc, Step::Write { p: 0, v: 1 }, 0, 4)?;
+    let config = replayed(rt, alloc, register, &steps, &history)?;
     let writing = [
         coded(FrameLayer::MatrixWrite, Op::Write(1), 5),
         coded(FrameLayer::Stamped, Op::Write(5), 13),
@@ -145,22 +162,44 @@ fn matrix_pending(rt: HostRuntime) -> Result<(), Fail> {
         frame(FrameLayer::Copies, Op::Write(1), 1),
         frame(FrameLayer::Safe, Op::Write(1), 0),
     ];
-    stands_in(&rt, rt.alloc(), &config, 0, &writing);
-    stands_in(&rt, rt.alloc(), &config, 1, &[]);
+    stands_in(rt, alloc, &config, 0, &writing);
+    stands_in(rt, alloc, &config, 1, &[]);
     Ok(())
 }
 
+/// The rows of a small matrix, and of one with a last stamp of 0.
+fn rows<R: Register>(
+    rt: &impl Abort,
+    alloc: Global,
+    small: R,
+    soon_spent: R,
+) -> Result<(), AllocError> {
+    matrix_spent(rt, alloc, small)?;
+    read_writes_its_row(rt, alloc, small)?;
+    matrix_pending(rt, alloc, small)?;
+    each_process_reads_and_writes(rt, &small);
+    matrix_first_read_spent(rt, alloc, soon_spent)
+}
+
 #[test]
-fn spent_part_of_a_row(rt: HostRuntime) -> Result<(), Fail> {
-    let parts = ReadFirst::new(Unary::new(Safe, 8)?)?;
-    let register = Matrix::new(parts, 2, 2, 1)?;
-    let steps = invoked(rt.alloc(), Step::Write { p: 0, v: 1 }, 0, 16)?;
+fn matrix_rows(rt: HostRuntime) -> Result<(), Fail> {
+    rows(&rt, rt.alloc(), matrix(2, 2, 1, 3), matrix(2, 2, 1, 0))?;
+    Ok(())
+}
+
+/// A write whose second part is spent: what it wrote to the first stays.
+fn spent_part_of_a_row<R: Register>(
+    rt: &impl Abort,
+    alloc: Global,
+    register: R,
+) -> Result<(), AllocError> {
+    let steps = invoked(alloc, Step::Write { p: 0, v: 1 }, 0, 16)?;
     let history = [
         (0, Event::Invoke(0, Op::Write(1))),
         (16, Event::Refused(0, Layer::Stamped)),
     ];
-    let config = replayed(&rt, rt.alloc(), register, &steps, &history)?;
-    let mut store = Store::new(rt.alloc(), 32, 4)?;
+    let config = replayed(rt, alloc, register, &steps, &history)?;
+    let mut store = Store::new(alloc, 32, 4)?;
     store.set_value(5, true);
     store.set_value(8, true);
     store.set_value(16, true);
@@ -168,13 +207,19 @@ fn spent_part_of_a_row(rt: HostRuntime) -> Result<(), Fail> {
     store.set_word(0, 1);
     store.set_word(2, 1);
     assert!(rt; *config.store() == store);
-    stands_in(&rt, rt.alloc(), &config, 0, &[]);
+    stands_in(rt, alloc, &config, 0, &[]);
     Ok(())
 }
 
 #[test]
-fn each_process_reads_and_writes(rt: HostRuntime) {
-    let small = matrix(2, 2, 1, 3);
+fn row_of_parts_to_be_read_first(rt: HostRuntime) -> Result<(), Fail> {
+    let parts = ReadFirst::new(Unary::new(Safe, 8)?)?;
+    spent_part_of_a_row(&rt, rt.alloc(), Matrix::new(parts, 2, 2, 1)?)?;
+    Ok(())
+}
+
+/// Which operations fit: each process of two reads, and writes each value of two.
+fn each_process_reads_and_writes<R: Register>(rt: &impl Abort, register: &R) {
     for (p, op, fits) in [
         (0, Op::Write(1), true),
         (1, Op::Write(0), true),
@@ -184,50 +229,72 @@ fn each_process_reads_and_writes(rt: HostRuntime) {
         (1, Op::Read, true),
         (2, Op::Read, false),
     ] {
-        assert_eq!(rt; small.fits(p, op), fits, "{p} {op:?}");
+        assert_eq!(rt; register.fits(p, op), fits, "{p} {op:?}");
     }
+}
+
+/// Asserts what a matrix of some numbers over parts is refused for, or else its size.
+fn built<S: Register>(
+    rt: &impl Abort,
+    parts: S,
+    numbers: [u32; 3],
+    wanted: Result<Place, LayerError>,
+) {
+    let [n, values, last_tag] = numbers;
+    match Matrix::new(parts, n, values, last_tag) {
+        Ok(matrix) => {
+            assert_eq!(rt; Ok(matrix.size()), wanted, "{numbers:?}");
+            assert_eq!(rt; told(&matrix), (matrix.size(), values, n, 6), "{numbers:?}");
+        }
+        Err(error) => assert_eq!(rt; Err(error), wanted, "{numbers:?}"),
+    }
+}
+
+/// Asserts the limits of a matrix's own numbers over parts of 4, 8, 10 and 512 values.
+fn limits<S: Register>(rt: &impl Abort, of_4: S, of_8: S, of_10: S, of_512: S) {
+    let refused = Err(LayerError::BadSize);
+    built(rt, of_4, [1, 2, 1], refused);
+    built(rt, of_4, [2, 1, 0], refused);
+    built(rt, of_10, [5, 2, 0], refused);
+    for numbers in [
+        [2, 513, 0],
+        [2, 2, 512],
+        [2, 2, 128],
+        [4, 512, 511],
+        [2, 2, 0],
+    ] {
+        built(rt, of_512, numbers, refused);
+    }
+    built(rt, of_8, [2, 3, 1], refused);
+    let size = Place { cell: 32, word: 40 };
+    built(rt, of_8, [2, 2, 1], Ok(size));
 }
 
 #[test]
 fn numbers_within_their_limits(rt: HostRuntime) {
-    let of_4 = stamped(4, 0);
-    let of_8 = stamped(8, 0);
-    let of_512 = stamped(512, 0);
-    let of_two_readers = unary(8, 2);
-    for refusal in [
-        Matrix::new(of_4, 1, 2, 1).err(),
-        Matrix::new(stamped(10, 0), 5, 2, 0).err(),
-        Matrix::new(stamped(2, 0), 2, 1, 0).err(),
-        Matrix::new(of_512, 2, 513, 0).err(),
-        Matrix::new(of_512, 2, 2, 512).err(),
-        Matrix::new(of_512, 2, 2, 128).err(),
-        Matrix::new(of_512, 4, 512, 511).err(),
-        Matrix::new(of_8, 2, 2, 0).err(),
-        Matrix::new(of_8, 2, 3, 1).err(),
-        Matrix::new(of_two_readers, 2, 2, 1).err(),
-    ] {
-        assert_eq!(rt; refusal, Some(LayerError::BadSize));
-    }
-}
-
-/// Cells and words, in this order.
-fn size(cell: u32, word: u32) -> Place {
-    Place { cell, word }
+    limits(
+        &rt,
+        stamped(4, 0),
+        stamped(8, 0),
+        stamped(10, 0),
+        stamped(512, 0),
+    );
 }
 
 #[test]
-fn sizes(rt: HostRuntime) {
-    for (numbers, wanted) in [
-        (told(&matrix(2, 2, 1, 3)), (size(128, 136), 2, 2, 6)),
-        (told(&matrix(4, 2, 1, 15)), (size(4096, 4128), 2, 4, 6)),
-        (told(&matrix(3, 2, 3, 0)), (size(216, 234), 2, 3, 6)),
-        (told(&matrix(2, 128, 0, 1)), (size(2048, 2056), 128, 2, 6)),
-    ] {
-        assert_eq!(rt; numbers, wanted);
-    }
-    let parts = stamped(16, 16);
-    assert_eq!(rt;
-        Matrix::new(parts, 4, 2, 1).err(),
-        Some(LayerError::TooManyBits)
-    );
+fn parts_of_two_readers(rt: HostRuntime) {
+    built(&rt, unary(8, 2), [2, 2, 1], Err(LayerError::BadSize));
+}
+
+/// Asserts the sizes of matrices over parts of 8, 16 and 16 values, the last of which are too large.
+fn sizes<S: Register>(rt: &impl Abort, small: S, large: S, too_large: S) {
+    let size = |cell, word| Place { cell, word };
+    built(rt, small, [2, 2, 1], Ok(size(128, 136)));
+    built(rt, large, [4, 2, 1], Ok(size(4096, 4128)));
+    built(rt, too_large, [4, 2, 1], Err(LayerError::TooManyBits));
+}
+
+#[test]
+fn sizes_of_matrices(rt: HostRuntime) {
+    sizes(&rt, stamped(8, 3), stamped(16, 15), stamped(16, 16));
 }

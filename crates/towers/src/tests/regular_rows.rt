@@ -3,25 +3,36 @@
 use super::{frame, replayed, stands_in, told};
 use crate::regular;
 use frames::fit::LayerError;
+use frames::register::Register;
 use frames::safe::Safe;
 use frames::types::{Action, ActionKind, Event, FrameLayer, Op, Step};
-use reader_copies::Copies;
 use regular_bit::RegularBit;
 use safe_bit::{Place, Store};
+use std::alloc::{AllocError, Global};
+use std::process::Abort;
 use std::test::Fail;
 use unary_number::Unary;
 
+/// The rows of regular bits for one, two and four readers.
+fn rows<R: Register>(
+    rt: &impl Abort,
+    alloc: Global,
+    of_one: R,
+    of_two: R,
+    of_four: R,
+) -> Result<(), AllocError> {
+    regular_same_value(rt, alloc, of_one)?;
+    word_is_set_first(rt, alloc, of_two)?;
+    assert_eq!(rt; told(&of_one), (Place { cell: 1, word: 1 }, 2, 2, 3));
+    assert_eq!(rt; told(&of_four), (Place { cell: 4, word: 1 }, 2, 5, 3));
+    assert!(rt; of_four == of_four);
+    assert!(rt; of_four != of_two);
+    Ok(())
+}
+
 #[test]
-fn sizes(rt: HostRuntime) -> Result<(), Fail> {
-    let alone = RegularBit::new(Safe)?;
-    assert_eq!(rt; told(&alone), (Place { cell: 1, word: 1 }, 2, 2, 2));
-    assert_eq!(rt; told(&regular(1)), (Place { cell: 1, word: 1 }, 2, 2, 3));
-    let of_four_readers = regular(4);
-    assert_eq!(rt;
-        told(&of_four_readers),
-        (Place { cell: 4, word: 1 }, 2, 5, 3)
-    );
-    assert!(rt; of_four_readers == of_four_readers.clone()?);
+fn regular_rows(rt: HostRuntime) -> Result<(), Fail> {
+    rows(&rt, rt.alloc(), regular(1), regular(2), regular(4))?;
     Ok(())
 }
 
@@ -32,24 +43,19 @@ fn registers_below(rt: HostRuntime) -> Result<(), Fail> {
         RegularBit::new(three_values).err(),
         Some(LayerError::BadSize)
     );
-    let seven = Copies::new(
-        Copies::new(
-            Copies::new(Copies::new(Copies::new(Copies::new(Safe, 1)?, 1)?, 1)?, 1)?,
-            1,
-        )?,
-        1,
-    )?;
-    let eight = RegularBit::new(seven)?;
-    assert_eq!(rt; RegularBit::new(eight).err(), Some(LayerError::BadSize));
     Ok(())
 }
 
-#[test]
-fn regular_same_value(rt: HostRuntime) -> Result<(), Fail> {
+/// A write of the value that it has is done at once.
+fn regular_same_value<R: Register>(
+    rt: &impl Abort,
+    alloc: Global,
+    register: R,
+) -> Result<(), AllocError> {
     let steps = [Step::Write { p: 0, v: 0 }];
     let history = [(0, Event::Invoke(0, Op::Write(0))), (0, Event::Wrote(0))];
-    let config = replayed(&rt, rt.alloc(), regular(1), &steps, &history)?;
-    let idle = Store::new(rt.alloc(), 1, 1)?;
+    let config = replayed(rt, alloc, register, &steps, &history)?;
+    let idle = Store::new(alloc, 1, 1)?;
     assert!(rt; *config.store() == idle);
     assert_eq!(rt; config.op(0), None);
     assert_eq!(rt; config.op(1), None);
@@ -65,15 +71,19 @@ const WRITE_AND_READ: [Step; 5] = [
     Step::Go { p: 2, c: 0 },
 ];
 
-#[test]
-fn word_is_set_first(rt: HostRuntime) -> Result<(), Fail> {
+/// The word is set as the write begins, before a copy is written.
+fn word_is_set_first<R: Register>(
+    rt: &impl Abort,
+    alloc: Global,
+    register: R,
+) -> Result<(), AllocError> {
     let history = [
         (0, Event::Invoke(0, Op::Write(1))),
         (2, Event::Invoke(2, Op::Read)),
         (4, Event::Got(2, 0)),
     ];
-    let config = replayed(&rt, rt.alloc(), regular(2), &WRITE_AND_READ, &history)?;
-    let mut begun = Store::new(rt.alloc(), 2, 1)?;
+    let config = replayed(rt, alloc, register, &WRITE_AND_READ, &history)?;
+    let mut begun = Store::new(alloc, 2, 1)?;
     begun.set_word(0, 1);
     begun.start_write(0, true);
     assert!(rt; *config.store() == begun);
@@ -82,7 +92,7 @@ fn word_is_set_first(rt: HostRuntime) -> Result<(), Fail> {
         frame(FrameLayer::Copies, Op::Write(1), 1),
         frame(FrameLayer::Safe, Op::Write(1), 1),
     ];
-    stands_in(&rt, rt.alloc(), &config, 0, &writing);
+    stands_in(rt, alloc, &config, 0, &writing);
     let action = Action {
         kind: ActionKind::WriteEnd,
         cell: 0,

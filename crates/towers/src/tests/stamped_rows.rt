@@ -6,11 +6,12 @@ ghost use Rattle.std.specs.Prelude.{◌≡◌, IfOk, length};
 use super::{frame, replayed, stands_in, told};
 use crate::{stamped, unary};
 use frames::fit::LayerError;
-use frames::safe::Safe;
+use frames::register::Register;
 use frames::types::{Action, ActionKind, Event, Frame, FrameLayer, Layer, Op, Step};
 use safe_bit::{Place, Store};
 use stamped::Stamped;
 use std::alloc::{AllocError, Global};
+use std::process::Abort;
 use std::test::Fail;
 
 /// A store of 4 cells and 6 words, 0 and idle but for the first and the last bit and for the words
@@ -59,10 +60,14 @@ const BEST_HISTORY: [(usize, Event); 7] = [
     (15, Event::Got(1, 1)),
 ];
 
-#[test]
-fn stamped_best(rt: HostRuntime) -> Result<(), Fail> {
-    let config = replayed(&rt, rt.alloc(), stamped(2, 1), &STAMPED_BEST, &BEST_HISTORY)?;
-    let mut store = store_at(rt.alloc(), true, true, [1, 1, 3])?;
+/// The whole of `STAMPED_BEST`.
+fn stamped_best<R: Register>(
+    rt: &impl Abort,
+    alloc: Global,
+    register: R,
+) -> Result<(), AllocError> {
+    let config = replayed(rt, alloc, register, &STAMPED_BEST, &BEST_HISTORY)?;
+    let mut store = store_at(alloc, true, true, [1, 1, 3])?;
     store.start_write(0, false);
     assert!(rt; *config.store() == store);
     let code = Frame {
@@ -78,8 +83,8 @@ fn stamped_best(rt: HostRuntime) -> Result<(), Fail> {
         frame(FrameLayer::Copies, Op::Write(0), 1),
         frame(FrameLayer::Safe, Op::Write(0), 1),
     ];
-    stands_in(&rt, rt.alloc(), &config, 0, &writing);
-    stands_in(&rt, rt.alloc(), &config, 1, &[]);
+    stands_in(rt, alloc, &config, 0, &writing);
+    stands_in(rt, alloc, &config, 1, &[]);
     let action = Action {
         kind: ActionKind::WriteEnd,
         cell: 0,
@@ -89,11 +94,15 @@ fn stamped_best(rt: HostRuntime) -> Result<(), Fail> {
     Ok(())
 }
 
-#[test]
-fn stamped_best_at_12(rt: HostRuntime) -> Result<(), Fail> {
+/// The first read of `STAMPED_BEST` stands at the bit of the new code.
+fn stamped_best_at_12<R: Register>(
+    rt: &impl Abort,
+    alloc: Global,
+    register: R,
+) -> Result<(), AllocError> {
     let steps = &STAMPED_BEST[..12];
-    let config = replayed(&rt, rt.alloc(), stamped(2, 1), steps, &BEST_HISTORY[..3])?;
-    let mut store = store_at(rt.alloc(), true, true, [1, 1, 0])?;
+    let config = replayed(rt, alloc, register, steps, &BEST_HISTORY[..3])?;
+    let mut store = store_at(alloc, true, true, [1, 1, 0])?;
     store.start_write(0, false);
     store.start_read(3);
     assert!(rt; *config.store() == store);
@@ -104,12 +113,16 @@ fn stamped_best_at_12(rt: HostRuntime) -> Result<(), Fail> {
         frame(FrameLayer::Copies, Op::Read, 1),
         frame(FrameLayer::Safe, Op::Read, 1),
     ];
-    stands_in(&rt, rt.alloc(), &config, 1, &reading);
+    stands_in(rt, alloc, &config, 1, &reading);
     Ok(())
 }
 
-#[test]
-fn stamped_spent(rt: HostRuntime) -> Result<(), Fail> {
+/// A write to its end, and a second one, which is refused and changes nothing.
+fn stamped_spent<R: Register>(
+    rt: &impl Abort,
+    alloc: Global,
+    register: R,
+) -> Result<(), AllocError> {
     let steps = [
         Step::Write { p: 0, v: 1 },
         Step::Go { p: 0, c: 0 },
@@ -124,24 +137,53 @@ fn stamped_spent(rt: HostRuntime) -> Result<(), Fail> {
         (5, Event::Invoke(0, Op::Write(0))),
         (5, Event::Refused(0, Layer::Stamped)),
     ];
-    let store = store_at(rt.alloc(), false, true, [1, 1, 0])?;
+    let store = store_at(alloc, false, true, [1, 1, 0])?;
     for (count, events) in [(5, 2), (6, 4)] {
-        let config = replayed(
-            &rt,
-            rt.alloc(),
-            stamped(2, 1),
-            &steps[..count],
-            &history[..events],
-        )?;
+        let config = replayed(rt, alloc, register, &steps[..count], &history[..events])?;
         assert!(rt; *config.store() == store, "{count}");
-        stands_in(&rt, rt.alloc(), &config, 0, &[]);
+        stands_in(rt, alloc, &config, 0, &[]);
     }
     Ok(())
 }
 
+/// The rows of a small stamped register.
+fn rows<R: Register>(rt: &impl Abort, alloc: Global, small: R) -> Result<(), AllocError> {
+    stamped_best(rt, alloc, small)?;
+    stamped_best_at_12(rt, alloc, small)?;
+    stamped_spent(rt, alloc, small)
+}
+
 #[test]
-fn numbers_within_their_limits(rt: HostRuntime) {
-    let codes = unary(512, 1);
+fn stamped_rows(rt: HostRuntime) -> Result<(), Fail> {
+    rows(&rt, rt.alloc(), stamped(2, 1))?;
+    Ok(())
+}
+
+/// Asserts what a stamped register of some numbers over codes is refused for, or else its size.
+fn built<S: Register>(
+    rt: &impl Abort,
+    codes: S,
+    values: u32,
+    last: u32,
+    wanted: Result<Place, LayerError>,
+) {
+    match Stamped::new(codes, values, last) {
+        Ok(stamped) => {
+            assert_eq!(rt; Ok(stamped.size()), wanted, "{values} {last}");
+            assert_eq!(rt;
+                told(&stamped),
+                (stamped.size(), values, 2, 5),
+                "{values} {last}"
+            );
+        }
+        Err(error) => assert_eq!(rt; Err(error), wanted, "{values} {last}"),
+    }
+}
+
+/// Asserts the limits of a stamped register's own numbers over 4 and 512 codes, and over codes of two
+/// readers.
+fn limits<S: Register>(rt: &impl Abort, of_4: S, of_512: S, of_two_readers: S) {
+    let refused = Err(LayerError::BadSize);
     for (values, last) in [
         (0, 0),
         (1, 511),
@@ -151,34 +193,16 @@ fn numbers_within_their_limits(rt: HostRuntime) {
         (u32::MAX, u32::MAX),
         (2, 254),
     ] {
-        assert_eq!(rt;
-            Stamped::new(codes, values, last).err(),
-            Some(LayerError::BadSize),
-            "{values} {last}"
-        );
+        built(rt, of_512, values, last, refused);
     }
-    let of_two_readers = unary(4, 2);
-    assert_eq!(rt;
-        Stamped::new(of_two_readers, 2, 1).err(),
-        Some(LayerError::BadSize)
-    );
-}
-
-/// Cells and words, in this order.
-fn size(cell: u32, word: u32) -> Place {
-    Place { cell, word }
+    built(rt, of_two_readers, 2, 1, refused);
+    let size = |cell, word| Place { cell, word };
+    built(rt, of_4, 2, 1, Ok(size(4, 6)));
+    built(rt, of_512, 2, 255, Ok(size(512, 514)));
+    built(rt, of_512, 512, 0, Ok(size(512, 514)));
 }
 
 #[test]
-fn sizes(rt: HostRuntime) -> Result<(), Fail> {
-    for (numbers, wanted) in [
-        (told(&stamped(2, 1)), (size(4, 6), 2, 2, 5)),
-        (told(&stamped(2, 255)), (size(512, 514), 2, 2, 5)),
-        (told(&stamped(512, 0)), (size(512, 514), 512, 2, 5)),
-        (told(&stamped(3, 1)), (size(6, 8), 3, 2, 5)),
-        (told(&Stamped::new(Safe, 2, 0)?), (size(1, 2), 2, 2, 2)),
-    ] {
-        assert_eq!(rt; numbers, wanted);
-    }
-    Ok(())
+fn numbers_within_their_limits(rt: HostRuntime) {
+    limits(&rt, unary(4, 1), unary(512, 1), unary(4, 2));
 }

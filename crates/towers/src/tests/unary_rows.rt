@@ -11,6 +11,7 @@ use frames::types::{Action, ActionKind, Event, FrameLayer, Op, Step};
 use reader_copies::Copies;
 use safe_bit::{Place, Store};
 use std::alloc::{AllocError, Global};
+use std::process::Abort;
 use std::test::Fail;
 use unary_number::Unary;
 
@@ -25,8 +26,8 @@ fn store_at(alloc: Global, first: bool) -> Result<Store, AllocError>
     Ok(store)
 }
 
-#[test]
-fn unary_write(rt: HostRuntime) -> Result<(), Fail> {
+/// A write of 3 over 0, to its end.
+fn unary_write<R: Register>(rt: &impl Abort, alloc: Global, register: R) -> Result<(), AllocError> {
     let steps = [
         Step::Write { p: 0, v: 3 },
         Step::Go { p: 0, c: 0 },
@@ -35,8 +36,8 @@ fn unary_write(rt: HostRuntime) -> Result<(), Fail> {
         Step::Go { p: 0, c: 0 },
     ];
     let history = [(0, Event::Invoke(0, Op::Write(3))), (4, Event::Wrote(0))];
-    let config = replayed(&rt, rt.alloc(), unary(4, 1), &steps, &history)?;
-    let store = store_at(rt.alloc(), false)?;
+    let config = replayed(rt, alloc, register, &steps, &history)?;
+    let store = store_at(alloc, false)?;
     assert!(rt; *config.store() == store);
     for p in [0, 1, 2] {
         assert_eq!(rt; config.op(p), None, "{p}");
@@ -61,16 +62,20 @@ const UNARY_OVERLAP: [Step; 13] = [
     Step::Go { p: 1, c: 0 },
 ];
 
-#[test]
-fn unary_overlap(rt: HostRuntime) -> Result<(), Fail> {
+/// The whole of `UNARY_OVERLAP`.
+fn unary_overlap<R: Register>(
+    rt: &impl Abort,
+    alloc: Global,
+    register: R,
+) -> Result<(), AllocError> {
     let history = [
         (0, Event::Invoke(0, Op::Write(3))),
         (3, Event::Invoke(1, Op::Read)),
         (6, Event::Chosen(1, 0, false)),
         (12, Event::Got(1, 3)),
     ];
-    let config = replayed(&rt, rt.alloc(), unary(4, 1), &UNARY_OVERLAP, &history)?;
-    let mut store = store_at(rt.alloc(), true)?;
+    let config = replayed(rt, alloc, register, &UNARY_OVERLAP, &history)?;
+    let mut store = store_at(alloc, true)?;
     store.start_write(0, false);
     assert!(rt; *config.store() == store);
     assert_eq!(rt; config.op(0), Some(Op::Write(3)));
@@ -85,7 +90,7 @@ fn unary_overlap(rt: HostRuntime) -> Result<(), Fail> {
         frame(FrameLayer::Copies, Op::Write(0), 1),
         frame(FrameLayer::Safe, Op::Write(0), 1),
     ];
-    stands_in(&rt, rt.alloc(), &config, 0, &writing);
+    stands_in(rt, alloc, &config, 0, &writing);
     for p in [1, 2] {
         assert_eq!(rt; config.op(p), None, "{p}");
         assert_eq!(rt; config.action(p), None, "{p}");
@@ -93,14 +98,18 @@ fn unary_overlap(rt: HostRuntime) -> Result<(), Fail> {
     Ok(())
 }
 
-#[test]
-fn unary_overlap_at_6(rt: HostRuntime) -> Result<(), Fail> {
+/// The first six steps of `UNARY_OVERLAP`: both processes stand at bit 0.
+fn unary_overlap_at_6<R: Register>(
+    rt: &impl Abort,
+    alloc: Global,
+    register: R,
+) -> Result<(), AllocError> {
     let history = [
         (0, Event::Invoke(0, Op::Write(3))),
         (3, Event::Invoke(1, Op::Read)),
     ];
-    let config = replayed(&rt, rt.alloc(), unary(4, 1), &UNARY_OVERLAP[..6], &history)?;
-    let mut store = store_at(rt.alloc(), true)?;
+    let config = replayed(rt, alloc, register, &UNARY_OVERLAP[..6], &history)?;
+    let mut store = store_at(alloc, true)?;
     store.start_write(0, false);
     store.start_read(0);
     assert!(rt; *config.store() == store);
@@ -116,52 +125,90 @@ fn unary_overlap_at_6(rt: HostRuntime) -> Result<(), Fail> {
         frame(FrameLayer::Copies, Op::Read, 1),
         frame(FrameLayer::Safe, Op::Read, 1),
     ];
-    stands_in(&rt, rt.alloc(), &config, 1, &reading);
-    stands_in(&rt, rt.alloc(), &config, 2, &[]);
+    stands_in(rt, alloc, &config, 1, &reading);
+    stands_in(rt, alloc, &config, 2, &[]);
     Ok(())
 }
 
+/// The rows of a unary number of 4 values.
+fn rows<R: Register>(rt: &impl Abort, alloc: Global, of_4: R) -> Result<(), AllocError> {
+    unary_write(rt, alloc, of_4)?;
+    unary_overlap(rt, alloc, of_4)?;
+    unary_overlap_at_6(rt, alloc, of_4)
+}
+
 #[test]
-fn numbers_of_values(rt: HostRuntime) -> Result<(), Fail> {
-    let below = regular(4);
+fn unary_rows(rt: HostRuntime) -> Result<(), Fail> {
+    rows(&rt, rt.alloc(), unary(4, 1))?;
+    Ok(())
+}
+
+/// Asserts what unary numbers over bits of four readers are refused for, and their sizes.
+fn limits<S: Register>(rt: &impl Abort, bits: S) {
     for values in [0, 1, 513, u32::MAX] {
         assert_eq!(rt;
-            Unary::new(below, values).err(),
+            Unary::new(bits, values).err(),
             Some(LayerError::BadSize),
             "{values}"
         );
     }
-    for values in [2, 3, 512] {
-        assert_eq!(rt; Unary::new(below, values)?.values(), values);
+    for (values, cell, word) in [(2, 8, 2), (3, 12, 3), (512, 2048, 512)] {
+        match Unary::new(bits, values) {
+            Ok(unary) => {
+                let size = Place { cell, word };
+                assert_eq!(rt; told(&unary), (size, values, 5, 4), "{values}");
+            }
+            Err(error) => assert!(rt; false, "{error}"),
+        }
     }
+}
+
+#[test]
+fn numbers_of_values(rt: HostRuntime) {
+    limits(&rt, regular(4));
+}
+
+#[test]
+fn bits_of_three_values(rt: HostRuntime) {
     let three = unary(3, 4);
     assert_eq!(rt; Unary::new(three, 4).err(), Some(LayerError::BadSize));
-    Ok(())
+}
+
+/// Asserts how many bits of 16 cells there can be.
+fn most_cells<S: Register>(rt: &impl Abort, of_16_cells: S) {
+    match Unary::new(of_16_cells, 256) {
+        Ok(most) => assert_eq!(rt; most.size().cell, 4096),
+        Err(error) => assert!(rt; false, "{error}"),
+    }
+    assert_eq!(rt;
+        Unary::new(of_16_cells, 257).err(),
+        Some(LayerError::TooManyBits)
+    );
 }
 
 #[test]
 fn at_most_4096_cells(rt: HostRuntime) -> Result<(), Fail> {
-    let sixteen_cells = Unary::new(unary(2, 4), 2)?;
-    assert_eq!(rt; Unary::new(sixteen_cells, 256)?.size().cell, 4096);
-    assert_eq!(rt;
-        Unary::new(sixteen_cells, 257).err(),
-        Some(LayerError::TooManyBits)
-    );
-    let two_cells = unary(2, 1);
-    let most = Unary::new(two_cells, 512)?;
-    assert_eq!(rt; Copies::new(most, 4)?.size().cell, 4096);
-    let four_cells = Unary::new(two_cells, 2)?;
-    let more = Unary::new(four_cells, 257)?;
-    assert_eq!(rt; Copies::new(more, 3)?.size().cell, 3084);
-    assert_eq!(rt; Copies::new(more, 4).err(), Some(LayerError::TooManyBits));
+    most_cells(&rt, Unary::new(unary(2, 4), 2)?);
     Ok(())
 }
 
+/// Asserts how many copies of registers of 1,024 and 1,028 cells there can be.
+fn most_copies<S: Register>(rt: &impl Abort, of_1024_cells: S, of_1028_cells: S) {
+    assert!(rt; Copies::new(of_1024_cells, 4).is_ok());
+    assert!(rt; Copies::new(of_1028_cells, 3).is_ok());
+    assert_eq!(rt;
+        Copies::new(of_1028_cells, 4).err(),
+        Some(LayerError::TooManyBits)
+    );
+}
+
 #[test]
-fn sizes(rt: HostRuntime) {
-    let size = Place {
-        cell: 2048,
-        word: 512,
-    };
-    assert_eq!(rt; told(&unary(512, 4)), (size, 512, 5, 4));
+fn copies_of_at_most_4096_cells(rt: HostRuntime) -> Result<(), Fail> {
+    let of_4_cells = Unary::new(unary(2, 1), 2)?;
+    most_copies(
+        &rt,
+        Unary::new(of_4_cells, 256)?,
+        Unary::new(of_4_cells, 257)?,
+    );
+    Ok(())
 }

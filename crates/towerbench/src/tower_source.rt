@@ -1,0 +1,72 @@
+//! Reading the bytes of a tower file.
+
+ghost use Rattle.std.specs.Prelude.{◌≡◌, ◌<◌, ◌≤◌, IfOk, IfSome, Err, length};
+ghost use Rattle.std.specs.Io.KnownBytes.{IsAtEnd};
+
+use std::alloc::Global;
+use std::fs;
+use std::io::{ErrorKind, Read};
+use std::rt::Files;
+use thiserror::Error;
+
+/// The most bytes of a tower file.
+pub const MOST_BYTES: usize = 1 << 26;
+
+/// The most bytes of one read.
+const PIECE_BYTES: usize = 4096;
+
+/// Why the bytes of a tower file aren't had.
+#[derive(Clone, Copy, Debug, PartialEq, Eq, Error)]
+pub enum SourceFault {
+    /// It can't be opened, or a read of it failed.
+    #[error("file unreadable")]
+    Unreadable,
+    /// It has more bytes than its limit.
+    #[error("file too long")]
+    TooLong,
+    /// There was no memory for its bytes.
+    #[error("memory")]
+    Memory,
+}
+
+/// Reads the bytes of the file at a path.
+pub fn read_file<F: Files + AllocGlobal>(files: &F, path: &str) -> Result<Vec<u8>, SourceFault>
+    ensures { IfOk result (λ bytes. length bytes.items ≤ 67108864) }
+{
+    let mut file = match fs::open(files, path) {
+        Ok(file) => file,
+        Err(e) if e.kind() == ErrorKind::OutOfMemory => return Err(SourceFault::Memory),
+        Err(_) => return Err(SourceFault::Unreadable),
+    };
+    read_all(files.alloc(), &mut file, MOST_BYTES)
+}
+
+/// Reads a reader to its end, for at most so many bytes. No read is tried again.
+pub fn read_all<R: Read>(
+    alloc: Global,
+    reader: &mut R,
+    limit: usize,
+) -> Result<Vec<u8>, SourceFault>
+    ensures bytes { IfOk result (λ bytes. IfSome (R.remaining reader.old) (λ all. bytes.items ≡ all)) }
+    ensures end { IfOk result (λ _. IsAtEnd (R.remaining reader.new)) }
+    ensures room { IfOk result (λ bytes. length bytes.items ≤ limit) }
+    ensures too_long { result ≡ Err SourceFault.TooLong
+        → IfSome (R.remaining reader.old) (λ all. limit < length all) }
+{
+    let mut bytes = Vec::new(alloc);
+    let mut piece = [0; PIECE_BYTES];
+    'pieces: loop {
+        let Ok(count) = reader.read(&mut piece) else {
+            return Err(SourceFault::Unreadable);
+        };
+        if count == 0 {
+            return Ok(bytes);
+        }
+        if limit - bytes.len() < count {
+            return Err(SourceFault::TooLong);
+        }
+        let Ok(()) = bytes.extend_from_slice(&piece[..count]) else {
+            return Err(SourceFault::Memory);
+        };
+    }
+}
