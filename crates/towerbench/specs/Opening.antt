@@ -1,5 +1,6 @@
 -- What a run opens with: the tower and the steps of its file, or a safe bit at 0 with no steps.
-use Rattle.std.specs.Prelude.{◌≡◌, ◌<◌, ⊤, ℕ, Bool, List, [], length, Option, Some, None, Result, Ok, Err}
+use Rattle.std.specs.Prelude.{◌≡◌, ◌<◌, ⊤, ℕ, Bool, List, [], length, Option, Some, None, Result, Ok, Err, IfSome}
+use Rattle.std.specs.Io.KnownBytes.{Appends}
 use Rattle.frames.specs.declared.types.Step.{Step}
 use Rattle.frames.specs.SafeBit.{safe_behaviour}
 use Rattle.towers.specs.Towers.{copies_tower, regular_tower, unary_tower, stamped_tower, matrix_tower}
@@ -34,6 +35,15 @@ output_of (Matrix processes values last_tag last_stamp) steps = output (opening 
 
 abbrev pub output_on : File → ℕ → List ℕ → (ℕ → Bool) → List ℕ
 output_on f = output_of f.spec f.steps
+
+-- a run over a file has written the output of the script that was read, where the reader tells it
+abbrev pub Wrote : Option (List ℕ) → ℕ → Option (List ℕ) → Option (List ℕ) → Option (List ℕ) → Type 0
+Wrote file cells script before after =
+    IfSome script (λ script. (f : File) × ((opened file ≡ Ok f) × ((marks : ℕ → Bool) × Appends before after (output_on f cells script marks))))
+
+-- the same over a file that isn't known; where none was named, there is none
+abbrev pub WroteOn : {A : Type 0} → Option A → ℕ → Option (List ℕ) → Option (List ℕ) → Option (List ℕ) → Type 0
+WroteOn named cells script before after = (file : Option (List ℕ)) × ((named ≡ None → file ≡ None) × Wrote file cells script before after)
 
 -- the fault of a run that a file's fault or one of the streams is: want of memory has no line
 abbrev pub by_kind : FaultKind → FileFault → Fault

@@ -4,6 +4,7 @@ ghost use Rattle.std.specs.Prelude.{◌≡◌};
 ghost use Rattle.towerbench.specs.Opening as spec;
 
 use crate::refusal::Refusal;
+use crate::tower_source::SourceFault;
 use thiserror::Error;
 use tower_file::{FaultKind, FileFault};
 
@@ -45,6 +46,27 @@ pub enum Fault {
     /// There was no memory to go on.
     #[error("memory")]
     Memory,
+}
+
+/// A fault of the program: of reading its file, or of its run.
+#[derive(Clone, Copy, Debug, PartialEq, Eq, Error)]
+pub enum ProgramFault {
+    #[error("{0}")]
+    Source(SourceFault),
+    #[error("{0}")]
+    Run(Fault),
+}
+
+impl From<SourceFault> for ProgramFault {
+    fn from(fault: SourceFault) -> ProgramFault {
+        ProgramFault::Source(fault)
+    }
+}
+
+impl From<Fault> for ProgramFault {
+    fn from(fault: Fault) -> ProgramFault {
+        ProgramFault::Run(fault)
+    }
 }
 
 impl From<StreamFault> for Fault {

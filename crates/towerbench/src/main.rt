@@ -21,6 +21,8 @@ pub mod page;
 pub mod pending;
 pub mod refusal;
 pub mod reply;
+#[cfg(test)]
+mod row_tests;
 pub mod run;
 pub mod schedule;
 #[cfg(test)]
@@ -44,7 +46,7 @@ fn main(rt: HostRuntime) -> ExitCode {
     let mut input = rt.stdin();
     let mut output = rt.stdout();
     let mut errors = rt.stderr();
-    ExitCode::from(tool(rt.alloc(), words, &mut input, &mut output, &mut errors))
+    ExitCode::from(tool(&rt, words, &mut input, &mut output, &mut errors))
 }
 
 /// The words behind the program's name.

@@ -4,8 +4,7 @@ ghost use Rattle.std.specs.Prelude.{◌≡◌, ◌++◌, [], ◌<◌, ◌≤◌,
 ghost use Rattle.std.specs.Io.KnownBytes.{Appends, Consumes, IsAtEnd};
 ghost use Rattle.std.specs.Option.{option_map};
 ghost use Rattle.frames.specs.Configuration.{fits_step};
-ghost use Rattle.tower_file.specs.Files.{File};
-ghost use Rattle.towerbench.specs.Opening.{opened, output_on, OpensWith, BeginsWith};
+ghost use Rattle.towerbench.specs.Opening.{Wrote, output_on, OpensWith, BeginsWith};
 ghost use Rattle.towerbench.specs.World.{World, opening, world_of};
 ghost use Rattle.towerbench.specs.Ranges.{AreLimits};
 ghost use Rattle.towerbench.specs.Told.{Told};
@@ -43,8 +42,7 @@ pub fn run<R: Read, W: Write>(
     writer: &mut W,
 ) -> Result<(), Fault>
     requires limits { AreLimits options }
-    ensures output { OnOk result (IfSome (R.remaining reader.old) (λ script. (f : File) × ((opened (option_map (λ bytes. bytes.now) file.entry) ≡ Ok f)
-        × ((marks : ℕ → Bool) × Appends (W.contents writer.old) (W.contents writer.new) (output_on f options.cells script marks))))) }
+    ensures output { OnOk result (Wrote (option_map (λ bytes. bytes.now) file.entry) options.cells (R.remaining reader.old) (W.contents writer.old) (W.contents writer.new)) }
     ensures fault { IfErr result (OpensWith options.cells (option_map (λ bytes. bytes.now) file.entry)) }
 {
     let Some(bytes) = file else {

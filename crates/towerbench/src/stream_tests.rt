@@ -5,6 +5,7 @@ use std::alloc::{AllocError, Global};
 use std::io;
 use std::io::{ErrorKind, Read, Write};
 use std::process::Abort;
+use std::rt::Files;
 use std::test::Fail;
 
 /// Gives a script byte by byte, each behind an interrupted read, and at the end the fault, if any.
@@ -81,23 +82,23 @@ impl Write for Stuck {
 }
 
 /// The program's status with no words, its answers and its fault lines.
-fn told<R: Read>(alloc: Global, reader: &mut R) -> (u8, Vec<u8>, Vec<u8>) {
-    let mut out = Vec::new(alloc);
-    let mut errors = Vec::new(alloc);
-    let status = tool(alloc, Ok(Vec::new(alloc)), reader, &mut out, &mut errors);
+fn told<F: Files + AllocGlobal, R: Read>(files: &F, reader: &mut R) -> (u8, Vec<u8>, Vec<u8>) {
+    let mut out = Vec::new(files.alloc());
+    let mut errors = Vec::new(files.alloc());
+    let words = Ok(Vec::new(files.alloc()));
+    let status = tool(files, words, reader, &mut out, &mut errors);
     (status, out, errors)
 }
 
 /// Asserts what the program tells.
-fn check<R: Read>(
-    rt: &impl Abort,
-    alloc: Global,
+fn check<F: Abort + Files + AllocGlobal, R: Read>(
+    rt: &F,
     reader: &mut R,
     status: u8,
     want: &str,
     fault: &str,
 ) {
-    let (ended, out, errors) = told(alloc, reader);
+    let (ended, out, errors) = told(rt, reader);
     assert_eq!(rt; out.as_slice(), want.as_bytes());
     assert_eq!(rt; errors.as_slice(), fault.as_bytes());
     assert_eq!(rt; ended, status);
@@ -112,7 +113,7 @@ fn slow_script(rt: HostRuntime) {
         fault: None,
     };
     let want = "0: edit 1\n0: history main 1 of 1\n  0 p1 invoke read\n";
-    check(&rt, rt.alloc(), &mut reader, 0, want, "");
+    check(&rt, &mut reader, 0, want, "");
 }
 
 #[test]
@@ -125,7 +126,6 @@ fn failed_read(rt: HostRuntime) {
     };
     check(
         &rt,
-        rt.alloc(),
         &mut reader,
         1,
         "0: edit 1\n",
@@ -141,7 +141,7 @@ fn failed_write(rt: HostRuntime) {
         let mut writer = Closed { fails };
         let mut errors = Vec::new(rt.alloc());
         let words = Ok(Vec::new(rt.alloc()));
-        let status = tool(rt.alloc(), words, &mut reader, &mut writer, &mut errors);
+        let status = tool(&rt, words, &mut reader, &mut writer, &mut errors);
         assert_eq!(rt; errors.as_slice(), b"towerbench: write failed\n".as_slice());
         assert_eq!(rt; status, 1);
     }
@@ -153,7 +153,7 @@ fn failed_flush(rt: HostRuntime) {
     let mut reader = script.as_slice();
     let mut errors = Vec::new(rt.alloc());
     let words = Ok(Vec::new(rt.alloc()));
-    let status = tool(rt.alloc(), words, &mut reader, &mut Stuck, &mut errors);
+    let status = tool(&rt, words, &mut reader, &mut Stuck, &mut errors);
     assert_eq!(rt; errors.as_slice(), b"towerbench: write failed\n".as_slice());
     assert_eq!(rt; status, 1);
 }
@@ -166,7 +166,7 @@ fn fault_line_lost(rt: HostRuntime) {
     let words = Ok(Vec::new(rt.alloc()));
     let mut errors = Closed { fails: true };
     let mut writer = Closed { fails: false };
-    let status = tool(rt.alloc(), words, &mut reader, &mut writer, &mut errors);
+    let status = tool(&rt, words, &mut reader, &mut writer, &mut errors);
     assert_eq!(rt; status, 1);
 }
 
@@ -178,7 +178,7 @@ fn long_scripts(rt: HostRuntime) {
     let room = (1u64 << 24) - script.len() as u64;
     let want = "0: refused 20 NoBranch\n";
     let mut short = script.as_slice().chain(io::repeat(b'\n').take(room - 1));
-    check(&rt, rt.alloc(), &mut short, 0, want, "");
+    check(&rt, &mut short, 0, want, "");
     let mut long = script.as_slice().chain(io::repeat(b'\n').take(room));
     check(
         &rt,
@@ -215,7 +215,7 @@ fn binary_script(rt: HostRuntime) {
     let script = b"\x00\xff\n0 state main 0\x80\n\n0 history main 0\n";
     let want = "line 1: refused 36 BadLine\nline 2: refused 36 BadLine\n\
         0: history main 0 of 0\n  none\n";
-    check(&rt, rt.alloc(), &mut script.as_slice(), 0, want, "");
+    check(&rt, &mut script.as_slice(), 0, want, "");
 }
 
 #[test]
@@ -229,7 +229,7 @@ fn long_lines(rt: HostRuntime) -> Result<(), Fail> {
     ] {
         let mut script = vec![in rt.alloc(); byte; count]?;
         script.push(b'\n')?;
-        check(&rt, rt.alloc(), &mut script.as_slice(), 0, want, "");
+        check(&rt, &mut script.as_slice(), 0, want, "");
     }
     Ok(())
 }
@@ -239,32 +239,109 @@ fn carriage_returns(rt: HostRuntime) {
     let script = b"0 state main 0\r\n\r\n# x\r\n0 history main 0\n";
     let want = "line 1: refused 36 BadLine\nline 2: refused 36 BadLine\n\
         0: history main 0 of 0\n  none\n";
-    check(&rt, rt.alloc(), &mut script.as_slice(), 0, want, "");
+    check(&rt, &mut script.as_slice(), 0, want, "");
 }
 
 #[test]
 fn empty_script(rt: HostRuntime) {
-    check(&rt, rt.alloc(), &mut io::empty(), 0, "", "");
+    check(&rt, &mut io::empty(), 0, "", "");
 }
 
-/// Any word is refused, and so are words that can't be read.
+/// The words of a command line.
+fn words_of(alloc: Global, texts: &[&str]) -> Result<Vec<String>, AllocError> {
+    let mut words = Vec::new(alloc);
+    for text in texts {
+        let word = String::from_str(alloc, text)?;
+        words.push(word).map_err(AllocError::from)?;
+    }
+    Ok(words)
+}
+
+/// Words that aren't the program's are refused, and nothing is read or answered.
 #[test]
 fn words_refused(rt: HostRuntime) -> Result<(), Fail> {
-    let mut words = Vec::new(rt.alloc());
-    words
-        .push(String::from_str(rt.alloc(), "--help")?)
-        .map_err(AllocError::from)?;
-    for words in [Ok(words), Err(io::Error::from(ErrorKind::InvalidData))] {
+    for texts in [
+        ["--workers", "1"].as_slice(),
+        ["--branches", "64"].as_slice(),
+        ["--cells", "0"].as_slice(),
+        ["one", "two"].as_slice(),
+    ] {
+        let words = Ok(words_of(rt.alloc(), texts)?);
         let mut reader = b"0 state main 0\n".as_slice();
         let mut out = Vec::new(rt.alloc());
         let mut errors = Vec::new(rt.alloc());
-        let status = tool(rt.alloc(), words, &mut reader, &mut out, &mut errors);
+        let status = tool(&rt, words, &mut reader, &mut out, &mut errors);
         assert_eq!(rt; status, 2);
+        assert!(rt; out.is_empty() && !errors.is_empty());
+    }
+    Ok(())
+}
+
+/// Words that are no text are refused too.
+#[test]
+fn words_unreadable(rt: HostRuntime) {
+    let words = Err(io::Error::from(ErrorKind::InvalidData));
+    let mut out = Vec::new(rt.alloc());
+    let mut errors = Vec::new(rt.alloc());
+    let status = tool(&rt, words, &mut io::empty(), &mut out, &mut errors);
+    assert_eq!(rt; status, 2);
+    assert!(rt; out.is_empty());
+    assert_eq!(rt;
+        errors.as_slice(),
+        b"towerbench: a word of the command line is not text\n".as_slice()
+    );
+}
+
+/// The help goes to the answers, and its status is 0, unless it can't be written.
+#[test]
+fn help(rt: HostRuntime) -> Result<(), Fail> {
+    let words = Ok(words_of(rt.alloc(), &["--help"])?);
+    let mut out = Vec::new(rt.alloc());
+    let mut errors = Vec::new(rt.alloc());
+    let status = tool(&rt, words, &mut io::empty(), &mut out, &mut errors);
+    assert_eq!(rt; status, 0);
+    assert!(rt; out.starts_with(b"Answers the script on standard input"));
+    assert!(rt; errors.is_empty());
+    let words = Ok(words_of(rt.alloc(), &["--help"])?);
+    let mut closed = Closed { fails: true };
+    let status = tool(&rt, words, &mut io::empty(), &mut closed, &mut errors);
+    assert_eq!(rt; status, 1);
+    assert_eq!(rt; errors.as_slice(), b"towerbench: write failed\n".as_slice());
+    Ok(())
+}
+
+/// A tower file that can't be opened or read.
+#[test]
+fn files_unreadable(rt: HostRuntime) -> Result<(), Fail> {
+    for path in ["no-such-file.tower", "/", "/dev"] {
+        let words = Ok(words_of(rt.alloc(), &[path])?);
+        let mut out = Vec::new(rt.alloc());
+        let mut errors = Vec::new(rt.alloc());
+        let status = tool(&rt, words, &mut io::empty(), &mut out, &mut errors);
+        assert_eq!(rt; status, 1, "{path}");
         assert!(rt; out.is_empty());
         assert_eq!(rt;
             errors.as_slice(),
-            b"usage: towerbench < SCRIPT\n".as_slice()
+            b"towerbench: file unreadable\n".as_slice()
         );
+    }
+    Ok(())
+}
+
+/// A tower file without an end is too long, and one with no bytes has no header.
+#[test]
+fn file_faults_of_devices(rt: HostRuntime) -> Result<(), Fail> {
+    for (path, fault) in [
+        ("/dev/zero", "towerbench: file too long\n"),
+        ("/dev/null", "towerbench: file line 1: 11 BadHeader\n"),
+    ] {
+        let words = Ok(words_of(rt.alloc(), &[path])?);
+        let mut out = Vec::new(rt.alloc());
+        let mut errors = Vec::new(rt.alloc());
+        let status = tool(&rt, words, &mut io::empty(), &mut out, &mut errors);
+        assert_eq!(rt; status, 1, "{path}");
+        assert!(rt; out.is_empty());
+        assert_eq!(rt; errors.as_slice(), fault.as_bytes());
     }
     Ok(())
 }
@@ -275,7 +352,7 @@ fn words_without_memory(rt: HostRuntime) {
     let words = Err(io::Error::from(ErrorKind::OutOfMemory));
     let mut out = Vec::new(rt.alloc());
     let mut errors = Vec::new(rt.alloc());
-    let status = tool(rt.alloc(), words, &mut io::empty(), &mut out, &mut errors);
+    let status = tool(&rt, words, &mut io::empty(), &mut out, &mut errors);
     assert_eq!(rt; status, 1);
     assert!(rt; out.is_empty());
     assert_eq!(rt; errors.as_slice(), b"towerbench: memory\n".as_slice());

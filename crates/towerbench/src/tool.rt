@@ -1,55 +1,107 @@
 //! What the program does with its words and its streams.
 
-ghost use Rattle.std.specs.Prelude.{◌≡◌, ◌≢◌, ◌≤◌, ℕ, Bool, [], None, Ok, IfOk, IfSome};
-ghost use Rattle.std.specs.Io.KnownBytes.{Appends, Keeps};
-ghost use Rattle.tower_file.specs.Files.{File};
-ghost use Rattle.towerbench.specs.Opening.{opened, output_on};
+ghost use Rattle.std.specs.Prelude.{◌≡◌, ◌≤◌, [], None, IfOk, OnOk};
+ghost use Rattle.towerbench.specs.Ranges.{AreLimits};
+ghost use Rattle.towerbench.specs.Opening.{Wrote, WroteOn};
 
-use crate::fault::Fault;
+use crate::command_line::{Invocation, parse};
+use crate::fault::{Fault, ProgramFault};
 use crate::options::Options;
 use crate::run::run;
-use std::alloc::Global;
+use crate::tower_source::read_file;
 use std::io;
 use std::io::{ErrorKind, Read, Write};
+use std::rt::Files;
 
-/// The limits where no word sets them.
-const DEFAULTS: Options = Options {
-    workers: 0,
-    cells: 65536,
-    branches: 64,
-};
-
-/// Does the program's work, and answers its exit status: 0 at the end of the script, 1 after a
-/// fault, 2 where the words are refused. It takes no words.
-pub fn tool<R: Read, W: Write, E: Write>(
-    alloc: Global,
+/// Does the program's work, and answers its exit status: 0 at the end of the script or after the
+/// help, 1 after a fault, 2 where the words are refused.
+pub fn tool<F: Files + AllocGlobal, R: Read, W: Write, E: Write>(
+    files: &F,
     words: io::Result<Vec<String>>,
     reader: &mut R,
     writer: &mut W,
     errors: &mut E,
 ) -> u8
-    ensures words { IfOk words (λ ws. ws.items ≢ [] → (result ≡ 2) × Keeps (W.contents writer.old) (W.contents writer.new)) }
     ensures status { result ≤ 2 }
-    ensures done { result ≡ 0 → IfSome (R.remaining reader.old) (λ script. (f : File) × ((opened None ≡ Ok f)
-        × ((marks : ℕ → Bool) × Appends (W.contents writer.old) (W.contents writer.new) (output_on f DEFAULTS.cells script marks)))) }
+    ensures done { IfOk words (λ ws. ws.items ≡ [] → result ≡ 0 → Wrote None 65536 (R.remaining reader.old) (W.contents writer.old) (W.contents writer.new)) }
 {
-    let given = match words {
-        Ok(words) => !words.is_empty(),
-        Err(e) if e.kind() == ErrorKind::OutOfMemory => return tell(errors, Fault::Memory),
-        Err(_) => true,
-    };
-    if given {
-        let _ = writeln!(errors, "usage: towerbench < SCRIPT");
-        return 2;
-    }
-    match run(alloc, None, DEFAULTS, reader, writer) {
-        Ok(()) => 0,
-        Err(fault) => tell(errors, fault),
+    match words {
+        Ok(words) => follow(files, words.as_slice(), reader, writer, errors),
+        Err(e) if e.kind() == ErrorKind::OutOfMemory => {
+            tell(errors, ProgramFault::Run(Fault::Memory))
+        }
+        Err(_) => {
+            let _ = writeln!(errors, "towerbench: a word of the command line is not text");
+            2
+        }
     }
 }
 
+/// Does what the words ask for.
+fn follow<F: Files + AllocGlobal, R: Read, W: Write, E: Write>(
+    files: &F,
+    words: &[String],
+    reader: &mut R,
+    writer: &mut W,
+    errors: &mut E,
+) -> u8
+    ensures status { result ≤ 2 }
+    ensures done { words.now ≡ [] → result ≡ 0 → Wrote None 65536 (R.remaining reader.old) (W.contents writer.old) (W.contents writer.new) }
+{
+    match parse(files.alloc(), words) {
+        Invocation::Run { file, options } => {
+            match work(files, file, options, reader, writer) {
+                Ok(()) => 0,
+                Err(fault) => tell(errors, fault),
+            }
+        }
+        Invocation::Help(text) => print(writer, errors, &text),
+        Invocation::Refused(text) => {
+            let _ = errors.write_all(text.as_bytes());
+            2
+        }
+        Invocation::Memory => tell(errors, ProgramFault::Run(Fault::Memory)),
+    }
+}
+
+/// Reads the tower file, if one is named, and answers the script.
+fn work<F: Files + AllocGlobal, R: Read, W: Write>(
+    files: &F,
+    file: Option<&str>,
+    options: Options,
+    reader: &mut R,
+    writer: &mut W,
+) -> Result<(), ProgramFault>
+    requires { AreLimits options }
+    ensures { OnOk result (WroteOn file.entry options.cells (R.remaining reader.old) (W.contents writer.old) (W.contents writer.new)) }
+{
+    let Some(path) = file else {
+        run(files.alloc(), None, options, reader, writer)?;
+        return Ok(());
+    };
+    let bytes = read_file(files, path)?;
+    run(
+        files.alloc(),
+        Some(bytes.as_slice()),
+        options,
+        reader,
+        writer,
+    )?;
+    Ok(())
+}
+
+/// Prints the help, and answers the status that goes with it.
+fn print<W: Write, E: Write>(writer: &mut W, errors: &mut E, text: &str) -> u8
+    ensures { result ≤ 1 }
+{
+    if writer.write_all(text.as_bytes()).is_ok() && writer.flush().is_ok() {
+        return 0;
+    }
+    tell(errors, ProgramFault::Run(Fault::Write))
+}
+
 /// Tells of a fault, and answers the status that goes with it, told or not.
-fn tell<E: Write>(errors: &mut E, fault: Fault) -> u8
+fn tell<E: Write>(errors: &mut E, fault: ProgramFault) -> u8
     ensures { result ≡ 1 }
 {
     let _ = writeln!(errors, "towerbench: {fault}");
