@@ -1,5 +1,5 @@
 -- The bytes of pages: a first line, and lines that begin with two spaces.
-use Rattle.std.specs.Prelude.{ℕ, List, [], ◌∷◌, ◌++◌, Option, Some, None, Bool, nat_lt, codes, map, if◌then◌else◌}
+use Rattle.std.specs.Prelude.{ℕ, List, [], ◌∷◌, ◌++◌, Option, Some, None, Bool, nat_lt, codes, if◌then◌else◌}
 use Rattle.std.specs.List.{flat_map, range_with_len}
 use Rattle.std.specs.Fmt.{decimal}
 use Rattle.safe_bit.specs.declared.Cell.{Cell}
@@ -64,12 +64,15 @@ no_process_line p = codes "  p" ++ decimal p ++ codes " none" ++ line_end
 abbrev pub one_process : {R P : Type 0} → Behaviour P → ℕ → Configuration R P → List ℕ
 one_process b p c = if nat_lt p b.processes then process_line b p (running_at p c) else no_process_line p
 
--- the values of all cells, as digits
-abbrev pub bit_digit : Cell → ℕ
-bit_digit c = if c.value then 49 else 48
+-- a bit as a digit, and the values of all cells
+abbrev pub bit_name : Bool → List ℕ
+bit_name v = if v then codes "1" else codes "0"
+
+abbrev pub value_name : Cell → List ℕ
+value_name c = bit_name c.value
 
 abbrev pub bits_line : Memory → List ℕ
-bits_line m = codes "  bits " ++ map bit_digit m.cells ++ line_end
+bits_line m = codes "  bits " ++ flat_map value_name m.cells ++ line_end
 
 -- all words, each behind a space, or a dash where there are none
 abbrev pub spaced : ℕ → List ℕ
@@ -88,9 +91,6 @@ state_lines b c = process_lines b c ++ bits_line c.memory ++ words_line c.memory
 
 -- a cell: its number, its value, the value being written or a dash, and a dash where it isn't read,
 -- `r` where it is, and `h` where that read is hit
-abbrev pub bit_name : Bool → List ℕ
-bit_name v = if v then codes "1" else codes "0"
-
 abbrev pub writing_name : Option Bool → List ℕ
 writing_name None = codes "-"
 writing_name (Some v) = bit_name v
@@ -100,7 +100,7 @@ reading_name c = if c.reading then (if c.hit then codes "h" else codes "r") else
 
 abbrev pub cell_line : ℕ → Cell → List ℕ
 cell_line j c =
-    codes "  " ++ decimal j ++ codes " " ++ bit_name c.value ++ codes " " ++ writing_name c.writing ++ codes " " ++ reading_name c ++ line_end
+    codes "  " ++ decimal j ++ codes " " ++ value_name c ++ codes " " ++ writing_name c.writing ++ codes " " ++ reading_name c ++ line_end
 
 -- a line for each cell, numbered from 0, and the line of all words
 abbrev pub memory_lines : Memory → List ℕ
@@ -130,9 +130,6 @@ abbrev pub reason_name : Reason → List ℕ
 reason_name Busy = codes "busy"
 reason_name Idle = codes "idle"
 
-abbrev pub bit_value : Bool → ℕ
-bit_value v = if v then 1 else 0
-
 abbrev pub event_process : Event → ℕ
 event_process (Invoke p o) = p
 event_process (Got p v) = p
@@ -147,7 +144,7 @@ event_name (Got p v) = codes "return " ++ decimal v
 event_name (Wrote p) = codes "return written"
 event_name (Refused p layer) = codes "refused spent " ++ layer_name layer
 event_name (Void p reason) = codes "void " ++ reason_name reason
-event_name (Chosen p bit v) = codes "chosen bit " ++ decimal bit ++ codes " value " ++ decimal (bit_value v)
+event_name (Chosen p bit v) = codes "chosen bit " ++ decimal bit ++ codes " value " ++ bit_name v
 
 -- the line of an event, with the index of its step
 abbrev pub event_line : ℕ × Event → List ℕ

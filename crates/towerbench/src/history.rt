@@ -3,7 +3,7 @@
 ghost use Rattle.std.specs.Prelude.{◌≡◌, ◌++◌, OnOk};
 ghost use Rattle.towerbench.specs.Pages as spec;
 
-use crate::page::push_op;
+use crate::page::{bit_name, push_op};
 use frames::types::{Event, Layer, Reason};
 use std::io;
 use std::io::Write;
@@ -65,7 +65,7 @@ fn push_event_name(out: &mut Vec<u8>, event: Event) -> io::Result<()>
             write!(out, "void {reason}")
         }
         Event::Chosen(_, bit, value) => {
-            let value = u32::from(value);
+            let value = bit_name(value);
             write!(out, "chosen bit {bit} value {value}")
         }
     }

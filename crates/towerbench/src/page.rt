@@ -1,7 +1,6 @@
 //! The lines of pages of a configuration.
 
 ghost use Rattle.std.specs.Prelude.{◌≡◌, ◌++◌, OnOk, Option, length};
-ghost use Rattle.safe_bit.specs.Memory.{Memory};
 ghost use Rattle.safe_bit.specs.Parts.{HasSize};
 ghost use Rattle.frames.specs.Configuration.{running_at};
 ghost use Rattle.towerbench.specs.Numbered.{numbered};
@@ -123,10 +122,17 @@ fn push_bits(out: &mut Vec<u8>, store: &Store, cells: u32) -> io::Result<()>
 {
     write!(out, "  bits ")?;
     for i in 0..cells {
-        let digit = if store.cell(i).value { b'1' } else { b'0' };
-        out.push(digit)?;
+        let value = bit_name(store.cell(i).value);
+        write!(out, "{value}")?;
     }
     writeln!(out)
+}
+
+/// A bit as a digit.
+pub fn bit_name(value: bool) -> &'static str
+    ensures { result.now ≡ spec.bit_name value }
+{
+    if value { "1" } else { "0" }
 }
 
 /// Adds the line of all words.
@@ -175,13 +181,6 @@ fn push_cell(out: &mut Vec<u8>, i: u32, cell: Cell) -> io::Result<()>
     let reading = reading_name(cell);
     write!(out, "  {i} {value} ")?;
     writeln!(out, "{writing} {reading}")
-}
-
-/// A bit as a digit.
-fn bit_name(value: bool) -> &'static str
-    ensures { result.now ≡ spec.bit_name value }
-{
-    if value { "1" } else { "0" }
 }
 
 /// The value being written, or a dash.

@@ -1,6 +1,6 @@
 //! The lines of a branch's steps.
 
-ghost use Rattle.std.specs.Prelude.{◌≡◌, ◌++◌, OnOk, length};
+ghost use Rattle.std.specs.Prelude.{◌≡◌, ◌++◌, OnOk};
 ghost use Rattle.towerbench.specs.Pages as spec;
 
 use crate::page::push_title;
