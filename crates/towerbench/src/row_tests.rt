@@ -202,18 +202,38 @@ fn matrix_first_read_spent(rt: HostRuntime) -> Result<(), Fail> {
 #[test]
 fn file_faults(rt: HostRuntime) {
     for (file, kind, line) in [
-        (b"tower 1\nsafe 0\nw 0 1\ng 0".as_slice(), FaultKind::BadStep, 4),
-        (b"tower 1\nunary 512 1 0\nw 0 512\n".as_slice(), FaultKind::BadStep, 3),
-        (b"tower 1\nmatrix 2 2 1 3\nr 2\n".as_slice(), FaultKind::BadStep, 3),
+        (
+            b"tower 1\nsafe 0\nw 0 1\ng 0".as_slice(),
+            FaultKind::BadStep,
+            4,
+        ),
+        (
+            b"tower 1\nunary 512 1 0\nw 0 512\n".as_slice(),
+            FaultKind::BadStep,
+            3,
+        ),
+        (
+            b"tower 1\nmatrix 2 2 1 3\nr 2\n".as_slice(),
+            FaultKind::BadStep,
+            3,
+        ),
         (b"tower 3\nsafe 0\n".as_slice(), FaultKind::BadHeader, 1),
         (b"".as_slice(), FaultKind::BadHeader, 1),
         (b"tower 1\natom 0\n".as_slice(), FaultKind::UnknownTower, 2),
         (b"tower 1\nsafe 00\n".as_slice(), FaultKind::BadField, 2),
         (b"tower 1\nsafe 2\n".as_slice(), FaultKind::BadSize, 2),
-        (b"tower 1\nsafe 0\nr \x80\n".as_slice(), FaultKind::NotAscii, 3),
+        (
+            b"tower 1\nsafe 0\nr \x80\n".as_slice(),
+            FaultKind::NotAscii,
+            3,
+        ),
     ] {
         let fault = written(rt.alloc(), file, 65536, "0 state main 0\n").err();
-        assert_eq!(rt; fault, Some(Fault::File(FileFault { kind, line })), "{file:?}");
+        assert_eq!(rt;
+            fault,
+            Some(Fault::File(FileFault { kind, line })),
+            "{file:?}"
+        );
     }
     let file = b"tower 1\nunary 512 1 0\nw 0 511\n";
     assert!(rt; written(rt.alloc(), file, 65536, "").is_ok());

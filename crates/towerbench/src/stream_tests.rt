@@ -180,17 +180,9 @@ fn long_scripts(rt: HostRuntime) {
     let mut short = script.as_slice().chain(io::repeat(b'\n').take(room - 1));
     check(&rt, &mut short, 0, want, "");
     let mut long = script.as_slice().chain(io::repeat(b'\n').take(room));
+    check(&rt, &mut long, 1, want, "towerbench: script too long\n");
     check(
         &rt,
-        rt.alloc(),
-        &mut long,
-        1,
-        want,
-        "towerbench: script too long\n",
-    );
-    check(
-        &rt,
-        rt.alloc(),
         &mut io::repeat(b'#'),
         1,
         "",
@@ -202,7 +194,6 @@ fn long_scripts(rt: HostRuntime) {
 fn endless_interruptions(rt: HostRuntime) {
     check(
         &rt,
-        rt.alloc(),
         &mut Interrupted,
         1,
         "",
