@@ -2,10 +2,6 @@
 #![tactic(auto)]
 
 pub mod config;
-pub mod drive;
-pub mod fit;
-pub mod layer;
-pub mod nested;
 mod own;
 pub mod register;
 pub mod running;

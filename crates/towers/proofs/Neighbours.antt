@@ -3,7 +3,8 @@ use Rattle.std.proofs.Common.{◌≡◌, ℕ, ◌*◌, ◌<◌, length, ap, ◌�
 use Rattle.safe_bit.specs.declared.Place.{Place}
 use Rattle.std.proofs.lemmas.List.{length-replicate}
 use Rattle.safe_bit.specs.Memory.{Memory, blank, no_cell}
-use Rattle.safe_bit.specs.Parts.{LiesIn, with_part, origin, LiesIn-with_part, part-with_part, part-with_part_beside}
+use Rattle.safe_bit.specs.Parts.{LiesIn, with_part, origin}
+use Rattle.safe_bit.specs.laws.Parts.{LiesIn-with_part, part-with_part, part-with_part_beside}
 use Rattle.frames.specs.declared.types.Op.{Op}
 use Rattle.frames.specs.Behaviour.{Behaviour, IsLawful}
 use Rattle.towers.specs.Neighbours.{AreNeighbours}

@@ -3,9 +3,9 @@
 ghost use Rattle.std.specs.Prelude.{◌≡◌, IfOk, length};
 
 use super::read_first::ReadFirst;
-use super::{frame, replayed, stands_in, told};
+use super::{frame, replayed, stands_in, numbers};
 use crate::{matrix, stamped, unary};
-use frames::fit::LayerError;
+use layers::fit::LayerError;
 use frames::register::Register;
 use frames::safe::Safe;
 use frames::types::{Event, Frame, FrameLayer, Layer, Op, Step};
@@ -244,7 +244,7 @@ fn built<S: Register>(
     match Matrix::new(parts, n, values, last_tag) {
         Ok(matrix) => {
             assert_eq!(rt; Ok(matrix.size()), wanted, "{numbers:?}");
-            assert_eq!(rt; told(&matrix), (matrix.size(), values, n, 6), "{numbers:?}");
+            assert_eq!(rt; numbers(&matrix), (matrix.size(), values, n, 6), "{numbers:?}");
         }
         Err(error) => assert_eq!(rt; Err(error), wanted, "{numbers:?}"),
     }
