@@ -1,6 +1,8 @@
 //! The rules of a matrix, whatever register stands below.
 
 ghost use Rattle.std.specs.Prelude.{◌≡◌, ℕ, ◌+◌, ◌-◌, ◌*◌, ◌<◌, ◌≤◌, ◌^◌, MatchResult, IfOk, Some, None};
+ghost use Rattle.layers.specs.declared.fit.TheConstants.{LEAST_PROCESSES, LEAST_VALUES, MOST_VALUES};
+ghost use Rattle.matrix.specs.declared.rules.TheConstants.{MOST_WRITERS};
 ghost use Rattle.layers.specs.Nested.{layered};
 ghost use Rattle.matrix.specs.Program.{matrix_table};
 ghost use Rattle.matrix.specs.Limits.{matrix_refusal};

@@ -1,6 +1,7 @@
 //! The rules of copies, whatever register stands below.
 
 ghost use Rattle.std.specs.Prelude.{◌≡◌, ℕ, ◌<◌, ◌≤◌, ◌^◌, MatchResult, IfOk, Some, None};
+ghost use Rattle.layers.specs.declared.fit.TheConstants.{MOST_READERS};
 ghost use Rattle.layers.specs.OneWriter.{one_writer};
 ghost use Rattle.layers.specs.Nested.{layered};
 ghost use Rattle.reader_copies.specs.Program.{copies_table, copies_refusal};

@@ -2,7 +2,7 @@
 -- value (Lamport 1986; Herlihy and Shavit, chapter 4, the atomic register from a regular one by time stamps). Word 0 is the stamp of
 -- the last write, word 1 the greatest code read. That stamps end, that the stamp is raised as the write begins, and that `best` is
 -- set in the step that ends the read are this project's own.
-use Rattle.std.specs.Prelude.{◌≡◌, ℕ, ◌+◌, ◌*◌, ◌%◌, ◌<◌, ◌==◌, max, if◌then◌else◌}
+use Rattle.std.specs.Prelude.{◌≡◌, ℕ, ◌+◌, ◌*◌, ◌%◌, ◌<◌, ◌≤◌, ◌==◌, max, if◌then◌else◌}
 use Rattle.frames.specs.declared.types.Op.{Op}
 use Rattle.frames.specs.declared.types.Op.TheVariants as op
 use Rattle.frames.specs.declared.types.Layer.TheVariants as spent

@@ -1,5 +1,5 @@
 -- The stamped register's table is sound, and its tasks are equal only to themselves.
-use Rattle.std.proofs.Common.{◌≡◌, ◌≢◌, ℕ, ◌+◌, ◌*◌, ◌<◌, ◌≤◌, max, Bool, true, false, refl, arith, nat_eq}
+use Rattle.std.proofs.Common.{◌%◌, ◌≡◌, ◌≢◌, ℕ, ◌+◌, ◌*◌, ◌<◌, ◌≤◌, max, Bool, true, false, refl, arith, nat_eq}
 use Rattle.std.specs.Bool.{Decides}
 use Rattle.std.specs.Prelude.{◌==◌, if◌then◌else◌, ◌&&◌}
 use Rattle.std.proofs.lemmas.Bool.{eqb-false}

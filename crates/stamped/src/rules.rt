@@ -1,6 +1,7 @@
 //! The rules of a stamped register, whatever register stands below.
 
 ghost use Rattle.std.specs.Prelude.{◌≡◌, ℕ, ◌+◌, ◌*◌, ◌<◌, ◌≤◌, ◌^◌, MatchResult, IfOk, Some, None};
+ghost use Rattle.layers.specs.declared.fit.TheConstants.{LEAST_VALUES, MOST_VALUES};
 ghost use Rattle.layers.specs.Nested.{layered};
 ghost use Rattle.stamped.specs.Program.{stamped_table};
 ghost use Rattle.stamped.specs.Limits.{stamped_refusal};

@@ -3,6 +3,7 @@
 ghost use Rattle.std.specs.Prelude.{◌≡◌, ℕ, ◌<◌, ◌≤◌, ◌+◌, ◌-◌, ◌^◌, MatchResult, IfOk, Some, None};
 ghost use Rattle.safe_bit.specs.Memory.{Memory};
 ghost use Rattle.frames.specs.declared.types.Outcome.TheVariants.{Value};
+ghost use Rattle.layers.specs.declared.fit.TheConstants.{LEAST_VALUES, MOST_VALUES};
 ghost use Rattle.layers.specs.Settled.{settled};
 ghost use Rattle.unary_number.specs.Program.{clears_below, looks_above};
 ghost use Rattle.layers.specs.Nested.{layered};
