@@ -1,5 +1,5 @@
 -- Configurations, one step of a schedule, and the fold that replays one.
-use Rattle.std.specs.Prelude.{ℕ, Bool, ◌&&◌, ◌==◌, nat_lt, List, [], ◌∷◌, Option, Some, None, slice_index_or, slice_set, replicate}
+use Rattle.std.specs.Prelude.{ℕ, Bool, ◌==◌, List, [], ◌∷◌, Option, Some, None, is_none, is_some, slice_index_or, slice_set, replicate}
 use Rattle.safe_bit.specs.Memory.{Memory}
 use Rattle.frames.specs.declared.types.Op.{Op}
 use Rattle.frames.specs.declared.types.Op.TheVariants as op
@@ -14,6 +14,7 @@ use Rattle.frames.specs.declared.types.Event.TheVariants.{Invoke, Got, Wrote, Re
 use Rattle.frames.specs.declared.types.StepEvents.{StepEvents}
 use Rattle.frames.specs.declared.running.Running.{Running}
 use Rattle.frames.specs.Behaviour.{Behaviour, Moved}
+use Rattle.frames.specs.Fitting.{roles_of, step_fits}
 
 -- the register, its cells and words, and per process the operation that it has pending or none
 pub record Configuration (R P : Type 0) : Type 0 where
@@ -29,11 +30,9 @@ running_at p c = slice_index_or c.running p None
 abbrev pub initial_configuration : {R P : Type 0} → Behaviour P → R → ℕ → Configuration R P
 initial_configuration b r v = record { register = r; memory = b.initial v; running = replicate b.processes None }
 
--- which steps fit: an operation that fits the process, or a bit action of a process with a choice of 0 or 1
+-- which steps fit the register
 abbrev pub fits_step : {P : Type 0} → Behaviour P → Step → Bool
-fits_step b (step.Write p v) = b.suits p (op.Write v)
-fits_step b (step.Read p) = b.suits p op.Read
-fits_step b (step.Go p c) = nat_lt p b.processes && nat_lt c 2
+fits_step b s = step_fits (roles_of b) s
 
 -- what a step does for its process: the events, what the process has pending afterwards, and the memory
 pub record Acted (P : Type 0) : Type 0 where
@@ -96,6 +95,12 @@ abbrev pub acting : {P : Type 0} → Behaviour P → Step → Option (Running P)
 acting b (step.Write p v) running m = invoking b p (op.Write v) running m
 acting b (step.Read p) running m = invoking b p op.Read running m
 acting b (step.Go p c) running m = going b p (c == 1) running m
+
+-- which steps are enabled: an invocation by a process that has nothing pending, a bit action of one that has
+abbrev pub is_enabled : {R P : Type 0} → Configuration R P → Step → Bool
+is_enabled c (step.Write p v) = is_none (running_at p c)
+is_enabled c (step.Read p) = is_none (running_at p c)
+is_enabled c (step.Go p choice) = is_some (running_at p c)
 
 -- one step: its events, and the configuration after it
 abbrev pub acted_on : {R P : Type 0} → Behaviour P → Configuration R P → Step → Acted P

@@ -2,8 +2,10 @@ pub mod Behaviour
 pub mod Placed
 pub mod SafeBit
 pub mod SafeLaws
+pub mod Fitting
 pub mod Configuration
 pub mod Parked
+pub mod laws
 pub mod Equality
 pub mod Nested
 pub mod Sound

@@ -10,6 +10,7 @@ ghost use Rattle.frames.specs.Parked.{IsConfiguration};
 
 use crate::own::{ORIGIN, begin_own, go_own, store_of};
 use crate::register::Register;
+use crate::roles::step_fits;
 use crate::running::Running;
 use crate::types::{Action, Event, Next, Op, Outcome, Reason, Stack, Step, StepEvents};
 use safe_bit::Store;
@@ -32,7 +33,7 @@ impl<R: Register> Model for Config<R> {
 
     ghost view = { λ c. record { register = c.register; memory = c.store; running = c.running.items } };
 
-    ghost invariant = { λ c. IsConfiguration (R.is c.register) (R.Holds c.register) (R.Reaches c.register) c.store c.running.items };
+    ghost invariant = { λ c. IsConfiguration (R.is c.register) (R.Holds c.register) (R.Reaches c.register) (record { register = c.register; memory = c.store; running = c.running.items }) };
 }
 
 /// Two configurations are equal where their registers are, and their cells, words and pending
@@ -105,11 +106,7 @@ impl<R: Register> Config<R> {
     pub fn fits(&self, step: Step) -> bool
         ensures { result ≡ fits_step (R.is self.now.register) step }
     {
-        match step {
-            Step::Write { p, v } => self.register.fits(p, Op::Write(v)),
-            Step::Read { p } => self.register.fits(p, Op::Read),
-            Step::Go { p, c } => p < self.register.processes() && c < 2,
-        }
+        step_fits(&self.register, step)
     }
 
     /// The operation that a process has pending; none where it is idle or not there.

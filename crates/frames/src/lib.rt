@@ -4,10 +4,12 @@
 pub mod config;
 pub mod drive;
 pub mod fit;
+pub mod laws;
 pub mod layer;
 pub mod nested;
 mod own;
 pub mod register;
+pub mod roles;
 pub mod running;
 pub mod safe;
 #[cfg(test)]
