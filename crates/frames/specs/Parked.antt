@@ -5,8 +5,9 @@ use Rattle.frames.specs.declared.types.Op.{Op}
 use Rattle.frames.specs.Behaviour.{Behaviour}
 use Rattle.frames.specs.Configuration.{Configuration, running_at}
 
--- the register's memory holds, and each process stands at a point that it can reach
+-- the register's memory holds, and each process stands at a point that it can reach, and is marked or not
 pub record IsConfiguration {R P : Type 0} (b : Behaviour P) (Holds : Memory → Type 0) (Reaches : ℕ → Op → P → Type 0) (c : Configuration R P) : Type 0 where
   pub holds : Holds c.memory
   pub each : length c.running ≡ b.processes
+  pub each_mark : length c.stopped ≡ b.processes
   pub reached : (p : ℕ) → MatchOption (running_at p c) ⊤ (λ r. Reaches p r.op r.point)

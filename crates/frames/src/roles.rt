@@ -34,8 +34,8 @@ impl<R: Register> HasRoles for R {
     }
 }
 
-/// Whether a step fits: an operation that fits its process, or a bit action of a process with a
-/// choice of 0 or 1.
+/// Whether a step fits: an operation that fits its process, a bit action of a process with a
+/// choice of 0 or 1, or a stop of a process.
 pub fn step_fits<T: HasRoles>(whose: &T, step: Step) -> bool
     ensures { result ≡ step_fits (T.roles whose.now) step }
 {
@@ -43,5 +43,6 @@ pub fn step_fits<T: HasRoles>(whose: &T, step: Step) -> bool
         Step::Write { p, v } => whose.suits(p, Op::Write(v)),
         Step::Read { p } => whose.suits(p, Op::Read),
         Step::Go { p, c } => u64::from(p) < whose.process_count() && c < 2,
+        Step::Stop { p } => u64::from(p) < whose.process_count(),
     }
 }
