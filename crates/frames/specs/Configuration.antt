@@ -124,12 +124,15 @@ events_of b c s = (acted_on b c s).events
 abbrev pub put_acted : {R P : Type 0} → ℕ → Acted P → Configuration R P → Configuration R P
 put_acted p done c = record c { memory = done.memory; running = slice_set c.running p done.running }
 
--- a stop marks its process
+-- the marks after a step: a stop marks its process
+abbrev pub marked : Step → List Bool → List Bool
+marked (step.Write p v) stopped = stopped
+marked (step.Read p) stopped = stopped
+marked (step.Go p choice) stopped = stopped
+marked (step.Stop p) stopped = slice_set stopped p true
+
 abbrev pub mark : {R P : Type 0} → Step → Configuration R P → Configuration R P
-mark (step.Write p v) c = c
-mark (step.Read p) c = c
-mark (step.Go p choice) c = c
-mark (step.Stop p) c = record c { stopped = slice_set c.stopped p true }
+mark s c = record c { stopped = marked s c.stopped }
 
 abbrev pub stepped : {R P : Type 0} → Behaviour P → Configuration R P → Step → Configuration R P
 stepped b c s = put_acted (process_of s) (acted_on b c s) (mark s c)

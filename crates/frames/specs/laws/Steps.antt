@@ -95,12 +95,6 @@ other_mark p c (step.Read q) other = refl
 other_mark p c (step.Go q choice) other = refl
 other_mark p c (step.Stop q) other = get_or-set_other c.stopped q p true false other
 
-unmoved : {R P : Type 0} (c : Configuration R P) (s : Step) → (mark s c).running ≡ c.running
-unmoved c (step.Write p v) = refl
-unmoved c (step.Read p) = refl
-unmoved c (step.Go p choice) = refl
-unmoved c (step.Stop p) = refl
-
 pub step_leaves_stopped : {R P : Type 0} (b : Behaviour P) (p : ℕ) (c : Configuration R P) (s : Step) → is_stopped p c ≡ true → StaysStopped p c (stepped b c s)
 step_leaves_stopped b p c s h = elim (cases_eq p (process_of s)) [
   | inl same ↦
@@ -109,7 +103,7 @@ step_leaves_stopped b p c s h = elim (cases_eq p (process_of s)) [
   | inr other ↦
       record {
         stopped = other_mark p c s other ∙ h;
-        pending = ap (λ l. get_or (set l (process_of s) (acted_on b c s).running) p None) (unmoved c s) ∙ get_or-set_other c.running (process_of s) p (acted_on b c s).running None other;
+        pending = get_or-set_other c.running (process_of s) p (acted_on b c s).running None other;
       }
 ]
 
