@@ -1,5 +1,5 @@
 -- Configurations, one step of a schedule, and the fold that replays one.
-use Rattle.std.specs.Prelude.{ℕ, Bool, ◌&&◌, ◌==◌, nat_lt, List, [], ◌∷◌, Option, Some, None, slice_index_or, slice_set, replicate}
+use Rattle.std.specs.Prelude.{ℕ, Bool, true, false, not, ◌&&◌, ◌==◌, List, [], ◌∷◌, Option, Some, None, is_none, is_some, slice_index_or, slice_set, replicate}
 use Rattle.safe_bit.specs.Memory.{Memory}
 use Rattle.frames.specs.declared.types.Op.{Op}
 use Rattle.frames.specs.declared.types.Op.TheVariants as op
@@ -8,32 +8,36 @@ use Rattle.frames.specs.declared.types.Step.TheVariants as step
 use Rattle.frames.specs.declared.types.Outcome.TheVariants.{Value, Written, Spent}
 use Rattle.frames.specs.declared.types.Next.{Next}
 use Rattle.frames.specs.declared.types.Next.TheVariants.{Pending, Done}
-use Rattle.frames.specs.declared.types.Reason.TheVariants.{Busy, Idle}
+use Rattle.frames.specs.declared.types.Reason.TheVariants.{Busy, Idle, Stopped}
 use Rattle.frames.specs.declared.types.Event.{Event}
-use Rattle.frames.specs.declared.types.Event.TheVariants.{Invoke, Got, Wrote, Refused, Void, Chosen}
+use Rattle.frames.specs.declared.types.Event.TheVariants.{Invoke, Got, Wrote, Refused, Void, Stop, Chosen}
 use Rattle.frames.specs.declared.types.StepEvents.{StepEvents}
 use Rattle.frames.specs.declared.running.Running.{Running}
 use Rattle.frames.specs.Behaviour.{Behaviour}
+use Rattle.frames.specs.Fitting.{roles_of, process_of, step_fits}
 
--- the register, its cells and words, and per process the operation that it has pending or none
+-- the register, its cells and words, and per process the operation that it has pending or none, and whether it has stopped
 pub record Configuration (R P : Type 0) : Type 0 where
   pub register : R
   pub memory : Memory
   pub running : List (Option (Running P))
+  pub stopped : List Bool
 
 -- what process p has pending; none beyond the last process
 abbrev pub running_at : {R P : Type 0} → ℕ → Configuration R P → Option (Running P)
 running_at p c = slice_index_or c.running p None
 
--- the initial configuration: the register at a value, and nothing pending
-abbrev pub initial_configuration : {R P : Type 0} → Behaviour P → R → ℕ → Configuration R P
-initial_configuration b r v = record { register = r; memory = b.initial v; running = replicate b.processes None }
+-- whether process p has stopped; no process beyond the last has
+abbrev pub is_stopped : {R P : Type 0} → ℕ → Configuration R P → Bool
+is_stopped p c = slice_index_or c.stopped p false
 
--- which steps fit: an operation that fits the process, or a bit action of a process with a choice of 0 or 1
+-- the initial configuration: the register at a value, nothing pending, and no process stopped
+abbrev pub initial_configuration : {R P : Type 0} → Behaviour P → R → ℕ → Configuration R P
+initial_configuration b r v = record { register = r; memory = b.initial v; running = replicate b.processes None; stopped = replicate b.processes false }
+
+-- which steps fit the register
 abbrev pub fits_step : {P : Type 0} → Behaviour P → Step → Bool
-fits_step b (step.Write p v) = b.suits p (op.Write v)
-fits_step b (step.Read p) = b.suits p op.Read
-fits_step b (step.Go p c) = nat_lt p b.processes && nat_lt c 2
+fits_step b s = step_fits (roles_of b) s
 
 -- what a step does for its process: the events, what the process has pending afterwards, and the memory
 pub record Acted (P : Type 0) : Type 0 where
@@ -67,36 +71,48 @@ in_order None later = record { first = later; second = None }
 abbrev pub acted : {P : Type 0} → ℕ → Op → Option Event → Next P → Memory → Acted P
 acted who o event next m = record { events = in_order event (return_of who next); running = still_running o next; memory = m }
 
--- a step that isn't enabled records its reason and changes nothing
-abbrev pub not_enabled : {P : Type 0} → Event → Option (Running P) → Memory → Acted P
-not_enabled event running m = record { events = in_order (Some event) None; running = running; memory = m }
+-- one event is recorded, and neither what the process has pending nor the memory changes
+abbrev pub only_records : {P : Type 0} → Event → Option (Running P) → Memory → Acted P
+only_records event running m = record { events = in_order (Some event) None; running = running; memory = m }
 
 -- a process invokes an operation, if it has none pending
 abbrev pub invoking : {P : Type 0} → Behaviour P → ℕ → Op → Option (Running P) → Memory → Acted P
 invoking b who o None m = let begun = b.begins who o m in acted who o (Some (Invoke who o)) begun.next begun.memory
-invoking b who o (Some r) m = not_enabled (Void who Busy) (Some r) m
+invoking b who o (Some r) m = only_records (Void who Busy) (Some r) m
 
 -- a process makes its next bit action, if it has an operation pending
 abbrev pub going : {P : Type 0} → Behaviour P → ℕ → Bool → Option (Running P) → Memory → Acted P
-going b who choice None m = not_enabled (Void who Idle) None m
+going b who choice None m = only_records (Void who Idle) None m
 going b who choice (Some r) m =
     let moved = b.goes r.point choice m in acted who r.op (chosen_of who moved.chosen) moved.next moved.memory
 
--- the process of a step, and what the step does for it
-abbrev pub process_of : Step → ℕ
-process_of (step.Write p v) = p
-process_of (step.Read p) = p
-process_of (step.Go p c) = p
-
+-- what a step does for a process that hasn't stopped; a stop leaves its operation pending
 abbrev pub acting : {P : Type 0} → Behaviour P → Step → Option (Running P) → Memory → Acted P
 acting b (step.Write p v) running m = invoking b p (op.Write v) running m
 acting b (step.Read p) running m = invoking b p op.Read running m
 acting b (step.Go p c) running m = going b p (c == 1) running m
+acting b (step.Stop p) running m = only_records (Stop p) running m
+
+-- a stopped process makes no step
+abbrev pub acting_unless : {P : Type 0} → Bool → Behaviour P → Step → Option (Running P) → Memory → Acted P
+acting_unless true b s running m = only_records (Void (process_of s) Stopped) running m
+acting_unless false b s running m = acting b s running m
+
+abbrev pub acted_on : {R P : Type 0} → Behaviour P → Configuration R P → Step → Acted P
+acted_on b c s = acting_unless (is_stopped (process_of s) c) b s (running_at (process_of s) c) c.memory
+
+-- which steps are enabled: of a process that hasn't stopped, an invocation where it has nothing pending, a bit action where it has
+-- something, and a stop
+abbrev pub is_ready : {P : Type 0} → Step → Option (Running P) → Bool
+is_ready (step.Write p v) running = is_none running
+is_ready (step.Read p) running = is_none running
+is_ready (step.Go p choice) running = is_some running
+is_ready (step.Stop p) running = true
+
+abbrev pub is_enabled : {R P : Type 0} → Configuration R P → Step → Bool
+is_enabled c s = not (is_stopped (process_of s) c) && is_ready s (running_at (process_of s) c)
 
 -- one step: its events, and the configuration after it
-abbrev pub acted_on : {R P : Type 0} → Behaviour P → Configuration R P → Step → Acted P
-acted_on b c s = acting b s (running_at (process_of s) c) c.memory
-
 abbrev pub events_of : {R P : Type 0} → Behaviour P → Configuration R P → Step → StepEvents
 events_of b c s = (acted_on b c s).events
 
@@ -104,8 +120,18 @@ events_of b c s = (acted_on b c s).events
 abbrev pub put_acted : {R P : Type 0} → ℕ → Acted P → Configuration R P → Configuration R P
 put_acted p done c = record c { memory = done.memory; running = slice_set c.running p done.running }
 
+-- the marks after a step: a stop marks its process
+abbrev pub marked : Step → List Bool → List Bool
+marked (step.Write p v) stopped = stopped
+marked (step.Read p) stopped = stopped
+marked (step.Go p choice) stopped = stopped
+marked (step.Stop p) stopped = slice_set stopped p true
+
+abbrev pub mark : {R P : Type 0} → Step → Configuration R P → Configuration R P
+mark s c = record c { stopped = marked s c.stopped }
+
 abbrev pub stepped : {R P : Type 0} → Behaviour P → Configuration R P → Step → Configuration R P
-stepped b c s = put_acted (process_of s) (acted_on b c s) c
+stepped b c s = put_acted (process_of s) (acted_on b c s) (mark s c)
 
 -- replay: the steps one after another, from a configuration
 abbrev pub replayed : {R P : Type 0} → Behaviour P → Configuration R P → List Step → Configuration R P

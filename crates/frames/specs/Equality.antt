@@ -1,8 +1,8 @@
--- Equality of configurations: equal registers, and the same cells, words and pending operations.
+-- Equality of configurations: equal registers, and the same cells, words, pending operations and stopped marks.
 use Rattle.std.proofs.Common.{◌≡◌, Bool, true, false, nat_eq, List, Option, refl, ap}
-use mathlib.Core.Bool.{◌&&◌}
+use mathlib.Core.Bool.{◌&&◌, beq}
 use Rattle.std.specs.Bool.{Decides}
-use Rattle.std.specs.Cmp.{IsPartialEquivalence, on_per, and_per}
+use Rattle.std.specs.Cmp.{IsPartialEquivalence, booleans_Decides, on_per, and_per}
 use Rattle.std.specs.Cmp.Lexicographic.{pointwise}
 use Rattle.std.specs.Option.{option_eq}
 use Rattle.std.specs.Ordering.{on, eq_of_both}
@@ -19,6 +19,7 @@ pub record SameConfiguration {R P : Type 0} (E : R → R → Bool) (a b : Config
   pub register : E a.register b.register ≡ true
   pub memory : a.memory ≡ b.memory
   pub running : a.running ≡ b.running
+  pub stopped : a.stopped ≡ b.stopped
 
 -- the test of two operations
 abbrev pub op_eq : Op → Op → Bool
@@ -43,22 +44,27 @@ running_decides F d a b =
 
 -- the test of two configurations
 abbrev pub configuration_eq : {R P : Type 0} → (R → R → Bool) → (P → P → Bool) → Configuration R P → Configuration R P → Bool
-configuration_eq E F = eq_of_both (on (λ c. c.register) E) (eq_of_both (on (λ c. c.memory) memory_eq) (on (λ c. c.running) (pointwise (option_eq (running_eq F)))))
+configuration_eq E F = eq_of_both (on (λ c. c.register) E) (eq_of_both (on (λ c. c.memory) memory_eq) (eq_of_both (on (λ c. c.running) (pointwise (option_eq (running_eq F)))) (on (λ c. c.stopped) (pointwise beq))))
 
 slots_decide : {P : Type 0} (F : P → P → Bool) → ((x y : P) → Decides (F x y) (x ≡ y)) → (a b : List (Option (Running P)))
     → Decides (pointwise (option_eq (running_eq F)) a b) (a ≡ b)
 slots_decide F d a b = slice_eq-Decides (option_decides (running_decides F d)) a b _ refl
+
+marks_decide : (a b : List Bool) → Decides (pointwise beq a b) (a ≡ b)
+marks_decide a b = slice_eq-Decides booleans_Decides a b _ refl
 
 pub configuration_per : {R P : Type 0} (E : R → R → Bool) (F : P → P → Bool) → IsPartialEquivalence E → ((x y : P) → Decides (F x y) (x ≡ y))
     → IsPartialEquivalence (configuration_eq {R = R} {P = P} E F)
 configuration_per E F per d =
     and_per (on_per (λ c. c.register) per)
     (and_per (on_per (λ c. c.memory) (per_from_decides memory_eq memory_decides))
-    (on_per (λ c. c.running) (per_from_decides _ (slots_decide F d))))
+    (and_per (on_per (λ c. c.running) (per_from_decides _ (slots_decide F d)))
+    (on_per (λ c. c.stopped) (per_from_decides _ marks_decide))))
 
 pub configuration_decides : {R P : Type 0} (E : R → R → Bool) (F : P → P → Bool) → ((x y : P) → Decides (F x y) (x ≡ y))
     → (a b : Configuration R P) → Decides (configuration_eq E F a b) (SameConfiguration E a b)
 configuration_decides E F d a b =
-    Decides-like (configuration_eq E F a b) (λ p. record { register = p.0; memory = p.1.0; running = p.1.1 }) (λ p. (p.register, (p.memory, p.running)))
+    Decides-like (configuration_eq E F a b) (λ p. record { register = p.0; memory = p.1.0; running = p.1.1.0; stopped = p.1.1.1 }) (λ p. (p.register, (p.memory, (p.running, p.stopped))))
     (Decides-and (E a.register b.register) _ (λ h. h, λ h. h)
-    (Decides-and (memory_eq a.memory b.memory) _ (memory_decides a.memory b.memory) (slots_decide F d a.running b.running)))
+    (Decides-and (memory_eq a.memory b.memory) _ (memory_decides a.memory b.memory)
+    (Decides-and (pointwise (option_eq (running_eq F)) a.running b.running) _ (slots_decide F d a.running b.running) (marks_decide a.stopped b.stopped))))

@@ -1,7 +1,9 @@
 pub mod Behaviour
 pub mod Placed
 pub mod SafeBit
+pub mod Fitting
 pub mod Configuration
 pub mod Parked
 pub mod Equality
+pub mod Beside
 pub mod laws

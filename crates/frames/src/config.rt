@@ -1,27 +1,30 @@
 //! Configurations of a register, and the steps of a schedule.
 
-ghost use Rattle.std.specs.Prelude.{◌≡◌, ℕ, ◌<◌, ◌+◌, Bool, true, false, Option, Some, None, IfOk, IsTrue, IfSome, MatchOption, ⊤, List, length, slice_index_or};
+ghost use Rattle.std.specs.Prelude.{◌≡◌, ℕ, ◌<◌, ◌+◌, Bool, true, false, Option, Some, None, IfOk, IsTrue, IfSome, MatchOption, ⊤, List, length, slice_index_or, slice_set, replicate};
 ghost use Rattle.std.specs.Bool.{Decides};
 ghost use Rattle.std.specs.Option.{option_map};
 ghost use Rattle.safe_bit.specs.Memory.{Memory};
-ghost use Rattle.frames.specs.Configuration.{running_at, initial_configuration, fits_step, events_of, stepped, put_acted, invoking, going};
+ghost use Rattle.frames.specs.Configuration.{running_at, is_stopped, initial_configuration, fits_step, events_of, stepped, put_acted, mark, only_records, acting, invoking, going};
+ghost use Rattle.frames.specs.Fitting.{process_of};
 ghost use Rattle.frames.specs.Configuration as spec;
 ghost use Rattle.frames.specs.Parked.{IsConfiguration};
 
 use crate::own::{ORIGIN, begin_own, go_own, store_of};
 use crate::register::Register;
+use crate::roles::step_fits;
 use crate::running::Running;
 use crate::types::{Action, Event, Next, Op, Outcome, Reason, Stack, Step, StepEvents};
 use safe_bit::Store;
 use std::alloc::{AllocError, Global};
 use std::marker::Model;
 
-/// A register, its cells and words, and what each process has pending.
+/// A register, its cells and words, what each process has pending, and whether it has stopped.
 #[derive(Drop)]
 pub struct Config<R: Register> {
     register: R,
     store: Store,
     running: Vec<Option<Running<R::Pending>>>,
+    stopped: Vec<bool>,
 }
 
 impl<R: Register> Model for Config<R> {
@@ -30,13 +33,13 @@ impl<R: Register> Model for Config<R> {
 
     ghost Value = { Configuration R R.Pending };
 
-    ghost view = { λ c. record { register = c.register; memory = c.store; running = c.running.items } };
+    ghost view = { λ c. record { register = c.register; memory = c.store; running = c.running.items; stopped = c.stopped.items } };
 
-    ghost invariant = { λ c. IsConfiguration (R.is c.register) (R.Holds c.register) (R.Reaches c.register) c.store c.running.items };
+    ghost invariant = { λ c. IsConfiguration (R.is c.register) (R.Holds c.register) (R.Reaches c.register) (record { register = c.register; memory = c.store; running = c.running.items; stopped = c.stopped.items }) };
 }
 
-/// Two configurations are equal where their registers are, and their cells, words and pending
-/// operations are the same.
+/// Two configurations are equal where their registers are, and their cells, words, pending
+/// operations and stopped processes are the same.
 impl<R: Register> PartialEq for Config<R> {
     ghost use Rattle.std.specs.Prelude.{◌≡◌};
     ghost use Rattle.std.specs.Bool.{Decides};
@@ -53,22 +56,24 @@ impl<R: Register> PartialEq for Config<R> {
         self.register == other.register
             && self.store == other.store
             && self.running == other.running
+            && self.stopped == other.stopped
     }
 }
 
 impl<R: Register> Config<R> {
-    /// The initial configuration: the register at a value, and nothing pending.
+    /// The initial configuration: the register at a value, nothing pending, and no process stopped.
     pub fn initial(alloc: Global, register: R, value: u32) -> Result<Config<R>, AllocError>
         requires { value < (R.is register).values }
         ensures { IfOk result (λ c. c ≡ initial_configuration (R.is register) register value) }
     {
         let store = store_of(alloc, &register, value)?;
-        let mut running = Vec::new(alloc);
-        running.resize(register.processes() as usize, None)?;
+        let running = for_each_process(alloc, register.processes(), None)?;
+        let stopped = for_each_process(alloc, register.processes(), false)?;
         Ok(Config {
             register,
             store,
             running,
+            stopped,
         })
     }
 
@@ -79,10 +84,13 @@ impl<R: Register> Config<R> {
         let store = self.store.copy(alloc)?;
         let mut running = Vec::new(alloc);
         running.extend_from_slice(&self.running)?;
+        let mut stopped = Vec::new(alloc);
+        stopped.extend_from_slice(&self.stopped)?;
         Ok(Config {
             register: self.register,
             store,
             running,
+            stopped,
         })
     }
 
@@ -100,16 +108,12 @@ impl<R: Register> Config<R> {
         &self.store
     }
 
-    /// Whether the step fits: an operation that fits its process, or a bit action of a process
-    /// with a choice of 0 or 1.
+    /// Whether the step fits: an operation that fits its process, a bit action of a process with a
+    /// choice of 0 or 1, or a stop of a process.
     pub fn fits(&self, step: Step) -> bool
         ensures { result ≡ fits_step (R.is self.now.register) step }
     {
-        match step {
-            Step::Write { p, v } => self.register.fits(p, Op::Write(v)),
-            Step::Read { p } => self.register.fits(p, Op::Read),
-            Step::Go { p, c } => p < self.register.processes() && c < 2,
-        }
+        step_fits(&self.register, step)
     }
 
     /// The operation that a process has pending; none where it is idle or not there.
@@ -137,6 +141,13 @@ impl<R: Register> Config<R> {
         Some(self.register.action(&running.point, ORIGIN))
     }
 
+    /// Whether a process has stopped; false where it isn't there.
+    pub fn stopped(&self, p: u32) -> bool
+        ensures { result ≡ is_stopped p self.now }
+    {
+        self.stopped.get(p as usize).copied().unwrap_or(false)
+    }
+
     /// What a process has pending.
     fn pending(&self, p: u32) -> Option<Running<R::Pending>>
         ensures found { result ≡ running_at p self.now }
@@ -151,11 +162,35 @@ impl<R: Register> Config<R> {
         ensures events { result ≡ events_of (R.is self.old.register) self.old step }
         ensures after { self.new ≡ stepped (R.is self.old.register) self.old step }
     {
+        let who = step.process();
+        if self.stopped(who) {
+            return alone(Event::Void(who, Reason::Stopped));
+        }
+        self.act(step)
+    }
+
+    /// Makes the step of a process that hasn't stopped.
+    fn act(&mut self, step: Step) -> StepEvents
+        requires { fits_step (R.is self.old.register) step ≡ true }
+        ensures events { result ≡ (acting (R.is self.old.register) step (running_at (process_of step) self.old) self.old.memory).events }
+        ensures after { self.new ≡ put_acted (process_of step) (acting (R.is self.old.register) step (running_at (process_of step) self.old) self.old.memory) (mark step self.old) }
+    {
         match step {
             Step::Write { p, v } => self.invoke(p, Op::Write(v)),
             Step::Read { p } => self.invoke(p, Op::Read),
             Step::Go { p, c } => self.proceed(p, c == 1),
+            Step::Stop { p } => self.stop(p),
         }
+    }
+
+    /// A process stops. Its operation stays pending, and its cells stay as they are.
+    fn stop(&mut self, who: u32) -> StepEvents
+        requires { who < (R.is self.old.register).processes }
+        ensures events { result ≡ (only_records (Event.Stop who) (running_at who self.old) self.old.memory).events }
+        ensures after { self.new ≡ put_acted who (only_records (Event.Stop who) (running_at who self.old) self.old.memory) (record self.old { stopped = slice_set self.old.stopped who true }) }
+    {
+        self.stopped[who as usize] = true;
+        alone(Event::Stop(who))
     }
 
     /// A process invokes an operation, if it has none pending.
@@ -165,10 +200,7 @@ impl<R: Register> Config<R> {
         ensures after { self.new ≡ put_acted who (invoking (R.is self.old.register) who op (running_at who self.old) self.old.memory) self.old }
     {
         if self.running[who as usize].is_some() {
-            return StepEvents {
-                first: Some(Event::Void(who, Reason::Busy)),
-                second: None,
-            };
+            return alone(Event::Void(who, Reason::Busy));
         }
         let next = begin_own(&self.register, &mut self.store, who, op);
         self.running[who as usize] = still_running(op, next);
@@ -185,10 +217,7 @@ impl<R: Register> Config<R> {
         ensures after { self.new ≡ put_acted who (going (R.is self.old.register) who choice (running_at who self.old) self.old.memory) self.old }
     {
         let Some(running) = self.running[who as usize] else {
-            return StepEvents {
-                first: Some(Event::Void(who, Reason::Idle)),
-                second: None,
-            };
+            return alone(Event::Void(who, Reason::Idle));
         };
         let turned = go_own(&self.register, &mut self.store, running.point, choice);
         self.running[who as usize] = still_running(running.op, turned.next);
@@ -197,6 +226,15 @@ impl<R: Register> Config<R> {
             .map(|(bit, value)| Event::Chosen(who, bit, value));
         in_order(chosen, return_of(who, turned.next))
     }
+}
+
+/// One item for each process, all alike.
+fn for_each_process<T: Copy>(alloc: Global, processes: u32, item: T) -> Result<Vec<T>, AllocError>
+    ensures { IfOk result (λ all. all.items ≡ replicate processes item) }
+{
+    let mut all = Vec::new(alloc);
+    all.resize(processes as usize, item)?;
+    Ok(all)
 }
 
 /// The event of an operation's end, if it ends.
@@ -218,6 +256,16 @@ fn still_running<P: Copy>(op: Op, next: Next<P>) -> Option<Running<P>>
     match next {
         Next::Pending(point) => Some(Running { op, point }),
         Next::Done(_) => None,
+    }
+}
+
+/// One event, and no other.
+fn alone(event: Event) -> StepEvents
+    ensures { result ≡ spec.in_order (Some event) None }
+{
+    StepEvents {
+        first: Some(event),
+        second: None,
     }
 }
 

@@ -2,8 +2,10 @@
 #![tactic(auto)]
 
 pub mod config;
+pub mod laws;
 mod own;
 pub mod register;
+pub mod roles;
 pub mod running;
 pub mod safe;
 #[cfg(test)]

@@ -70,6 +70,42 @@ fn voids(rt: HostRuntime) -> Result<(), Fail> {
 }
 
 #[test]
+fn stopped_writer(rt: HostRuntime) -> Result<(), Fail> {
+    let mut config = Config::initial(rt.alloc(), Safe, 0)?;
+    let void = Some(Event::Void(0, Reason::Stopped));
+    run(
+        &rt,
+        &mut config,
+        &[
+            (
+                Step::Write { p: 0, v: 1 },
+                Some(Event::Invoke(0, Op::Write(1))),
+                None,
+            ),
+            (Step::Go { p: 0, c: 0 }, None, None),
+            (Step::Stop { p: 0 }, Some(Event::Stop(0)), None),
+            (Step::Go { p: 0, c: 0 }, void, None),
+            (Step::Write { p: 0, v: 0 }, void, None),
+            (Step::Stop { p: 0 }, void, None),
+            (Step::Read { p: 1 }, Some(Event::Invoke(1, Op::Read)), None),
+            (Step::Go { p: 1, c: 0 }, None, None),
+            (
+                Step::Go { p: 1, c: 1 },
+                Some(Event::Chosen(1, 0, true)),
+                Some(Event::Got(1, 1)),
+            ),
+        ],
+    );
+    assert_eq!(rt; config.op(0), Some(Op::Write(1)));
+    assert_eq!(rt; config.store().cell(0).writing, Some(true));
+    assert_eq!(rt;
+        (config.stopped(0), config.stopped(1), config.stopped(2)),
+        (true, false, false)
+    );
+    Ok(())
+}
+
+#[test]
 fn copy_stands_alone(rt: HostRuntime) -> Result<(), Fail> {
     let mut config = Config::initial(rt.alloc(), Safe, 1)?;
     let copy = config.copy(rt.alloc())?;
@@ -135,6 +171,8 @@ fn fits(rt: HostRuntime) -> Result<(), Fail> {
         (Step::Go { p: 1, c: 1 }, true),
         (Step::Go { p: 1, c: 2 }, false),
         (Step::Go { p: 2, c: 0 }, false),
+        (Step::Stop { p: 1 }, true),
+        (Step::Stop { p: 2 }, false),
     ] {
         assert_eq!(rt; config.fits(step), fits, "{step:?}");
     }

@@ -1,5 +1,8 @@
 //! The words of a schedule: steps, operations, events, actions and frames.
 
+ghost use Rattle.std.specs.Prelude.{◌≡◌};
+ghost use Rattle.frames.specs.Fitting.{process_of};
+
 use smallvec::SmallVec;
 
 /// An operation of a register.
@@ -21,6 +24,19 @@ pub enum Step {
     Read { p: u32 },
     /// Process `p` makes its next bit action; `c` is what a hit read of a bit gives, 0 or 1.
     Go { p: u32, c: u32 },
+    /// Process `p` stops for good: it makes no further step.
+    Stop { p: u32 },
+}
+
+impl Step {
+    /// The process that makes the step.
+    pub(crate) fn process(self) -> u32
+        ensures { result ≡ process_of self }
+    {
+        match self {
+            Step::Write { p, .. } | Step::Read { p } | Step::Go { p, .. } | Step::Stop { p } => p,
+        }
+    }
 }
 
 /// The layers whose operations can be spent.
@@ -63,6 +79,8 @@ pub enum Reason {
     Busy,
     /// A bit action of a process that has none.
     Idle,
+    /// A step of a process that has stopped.
+    Stopped,
 }
 
 /// What a step records, its process first.
@@ -78,6 +96,8 @@ pub enum Event {
     Refused(u32, Layer),
     /// The step wasn't enabled, and changed nothing.
     Void(u32, Reason),
+    /// A process stops.
+    Stop(u32),
     /// A hit read of a bit ended: the bit and the value given.
     Chosen(u32, u32, bool),
 }

@@ -3,7 +3,7 @@ use Rattle.std.specs.Prelude.{ℕ, ◌+◌, ◌*◌, Bool, ◌&&◌, nat_lt, nat
 use Rattle.frames.specs.declared.types.Op.{Op}
 use Rattle.frames.specs.declared.types.Op.TheVariants as op
 use Rattle.frames.specs.declared.types.Step.{Step}
-use Rattle.frames.specs.declared.types.Step.TheVariants as step
+use Rattle.frames.specs.Fitting.{Roles, step_fits}
 use Rattle.frames.specs.OneWriter.{one_writer}
 use Rattle.tower_file.specs.declared.tower.TowerSpec.{TowerSpec}
 use Rattle.tower_file.specs.declared.tower.TowerSpec.TheVariants.{Safe, Copies, Regular, Unary, Stamped, Matrix}
@@ -56,8 +56,10 @@ suits (Regular readers init) who o = one_writer 2 (readers + 1) who o
 suits (Unary values readers init) who o = one_writer values (readers + 1) who o
 suits (Stamped values last) who o = one_writer values 2 who o
 
--- which steps fit: an operation that fits its process, or a bit action of a process with a choice of 0 or 1
+-- how many processes take part in it, and which operations fit each
+abbrev pub roles : TowerSpec → Roles
+roles t = record { processes = processes_of t; suits = suits t }
+
+-- which steps fit it
 abbrev pub fits : TowerSpec → Step → Bool
-fits t (step.Write p v) = suits t p (op.Write v)
-fits t (step.Read p) = suits t p op.Read
-fits t (step.Go p c) = nat_lt p (processes_of t) && nat_lt c 2
+fits t s = step_fits (roles t) s

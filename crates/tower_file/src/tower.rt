@@ -4,6 +4,7 @@ ghost use Rattle.std.specs.Prelude.{◌≡◌, ◌<◌, ◌≤◌};
 ghost use Rattle.std.specs.List.{list_all};
 ghost use Rattle.tower_file.specs.Towers as spec;
 
+use frames::roles::{HasRoles, step_fits};
 use frames::types::{Op, Step};
 
 /// A tower, by its name and numbers.
@@ -56,19 +57,6 @@ impl TowerSpec {
         }
     }
 
-    /// How many processes it has.
-    fn processes(&self) -> u64
-        ensures { result ≡ spec.processes_of self.now }
-    {
-        match self {
-            TowerSpec::Safe { .. } | TowerSpec::Stamped { .. } => 2,
-            TowerSpec::Copies { readers, .. }
-            | TowerSpec::Regular { readers, .. }
-            | TowerSpec::Unary { readers, .. } => u64::from(*readers) + 1,
-            TowerSpec::Matrix { processes, .. } => u64::from(*processes),
-        }
-    }
-
     /// Whether its numbers lie in their ranges, and it isn't too large.
     pub fn is_lawful(&self) -> bool
         ensures { result ≡ spec.is_lawful_tower self.now }
@@ -105,19 +93,29 @@ impl TowerSpec {
     pub fn fits(&self, step: Step) -> bool
         ensures { result ≡ spec.fits self.now step }
     {
-        match step {
-            Step::Write { p, v } => self.suits(p, Op::Write(v)),
-            Step::Read { p } => self.suits(p, Op::Read),
-            Step::Go { p, c } => u64::from(p) < self.processes() && c < 2,
+        step_fits(self, step)
+    }
+}
+
+impl HasRoles for TowerSpec {
+    ghost use Rattle.tower_file.specs.Towers.{roles};
+
+    ghost roles = { roles };
+
+    fn process_count(&self) -> u64 {
+        match self {
+            TowerSpec::Safe { .. } | TowerSpec::Stamped { .. } => 2,
+            TowerSpec::Copies { readers, .. }
+            | TowerSpec::Regular { readers, .. }
+            | TowerSpec::Unary { readers, .. } => u64::from(*readers) + 1,
+            TowerSpec::Matrix { processes, .. } => u64::from(*processes),
         }
     }
 
-    /// Whether an operation fits a process: the matrix has many writers, every other tower one.
-    fn suits(&self, who: u32, op: Op) -> bool
-        ensures { result ≡ spec.suits self.now who op }
-    {
+    // The matrix has many writers, every other tower one.
+    fn suits(&self, who: u32, op: Op) -> bool {
         let values = self.values();
-        let processes = self.processes();
+        let processes = self.process_count();
         let who = u64::from(who);
         match (self, op) {
             (TowerSpec::Matrix { .. }, Op::Write(v)) => who < processes && v < values,

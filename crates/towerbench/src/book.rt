@@ -10,7 +10,8 @@ use crate::name::Name;
 use crate::refusal::Refusal;
 use crate::reply::Reply;
 use frames::register::Register;
-use frames::types::{Op, Step};
+use frames::roles::step_fits;
+use frames::types::Step;
 use std::alloc::AllocError;
 use std::marker::Model;
 
@@ -226,7 +227,7 @@ fn fits_edit<R: Register>(register: &R, edit: Edit) -> bool
     ensures { result ≡ fits_edit (R.is register.now) edit }
 {
     match edit {
-        Edit::Insert { step, .. } | Edit::Replace { step, .. } => fits(register, step),
+        Edit::Insert { step, .. } | Edit::Replace { step, .. } => step_fits(register, step),
         Edit::Remove { .. } => true,
     }
 }
@@ -263,17 +264,6 @@ fn is_beyond(query: Query, len: usize) -> bool
         | Query::Bits { place }
         | Query::History { place } => place as usize > len,
         Query::Steps => false,
-    }
-}
-
-/// Whether a step fits the register.
-fn fits<R: Register>(register: &R, step: Step) -> bool
-    ensures { result ≡ fits_step (R.is register.now) step }
-{
-    match step {
-        Step::Write { p, v } => register.fits(p, Op::Write(v)),
-        Step::Read { p } => register.fits(p, Op::Read),
-        Step::Go { p, c } => p < register.processes() && c < 2,
     }
 }
 

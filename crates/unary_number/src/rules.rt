@@ -5,9 +5,8 @@ ghost use Rattle.safe_bit.specs.Memory.{Memory};
 ghost use Rattle.frames.specs.declared.types.Outcome.TheVariants.{Value};
 ghost use Rattle.layers.specs.declared.fit.TheConstants.{LEAST_VALUES, MOST_VALUES};
 ghost use Rattle.layers.specs.Settled.{settled};
-ghost use Rattle.unary_number.specs.Program.{clears_below, looks_above};
+ghost use Rattle.unary_number.specs.Program.{clears_below, looks_above, unary_table, unary_refusal};
 ghost use Rattle.layers.specs.Nested.{layered};
-ghost use Rattle.unary_number.specs.Program.{unary_table, unary_refusal};
 
 use crate::task::UnaryTask;
 use layers::construction::{Construction, Rules, one_writer};

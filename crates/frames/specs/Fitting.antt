@@ -1,0 +1,30 @@
+-- Which steps fit: by how many processes there are, and which operations fit each.
+use Rattle.std.specs.Prelude.{ℕ, Bool, ◌&&◌, nat_lt}
+use Rattle.frames.specs.declared.types.Op.{Op}
+use Rattle.frames.specs.declared.types.Op.TheVariants as op
+use Rattle.frames.specs.declared.types.Step.{Step}
+use Rattle.frames.specs.declared.types.Step.TheVariants as step
+use Rattle.frames.specs.Behaviour.{Behaviour}
+
+-- how many processes there are, from 0 on, and which operations fit each
+pub record Roles : Type 0 where
+  pub processes : ℕ
+  pub suits : ℕ → Op → Bool
+
+-- those of a register
+abbrev pub roles_of : {P : Type 0} → Behaviour P → Roles
+roles_of b = record { processes = b.processes; suits = b.suits }
+
+-- the process that makes a step
+abbrev pub process_of : Step → ℕ
+process_of (step.Write p v) = p
+process_of (step.Read p) = p
+process_of (step.Go p c) = p
+process_of (step.Stop p) = p
+
+-- an operation that fits its process, a bit action of a process with a choice of 0 or 1, or a stop of a process
+abbrev pub step_fits : Roles → Step → Bool
+step_fits roles (step.Write p v) = roles.suits p (op.Write v)
+step_fits roles (step.Read p) = roles.suits p op.Read
+step_fits roles (step.Go p c) = nat_lt p roles.processes && nat_lt c 2
+step_fits roles (step.Stop p) = nat_lt p roles.processes
