@@ -13,7 +13,7 @@ ghost use Rattle.layers.specs.Settled.{settled, ContinuationStands, tasks_left, 
 ghost use Rattle.layers.specs.InPlace.{own, LayerLies};
 
 use crate::construction::Construction;
-use crate::nested::{Ask, Nested, Continuation};
+use crate::nested::{Ask, Continuation, Nested};
 use frames::register::Register;
 use frames::types::{Action, Next, Op, Outcome, Stack, Turned};
 use safe_bit::{Place, Store};
@@ -40,7 +40,13 @@ pub(crate) fn depth<L: Construction, S: Register>(layer: &L, below: &S) -> u32
 }
 
 /// Sets the layer's own memory to the initial value.
-pub(crate) fn init<L: Construction, S: Register>(layer: &L, below: &S, store: &mut Store, at: Place, value: u32)
+pub(crate) fn init<L: Construction, S: Register>(
+    layer: &L,
+    below: &S,
+    store: &mut Store,
+    at: Place,
+    value: u32,
+)
     requires fit { FitsBelow (L.table layer.now) (S.is below.now) }
     requires inside { LiesIn at (layer_size (L.table layer.now) (S.is below.now).size) store.old }
     requires value { value < (L.table layer.now).values }
@@ -53,7 +59,13 @@ pub(crate) fn init<L: Construction, S: Register>(layer: &L, below: &S, store: &m
 }
 
 /// Sets each part's memory at first.
-fn init_parts<L: Construction, S: Register>(layer: &L, below: &S, store: &mut Store, at: Place, value: u32)
+fn init_parts<L: Construction, S: Register>(
+    layer: &L,
+    below: &S,
+    store: &mut Store,
+    at: Place,
+    value: u32,
+)
     requires fit { FitsBelow (L.table layer.now) (S.is below.now) }
     requires inside { LiesIn at (layer_size (L.table layer.now) (S.is below.now).size) store.old }
     requires placed { IsPlaced at (layer_size (L.table layer.now) (S.is below.now).size) }

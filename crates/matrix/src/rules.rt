@@ -8,12 +8,12 @@ ghost use Rattle.matrix.specs.Program.{matrix_table};
 ghost use Rattle.matrix.specs.Limits.{matrix_refusal};
 
 use crate::task::MatrixTask;
-use layers::construction::{Construction, Rules};
 use frames::register::{Behaves, Register};
+use frames::types::{Frame, FrameLayer, Layer, Op, Outcome};
+use layers::construction::{Construction, Rules};
 use layers::fit::{LEAST_PROCESSES, LEAST_VALUES, LayerError, MOST_VALUES};
 use layers::layered::Layered;
 use layers::nested::{Ask, Continuation};
-use frames::types::{Frame, FrameLayer, Layer, Op, Outcome};
 use safe_bit::Store;
 
 /// The most processes of a matrix, each of which writes.
@@ -51,7 +51,12 @@ impl Matrix {
     /// at most 511, over a register of `(last_tag + 1) * n * values` values, at most 512, and 2
     /// processes. Refused as BadSize where one of these is broken or the register below has depth 8,
     /// else as TooManyBits where there would be more than 4,096 cells or 65,536 words.
-    pub fn new<S: Register>(below: S, n: u32, values: u32, last_tag: u32) -> Result<Layered<Matrix, S>, LayerError>
+    pub fn new<S: Register>(
+        below: S,
+        n: u32,
+        values: u32,
+        last_tag: u32,
+    ) -> Result<Layered<Matrix, S>, LayerError>
         ensures refused { MatchResult result (λ _. matrix_refusal n values last_tag (S.is below) ≡ None) (λ e. matrix_refusal n values last_tag (S.is below) ≡ Some e) }
         ensures built { IfOk result (λ r. ⟦<Layered<Matrix, S> as Behaves>⟧.is r ≡ layered (matrix_table n values last_tag) (S.is below)) }
         ensures below { IfOk result (λ r. r.below ≡ below) }

@@ -7,12 +7,12 @@ ghost use Rattle.layers.specs.Nested.{layered};
 ghost use Rattle.reader_copies.specs.Program.{copies_table, copies_refusal};
 
 use crate::task::CopiesTask;
-use layers::construction::{Construction, Rules, one_writer};
 use frames::register::{Behaves, Register};
+use frames::types::{Frame, FrameLayer, Op, Outcome};
+use layers::construction::{Construction, Rules, one_writer};
 use layers::fit::{LayerError, MOST_READERS};
 use layers::layered::Layered;
 use layers::nested::{Ask, Continuation};
-use frames::types::{Frame, FrameLayer, Op, Outcome};
 use safe_bit::Store;
 
 /// A register of several readers: a copy of a register of one reader for each of them. A write writes

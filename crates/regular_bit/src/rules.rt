@@ -7,12 +7,12 @@ ghost use Rattle.layers.specs.Nested.{layered};
 ghost use Rattle.regular_bit.specs.Program.{regular_table};
 
 use crate::task::RegularTask;
-use layers::construction::{Construction, Rules, one_writer};
 use frames::register::{Behaves, Register};
+use frames::types::{Frame, FrameLayer, Op, Outcome};
+use layers::construction::{Construction, Rules, one_writer};
 use layers::fit::LayerError;
 use layers::layered::Layered;
 use layers::nested::{Ask, Continuation};
-use frames::types::{Frame, FrameLayer, Op, Outcome};
 use safe_bit::Store;
 
 /// A regular bit over a register of two values: a write of the last value is done at once, any other

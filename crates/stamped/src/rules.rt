@@ -7,12 +7,12 @@ ghost use Rattle.stamped.specs.Program.{stamped_table};
 ghost use Rattle.stamped.specs.Limits.{stamped_refusal};
 
 use crate::task::StampedTask;
-use layers::construction::{Construction, Rules, one_writer};
 use frames::register::{Behaves, Register};
+use frames::types::{Frame, FrameLayer, Layer, Op, Outcome};
+use layers::construction::{Construction, Rules, one_writer};
 use layers::fit::{LEAST_VALUES, LayerError, MOST_VALUES};
 use layers::layered::Layered;
 use layers::nested::{Ask, Continuation};
-use frames::types::{Frame, FrameLayer, Layer, Op, Outcome};
 use safe_bit::Store;
 
 /// A stamped register over a register of `(last + 1) * values` codes: a write raises the stamp and
@@ -43,7 +43,11 @@ impl Stamped {
     /// a register of `(last + 1) * values` values, at most 512, and 2 processes. Refused as BadSize
     /// where one of these is broken or the register below has depth 8, else as TooManyBits where
     /// there would be more than 4,096 cells or 65,536 words.
-    pub fn new<S: Register>(below: S, values: u32, last: u32) -> Result<Layered<Stamped, S>, LayerError>
+    pub fn new<S: Register>(
+        below: S,
+        values: u32,
+        last: u32,
+    ) -> Result<Layered<Stamped, S>, LayerError>
         ensures refused { MatchResult result (λ _. stamped_refusal values last (S.is below) ≡ None) (λ e. stamped_refusal values last (S.is below) ≡ Some e) }
         ensures built { IfOk result (λ r. ⟦<Layered<Stamped, S> as Behaves>⟧.is r ≡ layered (stamped_table values last) (S.is below)) }
         ensures below { IfOk result (λ r. r.below ≡ below) }

@@ -9,12 +9,12 @@ ghost use Rattle.unary_number.specs.Program.{clears_below, looks_above, unary_ta
 ghost use Rattle.layers.specs.Nested.{layered};
 
 use crate::task::UnaryTask;
-use layers::construction::{Construction, Rules, one_writer};
 use frames::register::{Behaves, Register};
+use frames::types::{Frame, FrameLayer, Op, Outcome};
+use layers::construction::{Construction, Rules, one_writer};
 use layers::fit::{LEAST_VALUES, LayerError, MOST_VALUES};
 use layers::layered::Layered;
 use layers::nested::{Ask, Continuation};
-use frames::types::{Frame, FrameLayer, Op, Outcome};
 use safe_bit::Store;
 
 /// A unary number of 2 to 512 values over as many registers of two values, its bits: a write of x

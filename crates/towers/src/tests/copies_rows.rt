@@ -1,10 +1,10 @@
 //! Copies over safe bits: which can be built, how large they are, and an overlapped write.
 
-use super::{frame, replayed, stands_in, numbers};
-use layers::fit::LayerError;
+use super::{frame, numbers, replayed, stands_in};
 use frames::register::Register;
 use frames::safe::Safe;
 use frames::types::{Action, ActionKind, Event, FrameLayer, Op, Step};
+use layers::fit::LayerError;
 use reader_copies::Copies;
 use safe_bit::{Place, Store};
 use std::alloc::{AllocError, Global};

@@ -59,7 +59,13 @@ impl Register for Deep {
         Safe.begin(store, at, who, op)
     }
 
-    fn go(&self, store: &mut Store, at: Place, pending: SafePoint, choice: bool) -> Turned<SafePoint> {
+    fn go(
+        &self,
+        store: &mut Store,
+        at: Place,
+        pending: SafePoint,
+        choice: bool,
+    ) -> Turned<SafePoint> {
         Safe.go(store, at, pending, choice)
     }
 

@@ -3,7 +3,7 @@
 ghost use Rattle.std.specs.Prelude.{◌≡◌, IfOk, length};
 
 use super::read_first::ReadFirst;
-use super::{frame, replayed, stands_in, numbers};
+use super::{frame, numbers, replayed, stands_in};
 use crate::{matrix, stamped, unary};
 use frames::register::Register;
 use frames::safe::Safe;
@@ -245,7 +245,11 @@ fn built<S: Register>(
     match Matrix::new(parts, n, values, last_tag) {
         Ok(matrix) => {
             assert_eq!(rt; Ok(matrix.size()), wanted, "{numbers:?}");
-            assert_eq!(rt; numbers(&matrix), (matrix.size(), values, n, 6), "{numbers:?}");
+            assert_eq!(rt;
+                numbers(&matrix),
+                (matrix.size(), values, n, 6),
+                "{numbers:?}"
+            );
         }
         Err(error) => assert_eq!(rt; Err(error), wanted, "{numbers:?}"),
     }

@@ -80,7 +80,13 @@ impl Construction for ReadFirst {
         }
     }
 
-    fn after(&self, _store: &mut Store, _base: u32, _task: Op, outcome: Outcome) -> Continuation<Op> {
+    fn after(
+        &self,
+        _store: &mut Store,
+        _base: u32,
+        _task: Op,
+        outcome: Outcome,
+    ) -> Continuation<Op> {
         Continuation::Ends(outcome)
     }
 

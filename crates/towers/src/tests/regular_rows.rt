@@ -1,11 +1,11 @@
 //! Regular bits over copies of safe bits: which can be built, how large they are, and their steps.
 
-use super::{frame, replayed, stands_in, numbers};
+use super::{frame, numbers, replayed, stands_in};
 use crate::regular;
-use layers::fit::LayerError;
 use frames::register::Register;
 use frames::safe::Safe;
 use frames::types::{Action, ActionKind, Event, FrameLayer, Op, Step};
+use layers::fit::LayerError;
 use regular_bit::RegularBit;
 use safe_bit::{Place, Store};
 use std::alloc::{AllocError, Global};

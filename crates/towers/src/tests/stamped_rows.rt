@@ -3,11 +3,11 @@
 
 ghost use Rattle.std.specs.Prelude.{◌≡◌, IfOk, length};
 
-use super::{frame, replayed, stands_in, numbers};
+use super::{frame, numbers, replayed, stands_in};
 use crate::{stamped, unary};
-use layers::fit::LayerError;
 use frames::register::Register;
 use frames::types::{Action, ActionKind, Event, Frame, FrameLayer, Layer, Op, Step};
+use layers::fit::LayerError;
 use safe_bit::{Place, Store};
 use stamped::Stamped;
 use std::alloc::{AllocError, Global};
