@@ -41,22 +41,12 @@ follow-run-requires g measure c =
 
 pub follow-returns-in-Pending-clause-memory : goal.follow-returns-in-Pending-clause-memory
 follow-returns-in-Pending-clause-memory g measure c =
-    let t = g.L.Rules.table c.args.layer.now in
-    let b = g.S.Behaves.is c.args.below.now in
-    let at = c.args.at in
-    let m = c.args.store.now in
-    let lies = c.requires.lies in
-    rw c.in-Pending.is (sym (with_part-own at (layer_size t b.size) m lies.inside))
+    rw c.in-Pending.is (sym (with_part-own c.args.at (layer_size (g.L.Rules.table c.args.layer.now) (g.S.Behaves.is c.args.below.now).size) c.args.store.now c.requires.lies.inside))
 
 pub follow-returns-in-Done-Spent-clause-memory : goal.follow-returns-in-Done-Spent-clause-memory
 follow-returns-in-Done-Spent-clause-memory g measure c =
-    let t = g.L.Rules.table c.args.layer.now in
-    let b = g.S.Behaves.is c.args.below.now in
-    let at = c.args.at in
-    let m = c.args.store.now in
-    let lies = c.requires.lies in
     let e : c.args.next ≡ Done (Spent c.in-Done-Spent.spent) = search rules in
-    rw e (sym (with_part-own at (layer_size t b.size) m lies.inside))
+    rw e (sym (with_part-own c.args.at (layer_size (g.L.Rules.table c.args.layer.now) (g.S.Behaves.is c.args.below.now).size) c.args.store.now c.requires.lies.inside))
 
 pub follow-returns-in-Done : goal.follow-returns-in-Done
 follow-returns-in-Done g measure c =
@@ -116,15 +106,10 @@ run-follow-requires g measure c =
 
 pub run-returns-in-Ends-clause-memory : goal.run-returns-in-Ends-clause-memory
 run-returns-in-Ends-clause-memory g measure c =
-    let t = g.L.Rules.table c.args.layer.now in
-    let b = g.S.Behaves.is c.args.below.now in
-    let at = c.args.at in
-    let m = c.args.store.now in
-    let lies = c.requires.lies in
-    rw c.in-Ends.is (sym (with_part-own at (layer_size t b.size) m lies.inside))
+    rw c.in-Ends.is (sym (with_part-own c.args.at (layer_size (g.L.Rules.table c.args.layer.now) (g.S.Behaves.is c.args.below.now).size) c.args.store.now c.requires.lies.inside))
 
-pub run-returns-in-Asks-clause-next : goal.run-returns-in-Asks-clause-next
-run-returns-in-Asks-clause-next g measure c =
+pub run-returns-in-Asks : goal.run-returns-in-Asks
+run-returns-in-Asks g measure c =
     let l = over (g.met.S.Register.lawful c.args.below.now) (g.met.L.Construction.sound c.args.layer.now) c.requires.fit in
     let t = g.L.Rules.table c.args.layer.now in
     let b = g.S.Behaves.is c.args.below.now in
@@ -148,31 +133,4 @@ run-returns-in-Asks-clause-next g measure c =
     c.ask-next.ensures.memory mid_holds well.holds c.follow.ensures.next c.follow.ensures.memory in
     let e : follow_on t b task next mid ≡ run_on t b c.args.continuation (own t b at m) =
     ap (λ q. follow_on t b task q mid) c.ask-next.ensures.next ∙ ap (λ q. run_on t b q (own t b at m)) (sym c.in-Asks.is) in
-    there.0 ∙ ap (λ q. q.next) e
-
-pub run-returns-in-Asks-clause-memory : goal.run-returns-in-Asks-clause-memory
-run-returns-in-Asks-clause-memory g measure c =
-    let l = over (g.met.S.Register.lawful c.args.below.now) (g.met.L.Construction.sound c.args.layer.now) c.requires.fit in
-    let t = g.L.Rules.table c.args.layer.now in
-    let b = g.S.Behaves.is c.args.below.now in
-    let Reaches = g.S.Register.Reaches c.args.below.now in
-    let Stands = g.L.Construction.Stands c.args.layer.now in
-    let at = c.args.at in
-    let m = c.args.store.now in
-    let lies = c.requires.lies in
-    let who = c.requires.stands.0 in
-    let o = c.requires.stands.1.0 in
-    let task = c.in-Asks.task in
-    let stands : Stands who o task = rw c.in-Asks.is at c.requires.stands.1.1 in
-    let holds = lies.holds in
-    let mid = (asked b (t.asks task) (own t b at m)).memory in
-    let mid_holds = ask_holds l who o task (own t b at m) holds stands in
-    let below_stands = ask_stands l who o task (own t b at m) holds stands in
-    let next = c.ask-next.result in
-    let next_there : StandsWell (Reaches (t.asks task).who (t.asks task).op) (Answers b.values (t.asks task).op) next = rw c.ask-next.ensures.next below_stands in
-    let well = follow_well l who o task next mid mid_holds stands next_there in
-    let there = chain l (follow_on t b task next) at m lies mid c.ask-next.new.store c.follow.new.store c.follow.result
-    c.ask-next.ensures.memory mid_holds well.holds c.follow.ensures.next c.follow.ensures.memory in
-    let e : follow_on t b task next mid ≡ run_on t b c.args.continuation (own t b at m) =
-    ap (λ q. follow_on t b task q mid) c.ask-next.ensures.next ∙ ap (λ q. run_on t b q (own t b at m)) (sym c.in-Asks.is) in
-    there.1 ∙ ap (λ q. with_part at q.memory m) e
+    record { next = there.0 ∙ ap (λ q. q.next) e; memory = there.1 ∙ ap (λ q. with_part at q.memory m) e }

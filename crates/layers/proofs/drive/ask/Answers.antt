@@ -20,21 +20,8 @@ begin-requires-clause-holds g c =
     subst (λ q. Holds (part q b.size c.args.store.now)) (sym c.part_place-place.ensures)
     (part_holds l c.args.at c.args.store.now c.requires.lies a.part lt)
 
-pub returns-clause-next : goal.returns-clause-next
-returns-clause-next g c =
-    let l = over (g.met.S.Register.lawful c.args.below.now) (g.met.L.Construction.sound c.args.layer.now) c.requires.fit in
-    let t = g.L.Rules.table c.args.layer.now in
-    let b = g.S.Behaves.is c.args.below.now in
-    let fit = asks_fit l c.requires.stands.0 c.requires.stands.1.0 c.args.task c.requires.stands.1.1 in
-    let a = c.asks-ask.result in
-    let e : a ≡ t.asks c.args.task = c.asks-ask.ensures in
-    let lt : a.part < t.parts = rw e fit.0 in
-    c.begin.ensures.next ∙ ap (λ q. (b.begins a.who a.op (part q b.size c.args.store.now)).next) c.part_place-place.ensures
-    ∙ asked_next l c.args.at c.args.store.now c.requires.lies a lt
-    ∙ ap (λ x. (asked b x (own t b c.args.at c.args.store.now)).next) e
-
-pub returns-clause-memory : goal.returns-clause-memory
-returns-clause-memory g c =
+pub returns : goal.returns
+returns g c =
     let l = over (g.met.S.Register.lawful c.args.below.now) (g.met.L.Construction.sound c.args.layer.now) c.requires.fit in
     let t = g.L.Rules.table c.args.layer.now in
     let b = g.S.Behaves.is c.args.below.now in
@@ -43,7 +30,12 @@ returns-clause-memory g c =
     let e : a ≡ t.asks c.args.task = c.asks-ask.ensures in
     let lt : a.part < t.parts = rw e fit.0 in
     let suits : b.suits a.who a.op ≡ true = rw e fit.1 in
-    c.begin.ensures.memory
+    record {
+      next = c.begin.ensures.next ∙ ap (λ q. (b.begins a.who a.op (part q b.size c.args.store.now)).next) c.part_place-place.ensures
+    ∙ asked_next l c.args.at c.args.store.now c.requires.lies a lt
+    ∙ ap (λ x. (asked b x (own t b c.args.at c.args.store.now)).next) e;
+      memory = c.begin.ensures.memory
     ∙ ap (λ q. with_part q (b.begins a.who a.op (part q b.size c.args.store.now)).memory c.args.store.now) c.part_place-place.ensures
     ∙ asked_memory l c.args.at c.args.store.now c.requires.lies a lt suits
-    ∙ ap (λ x. with_part c.args.at (asked b x (own t b c.args.at c.args.store.now)).memory c.args.store.now) e
+    ∙ ap (λ x. with_part c.args.at (asked b x (own t b c.args.at c.args.store.now)).memory c.args.store.now) e;
+    }
