@@ -13,10 +13,20 @@ mod unary_rows;
 use checkpoints::replay::replay;
 use frames::config::Config;
 use frames::register::Register;
-use frames::types::{Event, Frame, FrameLayer, Op, Step};
+use frames::types::{Action, ActionKind, Event, Frame, FrameLayer, Op, Step};
 use safe_bit::Place;
 use std::alloc::{AllocError, Global};
 use std::process::Abort;
+
+/// What a worked schedule comes to.
+type Tried = Result<(), AllocError>;
+
+/// The next bit action of process 0, 1 and 2; a hit read gives 0.
+const GO_0: Step = Step::Go { p: 0, c: 0 };
+
+const GO_1: Step = Step::Go { p: 1, c: 0 };
+
+const GO_2: Step = Step::Go { p: 2, c: 0 };
 
 /// Replays steps that have to fit from value 0, and compares their history.
 fn replayed<R: Register>(
@@ -62,4 +72,9 @@ fn shape_of<R: Register>(register: &R) -> (Place, u32, u32, u32) {
         register.processes(),
         register.depth(),
     )
+}
+
+/// A bit action that a process is about to make.
+fn action(kind: ActionKind, cell: u32) -> Option<Action> {
+    Some(Action { kind, cell })
 }

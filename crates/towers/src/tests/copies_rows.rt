@@ -1,13 +1,13 @@
 //! Copies over safe bits: which can be built, how large they are, and an overlapped write.
 
-use super::{frame, replayed, shape_of, stands_in};
+use super::{GO_0, GO_1, GO_2, Tried, frame, replayed, shape_of, stands_in};
 use frames::register::Register;
 use frames::safe::Safe;
 use frames::types::{Action, ActionKind, Event, FrameLayer, Op, Step};
 use layers::fit::LayerError;
 use reader_copies::Copies;
 use safe_bit::{Place, Store};
-use std::alloc::{AllocError, Global};
+use std::alloc::Global;
 use std::process::Abort;
 use std::test::Fail;
 
@@ -48,24 +48,20 @@ fn one_to_four_readers(rt: HostRuntime) -> Result<(), Fail> {
 /// A write of 1 to two copies; reader 1 reads between them, reader 2 beside the second.
 const WRITE_BETWEEN_TWO_READS: [Step; 11] = [
     Step::Write { p: 0, v: 1 },
-    Step::Go { p: 0, c: 0 },
-    Step::Go { p: 0, c: 0 },
+    GO_0,
+    GO_0,
     Step::Read { p: 1 },
-    Step::Go { p: 1, c: 0 },
-    Step::Go { p: 1, c: 0 },
-    Step::Go { p: 0, c: 0 },
+    GO_1,
+    GO_1,
+    GO_0,
     Step::Read { p: 2 },
-    Step::Go { p: 2, c: 0 },
-    Step::Go { p: 0, c: 0 },
-    Step::Go { p: 2, c: 0 },
+    GO_2,
+    GO_0,
+    GO_2,
 ];
 
 /// A write of two copies, a read between them, and one beside the second.
-fn write_between_two_reads<R: Register>(
-    rt: &impl Abort,
-    alloc: Global,
-    register: R,
-) -> Result<(), AllocError> {
+fn write_between_two_reads<R: Register>(rt: &impl Abort, alloc: Global, register: R) -> Tried {
     let history = [
         (0, Event::Invoke(0, Op::Write(1))),
         (3, Event::Invoke(1, Op::Read)),

@@ -25,6 +25,8 @@ impl Register for Deep {
     ghost use Rattle.std.specs.Prelude.{refl};
     ghost use Rattle.safe_bit.specs.Parts.{HasSize};
     ghost use Rattle.frames.specs.SafeBit.{SafeReaches};
+    ghost use Rattle.frames.specs.laws.Safe.{point_decides};
+    ghost use Rattle.frames.specs.declared.safe.SafePoint.TheVariants.{WriteStart, WriteEnd, ReadStart, ReadEnd};
     ghost use Rattle.towers.specs.Deep.{deep_behaviour, deep_lawful};
 
     ghost Holds = { λ _. HasSize deep_behaviour.size };
@@ -81,7 +83,7 @@ impl Register for Deep {
 
     ghost alike = { λ _ _ _. refl };
 
-    ghost same_pending = { ⟦<Safe as Register>⟧.same_pending };
+    ghost same_pending = { point_decides ⟦<SafePoint as PartialEq>⟧.eq (elim [ WriteStart _ ↦ elim [ WriteStart _ ↦ refl | WriteEnd _ ↦ refl | ReadStart ↦ refl | ReadEnd ↦ refl ] | WriteEnd _ ↦ elim [ WriteStart _ ↦ refl | WriteEnd _ ↦ refl | ReadStart ↦ refl | ReadEnd ↦ refl ] | ReadStart ↦ elim [ WriteStart _ ↦ refl | WriteEnd _ ↦ refl | ReadStart ↦ refl | ReadEnd ↦ refl ] | ReadEnd ↦ elim [ WriteStart _ ↦ refl | WriteEnd _ ↦ refl | ReadStart ↦ refl | ReadEnd ↦ refl ] ]) };
 }
 
 #[test]

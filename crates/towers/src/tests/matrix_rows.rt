@@ -3,7 +3,7 @@
 ghost use Rattle.std.specs.Prelude.{◌≡◌, IfOk, length};
 
 use super::read_first::ReadFirst;
-use super::{frame, replayed, shape_of, stands_in};
+use super::{Tried, frame, replayed, shape_of, stands_in};
 use crate::{matrix, stamped, unary};
 use frames::register::Register;
 use frames::safe::Safe;
@@ -62,11 +62,7 @@ fn looked_at(alloc: Global) -> Result<Store, AllocError>
 }
 
 /// Process 1 looks at its column behind a write, and is spent.
-fn matrix_spent<R: Register>(
-    rt: &impl Abort,
-    alloc: Global,
-    register: R,
-) -> Result<(), AllocError> {
+fn matrix_spent<R: Register>(rt: &impl Abort, alloc: Global, register: R) -> Tried {
     let steps = after_a_write(alloc, Step::Write { p: 1, v: 0 }, 30)?;
     assert_eq!(rt; steps.len(), 44);
     let history = [
@@ -85,11 +81,7 @@ fn matrix_spent<R: Register>(
 }
 
 /// Process 1 reads behind a write: it writes the code that it found to its row.
-fn read_writes_its_row<R: Register>(
-    rt: &impl Abort,
-    alloc: Global,
-    register: R,
-) -> Result<(), AllocError> {
+fn read_writes_its_row<R: Register>(rt: &impl Abort, alloc: Global, register: R) -> Tried {
     let steps = after_a_write(alloc, Step::Read { p: 1 }, 38)?;
     let history = [
         (0, Event::Invoke(0, Op::Write(1))),
@@ -114,11 +106,7 @@ fn read_writes_its_row<R: Register>(
 }
 
 /// A read that is spent as it begins to write its row.
-fn matrix_first_read_spent<R: Register>(
-    rt: &impl Abort,
-    alloc: Global,
-    register: R,
-) -> Result<(), AllocError> {
+fn matrix_first_read_spent<R: Register>(rt: &impl Abort, alloc: Global, register: R) -> Tried {
     let steps = invoked(alloc, Step::Read { p: 0 }, 0, 4)?;
     let history = [
         (0, Event::Invoke(0, Op::Read)),
@@ -135,11 +123,7 @@ fn coded(layer: FrameLayer, op: Op, x: u32) -> Frame {
 }
 
 /// A write in its column, and then in its row.
-fn matrix_pending<R: Register>(
-    rt: &impl Abort,
-    alloc: Global,
-    register: R,
-) -> Result<(), AllocError> {
+fn matrix_pending<R: Register>(rt: &impl Abort, alloc: Global, register: R) -> Tried {
     let history = [(0, Event::Invoke(0, Op::Write(1)))];
     let steps = invoked(alloc, Step::Write { p: 0, v: 1 }, 0, 0)?;
     let config = replayed(rt, alloc, register, &steps, &history)?;
@@ -189,11 +173,7 @@ fn matrix_rows(rt: HostRuntime) -> Result<(), Fail> {
 }
 
 /// A write whose second part is spent: what it wrote to the first stays.
-fn spent_part_of_a_row<R: Register>(
-    rt: &impl Abort,
-    alloc: Global,
-    register: R,
-) -> Result<(), AllocError> {
+fn spent_part_of_a_row<R: Register>(rt: &impl Abort, alloc: Global, register: R) -> Tried {
     let steps = invoked(alloc, Step::Write { p: 0, v: 1 }, 0, 16)?;
     let history = [
         (0, Event::Invoke(0, Op::Write(1))),

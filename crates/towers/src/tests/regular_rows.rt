@@ -1,10 +1,10 @@
 //! Regular bits over copies of safe bits: which can be built, how large they are, and their steps.
 
-use super::{frame, replayed, shape_of, stands_in};
+use super::{GO_0, GO_2, Tried, action, frame, replayed, shape_of, stands_in};
 use crate::regular;
 use frames::register::Register;
 use frames::safe::Safe;
-use frames::types::{Action, ActionKind, Event, FrameLayer, Op, Step};
+use frames::types::{ActionKind, Event, FrameLayer, Op, Step};
 use layers::fit::LayerError;
 use regular_bit::RegularBit;
 use safe_bit::{Place, Store};
@@ -47,11 +47,7 @@ fn registers_below(rt: HostRuntime) -> Result<(), Fail> {
 }
 
 /// A write of the value that it has is done at once.
-fn regular_same_value<R: Register>(
-    rt: &impl Abort,
-    alloc: Global,
-    register: R,
-) -> Result<(), AllocError> {
+fn regular_same_value<R: Register>(rt: &impl Abort, alloc: Global, register: R) -> Tried {
     let steps = [Step::Write { p: 0, v: 0 }];
     let history = [(0, Event::Invoke(0, Op::Write(0))), (0, Event::Wrote(0))];
     let config = replayed(rt, alloc, register, &steps, &history)?;
@@ -65,18 +61,14 @@ fn regular_same_value<R: Register>(
 /// A write of 1 that stands at its first copy's end, and a read by process 2 of the other copy.
 const WRITE_AND_READ: [Step; 5] = [
     Step::Write { p: 0, v: 1 },
-    Step::Go { p: 0, c: 0 },
+    GO_0,
     Step::Read { p: 2 },
-    Step::Go { p: 2, c: 0 },
-    Step::Go { p: 2, c: 0 },
+    GO_2,
+    GO_2,
 ];
 
 /// The word is set as the write begins, before a copy is written.
-fn word_is_set_first<R: Register>(
-    rt: &impl Abort,
-    alloc: Global,
-    register: R,
-) -> Result<(), AllocError> {
+fn word_is_set_first<R: Register>(rt: &impl Abort, alloc: Global, register: R) -> Tried {
     let history = [
         (0, Event::Invoke(0, Op::Write(1))),
         (2, Event::Invoke(2, Op::Read)),
@@ -93,11 +85,7 @@ fn word_is_set_first<R: Register>(
         frame(FrameLayer::Safe, Op::Write(1), 1),
     ];
     stands_in(rt, alloc, &config, 0, &writing);
-    let action = Action {
-        kind: ActionKind::WriteEnd,
-        cell: 0,
-    };
-    assert_eq!(rt; config.action(0), Some(action));
+    assert_eq!(rt; config.action(0), action(ActionKind::WriteEnd, 0));
     assert_eq!(rt; config.op(2), None);
     Ok(())
 }

@@ -3,10 +3,10 @@
 
 ghost use Rattle.std.specs.Prelude.{◌≡◌, IfOk, length};
 
-use super::{frame, replayed, shape_of, stands_in};
+use super::{GO_0, GO_1, Tried, action, frame, replayed, shape_of, stands_in};
 use crate::{stamped, unary};
 use frames::register::Register;
-use frames::types::{Action, ActionKind, Event, Frame, FrameLayer, Layer, Op, Step};
+use frames::types::{ActionKind, Event, Frame, FrameLayer, Layer, Op, Step};
 use layers::fit::LayerError;
 use safe_bit::{Place, Store};
 use stamped::Stamped;
@@ -32,20 +32,20 @@ fn store_at(alloc: Global, first: bool, last: bool, words: [u32; 3]) -> Result<S
 /// new code and the second, by its choice, the old.
 const STAMPED_BEST: [Step; 16] = [
     Step::Write { p: 0, v: 1 },
-    Step::Go { p: 0, c: 0 },
-    Step::Go { p: 0, c: 0 },
-    Step::Go { p: 0, c: 0 },
+    GO_0,
+    GO_0,
+    GO_0,
     Step::Read { p: 1 },
-    Step::Go { p: 1, c: 0 },
-    Step::Go { p: 1, c: 0 },
-    Step::Go { p: 1, c: 0 },
-    Step::Go { p: 1, c: 0 },
-    Step::Go { p: 1, c: 0 },
-    Step::Go { p: 1, c: 0 },
-    Step::Go { p: 1, c: 0 },
-    Step::Go { p: 1, c: 0 },
+    GO_1,
+    GO_1,
+    GO_1,
+    GO_1,
+    GO_1,
+    GO_1,
+    GO_1,
+    GO_1,
     Step::Read { p: 1 },
-    Step::Go { p: 1, c: 0 },
+    GO_1,
     Step::Go { p: 1, c: 1 },
 ];
 
@@ -61,11 +61,7 @@ const BEST_HISTORY: [(usize, Event); 7] = [
 ];
 
 /// The whole of `STAMPED_BEST`.
-fn stamped_best<R: Register>(
-    rt: &impl Abort,
-    alloc: Global,
-    register: R,
-) -> Result<(), AllocError> {
+fn stamped_best<R: Register>(rt: &impl Abort, alloc: Global, register: R) -> Tried {
     let config = replayed(rt, alloc, register, &STAMPED_BEST, &BEST_HISTORY)?;
     let mut store = store_at(alloc, true, true, [1, 1, 3])?;
     store.start_write(0, false);
@@ -85,21 +81,13 @@ fn stamped_best<R: Register>(
     ];
     stands_in(rt, alloc, &config, 0, &writing);
     stands_in(rt, alloc, &config, 1, &[]);
-    let action = Action {
-        kind: ActionKind::WriteEnd,
-        cell: 0,
-    };
-    assert_eq!(rt; config.action(0), Some(action));
+    assert_eq!(rt; config.action(0), action(ActionKind::WriteEnd, 0));
     assert_eq!(rt; config.op(0), Some(Op::Write(1)));
     Ok(())
 }
 
 /// The first read of `STAMPED_BEST` stands at the bit of the new code.
-fn stamped_best_at_12<R: Register>(
-    rt: &impl Abort,
-    alloc: Global,
-    register: R,
-) -> Result<(), AllocError> {
+fn stamped_best_at_12<R: Register>(rt: &impl Abort, alloc: Global, register: R) -> Tried {
     let steps = &STAMPED_BEST[..12];
     let config = replayed(rt, alloc, register, steps, &BEST_HISTORY[..3])?;
     let mut store = store_at(alloc, true, true, [1, 1, 0])?;
@@ -118,17 +106,13 @@ fn stamped_best_at_12<R: Register>(
 }
 
 /// A write to its end, and a second one, which is refused and changes nothing.
-fn stamped_spent<R: Register>(
-    rt: &impl Abort,
-    alloc: Global,
-    register: R,
-) -> Result<(), AllocError> {
+fn stamped_spent<R: Register>(rt: &impl Abort, alloc: Global, register: R) -> Tried {
     let steps = [
         Step::Write { p: 0, v: 1 },
-        Step::Go { p: 0, c: 0 },
-        Step::Go { p: 0, c: 0 },
-        Step::Go { p: 0, c: 0 },
-        Step::Go { p: 0, c: 0 },
+        GO_0,
+        GO_0,
+        GO_0,
+        GO_0,
         Step::Write { p: 0, v: 0 },
     ];
     let history = [
@@ -147,7 +131,7 @@ fn stamped_spent<R: Register>(
 }
 
 /// The rows of a small stamped register.
-fn rows<R: Register>(rt: &impl Abort, alloc: Global, small: R) -> Result<(), AllocError> {
+fn rows<R: Register>(rt: &impl Abort, alloc: Global, small: R) -> Tried {
     stamped_best(rt, alloc, small)?;
     stamped_best_at_12(rt, alloc, small)?;
     stamped_spent(rt, alloc, small)

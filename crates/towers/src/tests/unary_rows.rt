@@ -3,10 +3,10 @@
 
 ghost use Rattle.std.specs.Prelude.{◌≡◌, IfOk, length};
 
-use super::{frame, replayed, shape_of, stands_in};
+use super::{GO_0, GO_1, Tried, action, frame, replayed, shape_of, stands_in};
 use crate::{regular, unary};
 use frames::register::Register;
-use frames::types::{Action, ActionKind, Event, FrameLayer, Op, Step};
+use frames::types::{ActionKind, Event, FrameLayer, Op, Step};
 use layers::fit::LayerError;
 use reader_copies::Copies;
 use safe_bit::{Place, Store};
@@ -28,13 +28,7 @@ fn store_at(alloc: Global, first: bool) -> Result<Store, AllocError>
 
 /// A write of 3 over 0, to its end.
 fn unary_write<R: Register>(rt: &impl Abort, alloc: Global, register: R) -> Result<(), AllocError> {
-    let steps = [
-        Step::Write { p: 0, v: 3 },
-        Step::Go { p: 0, c: 0 },
-        Step::Go { p: 0, c: 0 },
-        Step::Go { p: 0, c: 0 },
-        Step::Go { p: 0, c: 0 },
-    ];
+    let steps = [Step::Write { p: 0, v: 3 }, GO_0, GO_0, GO_0, GO_0];
     let history = [(0, Event::Invoke(0, Op::Write(3))), (4, Event::Wrote(0))];
     let config = replayed(rt, alloc, register, &steps, &history)?;
     let store = store_at(alloc, false)?;
@@ -48,26 +42,22 @@ fn unary_write<R: Register>(rt: &impl Abort, alloc: Global, register: R) -> Resu
 /// A write of 3 over 0, and a read that it overlaps.
 const UNARY_OVERLAP: [Step; 13] = [
     Step::Write { p: 0, v: 3 },
-    Step::Go { p: 0, c: 0 },
-    Step::Go { p: 0, c: 0 },
+    GO_0,
+    GO_0,
     Step::Read { p: 1 },
-    Step::Go { p: 0, c: 0 },
-    Step::Go { p: 1, c: 0 },
-    Step::Go { p: 1, c: 0 },
-    Step::Go { p: 1, c: 0 },
-    Step::Go { p: 1, c: 0 },
-    Step::Go { p: 1, c: 0 },
-    Step::Go { p: 1, c: 0 },
-    Step::Go { p: 1, c: 0 },
-    Step::Go { p: 1, c: 0 },
+    GO_0,
+    GO_1,
+    GO_1,
+    GO_1,
+    GO_1,
+    GO_1,
+    GO_1,
+    GO_1,
+    GO_1,
 ];
 
 /// The whole of `UNARY_OVERLAP`.
-fn unary_overlap<R: Register>(
-    rt: &impl Abort,
-    alloc: Global,
-    register: R,
-) -> Result<(), AllocError> {
+fn unary_overlap<R: Register>(rt: &impl Abort, alloc: Global, register: R) -> Tried {
     let history = [
         (0, Event::Invoke(0, Op::Write(3))),
         (3, Event::Invoke(1, Op::Read)),
@@ -79,11 +69,7 @@ fn unary_overlap<R: Register>(
     store.start_write(0, false);
     assert!(rt; *config.store() == store);
     assert_eq!(rt; config.op(0), Some(Op::Write(3)));
-    let action = Action {
-        kind: ActionKind::WriteEnd,
-        cell: 0,
-    };
-    assert_eq!(rt; config.action(0), Some(action));
+    assert_eq!(rt; config.action(0), action(ActionKind::WriteEnd, 0));
     let writing = [
         frame(FrameLayer::Unary, Op::Write(3), 0),
         frame(FrameLayer::Regular, Op::Write(0), 0),
@@ -99,11 +85,7 @@ fn unary_overlap<R: Register>(
 }
 
 /// The first six steps of `UNARY_OVERLAP`: both processes stand at bit 0.
-fn unary_overlap_at_6<R: Register>(
-    rt: &impl Abort,
-    alloc: Global,
-    register: R,
-) -> Result<(), AllocError> {
+fn unary_overlap_at_6<R: Register>(rt: &impl Abort, alloc: Global, register: R) -> Tried {
     let history = [
         (0, Event::Invoke(0, Op::Write(3))),
         (3, Event::Invoke(1, Op::Read)),
@@ -114,11 +96,7 @@ fn unary_overlap_at_6<R: Register>(
     store.start_read(0);
     assert!(rt; *config.store() == store);
     assert!(rt; config.op(1) == Some(Op::Read));
-    let action = Action {
-        kind: ActionKind::ReadEnd,
-        cell: 0,
-    };
-    assert_eq!(rt; config.action(1), Some(action));
+    assert_eq!(rt; config.action(1), action(ActionKind::ReadEnd, 0));
     let reading = [
         frame(FrameLayer::Unary, Op::Read, 0),
         frame(FrameLayer::Regular, Op::Read, 0),
@@ -131,7 +109,7 @@ fn unary_overlap_at_6<R: Register>(
 }
 
 /// The rows of a unary number of 4 values.
-fn rows<R: Register>(rt: &impl Abort, alloc: Global, of_4: R) -> Result<(), AllocError> {
+fn rows<R: Register>(rt: &impl Abort, alloc: Global, of_4: R) -> Tried {
     unary_write(rt, alloc, of_4)?;
     unary_overlap(rt, alloc, of_4)?;
     unary_overlap_at_6(rt, alloc, of_4)
