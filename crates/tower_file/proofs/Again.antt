@@ -17,12 +17,15 @@ use Rattle.tower_file.specs.declared.fault.FileFault.{FileFault}
 use Rattle.tower_file.specs.Faults.{fault}
 use Rattle.tower_file.specs.Towers.{values_of, processes_of, is_lawful_tower, suits, fits}
 use Rattle.tower_file.specs.Files.{File, IsLawful, file_of}
-use Rattle.tower_file.specs.Words.{words, lines, is_end}
-use Rattle.tower_file.specs.Lines.{step_of, fitting_step}
-use Rattle.tower_file.specs.Spelling.{line, header, tower_text, step_text, spelling, Spells}
+use Rattle.words.specs.Words.{words, lines, is_end}
+use Rattle.words.specs.Steps.{step_text, HasShortNumbers}
+use Rattle.tower_file.specs.Lines.{fitting_step}
+use Rattle.tower_file.specs.Spelling.{line, header, tower_text, spelling, Spells}
 use Rattle.tower_file.specs.Reading.{◌>>=◌, is_plain, first_odd, second_line, tower_of, steps_of, file_of_lines, reading_from, reading}
-use Rattle.tower_file.proofs.Numbers.{number-decimal}
-use Rattle.tower_file.proofs.Texts.{all_weaker, all_append, is_print, print_is_plain, text_prints, words-text, lines-line}
+use Rattle.words.proofs.Numbers.{number-decimal}
+use Rattle.words.proofs.Texts.{all_weaker, all_append, is_print, text_prints, words-text}
+use Rattle.words.proofs.Steps.{step_again}
+use Rattle.tower_file.proofs.Texts.{print_is_plain, lines-line}
 
 -- ---- the numbers of lawful files have at most 9 digits
 
@@ -121,38 +124,22 @@ tower_again (Matrix processes values last_tag last_stamp) h =
 
 -- ---- the steps
 
--- the numbers of a fitting step
-step_prints : (t : TowerSpec) (s : Step) → IsFew t → fits t s ≡ true → list_all is_print (step_text s) ≡ true
-step_prints t (step.Write p v) small h =
-    let a : p < 10 ^ 9 = omega (arith, small.processes, some_process t p (op.Write v) h) in
-    let b : v < 10 ^ 9 = omega (arith, small.values, some_value t p v h) in
-    text_prints (codes "w") (p ∷ v ∷ []) refl (a, (b, tt))
-step_prints t (step.Read p) small h =
-    let a : p < 10 ^ 9 = omega (arith, small.processes, some_process t p op.Read h) in
-    text_prints (codes "r") (p ∷ []) refl (a, tt)
-step_prints t (step.Go p c) small h =
+-- the numbers of a fitting step are short
+step_short : (t : TowerSpec) (s : Step) → IsFew t → fits t s ≡ true → HasShortNumbers s
+step_short t (step.Write p v) small h = (omega (arith, small.processes, some_process t p (op.Write v) h), omega (arith, small.values, some_value t p v h))
+step_short t (step.Read p) small h = omega (arith, small.processes, some_process t p op.Read h)
+step_short t (step.Go p c) small h =
     let g = and_parts (nat_lt p (processes_of t)) (nat_lt c 2) h in
-    let a : p < 10 ^ 9 = omega (arith, small.processes, ltb-true p (processes_of t) g.0) in
-    let b : c < 10 ^ 9 = omega (arith, ltb-true c 2 g.1) in
-    text_prints (codes "g") (p ∷ c ∷ []) refl (a, (b, tt))
+    (omega (arith, small.processes, ltb-true p (processes_of t) g.0), omega (arith, ltb-true c 2 g.1))
 
-step_again : (t : TowerSpec) (s : Step) → IsFew t → fits t s ≡ true → step_of (words (step_text s)) ≡ Some s
-step_again t (step.Write p v) small h =
-    let a : p < 10 ^ 9 = omega (arith, small.processes, some_process t p (op.Write v) h) in
-    let b : v < 10 ^ 9 = omega (arith, small.values, some_value t p v h) in
-    ap step_of (words-text (codes "w") (p ∷ v ∷ []) refl (a, (b, tt))) ∙ rw (number-decimal p a, number-decimal v b) refl
-step_again t (step.Read p) small h =
-    let a : p < 10 ^ 9 = omega (arith, small.processes, some_process t p op.Read h) in
-    ap step_of (words-text (codes "r") (p ∷ []) refl (a, tt)) ∙ rw (number-decimal p a) refl
-step_again t (step.Go p c) small h =
-    let g = and_parts (nat_lt p (processes_of t)) (nat_lt c 2) h in
-    let a : p < 10 ^ 9 = omega (arith, small.processes, ltb-true p (processes_of t) g.0) in
-    let b : c < 10 ^ 9 = omega (arith, ltb-true c 2 g.1) in
-    ap step_of (words-text (codes "g") (p ∷ c ∷ []) refl (a, (b, tt))) ∙ rw (number-decimal p a, number-decimal c b) refl
+step_prints : (s : Step) → HasShortNumbers s → list_all is_print (step_text s) ≡ true
+step_prints (step.Write p v) h = text_prints (codes "w") (p ∷ v ∷ []) refl (h.0, (h.1, tt))
+step_prints (step.Read p) h = text_prints (codes "r") (p ∷ []) refl (h, tt)
+step_prints (step.Go p c) h = text_prints (codes "g") (p ∷ c ∷ []) refl (h.0, (h.1, tt))
 
 fitting_again : (t : TowerSpec) (s : Step) → IsFew t → fits t s ≡ true → fitting_step t (step_text s) ≡ Some s
 fitting_again t s small h =
-    ap (λ (o : Option Step). option_and_then (λ x. cond (fits t x) (Some x) None) o) (step_again t s small h) ∙ ap (λ b. cond b (Some s) None) h
+    ap (λ (o : Option Step). option_and_then (λ x. cond (fits t x) (Some x) None) o) (step_again s (step_short t s small h)) ∙ ap (λ b. cond b (Some s) None) h
 
 -- the lines of steps, and nothing behind them
 abbrev step_lines : List Step → List (List ℕ)
@@ -185,7 +172,7 @@ lines-steps : (t : TowerSpec) (ss : List Step) → IsFew t → list_all (fits t)
 lines-steps t [] small h = refl
 lines-steps t (s ∷ ss) small h =
     let a = and_parts (fits t s) (list_all (fits t) ss) h in
-    lines-line (step_text s) (steps_text ss) (step_prints t s small a.0) ∙ ap (λ ls. step_text s ∷ ls) (lines-steps t ss small a.1)
+    lines-line (step_text s) (steps_text ss) (step_prints s (step_short t s small a.0)) ∙ ap (λ ls. step_text s ∷ ls) (lines-steps t ss small a.1)
 
 -- ---- plain bytes
 
@@ -196,7 +183,7 @@ steps_plain : (t : TowerSpec) (ss : List Step) → IsFew t → list_all (fits t)
 steps_plain t [] small h = refl
 steps_plain t (s ∷ ss) small h =
     let a = and_parts (fits t s) (list_all (fits t) ss) h in
-    all_append is_plain (line (step_text s)) (steps_text ss) (line_plain (step_text s) (step_prints t s small a.0)) (steps_plain t ss small a.1)
+    all_append is_plain (line (step_text s)) (steps_text ss) (line_plain (step_text s) (step_prints s (step_short t s small a.0))) (steps_plain t ss small a.1)
 
 all_before : (xs : List ℕ) → list_all is_plain xs ≡ true → prefix_len (λ x. not (not (is_plain x))) xs ≡ length xs
 all_before [] h = refl

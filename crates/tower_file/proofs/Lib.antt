@@ -1,7 +1,4 @@
-pub mod Splits
-pub mod Digits
 pub mod Loop
-pub mod Numbers
 pub mod Texts
 pub mod Sound
 pub mod Again

@@ -8,7 +8,7 @@ use Rattle.tower_file.specs.declared.tower.TowerSpec.{TowerSpec}
 use Rattle.tower_file.specs.declared.fault.FaultKind.TheVariants.{BadStep}
 use Rattle.tower_file.specs.declared.fault.FileFault.{FileFault}
 use Rattle.tower_file.specs.Faults.{fault}
-use Rattle.tower_file.specs.Words.{next, after_next, is_end}
+use Rattle.words.specs.Words.{next, after_next, is_end}
 use Rattle.tower_file.specs.Lines.{fitting_step}
 use Rattle.tower_file.specs.Reading.{◌>>=◌, steps_of}
 

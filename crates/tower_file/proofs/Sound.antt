@@ -1,15 +1,13 @@
 -- What is read is spelled so.
-use Rattle.std.proofs.Common.{◌≡◌, ℕ, ◌+◌, Bool, true, false, cond, ◌==◌, not, List, [], ◌∷◌, ◌++◌, map, length, Option, Some, None, Result, Ok, Err, refl, sym, ap, ◌∙◌, subst, append_assoc}
+use Rattle.std.proofs.Common.{◌≡◌, ℕ, ◌+◌, Bool, true, false, cond, ◌==◌, not, List, [], ◌∷◌, ◌++◌, length, Option, Some, None, Result, Ok, Err, refl, sym, ap, ◌∙◌, subst, append_assoc}
 use Rattle.std.specs.Prelude.{codes}
-use Rattle.std.specs.Option.{ok_or, option_map, option_and_then}
+use Rattle.std.specs.Option.{ok_or}
 use Rattle.std.specs.List.{list_all, flat_map, join_with_byte}
 use Rattle.std.specs.Str.{bytes_eq}
-use Rattle.std.specs.Fmt.{decimal}
 use Rattle.std.proofs.lemmas.Bool.{and_parts, and_from, not-true, eqb-true, false≢true}
 use Rattle.std.proofs.lemmas.Option.{cond_some, same_Some}
 use Rattle.std.proofs.lemmas.List.{nil_from_length}
 use Rattle.std.proofs.lemmas.List.Splits.{join_with_byte-slice_split}
-use Rattle.std.proofs.lemmas.Slice.Eq.{bytes_eq-Decides}
 use Rattle.frames.specs.declared.types.Step.{Step}
 use Rattle.frames.specs.declared.types.Step.TheVariants as step
 use Rattle.tower_file.specs.declared.tower.TowerSpec.{TowerSpec}
@@ -21,26 +19,18 @@ use Rattle.tower_file.specs.declared.fault.FileFault.{FileFault}
 use Rattle.tower_file.specs.Faults.{fault}
 use Rattle.tower_file.specs.Towers.{is_lawful_tower, fits}
 use Rattle.tower_file.specs.Files.{File, file_of}
-use Rattle.tower_file.specs.Words.{words, lines, next, after_next, is_end, number, one_number, two_numbers, three_numbers, four_numbers}
-use Rattle.tower_file.specs.Lines.{tower_name, fields_of, step_of, fitting_step}
-use Rattle.tower_file.specs.Spelling.{text, line, header, tower_text, step_text, spelling, Spells}
+use Rattle.words.specs.Words.{words, lines, next, after_next, is_end, one_number, two_numbers, three_numbers, four_numbers}
+use Rattle.words.specs.Steps.{step_of, step_text}
+use Rattle.tower_file.specs.Lines.{tower_name, fields_of, fitting_step}
+use Rattle.tower_file.specs.Spelling.{line, header, tower_text, spelling, Spells}
 use Rattle.tower_file.specs.Reading.{◌>>=◌, first_odd, has_header, sized, fields, second_line, tower_of, steps_of, file_of_lines, reading_from, reading}
-use Rattle.tower_file.proofs.Numbers.{decimal-number}
-use Rattle.tower_file.proofs.Texts.{join-words}
+use Rattle.words.proofs.Steps.{some_then, mapped, one_is, two_are, three_are, four_are, joined, is_word, step_is}
 
 -- ---- steps that did not fail
 
 pub bind_ok : {A B : Type 0} (r : Result A FileFault) (f : A → Result B FileFault) (y : B) → (r >>= f) ≡ Ok y → (x : A) × (r ≡ Ok x) × (f x ≡ Ok y)
 bind_ok (Ok x) f y e = (x, refl, e)
 bind_ok (Err d) f y e = absurd cc
-
-some_then : {A B : Type 0} (o : Option A) (f : A → Option B) (y : B) → option_and_then f o ≡ Some y → (x : A) × (o ≡ Some x) × (f x ≡ Some y)
-some_then None f y e = absurd cc
-some_then (Some x) f y e = (x, refl, e)
-
-mapped : {A B : Type 0} (f : A → B) (o : Option A) (y : B) → option_map f o ≡ Some y → (x : A) × (o ≡ Some x) × (f x ≡ y)
-mapped f None y e = absurd cc
-mapped f (Some x) y e = (x, refl, same_Some (f x) y e)
 
 ok_or_ok : {A : Type 0} (o : Option A) (d : FileFault) (x : A) → ok_or o d ≡ Ok x → o ≡ Some x
 ok_or_ok None d x e = absurd cc
@@ -56,58 +46,6 @@ unless_ok false r d y e = (refl, e)
 
 ok_is : {A : Type 0} (x y : A) → (let r : Result A FileFault = Ok x in r) ≡ Ok y → x ≡ y
 ok_is x y e = cc
-
-ended : (ws : List (List ℕ)) → is_end ws ≡ true → ws ≡ []
-ended [] h = refl
-ended (w ∷ ws) h = absurd cc
-
--- ---- words
-
-one_is : (ws : List (List ℕ)) (n : ℕ) → one_number ws ≡ Some n → ws ≡ map decimal (n ∷ [])
-one_is [] n h = absurd cc
-one_is (w ∷ ws) n h =
-    let a = some_then (number w) (λ x. cond (is_end ws) (Some x) None) n h in
-    let b = cond_some (is_end ws) a.0 n a.2 in
-    let nothing = ended ws b.0 in
-    let first = (decimal-number w a.0 a.1).1 in
-    cc
-
-two_are : (ws : List (List ℕ)) (n : ℕ × ℕ) → two_numbers ws ≡ Some n → ws ≡ map decimal (n.0 ∷ n.1 ∷ [])
-two_are [] n h = absurd cc
-two_are (w ∷ ws) n h =
-    let a = some_then (number w) (λ x. option_and_then (λ y. Some (x, y)) (one_number ws)) n h in
-    let b = some_then (one_number ws) (λ y. Some (a.0, y)) n a.2 in
-    let first = (decimal-number w a.0 a.1).1 in
-    let others = one_is ws b.0 b.1 in
-    let all : (w ∷ ws) ≡ map decimal (a.0 ∷ b.0 ∷ []) = cc in
-    subst (λ (m : ℕ × ℕ). (w ∷ ws) ≡ map decimal (m.0 ∷ m.1 ∷ [])) (same_Some (a.0, b.0) n b.2) all
-
-three_are : (ws : List (List ℕ)) (n : ℕ × ℕ × ℕ) → three_numbers ws ≡ Some n → ws ≡ map decimal (n.0 ∷ n.1 ∷ n.2 ∷ [])
-three_are [] n h = absurd cc
-three_are (w ∷ ws) n h =
-    let a = some_then (number w) (λ x. option_and_then (λ y. Some (x, y.0, y.1)) (two_numbers ws)) n h in
-    let b = some_then (two_numbers ws) (λ y. Some (a.0, y.0, y.1)) n a.2 in
-    let first = (decimal-number w a.0 a.1).1 in
-    let others = two_are ws b.0 b.1 in
-    let all : (w ∷ ws) ≡ map decimal (a.0 ∷ b.0.0 ∷ b.0.1 ∷ []) = cc in
-    subst (λ (m : ℕ × ℕ × ℕ). (w ∷ ws) ≡ map decimal (m.0 ∷ m.1 ∷ m.2 ∷ [])) (same_Some (a.0, b.0.0, b.0.1) n b.2) all
-
-four_are : (ws : List (List ℕ)) (n : ℕ × ℕ × ℕ × ℕ) → four_numbers ws ≡ Some n → ws ≡ map decimal (n.0 ∷ n.1 ∷ n.2 ∷ n.3 ∷ [])
-four_are [] n h = absurd cc
-four_are (w ∷ ws) n h =
-    let a = some_then (number w) (λ x. option_and_then (λ y. Some (x, y.0, y.1, y.2)) (three_numbers ws)) n h in
-    let b = some_then (three_numbers ws) (λ y. Some (a.0, y.0, y.1, y.2)) n a.2 in
-    let first = (decimal-number w a.0 a.1).1 in
-    let others = three_are ws b.0 b.1 in
-    let all : (w ∷ ws) ≡ map decimal (a.0 ∷ b.0.0 ∷ b.0.1 ∷ b.0.2 ∷ []) = cc in
-    subst (λ (m : ℕ × ℕ × ℕ × ℕ). (w ∷ ws) ≡ map decimal (m.0 ∷ m.1 ∷ m.2 ∷ m.3 ∷ [])) (same_Some (a.0, b.0.0, b.0.1, b.0.2) n b.2) all
-
--- a word and numbers, joined
-joined : (w v : List ℕ) (ws : List (List ℕ)) (ns : List ℕ) → w ≡ v → ws ≡ map decimal ns → join_with_byte 32 (w ∷ ws) ≡ text v ns
-joined w v ws ns e f = ap (λ x. join_with_byte 32 (x ∷ ws)) e ∙ ap (λ xs. join_with_byte 32 (v ∷ xs)) f ∙ join-words v ns
-
-is_word : (w v : List ℕ) → bytes_eq w v ≡ true → w ≡ v
-is_word w v h = (bytes_eq-Decides w v).0 h
 
 -- ---- the tower's line
 
@@ -178,24 +116,6 @@ second_is is_cut (w ∷ ws) t h =
     }
 
 -- ---- the steps
-
-step_by : (isw isr isg : Bool) (w : List ℕ) (ws : List (List ℕ)) (s : Step) → (isw ≡ true → w ≡ codes "w") → (isr ≡ true → w ≡ codes "r") → (isg ≡ true → w ≡ codes "g")
-    → cond isw (option_map (λ n. step.Write n.0 n.1) (two_numbers ws)) (cond isr (option_map (λ p. step.Read p) (one_number ws)) (cond isg (option_map (λ n. step.Go n.0 n.1) (two_numbers ws)) None)) ≡ Some s
-    → join_with_byte 32 (w ∷ ws) ≡ step_text s
-step_by true isr isg w ws s e f g h =
-    let a = mapped (λ n. step.Write n.0 n.1) (two_numbers ws) s h in
-    joined w (codes "w") ws (a.0.0 ∷ a.0.1 ∷ []) (e refl) (two_are ws a.0 a.1) ∙ ap step_text a.2
-step_by false true isg w ws s e f g h =
-    let a = mapped (λ p. step.Read p) (one_number ws) s h in
-    joined w (codes "r") ws (a.0 ∷ []) (f refl) (one_is ws a.0 a.1) ∙ ap step_text a.2
-step_by false false true w ws s e f g h =
-    let a = mapped (λ n. step.Go n.0 n.1) (two_numbers ws) s h in
-    joined w (codes "g") ws (a.0.0 ∷ a.0.1 ∷ []) (g refl) (two_are ws a.0 a.1) ∙ ap step_text a.2
-step_by false false false w ws s e f g h = absurd cc
-
-step_is : (ws : List (List ℕ)) (s : Step) → step_of ws ≡ Some s → join_with_byte 32 ws ≡ step_text s
-step_is [] s h = absurd cc
-step_is (w ∷ ws) s h = step_by (bytes_eq w (codes "w")) (bytes_eq w (codes "r")) (bytes_eq w (codes "g")) w ws s (is_word w (codes "w")) (is_word w (codes "r")) (is_word w (codes "g")) h
 
 fitting_is : (t : TowerSpec) (l : List ℕ) (s : Step) → fitting_step t l ≡ Some s → (l ≡ step_text s) × (fits t s ≡ true)
 fitting_is t l s h =

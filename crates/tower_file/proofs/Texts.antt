@@ -1,86 +1,17 @@
--- The bytes of texts, and their parts.
-use Rattle.std.proofs.Common.{◌≡◌, ℕ, ◌^◌, ◌<◌, Bool, true, ◌&&◌, ◌==◌, not, nat_le, List, [], ◌∷◌, ◌++◌, map, refl, sym, ap, ◌∙◌, append_assoc, arith}
-use Rattle.std.specs.List.{list_all, onto_first, join_with_byte, AllByRecursion}
-use Rattle.std.specs.Char.{is_ascii_digit}
-use Rattle.std.specs.Fmt.{decimal}
-use Rattle.std.proofs.lemmas.Bool.{and_parts, and_from, not-true}
+-- The bytes of lines.
+use Rattle.std.proofs.Common.{◌≡◌, ℕ, true, List, [], ◌∷◌, ◌++◌, ap, ◌∙◌, append_assoc, arith}
+use Rattle.std.specs.List.{list_all}
 use Rattle.std.proofs.lemmas.Bool.Decides.{nat_tests}
-use Rattle.std.proofs.lemmas.List.{append-nil}
-use Rattle.std.proofs.lemmas.List.Folds.{list_all-append}
-use Rattle.std.proofs.lemmas.List.Splits.{slice_split-cons_yes, slice_split-cons_no}
-use Rattle.tower_file.specs.Words.{parts, words, lines}
-use Rattle.tower_file.specs.Spelling.{text, line}
+use Rattle.words.specs.Words.{lines}
+use Rattle.words.proofs.Texts.{all_weaker, is_not, is_print, cut_at}
+use Rattle.tower_file.specs.Spelling.{line}
 use Rattle.tower_file.specs.Reading.{is_plain}
-use Rattle.tower_file.proofs.Digits.{digit_bounds}
-use Rattle.tower_file.proofs.Numbers.{digits-decimal}
-
--- what passes one test passes another
-pub all_weaker : (p q : ℕ → Bool) → ((x : ℕ) → p x ≡ true → q x ≡ true) → (xs : List ℕ) → list_all p xs ≡ true → list_all q xs ≡ true
-all_weaker p q weaker [] h = refl
-all_weaker p q weaker (x ∷ xs) h =
-    let a = and_parts (p x) (list_all p xs) h in
-    and_from (q x) (list_all q xs) (weaker x a.0) (all_weaker p q weaker xs a.1)
-
-pub all_append : (p : ℕ → Bool) (xs ys : List ℕ) → list_all p xs ≡ true → list_all p ys ≡ true → list_all p (xs ++ ys) ≡ true
-all_append p xs ys h k = list_all-append p xs ys ∙ and_from (list_all p xs) (list_all p ys) h k
-
--- a byte that no cut is at
-abbrev pub is_not : ℕ → ℕ → Bool
-is_not c b = not (b == c)
-
--- a byte of a word, and of a line
-abbrev pub is_print : ℕ → Bool
-is_print b = nat_le 32 b && nat_le b 126
-
-pub digit_not : (c : ℕ) → c < 48 → (b : ℕ) → is_ascii_digit b ≡ true → is_not c b ≡ true
-digit_not c lt b h = let d = digit_bounds b h in grind (arith, nat_tests, d)
-
-pub digit_prints : (b : ℕ) → is_ascii_digit b ≡ true → is_print b ≡ true
-digit_prints b h = let d = digit_bounds b h in grind (arith, nat_tests, d)
 
 pub print_stays : (b : ℕ) → is_print b ≡ true → is_not 10 b ≡ true
 print_stays b h = grind (arith, nat_tests)
 
 pub print_is_plain : (b : ℕ) → is_print b ≡ true → is_plain b ≡ true
 print_is_plain b h = grind (arith, nat_tests)
-
--- numbers with at most 9 digits
-abbrev pub IsShort : ℕ → Type 0
-IsShort n = n < 10 ^ 9
-
-pub text_prints : (word : List ℕ) (ns : List ℕ) → list_all is_print word ≡ true → AllByRecursion IsShort ns → list_all is_print (text word ns) ≡ true
-text_prints word [] h small = ap (list_all is_print) (append-nil word) ∙ h
-text_prints word (n ∷ ns) h small =
-    let digits = all_weaker is_ascii_digit is_print digit_prints (decimal n) (digits-decimal n small.0) in
-    all_append is_print word (32 ∷ text (decimal n) ns) h (text_prints (decimal n) ns digits small.1)
-
-eq_true : (c : ℕ) → (c == c) ≡ true
-eq_true c = grind (arith, nat_tests)
-
--- the first part ends at the first cut
-pub cut_at : (c : ℕ) (xs ys : List ℕ) → list_all (is_not c) xs ≡ true → parts c (xs ++ c ∷ ys) ≡ xs ∷ parts c ys
-cut_at c [] ys h = slice_split-cons_yes (λ b. b == c) c ys (eq_true c)
-cut_at c (x ∷ xs) ys h =
-    let a = and_parts (is_not c x) (list_all (is_not c) xs) h in
-    slice_split-cons_no (λ b. b == c) x (xs ++ c ∷ ys) (not-true (x == c) a.0) ∙ ap (onto_first x) (cut_at c xs ys a.1)
-
-pub no_cut : (c : ℕ) (xs : List ℕ) → list_all (is_not c) xs ≡ true → parts c xs ≡ xs ∷ []
-no_cut c [] h = refl
-no_cut c (x ∷ xs) h =
-    let a = and_parts (is_not c x) (list_all (is_not c) xs) h in
-    slice_split-cons_no (λ b. b == c) x xs (not-true (x == c) a.0) ∙ ap (onto_first x) (no_cut c xs a.1)
-
--- the words of a text
-pub words-text : (word : List ℕ) (ns : List ℕ) → list_all (is_not 32) word ≡ true → AllByRecursion IsShort ns → words (text word ns) ≡ word ∷ map decimal ns
-words-text word [] h small = ap words (append-nil word) ∙ no_cut 32 word h
-words-text word (n ∷ ns) h small =
-    let digits = all_weaker is_ascii_digit (is_not 32) (digit_not 32 (omega arith)) (decimal n) (digits-decimal n small.0) in
-    cut_at 32 word (text (decimal n) ns) h ∙ ap (λ ws. word ∷ ws) (words-text (decimal n) ns digits small.1)
-
--- and joined again
-pub join-words : (word : List ℕ) (ns : List ℕ) → join_with_byte 32 (word ∷ map decimal ns) ≡ text word ns
-join-words word [] = sym (append-nil word)
-join-words word (n ∷ ns) = ap (λ xs. word ++ 32 ∷ xs) (join-words (decimal n) ns)
 
 -- the lines of a line and more
 pub lines-line : (t rest : List ℕ) → list_all is_print t ≡ true → lines (line t ++ rest) ≡ t ∷ lines rest

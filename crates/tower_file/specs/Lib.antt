@@ -1,7 +1,6 @@
 pub mod Faults
 pub mod Towers
 pub mod Files
-pub mod Words
 pub mod Lines
 pub mod Spelling
 pub mod Reading

@@ -3,12 +3,12 @@ use Rattle.std.specs.Prelude.{ℕ, List, Option, Some, None, codes, if◌then◌
 use Rattle.std.specs.Option.{option_map}
 use Rattle.std.specs.Str.{bytes_eq}
 use Rattle.frames.specs.declared.types.Step.{Step}
-use Rattle.frames.specs.declared.types.Step.TheVariants as step
 use Rattle.tower_file.specs.declared.tower.TowerSpec.{TowerSpec}
 use Rattle.tower_file.specs.declared.tower.TowerSpec.TheVariants as tower
 use Rattle.tower_file.specs.declared.line.TowerName.{TowerName}
 use Rattle.tower_file.specs.declared.line.TowerName.TheVariants.{Safe, Copies, Regular, Unary, Stamped, Matrix}
-use Rattle.tower_file.specs.Words.{◌>>=◌, words, next, after_next, one_number, two_numbers, three_numbers, four_numbers}
+use Rattle.words.specs.Words.{◌>>=◌, words, one_number, two_numbers, three_numbers, four_numbers}
+use Rattle.words.specs.Steps.{step_of}
 use Rattle.tower_file.specs.Towers.{fits}
 
 -- the tower that a word names
@@ -30,14 +30,6 @@ fields_of Regular ws = option_map (λ n. tower.Regular n.0 n.1) (two_numbers ws)
 fields_of Unary ws = option_map (λ n. tower.Unary n.0 n.1 n.2) (three_numbers ws)
 fields_of Stamped ws = option_map (λ n. tower.Stamped n.0 n.1) (two_numbers ws)
 fields_of Matrix ws = option_map (λ n. tower.Matrix n.0 n.1 n.2 n.3) (four_numbers ws)
-
--- a step: `w P V`, `r P` or `g P C`
-abbrev pub step_of : List (List ℕ) → Option Step
-step_of ws =
-    if bytes_eq (next ws) (codes "w") then option_map (λ n. step.Write n.0 n.1) (two_numbers (after_next ws))
-    else (if bytes_eq (next ws) (codes "r") then option_map (λ p. step.Read p) (one_number (after_next ws))
-    else (if bytes_eq (next ws) (codes "g") then option_map (λ n. step.Go n.0 n.1) (two_numbers (after_next ws))
-    else None))
 
 -- the step of a line, where it fits the tower
 abbrev pub fitting_step : TowerSpec → List ℕ → Option Step

@@ -10,7 +10,7 @@ use Rattle.tower_file.specs.declared.fault.FileFault.{FileFault}
 use Rattle.tower_file.specs.Faults.{fault}
 use Rattle.tower_file.specs.Towers.{is_lawful_tower}
 use Rattle.tower_file.specs.Files.{File, file_of}
-use Rattle.tower_file.specs.Words.{lines, words, next, after_next, is_end}
+use Rattle.words.specs.Words.{lines, words, next, after_next, is_end}
 use Rattle.tower_file.specs.Lines.{tower_name, fields_of, fitting_step}
 
 -- then, where there is no fault

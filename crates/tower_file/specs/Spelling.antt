@@ -1,15 +1,10 @@
 -- The one spelling of each tower file.
-use Rattle.std.specs.Prelude.{◌≡◌, ℕ, List, [], ◌∷◌, ◌++◌, codes, decimal}
+use Rattle.std.specs.Prelude.{◌≡◌, ℕ, List, [], ◌∷◌, ◌++◌, codes}
 use Rattle.std.specs.List.{flat_map}
-use Rattle.frames.specs.declared.types.Step.{Step}
-use Rattle.frames.specs.declared.types.Step.TheVariants as step
 use Rattle.tower_file.specs.declared.tower.TowerSpec.{TowerSpec}
 use Rattle.tower_file.specs.declared.tower.TowerSpec.TheVariants.{Safe, Copies, Regular, Unary, Stamped, Matrix}
+use Rattle.words.specs.Steps.{text, step_text}
 use Rattle.tower_file.specs.Files.{File, IsLawful}
-
--- a word, and numbers, with one space before each
-abbrev pub text : List ℕ → List ℕ → List ℕ
-text word numbers = word ++ flat_map (λ n. 32 ∷ decimal n) numbers
 
 -- a text and its line end
 abbrev pub line : List ℕ → List ℕ
@@ -25,11 +20,6 @@ tower_text (Regular readers init) = text (codes "regular") (readers ∷ init ∷
 tower_text (Unary values readers init) = text (codes "unary") (values ∷ readers ∷ init ∷ [])
 tower_text (Stamped values last) = text (codes "stamped") (values ∷ last ∷ [])
 tower_text (Matrix processes values last_tag last_stamp) = text (codes "matrix") (processes ∷ values ∷ last_tag ∷ last_stamp ∷ [])
-
-abbrev pub step_text : Step → List ℕ
-step_text (step.Write p v) = text (codes "w") (p ∷ v ∷ [])
-step_text (step.Read p) = text (codes "r") (p ∷ [])
-step_text (step.Go p c) = text (codes "g") (p ∷ c ∷ [])
 
 -- the header, the tower and the steps, a line each
 abbrev pub spelling : File → List ℕ

@@ -1,8 +1,7 @@
 //! Laws of tower files, for callers' proofs.
 
-ghost use Rattle.std.specs.Prelude.{◌≡◌, ℕ, ◌<◌, ◌^◌, ◌↔◌, List, Some, Ok, decimal};
+ghost use Rattle.std.specs.Prelude.{◌≡◌, ℕ, ◌↔◌, List, Ok};
 ghost use Rattle.tower_file.specs.Files.{File, IsLawful};
-ghost use Rattle.tower_file.specs.Words.{number};
 ghost use Rattle.tower_file.specs.Spelling.{Spells, spelling};
 ghost use Rattle.tower_file.specs.Reading.{reading};
 
@@ -12,9 +11,4 @@ pub fn one_spelling()
     ensures bytes { (f : File) (a b : List ℕ) → Spells a f → Spells b f → a ≡ b }
     ensures file { (bytes : List ℕ) (f g : File) → Spells bytes f → Spells bytes g → f ≡ g }
     ensures reading { (bytes : List ℕ) (f : File) → (reading bytes ≡ Ok f) ↔ Spells bytes f }
-{}
-
-/// A word is a number exactly where it is the decimal form of one below 10 ^ 9.
-pub fn one_number()
-    ensures { (word : List ℕ) (n : ℕ) → (number word ≡ Some n) ↔ ((n < 10 ^ 9) × (word ≡ decimal n)) }
 {}

@@ -24,8 +24,6 @@ mod fault;
 mod file;
 pub mod laws;
 mod line;
-mod number;
-mod parts;
 mod reading;
 mod tower;
 mod writing;

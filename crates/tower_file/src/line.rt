@@ -1,13 +1,13 @@
 //! What a line says: a tower or a step.
 
 ghost use Rattle.std.specs.Prelude.{◌≡◌};
-ghost use Rattle.std.specs.Str.{bytes_eq};
 ghost use Rattle.tower_file.specs.Lines as spec;
 
-use crate::number::{four_numbers, one_number, three_numbers, two_numbers};
-use crate::parts::Parts;
 use crate::tower::TowerSpec;
 use frames::types::Step;
+use words::number::{four_numbers, one_number, three_numbers, two_numbers};
+use words::parts::Parts;
+use words::step::{is, step_of};
 
 /// The first word of a tower's line.
 #[derive(Clone, Copy, Debug, PartialEq, Eq)]
@@ -92,31 +92,4 @@ pub fn fitting_step(tower: &TowerSpec, line: &[u8]) -> Option<Step>
 {
     let step = step_of(&mut Parts::new(line, b' '))?;
     tower.fits(step).then_some(step)
-}
-
-/// Reads a step.
-fn step_of(words: &mut Parts<'_>) -> Option<Step>
-    ensures { result ≡ spec.step_of words.old }
-{
-    let word = words.next();
-    if is(word, "w") {
-        let (p, v) = two_numbers(words)?;
-        return Some(Step::Write { p, v });
-    }
-    if is(word, "r") {
-        let p = one_number(words)?;
-        return Some(Step::Read { p });
-    }
-    if is(word, "g") {
-        let (p, c) = two_numbers(words)?;
-        return Some(Step::Go { p, c });
-    }
-    None
-}
-
-/// Whether a word is this text.
-pub fn is(word: &[u8], text: &str) -> bool
-    ensures { result ≡ bytes_eq word.now text.now }
-{
-    word == text.as_bytes()
 }

@@ -6,17 +6,18 @@ ghost use Rattle.tower_file.specs.Faults as faults;
 ghost use Rattle.tower_file.specs.Faults.{Gives, out_of_memory};
 ghost use Rattle.tower_file.specs.Towers.{is_lawful_tower};
 ghost use Rattle.tower_file.specs.Files.{File, IsLawful, file_of};
-ghost use Rattle.tower_file.specs.Words.{lines, after_next, is_end};
+ghost use Rattle.words.specs.Words.{lines, after_next, is_end};
 ghost use Rattle.tower_file.specs.Spelling.{Spells};
 ghost use Rattle.tower_file.specs.Reading as spec;
 
 use crate::fault::{FaultKind, FileFault};
 use crate::file::TowerFile;
-use crate::line::{fields_of, fitting_step, is, tower_name};
-use crate::parts::Parts;
+use crate::line::{fields_of, fitting_step, tower_name};
 use crate::tower::TowerSpec;
 use frames::types::Step;
 use std::alloc::Global;
+use words::parts::Parts;
+use words::step::is;
 
 /// The place of the first byte that is neither a line end nor one of 0x20 to 0x7E.
 fn first_odd(bytes: &[u8]) -> Option<usize>

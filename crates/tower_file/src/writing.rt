@@ -1,13 +1,14 @@
 //! Writing a tower file.
 
 ghost use Rattle.std.specs.Prelude.{◌≡◌, ◌++◌, OnOk, IfOk};
-ghost use Rattle.tower_file.specs.Spelling.{Spells, text, line, tower_text, step_text};
+ghost use Rattle.words.specs.Steps.{text, step_text};
+ghost use Rattle.tower_file.specs.Spelling.{Spells, line, tower_text};
 
 use crate::file::TowerFile;
 use crate::tower::TowerSpec;
 use frames::types::Step;
 use std::alloc::{AllocError, Global};
-use std::io::Write;
+use words::step::{push_step, push_words};
 
 /// The spelling of a file.
 pub fn print(alloc: Global, file: &TowerFile) -> Result<Vec<u8>, AllocError>
@@ -17,7 +18,7 @@ pub fn print(alloc: Global, file: &TowerFile) -> Result<Vec<u8>, AllocError>
     push_line(&mut out, "tower 1", &[])?;
     push_tower(&mut out, &file.spec())?;
     for step in file.steps() {
-        push_step(&mut out, *step)?;
+        push_step_line(&mut out, *step)?;
     }
     Ok(out)
 }
@@ -46,24 +47,19 @@ fn push_tower(out: &mut Vec<u8>, tower: &TowerSpec) -> Result<(), AllocError>
 }
 
 /// Adds the line of a step.
-fn push_step(out: &mut Vec<u8>, step: Step) -> Result<(), AllocError>
+fn push_step_line(out: &mut Vec<u8>, step: Step) -> Result<(), AllocError>
     ensures { OnOk result (out.new.items ≡ out.old.items ++ line (step_text step)) }
 {
-    match step {
-        Step::Write { p, v } => push_line(out, "w", &[p, v]),
-        Step::Read { p } => push_line(out, "r", &[p]),
-        Step::Go { p, c } => push_line(out, "g", &[p, c]),
-    }
+    push_step(out, step).map_err(|_| AllocError)?;
+    out.push(b'\n')?;
+    Ok(())
 }
 
 /// Adds a line of a word and numbers.
 fn push_line(out: &mut Vec<u8>, word: &str, numbers: &[u32]) -> Result<(), AllocError>
     ensures { OnOk result (out.new.items ≡ out.old.items ++ line (text word.now numbers.now)) }
 {
-    out.extend_from_slice(word.as_bytes())?;
-    for number in numbers {
-        write!(out, " {number}").map_err(|_| AllocError)?;
-    }
+    push_words(out, word, numbers).map_err(|_| AllocError)?;
     out.push(b'\n')?;
     Ok(())
 }

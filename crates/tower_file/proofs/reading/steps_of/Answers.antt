@@ -1,6 +1,6 @@
 use Rattle.std.proofs.Common.{◌≡◌, ◌+◌, ◌++◌, ◌∷◌, [], true, false, length, Some, None, rules, arith}
 use Rattle.std.proofs.lemmas.Grind.{common_steps}
-use Rattle.tower_file.specs.Words.{next, after_next, is_end}
+use Rattle.words.specs.Words.{next, after_next, is_end}
 use Rattle.tower_file.specs.Lines.{fitting_step}
 use Rattle.tower_file.specs.Reading.{steps_of}
 use Rattle.tower_file.proofs.Loop.{no_line, nothing_left, cut_off, no_step, goes_on}

@@ -1,6 +1,7 @@
 use Rattle.std.proofs.Common.{◌≡◌, ◌++◌, take}
 use Rattle.std.specs.List.{flat_map}
-use Rattle.tower_file.specs.Spelling.{line, header, tower_text, step_text}
+use Rattle.words.specs.Steps.{step_text}
+use Rattle.tower_file.specs.Spelling.{line, header, tower_text}
 use Rattle.tower_file.proofs.writing.print.Given as goal
 
 abbrev pub invariant-loop-step : goal.invariant-loop-step

@@ -4,7 +4,7 @@ use Rattle.std.proofs.Common.{Bor, Option, Some, None, not, is_some, ◌==◌, �
 use Rattle.std.specs.List.{slice_split, onto_first, All}
 use Rattle.std.proofs.lemmas.List.{get_or-take, get_or_default, take-append-drop, drop_more, length-take}
 use Rattle.std.proofs.lemmas.List.Splits.{slice_split_none, slice_split_at}
-use Rattle.tower_file.specs.Words.{parts_left, is_end}
+use Rattle.words.specs.Words.{parts_left, is_end}
 use Rattle.bstr.specs.Find.{Nowhere, NoneBefore, Passes}
 
 not_true : (b : Bool) → (b ≡ true → ⊥) → b ≡ false

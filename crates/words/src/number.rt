@@ -4,7 +4,7 @@ ghost use Rattle.std.specs.Prelude.{◌≡◌, ◌≤◌, length, true};
 ghost use Rattle.std.specs.List.{list_all};
 ghost use Rattle.std.specs.Char.{is_ascii_digit};
 ghost use Rattle.std.specs.Str.Parse.{digits_value};
-ghost use Rattle.tower_file.specs.Words as spec;
+ghost use Rattle.words.specs.Words as spec;
 
 use crate::parts::Parts;
 
@@ -12,7 +12,7 @@ use crate::parts::Parts;
 const MOST_DIGITS: usize = 9;
 
 /// The number that a word writes: 0, or a digit from 1 on and more digits, at most 9 in all.
-fn number(word: &[u8]) -> Option<u32>
+pub fn number(word: &[u8]) -> Option<u32>
     ensures { result ≡ spec.number word.now }
 {
     if is_number(word) {

@@ -1,7 +1,7 @@
 use Rattle.std.proofs.Common.{◌∙◌, ap}
-use Rattle.tower_file.specs.Words.{is_end}
-use Rattle.tower_file.proofs.Splits.{is_end-parts_left}
-use Rattle.tower_file.proofs.parts.Parts.is_end.Goals as goal
+use Rattle.words.specs.Words.{is_end}
+use Rattle.words.proofs.Splits.{is_end-parts_left}
+use Rattle.words.proofs.parts.Parts.is_end.Goals as goal
 
 pub returns : goal.returns
 returns c = is_end-parts_left c.self.inside.separator c.self.inside.text c.is_none.result c.is_none.ensures ∙ ap is_end c.self.view_is

@@ -1,7 +1,7 @@
 use Rattle.std.proofs.Common.{ℕ, List, ◌∙◌, ap, ◌==◌, ◌≡◌, ◌+◌, take, drop, length, ◌-◌}
 use Rattle.std.proofs.lemmas.List.{take_rest, drop-drop}
-use Rattle.tower_file.proofs.Splits.{split_whole, split_first}
-use Rattle.tower_file.proofs.parts.first_part.Goals as goal
+use Rattle.words.proofs.Splits.{split_whole, split_first}
+use Rattle.words.proofs.parts.first_part.Goals as goal
 
 pub returns-in-None : goal.returns-in-None
 returns-in-None c = split_whole (λ b. b == c.args.separator) c.args.text.now c.in-None.ensures

@@ -1,6 +1,6 @@
 use Rattle.std.proofs.Common.{arith}
-use Rattle.tower_file.proofs.Digits.{digit_at, small_power, next_digit, next_small}
-use Rattle.tower_file.proofs.number.value.Goals as goal
+use Rattle.words.proofs.Digits.{digit_at, small_power, next_digit, next_small}
+use Rattle.words.proofs.number.value.Goals as goal
 
 pub overflow_mul-value : goal.overflow_mul-value
 overflow_mul-value c =

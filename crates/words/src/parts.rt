@@ -2,7 +2,7 @@
 
 ghost use Rattle.std.specs.Prelude.{◌≡◌, ◌∷◌};
 ghost use Rattle.std.specs.Option.{option_map};
-ghost use Rattle.tower_file.specs.Words.{parts, parts_left, next, after_next, is_end};
+ghost use Rattle.words.specs.Words.{parts, parts_left, next, after_next, is_end};
 
 use bstr::ByteSlice;
 use std::marker::Model;
@@ -17,7 +17,7 @@ pub struct Parts<'a> {
 impl<'a> Model for Parts<'a> {
     ghost use Rattle.std.specs.Prelude.{ℕ, List};
     ghost use Rattle.std.specs.Option.{option_map};
-    ghost use Rattle.tower_file.specs.Words.{parts_left};
+    ghost use Rattle.words.specs.Words.{parts_left};
 
     ghost Value = { List (List ℕ) };
 

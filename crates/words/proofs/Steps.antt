@@ -1,0 +1,147 @@
+-- A step is read from its own text alone.
+use Rattle.std.proofs.Common.{◌≡◌, ℕ, ◌<◌, ◌^◌, Bool, true, false, cond, List, [], ◌∷◌, map, Option, Some, None, refl, sym, ap, ◌∙◌, subst}
+use Rattle.std.specs.Prelude.{codes, ◌↔◌}
+use Rattle.std.specs.Option.{option_map, option_and_then}
+use Rattle.std.specs.List.{join_with_byte}
+use Rattle.std.specs.Str.{bytes_eq}
+use Rattle.std.specs.Fmt.{decimal}
+use Rattle.std.proofs.lemmas.Option.{cond_some, same_Some}
+use Rattle.std.proofs.lemmas.List.Splits.{join_with_byte-slice_split}
+use Rattle.std.proofs.lemmas.Slice.Eq.{bytes_eq-Decides}
+use Rattle.frames.specs.declared.types.Step.{Step}
+use Rattle.frames.specs.declared.types.Step.TheVariants as step
+use Rattle.words.specs.Words.{words, is_end, number, one_number, two_numbers, three_numbers, four_numbers}
+use Rattle.words.specs.Steps.{step_of, text, step_text, HasShortNumbers}
+use Rattle.words.proofs.Numbers.{decimal-number, number-decimal}
+use Rattle.words.proofs.Texts.{words-text, join-words}
+
+pub some_then : {A B : Type 0} (o : Option A) (f : A → Option B) (y : B) → option_and_then f o ≡ Some y → (x : A) × (o ≡ Some x) × (f x ≡ Some y)
+some_then None f y e = absurd cc
+some_then (Some x) f y e = (x, refl, e)
+
+pub mapped : {A B : Type 0} (f : A → B) (o : Option A) (y : B) → option_map f o ≡ Some y → (x : A) × (o ≡ Some x) × (f x ≡ y)
+mapped f None y e = absurd cc
+mapped f (Some x) y e = (x, refl, same_Some (f x) y e)
+
+ended : (ws : List (List ℕ)) → is_end ws ≡ true → ws ≡ []
+ended [] h = refl
+ended (w ∷ ws) h = absurd cc
+
+-- ---- words
+
+pub one_is : (ws : List (List ℕ)) (n : ℕ) → one_number ws ≡ Some n → ws ≡ map decimal (n ∷ [])
+one_is [] n h = absurd cc
+one_is (w ∷ ws) n h =
+    let a = some_then (number w) (λ x. cond (is_end ws) (Some x) None) n h in
+    let b = cond_some (is_end ws) a.0 n a.2 in
+    let nothing = ended ws b.0 in
+    let first = (decimal-number w a.0 a.1).1 in
+    cc
+
+pub two_are : (ws : List (List ℕ)) (n : ℕ × ℕ) → two_numbers ws ≡ Some n → ws ≡ map decimal (n.0 ∷ n.1 ∷ [])
+two_are [] n h = absurd cc
+two_are (w ∷ ws) n h =
+    let a = some_then (number w) (λ x. option_and_then (λ y. Some (x, y)) (one_number ws)) n h in
+    let b = some_then (one_number ws) (λ y. Some (a.0, y)) n a.2 in
+    let first = (decimal-number w a.0 a.1).1 in
+    let others = one_is ws b.0 b.1 in
+    let all : (w ∷ ws) ≡ map decimal (a.0 ∷ b.0 ∷ []) = cc in
+    subst (λ (m : ℕ × ℕ). (w ∷ ws) ≡ map decimal (m.0 ∷ m.1 ∷ [])) (same_Some (a.0, b.0) n b.2) all
+
+pub three_are : (ws : List (List ℕ)) (n : ℕ × ℕ × ℕ) → three_numbers ws ≡ Some n → ws ≡ map decimal (n.0 ∷ n.1 ∷ n.2 ∷ [])
+three_are [] n h = absurd cc
+three_are (w ∷ ws) n h =
+    let a = some_then (number w) (λ x. option_and_then (λ y. Some (x, y.0, y.1)) (two_numbers ws)) n h in
+    let b = some_then (two_numbers ws) (λ y. Some (a.0, y.0, y.1)) n a.2 in
+    let first = (decimal-number w a.0 a.1).1 in
+    let others = two_are ws b.0 b.1 in
+    let all : (w ∷ ws) ≡ map decimal (a.0 ∷ b.0.0 ∷ b.0.1 ∷ []) = cc in
+    subst (λ (m : ℕ × ℕ × ℕ). (w ∷ ws) ≡ map decimal (m.0 ∷ m.1 ∷ m.2 ∷ [])) (same_Some (a.0, b.0.0, b.0.1) n b.2) all
+
+pub four_are : (ws : List (List ℕ)) (n : ℕ × ℕ × ℕ × ℕ) → four_numbers ws ≡ Some n → ws ≡ map decimal (n.0 ∷ n.1 ∷ n.2 ∷ n.3 ∷ [])
+four_are [] n h = absurd cc
+four_are (w ∷ ws) n h =
+    let a = some_then (number w) (λ x. option_and_then (λ y. Some (x, y.0, y.1, y.2)) (three_numbers ws)) n h in
+    let b = some_then (three_numbers ws) (λ y. Some (a.0, y.0, y.1, y.2)) n a.2 in
+    let first = (decimal-number w a.0 a.1).1 in
+    let others = three_are ws b.0 b.1 in
+    let all : (w ∷ ws) ≡ map decimal (a.0 ∷ b.0.0 ∷ b.0.1 ∷ b.0.2 ∷ []) = cc in
+    subst (λ (m : ℕ × ℕ × ℕ × ℕ). (w ∷ ws) ≡ map decimal (m.0 ∷ m.1 ∷ m.2 ∷ m.3 ∷ [])) (same_Some (a.0, b.0.0, b.0.1, b.0.2) n b.2) all
+
+-- a word and numbers, joined
+pub joined : (w v : List ℕ) (ws : List (List ℕ)) (ns : List ℕ) → w ≡ v → ws ≡ map decimal ns → join_with_byte 32 (w ∷ ws) ≡ text v ns
+joined w v ws ns e f = ap (λ x. join_with_byte 32 (x ∷ ws)) e ∙ ap (λ xs. join_with_byte 32 (v ∷ xs)) f ∙ join-words v ns
+
+pub is_word : (w v : List ℕ) → bytes_eq w v ≡ true → w ≡ v
+is_word w v h = (bytes_eq-Decides w v).0 h
+
+-- ---- steps
+
+step_by : (isw isr isg : Bool) (w : List ℕ) (ws : List (List ℕ)) (s : Step) → (isw ≡ true → w ≡ codes "w") → (isr ≡ true → w ≡ codes "r") → (isg ≡ true → w ≡ codes "g")
+    → cond isw (option_map (λ n. step.Write n.0 n.1) (two_numbers ws)) (cond isr (option_map (λ p. step.Read p) (one_number ws)) (cond isg (option_map (λ n. step.Go n.0 n.1) (two_numbers ws)) None)) ≡ Some s
+    → join_with_byte 32 (w ∷ ws) ≡ step_text s
+step_by true isr isg w ws s e f g h =
+    let a = mapped (λ n. step.Write n.0 n.1) (two_numbers ws) s h in
+    joined w (codes "w") ws (a.0.0 ∷ a.0.1 ∷ []) (e refl) (two_are ws a.0 a.1) ∙ ap step_text a.2
+step_by false true isg w ws s e f g h =
+    let a = mapped (λ p. step.Read p) (one_number ws) s h in
+    joined w (codes "r") ws (a.0 ∷ []) (f refl) (one_is ws a.0 a.1) ∙ ap step_text a.2
+step_by false false true w ws s e f g h =
+    let a = mapped (λ n. step.Go n.0 n.1) (two_numbers ws) s h in
+    joined w (codes "g") ws (a.0.0 ∷ a.0.1 ∷ []) (g refl) (two_are ws a.0 a.1) ∙ ap step_text a.2
+step_by false false false w ws s e f g h = absurd cc
+
+pub step_is : (ws : List (List ℕ)) (s : Step) → step_of ws ≡ Some s → join_with_byte 32 ws ≡ step_text s
+step_is [] s h = absurd cc
+step_is (w ∷ ws) s h = step_by (bytes_eq w (codes "w")) (bytes_eq w (codes "r")) (bytes_eq w (codes "g")) w ws s (is_word w (codes "w")) (is_word w (codes "r")) (is_word w (codes "g")) h
+
+one_short : (ws : List (List ℕ)) (n : ℕ) → one_number ws ≡ Some n → n < 10 ^ 9
+one_short [] n h = absurd cc
+one_short (w ∷ ws) n h =
+    let a = some_then (number w) (λ x. cond (is_end ws) (Some x) None) n h in
+    let b = cond_some (is_end ws) a.0 n a.2 in
+    subst (λ m. m < 10 ^ 9) b.1 (decimal-number w a.0 a.1).0
+
+two_short : (ws : List (List ℕ)) (n : ℕ × ℕ) → two_numbers ws ≡ Some n → (n.0 < 10 ^ 9) × (n.1 < 10 ^ 9)
+two_short [] n h = absurd cc
+two_short (w ∷ ws) n h =
+    let a = some_then (number w) (λ x. option_and_then (λ y. Some (x, y)) (one_number ws)) n h in
+    let b = some_then (one_number ws) (λ y. Some (a.0, y)) n a.2 in
+    subst (λ (m : ℕ × ℕ). (m.0 < 10 ^ 9) × (m.1 < 10 ^ 9)) (same_Some (a.0, b.0) n b.2) ((decimal-number w a.0 a.1).0, one_short ws b.0 b.1)
+
+short_by : (isw isr isg : Bool) (ws : List (List ℕ)) (s : Step)
+    → cond isw (option_map (λ n. step.Write n.0 n.1) (two_numbers ws)) (cond isr (option_map (λ p. step.Read p) (one_number ws)) (cond isg (option_map (λ n. step.Go n.0 n.1) (two_numbers ws)) None)) ≡ Some s
+    → HasShortNumbers s
+short_by true isr isg ws s h =
+    let a = mapped (λ n. step.Write n.0 n.1) (two_numbers ws) s h in
+    subst HasShortNumbers a.2 (two_short ws a.0 a.1)
+short_by false true isg ws s h =
+    let a = mapped (λ p. step.Read p) (one_number ws) s h in
+    subst HasShortNumbers a.2 (one_short ws a.0 a.1)
+short_by false false true ws s h =
+    let a = mapped (λ n. step.Go n.0 n.1) (two_numbers ws) s h in
+    subst HasShortNumbers a.2 (two_short ws a.0 a.1)
+short_by false false false ws s h = absurd cc
+
+step_short : (ws : List (List ℕ)) (s : Step) → step_of ws ≡ Some s → HasShortNumbers s
+step_short [] s h = absurd cc
+step_short (w ∷ ws) s h = short_by (bytes_eq w (codes "w")) (bytes_eq w (codes "r")) (bytes_eq w (codes "g")) ws s h
+
+pub step_again : (s : Step) → HasShortNumbers s → step_of (words (step_text s)) ≡ Some s
+step_again (step.Write p v) h =
+    let a = h.0 in
+    let b = h.1 in
+    ap step_of (words-text (codes "w") (p ∷ v ∷ []) refl (a, (b, tt))) ∙ rw (number-decimal p a, number-decimal v b) refl
+step_again (step.Read p) h =
+    ap step_of (words-text (codes "r") (p ∷ []) refl (h, tt)) ∙ rw (number-decimal p h) refl
+step_again (step.Go p c) h =
+    let a = h.0 in
+    let b = h.1 in
+    ap step_of (words-text (codes "g") (p ∷ c ∷ []) refl (a, (b, tt))) ∙ rw (number-decimal p a, number-decimal c b) refl
+
+-- a line spells a step exactly where it is its text
+pub one_step : (line : List ℕ) (s : Step) → (step_of (words line) ≡ Some s) ↔ (HasShortNumbers s × (line ≡ step_text s))
+one_step line s = (
+  λ h. (step_short (words line) s h, sym (join_with_byte-slice_split 32 line) ∙ step_is (words line) s h),
+  λ h. ap (λ l. step_of (words l)) h.1 ∙ step_again s h.0,
+)

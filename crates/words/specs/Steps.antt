@@ -1,0 +1,32 @@
+-- Steps in words, and their text.
+use Rattle.std.specs.Prelude.{ℕ, ◌<◌, ◌^◌, List, [], ◌∷◌, ◌++◌, Option, None, codes, decimal, if◌then◌else◌}
+use Rattle.std.specs.Option.{option_map}
+use Rattle.std.specs.List.{flat_map}
+use Rattle.std.specs.Str.{bytes_eq}
+use Rattle.frames.specs.declared.types.Step.{Step}
+use Rattle.frames.specs.declared.types.Step.TheVariants as step
+use Rattle.words.specs.Words.{next, after_next, one_number, two_numbers}
+
+-- a step: `w P V`, `r P` or `g P C`, and no more words
+abbrev pub step_of : List (List ℕ) → Option Step
+step_of ws =
+    if bytes_eq (next ws) (codes "w") then option_map (λ n. step.Write n.0 n.1) (two_numbers (after_next ws))
+    else (if bytes_eq (next ws) (codes "r") then option_map (λ p. step.Read p) (one_number (after_next ws))
+    else (if bytes_eq (next ws) (codes "g") then option_map (λ n. step.Go n.0 n.1) (two_numbers (after_next ws))
+    else None))
+
+-- a word, and numbers, with one space before each
+abbrev pub text : List ℕ → List ℕ → List ℕ
+text word numbers = word ++ flat_map (λ n. 32 ∷ decimal n) numbers
+
+-- the text of a step
+abbrev pub step_text : Step → List ℕ
+step_text (step.Write p v) = text (codes "w") (p ∷ v ∷ [])
+step_text (step.Read p) = text (codes "r") (p ∷ [])
+step_text (step.Go p c) = text (codes "g") (p ∷ c ∷ [])
+
+-- the numbers of a step are below 10 ^ 9, as those that words write
+abbrev pub HasShortNumbers : Step → Type 0
+HasShortNumbers (step.Write p v) = (p < 10 ^ 9) × (v < 10 ^ 9)
+HasShortNumbers (step.Read p) = p < 10 ^ 9
+HasShortNumbers (step.Go p c) = (p < 10 ^ 9) × (c < 10 ^ 9)

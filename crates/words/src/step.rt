@@ -1,0 +1,60 @@
+//! Steps in words.
+
+ghost use Rattle.std.specs.Prelude.{◌≡◌, ◌++◌, OnOk};
+ghost use Rattle.std.specs.Str.{bytes_eq};
+ghost use Rattle.words.specs.Steps as spec;
+
+use crate::number::{one_number, two_numbers};
+use crate::parts::Parts;
+use frames::types::Step;
+use std::io;
+use std::io::Write;
+
+/// Reads a step, and no more.
+pub fn step_of(words: &mut Parts<'_>) -> Option<Step>
+    ensures { result ≡ spec.step_of words.old }
+{
+    let word = words.next();
+    if is(word, "w") {
+        let (p, v) = two_numbers(words)?;
+        return Some(Step::Write { p, v });
+    }
+    if is(word, "r") {
+        let p = one_number(words)?;
+        return Some(Step::Read { p });
+    }
+    if is(word, "g") {
+        let (p, c) = two_numbers(words)?;
+        return Some(Step::Go { p, c });
+    }
+    None
+}
+
+/// Adds the words of a step. An error comes only where there is no memory.
+pub fn push_step(out: &mut Vec<u8>, step: Step) -> io::Result<()>
+    ensures { OnOk result (out.new.items ≡ out.old.items ++ spec.step_text step) }
+{
+    match step {
+        Step::Write { p, v } => push_words(out, "w", &[p, v]),
+        Step::Read { p } => push_words(out, "r", &[p]),
+        Step::Go { p, c } => push_words(out, "g", &[p, c]),
+    }
+}
+
+/// Adds a word and numbers, with one space before each. An error comes only where there is no memory.
+pub fn push_words(out: &mut Vec<u8>, word: &str, numbers: &[u32]) -> io::Result<()>
+    ensures { OnOk result (out.new.items ≡ out.old.items ++ spec.text word.now numbers.now) }
+{
+    out.write_all(word.as_bytes())?;
+    for number in numbers {
+        write!(out, " {number}")?;
+    }
+    Ok(())
+}
+
+/// Whether a word is this text.
+pub fn is(word: &[u8], text: &str) -> bool
+    ensures { result ≡ bytes_eq word.now text.now }
+{
+    word == text.as_bytes()
+}
