@@ -3,7 +3,7 @@ use Rattle.std.proofs.Common.{◌≡◌, ℕ, ◌+◌, ◌^◌, ◌<◌, ◌≤�
 use Rattle.std.specs.Prelude.{codes}
 use Rattle.std.specs.Option.{ok_or, option_and_then}
 use Rattle.std.specs.List.{list_all, flat_map, prefix_len}
-use Rattle.std.proofs.lemmas.Bool.{and_parts, ltb-true, le-ltb}
+use Rattle.std.proofs.lemmas.Bool.{and_parts, and_from, ltb-true, le-ltb}
 use Rattle.std.proofs.lemmas.Bool.Decides.{nat_tests}
 use Rattle.frames.specs.declared.types.Op.{Op}
 use Rattle.frames.specs.declared.types.Op.TheVariants as op
@@ -12,16 +12,19 @@ use Rattle.frames.specs.declared.types.Step.TheVariants as step
 use Rattle.frames.specs.OneWriter.{nobody_else, no_other_value}
 use Rattle.tower_file.specs.declared.tower.TowerSpec.{TowerSpec}
 use Rattle.tower_file.specs.declared.tower.TowerSpec.TheVariants.{Safe, Copies, Regular, Unary, Stamped, Matrix}
-use Rattle.tower_file.specs.declared.fault.FaultKind.TheVariants.{BadStep}
+use Rattle.tower_file.specs.declared.fault.FaultKind.TheVariants.{BadHeader, BadStep}
 use Rattle.tower_file.specs.declared.fault.FileFault.{FileFault}
 use Rattle.tower_file.specs.Faults.{fault}
 use Rattle.tower_file.specs.Towers.{values_of, processes_of, is_lawful_tower, suits, fits}
+use Rattle.tower_file.specs.declared.version.Version.{Version}
+use Rattle.tower_file.specs.declared.version.Version.TheVariants.{One, Two}
+use Rattle.tower_file.specs.Versions.{header, has_step, may_have}
 use Rattle.tower_file.specs.Files.{File, IsLawful, file_of}
 use Rattle.words.specs.Words.{words, lines, is_end}
 use Rattle.words.specs.Steps.{step_text, HasShortNumbers}
 use Rattle.tower_file.specs.Lines.{fitting_step}
-use Rattle.tower_file.specs.Spelling.{line, header, tower_text, spelling, Spells}
-use Rattle.tower_file.specs.Reading.{◌>>=◌, is_plain, first_odd, second_line, tower_of, steps_of, file_of_lines, reading_from, reading}
+use Rattle.tower_file.specs.Spelling.{line, tower_text, spelling, Spells}
+use Rattle.tower_file.specs.Reading.{◌>>=◌, is_plain, first_odd, version_of, second_line, tower_of, steps_of, file_of_lines, reading_from, reading}
 use Rattle.words.proofs.Numbers.{number-decimal}
 use Rattle.words.proofs.Texts.{all_weaker, all_append, is_print, text_prints, words-text}
 use Rattle.words.proofs.Steps.{step_again}
@@ -131,15 +134,27 @@ step_short t (step.Read p) small h = omega (arith, small.processes, some_process
 step_short t (step.Go p c) small h =
     let g = and_parts (nat_lt p (processes_of t)) (nat_lt c 2) h in
     (omega (arith, small.processes, ltb-true p (processes_of t) g.0), omega (arith, ltb-true c 2 g.1))
+step_short t (step.Stop p) small h = omega (arith, small.processes, ltb-true p (processes_of t) h)
+
+-- a step that a file may have fits its tower
+fits_tower : (v : Version) (t : TowerSpec) (s : Step) → may_have v t s ≡ true → fits t s ≡ true
+fits_tower v t s h = (and_parts (has_step v s) (fits t s) h).1
 
 step_prints : (s : Step) → HasShortNumbers s → list_all is_print (step_text s) ≡ true
 step_prints (step.Write p v) h = text_prints (codes "w") (p ∷ v ∷ []) refl (h.0, (h.1, tt))
 step_prints (step.Read p) h = text_prints (codes "r") (p ∷ []) refl (h, tt)
 step_prints (step.Go p c) h = text_prints (codes "g") (p ∷ c ∷ []) refl (h.0, (h.1, tt))
+step_prints (step.Stop p) h = text_prints (codes "x") (p ∷ []) refl (h, tt)
 
-fitting_again : (t : TowerSpec) (s : Step) → IsFew t → fits t s ≡ true → fitting_step t (step_text s) ≡ Some s
-fitting_again t s small h =
-    ap (λ (o : Option Step). option_and_then (λ x. cond (fits t x) (Some x) None) o) (step_again s (step_short t s small h)) ∙ ap (λ b. cond b (Some s) None) h
+pub all_fit : (v : Version) (t : TowerSpec) (ss : List Step) → list_all (may_have v t) ss ≡ true → list_all (fits t) ss ≡ true
+all_fit v t [] h = refl
+all_fit v t (s ∷ ss) h =
+    let a = and_parts (may_have v t s) (list_all (may_have v t) ss) h in
+    and_from (fits t s) (list_all (fits t) ss) (fits_tower v t s a.0) (all_fit v t ss a.1)
+
+fitting_again : (v : Version) (t : TowerSpec) (s : Step) → IsFew t → may_have v t s ≡ true → fitting_step v t (step_text s) ≡ Some s
+fitting_again v t s small h =
+    ap (λ (o : Option Step). option_and_then (λ x. cond (may_have v t x) (Some x) None) o) (step_again s (step_short t s small (fits_tower v t s h))) ∙ ap (λ b. cond b (Some s) None) h
 
 -- the lines of steps, and nothing behind them
 abbrev step_lines : List Step → List (List ℕ)
@@ -150,40 +165,40 @@ some_line : (ss : List Step) → is_end (step_lines ss) ≡ false
 some_line [] = refl
 some_line (s ∷ ss) = refl
 
-steps_more : (t : TowerSpec) (n : ℕ) (l : List ℕ) (ls : List (List ℕ)) → is_end ls ≡ false
-    → steps_of t n (l ∷ ls) ≡ (ok_or (fitting_step t l) (fault BadStep n) >>= λ s. steps_of t (n + 1) ls >>= λ ss. Ok (s ∷ ss))
+steps_more : (v : Version) (t : TowerSpec) (n : ℕ) (l : List ℕ) (ls : List (List ℕ)) → is_end ls ≡ false
+    → steps_of v t n (l ∷ ls) ≡ (ok_or (fitting_step v t l) (fault BadStep n) >>= λ s. steps_of v t (n + 1) ls >>= λ ss. Ok (s ∷ ss))
 unfolding steps_of
-steps_more t n l [] h = absurd cc
-steps_more t n l (k ∷ ls) h = refl
+steps_more v t n l [] h = absurd cc
+steps_more v t n l (k ∷ ls) h = refl
 
-steps_again : (t : TowerSpec) (n : ℕ) (ss : List Step) → IsFew t → list_all (fits t) ss ≡ true → steps_of t n (step_lines ss) ≡ Ok ss
+steps_again : (v : Version) (t : TowerSpec) (n : ℕ) (ss : List Step) → IsFew t → list_all (may_have v t) ss ≡ true → steps_of v t n (step_lines ss) ≡ Ok ss
 unfolding steps_of
-steps_again t n [] small h = refl
-steps_again t n (s ∷ ss) small h =
-    let a = and_parts (fits t s) (list_all (fits t) ss) h in
-    steps_more t n (step_text s) (step_lines ss) (some_line ss)
-    ∙ ap (λ (o : Option Step). ok_or o (fault BadStep n) >>= λ x. steps_of t (n + 1) (step_lines ss) >>= λ xs. Ok (x ∷ xs)) (fitting_again t s small a.0)
-    ∙ ap (λ (r : Result (List Step) FileFault). r >>= λ xs. Ok (s ∷ xs)) (steps_again t (n + 1) ss small a.1)
+steps_again v t n [] small h = refl
+steps_again v t n (s ∷ ss) small h =
+    let a = and_parts (may_have v t s) (list_all (may_have v t) ss) h in
+    steps_more v t n (step_text s) (step_lines ss) (some_line ss)
+    ∙ ap (λ (o : Option Step). ok_or o (fault BadStep n) >>= λ x. steps_of v t (n + 1) (step_lines ss) >>= λ xs. Ok (x ∷ xs)) (fitting_again v t s small a.0)
+    ∙ ap (λ (r : Result (List Step) FileFault). r >>= λ xs. Ok (s ∷ xs)) (steps_again v t (n + 1) ss small a.1)
 
 abbrev steps_text : List Step → List ℕ
 steps_text ss = flat_map (λ s. line (step_text s)) ss
 
-lines-steps : (t : TowerSpec) (ss : List Step) → IsFew t → list_all (fits t) ss ≡ true → lines (steps_text ss) ≡ step_lines ss
-lines-steps t [] small h = refl
-lines-steps t (s ∷ ss) small h =
-    let a = and_parts (fits t s) (list_all (fits t) ss) h in
-    lines-line (step_text s) (steps_text ss) (step_prints s (step_short t s small a.0)) ∙ ap (λ ls. step_text s ∷ ls) (lines-steps t ss small a.1)
+lines-steps : (v : Version) (t : TowerSpec) (ss : List Step) → IsFew t → list_all (may_have v t) ss ≡ true → lines (steps_text ss) ≡ step_lines ss
+lines-steps v t [] small h = refl
+lines-steps v t (s ∷ ss) small h =
+    let a = and_parts (may_have v t s) (list_all (may_have v t) ss) h in
+    lines-line (step_text s) (steps_text ss) (step_prints s (step_short t s small (fits_tower v t s a.0))) ∙ ap (λ ls. step_text s ∷ ls) (lines-steps v t ss small a.1)
 
 -- ---- plain bytes
 
 line_plain : (xs : List ℕ) → list_all is_print xs ≡ true → list_all is_plain (line xs) ≡ true
 line_plain xs h = all_append is_plain xs (10 ∷ []) (all_weaker is_print is_plain print_is_plain xs h) refl
 
-steps_plain : (t : TowerSpec) (ss : List Step) → IsFew t → list_all (fits t) ss ≡ true → list_all is_plain (steps_text ss) ≡ true
-steps_plain t [] small h = refl
-steps_plain t (s ∷ ss) small h =
-    let a = and_parts (fits t s) (list_all (fits t) ss) h in
-    all_append is_plain (line (step_text s)) (steps_text ss) (line_plain (step_text s) (step_prints s (step_short t s small a.0))) (steps_plain t ss small a.1)
+steps_plain : (v : Version) (t : TowerSpec) (ss : List Step) → IsFew t → list_all (may_have v t) ss ≡ true → list_all is_plain (steps_text ss) ≡ true
+steps_plain v t [] small h = refl
+steps_plain v t (s ∷ ss) small h =
+    let a = and_parts (may_have v t s) (list_all (may_have v t) ss) h in
+    all_append is_plain (line (step_text s)) (steps_text ss) (line_plain (step_text s) (step_prints s (step_short t s small (fits_tower v t s a.0)))) (steps_plain v t ss small a.1)
 
 all_before : (xs : List ℕ) → list_all is_plain xs ≡ true → prefix_len (λ x. not (not (is_plain x))) xs ≡ length xs
 all_before [] h = refl
@@ -199,31 +214,40 @@ no_odd xs h =
 
 -- ---- files
 
-tower_of_lines : (t : TowerSpec) (ls : List (List ℕ)) → is_end ls ≡ false → is_lawful_tower t ≡ true → tower_of (header ∷ tower_text t ∷ ls) ≡ Ok t
-tower_of_lines t ls more h =
-    ap (λ b. second_line b (words (tower_text t))) more ∙ tower_again t h
+tower_of_lines : (t : TowerSpec) (ls : List (List ℕ)) → is_end ls ≡ false → is_lawful_tower t ≡ true → tower_of (tower_text t ∷ ls) ≡ Ok t
+tower_of_lines t ls more h = ap (λ b. second_line b (words (tower_text t))) more ∙ tower_again t h
 
-lines-spelling : (f : File) → IsLawful f → lines (spelling f) ≡ header ∷ tower_text f.spec ∷ step_lines f.steps
+header_prints : (v : Version) → list_all is_print (header v) ≡ true
+header_prints One = refl
+header_prints Two = refl
+
+version_again : (v : Version) (l : List ℕ) (ls : List (List ℕ)) → version_of (header v ∷ l ∷ ls) ≡ Some v
+version_again One l ls = refl
+version_again Two l ls = refl
+
+lines-spelling : (f : File) → IsLawful f → lines (spelling f) ≡ header f.version ∷ tower_text f.spec ∷ step_lines f.steps
 lines-spelling f lawful =
-    let a = and_parts (is_lawful_tower f.spec) (list_all (fits f.spec) f.steps) lawful in
+    let a = and_parts (is_lawful_tower f.spec) (list_all (may_have f.version f.spec) f.steps) lawful in
     let small = few f.spec a.0 in
-    ap lines (append_assoc (line header) (line (tower_text f.spec)) (steps_text f.steps))
-    ∙ lines-line header (line (tower_text f.spec) ++ steps_text f.steps) refl
-    ∙ ap (λ ls. header ∷ ls) (lines-line (tower_text f.spec) (steps_text f.steps) (tower_prints f.spec a.0))
-    ∙ ap (λ ls. header ∷ tower_text f.spec ∷ ls) (lines-steps f.spec f.steps small a.1)
+    ap lines (append_assoc (line (header f.version)) (line (tower_text f.spec)) (steps_text f.steps))
+    ∙ lines-line (header f.version) (line (tower_text f.spec) ++ steps_text f.steps) (header_prints f.version)
+    ∙ ap (λ ls. header f.version ∷ ls) (lines-line (tower_text f.spec) (steps_text f.steps) (tower_prints f.spec a.0))
+    ∙ ap (λ ls. header f.version ∷ tower_text f.spec ∷ ls) (lines-steps f.version f.spec f.steps small a.1)
 
 spelling_plain : (f : File) → IsLawful f → list_all is_plain (spelling f) ≡ true
 spelling_plain f lawful =
-    let a = and_parts (is_lawful_tower f.spec) (list_all (fits f.spec) f.steps) lawful in
-    all_append is_plain (line header ++ line (tower_text f.spec)) (steps_text f.steps)
-    (all_append is_plain (line header) (line (tower_text f.spec)) refl (line_plain (tower_text f.spec) (tower_prints f.spec a.0)))
-    (steps_plain f.spec f.steps (few f.spec a.0) a.1)
+    let a = and_parts (is_lawful_tower f.spec) (list_all (may_have f.version f.spec) f.steps) lawful in
+    all_append is_plain (line (header f.version) ++ line (tower_text f.spec)) (steps_text f.steps)
+    (all_append is_plain (line (header f.version)) (line (tower_text f.spec)) (line_plain (header f.version) (header_prints f.version)) (line_plain (tower_text f.spec) (tower_prints f.spec a.0)))
+    (steps_plain f.version f.spec f.steps (few f.spec a.0) a.1)
 
-file_again : (f : File) → IsLawful f → file_of_lines (header ∷ tower_text f.spec ∷ step_lines f.steps) ≡ Ok f
+file_again : (f : File) → IsLawful f → file_of_lines (header f.version ∷ tower_text f.spec ∷ step_lines f.steps) ≡ Ok f
 file_again f lawful =
-    let a = and_parts (is_lawful_tower f.spec) (list_all (fits f.spec) f.steps) lawful in
-    ap (λ (r : Result TowerSpec FileFault). r >>= λ t. steps_of t 3 (step_lines f.steps) >>= λ ss. Ok (file_of t ss)) (tower_of_lines f.spec (step_lines f.steps) (some_line f.steps) a.0)
-    ∙ ap (λ (r : Result (List Step) FileFault). r >>= λ ss. Ok (file_of f.spec ss)) (steps_again f.spec 3 f.steps (few f.spec a.0) a.1)
+    let a = and_parts (is_lawful_tower f.spec) (list_all (may_have f.version f.spec) f.steps) lawful in
+    let rest : List (List ℕ) = step_lines f.steps in
+    ap (λ (o : Option Version). ok_or o (fault BadHeader 1) >>= λ v. tower_of (tower_text f.spec ∷ rest) >>= λ t. steps_of v t 3 rest >>= λ ss. Ok (file_of v t ss)) (version_again f.version (tower_text f.spec) rest)
+    ∙ ap (λ (r : Result TowerSpec FileFault). r >>= λ t. steps_of f.version t 3 rest >>= λ ss. Ok (file_of f.version t ss)) (tower_of_lines f.spec (step_lines f.steps) (some_line f.steps) a.0)
+    ∙ ap (λ (r : Result (List Step) FileFault). r >>= λ ss. Ok (file_of f.version f.spec ss)) (steps_again f.version f.spec 3 f.steps (few f.spec a.0) a.1)
 
 reading-spelling : (f : File) → IsLawful f → reading (spelling f) ≡ Ok f
 reading-spelling f lawful =

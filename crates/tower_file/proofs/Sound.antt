@@ -1,15 +1,14 @@
 -- What is read is spelled so.
-use Rattle.std.proofs.Common.{◌≡◌, ℕ, ◌+◌, Bool, true, false, cond, ◌==◌, not, List, [], ◌∷◌, ◌++◌, length, Option, Some, None, Result, Ok, Err, refl, sym, ap, ◌∙◌, subst, append_assoc}
+use Rattle.std.proofs.Common.{◌≡◌, ℕ, ◌+◌, Bool, true, false, cond, ◌==◌, List, [], ◌∷◌, ◌++◌, length, Option, Some, None, Result, Ok, Err, refl, sym, ap, ◌∙◌, subst, append_assoc}
 use Rattle.std.specs.Prelude.{codes}
 use Rattle.std.specs.Option.{ok_or}
 use Rattle.std.specs.List.{list_all, flat_map, join_with_byte}
 use Rattle.std.specs.Str.{bytes_eq}
-use Rattle.std.proofs.lemmas.Bool.{and_parts, and_from, not-true, eqb-true, false≢true}
+use Rattle.std.proofs.lemmas.Bool.{and_from, eqb-true, false≢true}
 use Rattle.std.proofs.lemmas.Option.{cond_some, same_Some}
 use Rattle.std.proofs.lemmas.List.{nil_from_length}
 use Rattle.std.proofs.lemmas.List.Splits.{join_with_byte-slice_split}
 use Rattle.frames.specs.declared.types.Step.{Step}
-use Rattle.frames.specs.declared.types.Step.TheVariants as step
 use Rattle.tower_file.specs.declared.tower.TowerSpec.{TowerSpec}
 use Rattle.tower_file.specs.declared.tower.TowerSpec.TheVariants as tower
 use Rattle.tower_file.specs.declared.line.TowerName.{TowerName}
@@ -17,13 +16,16 @@ use Rattle.tower_file.specs.declared.line.TowerName.TheVariants.{Safe, Copies, R
 use Rattle.tower_file.specs.declared.fault.FaultKind.TheVariants.{BadHeader, UnknownTower, BadField, BadStep, BadSize}
 use Rattle.tower_file.specs.declared.fault.FileFault.{FileFault}
 use Rattle.tower_file.specs.Faults.{fault}
-use Rattle.tower_file.specs.Towers.{is_lawful_tower, fits}
+use Rattle.tower_file.specs.declared.version.Version.{Version}
+use Rattle.tower_file.specs.declared.version.Version.TheVariants.{One, Two}
+use Rattle.tower_file.specs.Towers.{is_lawful_tower}
+use Rattle.tower_file.specs.Versions.{header, may_have}
 use Rattle.tower_file.specs.Files.{File, file_of}
 use Rattle.words.specs.Words.{words, lines, next, after_next, is_end, one_number, two_numbers, three_numbers, four_numbers}
 use Rattle.words.specs.Steps.{step_of, step_text}
 use Rattle.tower_file.specs.Lines.{tower_name, fields_of, fitting_step}
-use Rattle.tower_file.specs.Spelling.{line, header, tower_text, spelling, Spells}
-use Rattle.tower_file.specs.Reading.{◌>>=◌, first_odd, has_header, sized, fields, second_line, tower_of, steps_of, file_of_lines, reading_from, reading}
+use Rattle.tower_file.specs.Spelling.{line, tower_text, spelling, Spells}
+use Rattle.tower_file.specs.Reading.{◌>>=◌, first_odd, version_of, sized, fields, second_line, tower_of, steps_of, file_of_lines, reading_from, reading}
 use Rattle.words.proofs.Steps.{some_then, mapped, one_is, two_are, three_are, four_are, joined, is_word, step_is}
 
 -- ---- steps that did not fail
@@ -117,75 +119,82 @@ second_is is_cut (w ∷ ws) t h =
 
 -- ---- the steps
 
-fitting_is : (t : TowerSpec) (l : List ℕ) (s : Step) → fitting_step t l ≡ Some s → (l ≡ step_text s) × (fits t s ≡ true)
-fitting_is t l s h =
-    let a = some_then (step_of (words l)) (λ x. cond (fits t x) (Some x) None) s h in
-    let b = cond_some (fits t a.0) a.0 s a.2 in
-    (sym (join_with_byte-slice_split 32 l) ∙ step_is (words l) a.0 a.1 ∙ ap step_text b.1, ap (fits t) (sym b.1) ∙ b.0)
+fitting_is : (v : Version) (t : TowerSpec) (l : List ℕ) (s : Step) → fitting_step v t l ≡ Some s → (l ≡ step_text s) × (may_have v t s ≡ true)
+fitting_is v t l s h =
+    let a = some_then (step_of (words l)) (λ x. cond (may_have v t x) (Some x) None) s h in
+    let b = cond_some (may_have v t a.0) a.0 s a.2 in
+    (sym (join_with_byte-slice_split 32 l) ∙ step_is (words l) a.0 a.1 ∙ ap step_text b.1, ap (may_have v t) (sym b.1) ∙ b.0)
 
 -- the steps are spelled so, and fit
-pub record AreSteps (t : TowerSpec) (bytes : List ℕ) (ss : List Step) : Type 0 where
+pub record AreSteps (v : Version) (t : TowerSpec) (bytes : List ℕ) (ss : List Step) : Type 0 where
   pub spelled : bytes ≡ flat_map (λ s. line (step_text s)) ss
-  pub fit : list_all (fits t) ss ≡ true
+  pub fit : list_all (may_have v t) ss ≡ true
 
-pub steps_are : (t : TowerSpec) (n : ℕ) (ls : List (List ℕ)) (ss : List Step) → steps_of t n ls ≡ Ok ss → AreSteps t (join_with_byte 10 ls) ss
+pub steps_are : (v : Version) (t : TowerSpec) (n : ℕ) (ls : List (List ℕ)) (ss : List Step) → steps_of v t n ls ≡ Ok ss → AreSteps v t (join_with_byte 10 ls) ss
 unfolding steps_of
-steps_are t n [] ss h =
-    subst (λ (xs : List Step). AreSteps t [] xs) (ok_is [] ss h) (record { spelled = refl; fit = refl })
-steps_are t n (l ∷ []) ss h =
+steps_are v t n [] ss h =
+    subst (λ (xs : List Step). AreSteps v t [] xs) (ok_is [] ss h) (record { spelled = refl; fit = refl })
+steps_are v t n (l ∷ []) ss h =
     let a = when_ok (length l == 0) (Ok []) (fault BadStep n) ss h in
-    subst (λ (xs : List Step). AreSteps t l xs) (ok_is [] ss a.1) (record { spelled = nil_from_length l (eqb-true (length l) 0 a.0); fit = refl })
-steps_are t n (l ∷ k ∷ ls) ss h =
-    let a = bind_ok (ok_or (fitting_step t l) (fault BadStep n)) (λ s. steps_of t (n + 1) (k ∷ ls) >>= λ xs. Ok (s ∷ xs)) ss h in
-    let b = bind_ok (steps_of t (n + 1) (k ∷ ls)) (λ xs. Ok (a.0 ∷ xs)) ss a.2 in
-    let first = fitting_is t l a.0 (ok_or_ok (fitting_step t l) (fault BadStep n) a.0 a.1) in
-    let others = steps_are t (n + 1) (k ∷ ls) b.0 b.1 in
+    subst (λ (xs : List Step). AreSteps v t l xs) (ok_is [] ss a.1) (record { spelled = nil_from_length l (eqb-true (length l) 0 a.0); fit = refl })
+steps_are v t n (l ∷ k ∷ ls) ss h =
+    let a = bind_ok (ok_or (fitting_step v t l) (fault BadStep n)) (λ s. steps_of v t (n + 1) (k ∷ ls) >>= λ xs. Ok (s ∷ xs)) ss h in
+    let b = bind_ok (steps_of v t (n + 1) (k ∷ ls)) (λ xs. Ok (a.0 ∷ xs)) ss a.2 in
+    let first = fitting_is v t l a.0 (ok_or_ok (fitting_step v t l) (fault BadStep n) a.0 a.1) in
+    let others = steps_are v t (n + 1) (k ∷ ls) b.0 b.1 in
     let more = flat_map (λ s. line (step_text s)) b.0 in
     let spelled : (l ++ 10 ∷ join_with_byte 10 (k ∷ ls)) ≡ line (step_text a.0) ++ more =
     ap (λ x. x ++ 10 ∷ join_with_byte 10 (k ∷ ls)) first.0 ∙ ap (λ x. step_text a.0 ++ 10 ∷ x) others.spelled ∙ sym (append_assoc (step_text a.0) (10 ∷ []) more) in
-    subst (λ (xs : List Step). AreSteps t (l ++ 10 ∷ join_with_byte 10 (k ∷ ls)) xs) (ok_is (a.0 ∷ b.0) ss b.2)
-    (record { spelled = spelled; fit = and_from (fits t a.0) (list_all (fits t) b.0) first.1 others.fit })
+    subst (λ (xs : List Step). AreSteps v t (l ++ 10 ∷ join_with_byte 10 (k ∷ ls)) xs) (ok_is (a.0 ∷ b.0) ss b.2)
+    (record { spelled = spelled; fit = and_from (may_have v t a.0) (list_all (may_have v t) b.0) first.1 others.fit })
 
 -- ---- files
 
-tower_line : (ls : List (List ℕ)) (t : TowerSpec) → tower_of ls ≡ Ok t → (next ls ≡ header) × (is_end (after_next ls) ≡ false) × IsTowerLine (is_end (after_next (after_next ls))) (next (after_next ls)) t
+some_unless : {A : Type 0} (b : Bool) (o : Option A) (x : A) → cond b None o ≡ Some x → (b ≡ false) × (o ≡ Some x)
+some_unless true o x e = absurd cc
+some_unless false o x e = (refl, e)
+
+version_is : (ls : List (List ℕ)) (v : Version) → version_of ls ≡ Some v → (next ls ≡ header v) × (is_end (after_next ls) ≡ false)
+version_is ls v h =
+    let P : Version → Type 0 = λ x. next ls ≡ header x in
+    let a = some_unless (is_end (after_next ls)) _ v h in
+    let found = choose P (bytes_eq (next ls) (header One)) One v _ (is_word (next ls) (header One))
+    (choose P (bytes_eq (next ls) (header Two)) Two v None (is_word (next ls) (header Two)) (λ e. absurd cc)) a.1 in
+    (found, a.0)
+
+tower_line : (ls : List (List ℕ)) (t : TowerSpec) → tower_of ls ≡ Ok t → IsTowerLine (is_end (after_next ls)) (next ls) t
 tower_line ls t h =
-    let a = when_ok (has_header ls) (second_line (is_end (after_next (after_next ls))) (words (next (after_next ls)))) (fault BadHeader 1) t h in
-    let b = and_parts (bytes_eq (next ls) (codes "tower 1")) (not (is_end (after_next ls))) a.0 in
-    let c = second_is (is_end (after_next (after_next ls))) (words (next (after_next ls))) t a.1 in (
-      is_word (next ls) (codes "tower 1") b.0,
-      not-true (is_end (after_next ls)) b.1,
-      record {
-        whole = c.whole;
-        spelled = sym (join_with_byte-slice_split 32 (next (after_next ls))) ∙ c.spelled;
-        lawful = c.lawful;
-      },
-    )
+    let c = second_is (is_end (after_next ls)) (words (next ls)) t h in
+    record { whole = c.whole; spelled = sym (join_with_byte-slice_split 32 (next ls)) ∙ c.spelled; lawful = c.lawful }
 
 three_lines : (h t others : List ℕ) → h ++ 10 ∷ (t ++ 10 ∷ others) ≡ line h ++ line t ++ others
 three_lines h t others = simp append_assoc
 
-whole_file : (ls : List (List ℕ)) (t : TowerSpec) (ss : List Step) → next ls ≡ header → is_end (after_next ls) ≡ false → IsTowerLine (is_end (after_next (after_next ls))) (next (after_next ls)) t
-    → AreSteps t (join_with_byte 10 (after_next (after_next ls))) ss → join_with_byte 10 ls ≡ spelling (file_of t ss)
-whole_file [] t ss e more tower steps = absurd cc
-whole_file (l ∷ []) t ss e more tower steps = absurd cc
-whole_file (l ∷ k ∷ []) t ss e more tower steps = absurd (false≢true (sym tower.whole))
-whole_file (l ∷ k ∷ r ∷ rs) t ss e more tower steps =
+whole_file : (ls : List (List ℕ)) (v : Version) (t : TowerSpec) (ss : List Step) → next ls ≡ header v → is_end (after_next ls) ≡ false
+    → IsTowerLine (is_end (after_next (after_next ls))) (next (after_next ls)) t
+    → AreSteps v t (join_with_byte 10 (after_next (after_next ls))) ss → join_with_byte 10 ls ≡ spelling (file_of v t ss)
+whole_file [] v t ss e more tower steps = absurd cc
+whole_file (l ∷ []) v t ss e more tower steps = absurd cc
+whole_file (l ∷ k ∷ []) v t ss e more tower steps = absurd (false≢true (sym tower.whole))
+whole_file (l ∷ k ∷ r ∷ rs) v t ss e more tower steps =
     ap (λ x. x ++ 10 ∷ (k ++ 10 ∷ join_with_byte 10 (r ∷ rs))) e
-    ∙ ap (λ x. header ++ 10 ∷ (x ++ 10 ∷ join_with_byte 10 (r ∷ rs))) tower.spelled
-    ∙ ap (λ x. header ++ 10 ∷ (tower_text t ++ 10 ∷ x)) steps.spelled
-    ∙ three_lines header (tower_text t) (flat_map (λ s. line (step_text s)) ss)
+    ∙ ap (λ x. header v ++ 10 ∷ (x ++ 10 ∷ join_with_byte 10 (r ∷ rs))) tower.spelled
+    ∙ ap (λ x. header v ++ 10 ∷ (tower_text t ++ 10 ∷ x)) steps.spelled
+    ∙ three_lines (header v) (tower_text t) (flat_map (λ s. line (step_text s)) ss)
 
 file_is : (ls : List (List ℕ)) (f : File) → file_of_lines ls ≡ Ok f → Spells (join_with_byte 10 ls) f
 file_is ls f h =
-    let a = bind_ok (tower_of ls) (λ t. steps_of t 3 (after_next (after_next ls)) >>= λ ss. Ok (file_of t ss)) f h in
-    let b = bind_ok (steps_of a.0 3 (after_next (after_next ls))) (λ ss. Ok (file_of a.0 ss)) f a.2 in
-    let front = tower_line ls a.0 a.1 in
-    let steps = steps_are a.0 3 (after_next (after_next ls)) b.0 b.1 in
-    subst (λ (g : File). Spells (join_with_byte 10 ls) g) (ok_is (file_of a.0 b.0) f b.2)
+    let d = bind_ok (ok_or (version_of ls) (fault BadHeader 1)) (λ v. tower_of (after_next ls) >>= λ t. steps_of v t 3 (after_next (after_next ls)) >>= λ ss. Ok (file_of v t ss)) f h in
+    let v = d.0 in
+    let a = bind_ok (tower_of (after_next ls)) (λ t. steps_of v t 3 (after_next (after_next ls)) >>= λ ss. Ok (file_of v t ss)) f d.2 in
+    let b = bind_ok (steps_of v a.0 3 (after_next (after_next ls))) (λ ss. Ok (file_of v a.0 ss)) f a.2 in
+    let first = version_is ls v (ok_or_ok (version_of ls) (fault BadHeader 1) v d.1) in
+    let tower = tower_line (after_next ls) a.0 a.1 in
+    let steps = steps_are v a.0 3 (after_next (after_next ls)) b.0 b.1 in
+    subst (λ (g : File). Spells (join_with_byte 10 ls) g) (ok_is (file_of v a.0 b.0) f b.2)
     (record {
-      lawful = and_from (is_lawful_tower a.0) (list_all (fits a.0) b.0) front.2.lawful steps.fit;
-      spelled = whole_file ls a.0 b.0 front.0 front.1 front.2 steps;
+      lawful = and_from (is_lawful_tower a.0) (list_all (may_have v a.0) b.0) tower.lawful steps.fit;
+      spelled = whole_file ls v a.0 b.0 first.0 first.1 tower steps;
     })
 
 from_is : (o : Option ℕ) (bytes : List ℕ) (f : File) → reading_from o bytes ≡ Ok f → Spells bytes f

@@ -3,19 +3,22 @@ use Rattle.std.specs.Prelude.{◌≡◌, Bool, true, ◌&&◌, List}
 use Rattle.std.specs.List.{list_all}
 use Rattle.frames.specs.declared.types.Step.{Step}
 use Rattle.tower_file.specs.declared.tower.TowerSpec.{TowerSpec}
-use Rattle.tower_file.specs.Towers.{is_lawful_tower, fits}
+use Rattle.tower_file.specs.declared.version.Version.{Version}
+use Rattle.tower_file.specs.Towers.{is_lawful_tower}
+use Rattle.tower_file.specs.Versions.{may_have}
 
--- a tower and a schedule
+-- a version, a tower and a schedule
 pub record File : Type 0 where
+  pub version : Version
   pub spec : TowerSpec
   pub steps : List Step
 
-abbrev pub file_of : TowerSpec → List Step → File
-file_of t steps = record { spec = t; steps = steps }
+abbrev pub file_of : Version → TowerSpec → List Step → File
+file_of v t steps = record { version = v; spec = t; steps = steps }
 
--- the tower is lawful, and each step fits it
+-- the tower is lawful, and each step is one of the version and fits it
 abbrev pub is_lawful : File → Bool
-is_lawful f = is_lawful_tower f.spec && list_all (fits f.spec) f.steps
+is_lawful f = is_lawful_tower f.spec && list_all (may_have f.version f.spec) f.steps
 
 abbrev pub IsLawful : File → Type 0
 IsLawful f = is_lawful f ≡ true

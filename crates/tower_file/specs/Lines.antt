@@ -9,7 +9,8 @@ use Rattle.tower_file.specs.declared.line.TowerName.{TowerName}
 use Rattle.tower_file.specs.declared.line.TowerName.TheVariants.{Safe, Copies, Regular, Unary, Stamped, Matrix}
 use Rattle.words.specs.Words.{◌>>=◌, words, one_number, two_numbers, three_numbers, four_numbers}
 use Rattle.words.specs.Steps.{step_of}
-use Rattle.tower_file.specs.Towers.{fits}
+use Rattle.tower_file.specs.declared.version.Version.{Version}
+use Rattle.tower_file.specs.Versions.{may_have}
 
 -- the tower that a word names
 abbrev pub tower_name : List ℕ → Option TowerName
@@ -31,8 +32,8 @@ fields_of Unary ws = option_map (λ n. tower.Unary n.0 n.1 n.2) (three_numbers w
 fields_of Stamped ws = option_map (λ n. tower.Stamped n.0 n.1) (two_numbers ws)
 fields_of Matrix ws = option_map (λ n. tower.Matrix n.0 n.1 n.2 n.3) (four_numbers ws)
 
--- the step of a line, where it fits the tower
-abbrev pub fitting_step : TowerSpec → List ℕ → Option Step
-fitting_step t line = do
+-- the step of a line, where a file of the version may have it on the tower
+abbrev pub fitting_step : Version → TowerSpec → List ℕ → Option Step
+fitting_step v t line = do
   s ← step_of (words line)
-  if fits t s then Some s else None
+  if may_have v t s then Some s else None

@@ -1,5 +1,5 @@
 -- What bytes say: a tower file, or their first fault.
-use Rattle.std.specs.Prelude.{◌≡◌, ℕ, ◌+◌, List, [], ◌∷◌, Option, Some, None, Result, Ok, Err, Bool, ◌==◌, ◌&&◌, ◌||◌, not, nat_le, length, take, codes, position, count_by, if◌then◌else◌}
+use Rattle.std.specs.Prelude.{◌≡◌, ℕ, ◌+◌, List, [], ◌∷◌, Option, Some, None, Result, Ok, Err, Bool, ◌==◌, ◌&&◌, ◌||◌, not, nat_le, length, take, position, count_by, if◌then◌else◌}
 use Rattle.std.specs.Option.{ok_or}
 use Rattle.std.specs.Str.{bytes_eq}
 use Rattle.frames.specs.declared.types.Step.{Step}
@@ -8,7 +8,10 @@ use Rattle.tower_file.specs.declared.line.TowerName.{TowerName}
 use Rattle.tower_file.specs.declared.fault.FaultKind.TheVariants.{NotAscii, BadHeader, UnknownTower, BadField, BadStep, BadSize}
 use Rattle.tower_file.specs.declared.fault.FileFault.{FileFault}
 use Rattle.tower_file.specs.Faults.{fault}
+use Rattle.tower_file.specs.declared.version.Version.{Version}
+use Rattle.tower_file.specs.declared.version.Version.TheVariants.{One, Two}
 use Rattle.tower_file.specs.Towers.{is_lawful_tower}
+use Rattle.tower_file.specs.Versions.{header}
 use Rattle.tower_file.specs.Files.{File, file_of}
 use Rattle.words.specs.Words.{lines, words, next, after_next, is_end}
 use Rattle.tower_file.specs.Lines.{tower_name, fields_of, fitting_step}
@@ -31,9 +34,13 @@ first_odd bytes = position (λ b. not (is_plain b)) bytes
 abbrev pub line_at : ℕ → List ℕ → ℕ
 line_at k bytes = count_by (λ b. b == 10) (take k bytes) + 1
 
--- the first line is `tower 1`, with its line end: there is a part behind it
-abbrev pub has_header : List (List ℕ) → Bool
-has_header ls = bytes_eq (next ls) (codes "tower 1") && not (is_end (after_next ls))
+-- the version whose header the first line is, with its line end: there is a part behind it
+abbrev pub version_of : List (List ℕ) → Option Version
+version_of ls =
+    if is_end (after_next ls) then None
+    else (if bytes_eq (next ls) (header One) then Some One
+    else (if bytes_eq (next ls) (header Two) then Some Two
+    else None))
 
 -- a tower in its ranges
 abbrev pub sized : TowerSpec → Result TowerSpec FileFault
@@ -47,27 +54,26 @@ fields is_cut ws name = if is_cut then Err (fault BadField 2) else (ok_or (field
 abbrev pub second_line : Bool → List (List ℕ) → Result TowerSpec FileFault
 second_line is_cut ws = ok_or (tower_name (next ws)) (fault UnknownTower 2) >>= fields is_cut (after_next ws)
 
--- the tower of a file's lines
+-- the tower of the lines from a file's second on
 abbrev pub tower_of : List (List ℕ) → Result TowerSpec FileFault
-tower_of ls =
-    if has_header ls then second_line (is_end (after_next (after_next ls))) (words (next (after_next ls)))
-    else Err (fault BadHeader 1)
+tower_of ls = second_line (is_end (after_next ls)) (words (next ls))
 
 -- The steps from line n on. What stands behind the last line end has to be nothing.
-unfoldable pub steps_of : TowerSpec → ℕ → List (List ℕ) → Result (List Step) FileFault
-steps_of t n [] = Ok []
-steps_of t n (rest ∷ []) = if length rest == 0 then Ok [] else Err (fault BadStep n)
-steps_of t n (line ∷ other ∷ others) = do
-  s ← ok_or (fitting_step t line) (fault BadStep n)
-  ss ← steps_of t (n + 1) (other ∷ others)
+unfoldable pub steps_of : Version → TowerSpec → ℕ → List (List ℕ) → Result (List Step) FileFault
+steps_of v t n [] = Ok []
+steps_of v t n (rest ∷ []) = if length rest == 0 then Ok [] else Err (fault BadStep n)
+steps_of v t n (line ∷ other ∷ others) = do
+  s ← ok_or (fitting_step v t line) (fault BadStep n)
+  ss ← steps_of v t (n + 1) (other ∷ others)
   Ok (s ∷ ss)
 
 -- the file of plain bytes
 abbrev pub file_of_lines : List (List ℕ) → Result File FileFault
 file_of_lines ls = do
-  t ← tower_of ls
-  ss ← steps_of t 3 (after_next (after_next ls))
-  Ok (file_of t ss)
+  v ← ok_or (version_of ls) (fault BadHeader 1)
+  t ← tower_of (after_next ls)
+  ss ← steps_of v t 3 (after_next (after_next ls))
+  Ok (file_of v t ss)
 
 -- the file, or the first fault: bytes that aren't plain come before all others
 abbrev pub reading_from : Option ℕ → List ℕ → Result File FileFault
@@ -79,4 +85,4 @@ reading bytes = reading_from (first_odd bytes) bytes
 
 -- each byte is plain, and the header and the tower have no fault
 abbrev pub HasTower : List ℕ → Type 0
-HasTower bytes = (first_odd bytes ≡ None) × (t : TowerSpec) × (tower_of (lines bytes) ≡ Ok t)
+HasTower bytes = (first_odd bytes ≡ None) × (v : Version) × (version_of (lines bytes) ≡ Some v) × (t : TowerSpec) × (tower_of (after_next (lines bytes)) ≡ Ok t)

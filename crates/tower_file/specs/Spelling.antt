@@ -4,14 +4,12 @@ use Rattle.std.specs.List.{flat_map}
 use Rattle.tower_file.specs.declared.tower.TowerSpec.{TowerSpec}
 use Rattle.tower_file.specs.declared.tower.TowerSpec.TheVariants.{Safe, Copies, Regular, Unary, Stamped, Matrix}
 use Rattle.words.specs.Steps.{text, step_text}
+use Rattle.tower_file.specs.Versions.{header}
 use Rattle.tower_file.specs.Files.{File, IsLawful}
 
 -- a text and its line end
 abbrev pub line : List ℕ → List ℕ
 line text = text ++ 10 ∷ []
-
-abbrev pub header : List ℕ
-header = codes "tower 1"
 
 abbrev pub tower_text : TowerSpec → List ℕ
 tower_text (Safe init) = text (codes "safe") (init ∷ [])
@@ -23,7 +21,7 @@ tower_text (Matrix processes values last_tag last_stamp) = text (codes "matrix")
 
 -- the header, the tower and the steps, a line each
 abbrev pub spelling : File → List ℕ
-spelling f = line header ++ line (tower_text f.spec) ++ flat_map (λ s. line (step_text s)) f.steps
+spelling f = line (header f.version) ++ line (tower_text f.spec) ++ flat_map (λ s. line (step_text s)) f.steps
 
 -- These bytes spell this tower file.
 pub record Spells (bytes : List ℕ) (f : File) : Type 0 where

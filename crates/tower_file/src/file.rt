@@ -2,13 +2,15 @@
 
 ghost use Rattle.std.specs.Prelude.{◌≡◌, true, if◌then◌else◌};
 
-use crate::tower::{TowerSpec, all_fit};
+use crate::tower::TowerSpec;
+use crate::version::{Version, may_have_all};
 use frames::types::Step;
 use std::marker::Model;
 
-/// A lawful tower, and a schedule of steps that fit it.
+/// A version, a lawful tower, and a schedule of steps that are of the version and fit the tower.
 #[derive(Debug, Drop)]
 pub struct TowerFile {
+    version: Version,
     spec: TowerSpec,
     steps: Vec<Step>,
 }
@@ -18,33 +20,50 @@ impl Model for TowerFile {
 
     ghost Value = { File };
 
-    ghost view = { λ f. record { spec = f.spec; steps = f.steps.items } };
+    ghost view = { λ f. record { version = f.version; spec = f.spec; steps = f.steps.items } };
 
-    ghost invariant = { λ f. IsLawful (record { spec = f.spec; steps = f.steps.items }) };
+    ghost invariant = { λ f. IsLawful (record { version = f.version; spec = f.spec; steps = f.steps.items }) };
 }
 
 impl TowerFile {
     ghost use Rattle.std.specs.List.{list_all};
     ghost use Rattle.tower_file.specs.Towers.{is_lawful_tower, fits};
+    ghost use Rattle.tower_file.specs.Versions.{may_have};
     ghost use Rattle.tower_file.specs.Files.{File, IsLawful, is_lawful, file_of};
 
-    /// The file of a tower and its steps; none where the tower isn't lawful or a step doesn't fit.
-    pub fn new(spec: TowerSpec, steps: Vec<Step>) -> Option<TowerFile>
-        ensures { result ≡ (if is_lawful (file_of spec steps.items) then Some (file_of spec steps.items) else None) }
+    /// The file of a version, a tower and its steps; none where the tower isn't lawful, or a step
+    /// isn't one of the version or doesn't fit.
+    pub fn new(version: Version, spec: TowerSpec, steps: Vec<Step>) -> Option<TowerFile>
+        ensures { result ≡ (if is_lawful (file_of version spec steps.items) then Some (file_of version spec steps.items) else None) }
     {
-        if spec.is_lawful() && all_fit(&spec, &steps) {
-            Some(TowerFile { spec, steps })
+        if spec.is_lawful() && may_have_all(version, &spec, &steps) {
+            Some(TowerFile {
+                version,
+                spec,
+                steps,
+            })
         } else {
             None
         }
     }
 
-    /// The file of a lawful tower and steps that fit it.
-    pub(crate) fn of_lawful(spec: TowerSpec, steps: Vec<Step>) -> TowerFile
-        requires { IsLawful (file_of spec steps.items) }
-        ensures { result ≡ file_of spec steps.items }
+    /// The file of a lawful tower and steps that it may have.
+    pub(crate) fn of_lawful(version: Version, spec: TowerSpec, steps: Vec<Step>) -> TowerFile
+        requires { IsLawful (file_of version spec steps.items) }
+        ensures { result ≡ file_of version spec steps.items }
     {
-        TowerFile { spec, steps }
+        TowerFile {
+            version,
+            spec,
+            steps,
+        }
+    }
+
+    /// The version.
+    pub fn version(&self) -> Version
+        ensures { result ≡ self.now.version }
+    {
+        self.version
     }
 
     /// The tower.
@@ -58,6 +77,7 @@ impl TowerFile {
     /// The steps.
     pub fn steps(&self) -> &[Step]
         ensures steps { result.now ≡ self.now.steps }
+        ensures of_version { list_all (may_have self.now.version self.now.spec) result.now ≡ true }
         ensures fit { list_all (fits self.now.spec) result.now ≡ true }
     {
         self.steps.as_slice()

@@ -2,7 +2,7 @@
 //!
 //! A file is lines of bytes 0x20 to 0x7E, each ended by a line feed. A line is words with one space
 //! between each two. A number is `0`, or a digit 1 to 9 followed by digits, at most 9 digits in all.
-//! The first line is `tower 1`. The second is one of
+//! The first line is `tower 1` or `tower 2`, the file's version. The second is one of
 //!
 //! - `safe INIT`,
 //! - `copies READERS INIT` and `regular READERS INIT`,
@@ -13,11 +13,12 @@
 //!
 //! READERS is 1 to 4, VALUES 2 to 512, PROCESSES 2 to 4, LAST, TAG and STAMP 0 to 511, and INIT below
 //! VALUES, or below 2 where there is none. Each further line is a step that fits the tower: `w P V`,
-//! `r P`, or `g P C` with C 0 or 1. In a matrix each process writes and reads; elsewhere process 0
-//! writes, and processes 1 to READERS read (1 reader where there is no READERS).
+//! `r P`, `g P C` with C 0 or 1, or, in version 2 alone, `x P`. In a matrix each process writes and
+//! reads; elsewhere process 0 writes, and processes 1 to READERS read (1 reader where there is no
+//! READERS). Each process makes bit actions and can stop.
 //!
 //! [`parse`] tells the first fault in the order of [`FaultKind`]'s numbers, but that BadStep (14) comes
-//! behind BadSize (15). One tower and one list of steps have one spelling ([`laws::one_spelling`]).
+//! behind BadSize (15). One version, one tower and one list of steps have one spelling ([`laws::one_spelling`]).
 #![tactic(auto)]
 
 mod fault;
@@ -26,12 +27,14 @@ pub mod laws;
 mod line;
 mod reading;
 mod tower;
+mod version;
 mod writing;
 
 pub use fault::{FaultKind, FileFault};
 pub use file::TowerFile;
 pub use reading::parse;
 pub use tower::TowerSpec;
+pub use version::Version;
 pub use writing::print;
 
 #[cfg(test)]

@@ -4,6 +4,7 @@ ghost use Rattle.std.specs.Prelude.{◌≡◌};
 ghost use Rattle.tower_file.specs.Lines as spec;
 
 use crate::tower::TowerSpec;
+use crate::version::Version;
 use frames::types::Step;
 use words::number::{four_numbers, one_number, three_numbers, two_numbers};
 use words::parts::Parts;
@@ -86,10 +87,10 @@ pub fn fields_of(name: TowerName, words: &mut Parts<'_>) -> Option<TowerSpec>
     }
 }
 
-/// Reads the step of a line, where it fits the tower.
-pub fn fitting_step(tower: &TowerSpec, line: &[u8]) -> Option<Step>
-    ensures { result ≡ spec.fitting_step tower.now line.now }
+/// Reads the step of a line, where a file of the version may have it on the tower.
+pub fn fitting_step(version: Version, tower: &TowerSpec, line: &[u8]) -> Option<Step>
+    ensures { result ≡ spec.fitting_step version tower.now line.now }
 {
     let step = step_of(&mut Parts::new(line, b' '))?;
-    tower.fits(step).then_some(step)
+    version.may_have(tower, step).then_some(step)
 }

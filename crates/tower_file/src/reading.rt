@@ -14,6 +14,7 @@ use crate::fault::{FaultKind, FileFault};
 use crate::file::TowerFile;
 use crate::line::{fields_of, fitting_step, tower_name};
 use crate::tower::TowerSpec;
+use crate::version::Version;
 use frames::types::Step;
 use std::alloc::Global;
 use words::parts::Parts;
@@ -48,15 +49,30 @@ fn fault(kind: FaultKind, line: u64) -> FileFault
     FileFault { kind, line }
 }
 
-/// Reads the header and the tower.
+/// Reads the header.
+fn version_of(lines: &mut Parts<'_>) -> Option<Version>
+    ensures version { result ≡ spec.version_of lines.old }
+    ensures left { lines.new ≡ after_next lines.old }
+{
+    let header = lines.next();
+    if lines.is_end() {
+        return None;
+    }
+    if is(header, Version::One.header()) {
+        return Some(Version::One);
+    }
+    if is(header, Version::Two.header()) {
+        return Some(Version::Two);
+    }
+    None
+}
+
+/// Reads the line of the tower.
 fn tower_of(lines: &mut Parts<'_>) -> Result<TowerSpec, FileFault>
     ensures tower { result ≡ spec.tower_of lines.old }
     ensures lawful { IfOk result (λ tower. is_lawful_tower tower ≡ true) }
-    ensures left { OnOk result (lines.new ≡ after_next (after_next lines.old)) }
+    ensures left { OnOk result (lines.new ≡ after_next lines.old) }
 {
-    if !is(lines.next(), "tower 1") || lines.is_end() {
-        return Err(fault(FaultKind::BadHeader, 1));
-    }
     let line = lines.next();
     let is_cut = lines.is_end();
     let mut words = Parts::new(line, b' ');
@@ -76,8 +92,13 @@ fn tower_of(lines: &mut Parts<'_>) -> Result<TowerSpec, FileFault>
 }
 
 /// Reads the steps: the lines that are left, of which the first is the file's third.
-fn steps_of(alloc: Global, tower: &TowerSpec, lines: &mut Parts<'_>) -> Result<Vec<Step>, FileFault>
-    ensures { Gives (λ steps. steps.items) result (spec.steps_of tower.now 3 lines.old) }
+fn steps_of(
+    alloc: Global,
+    version: Version,
+    tower: &TowerSpec,
+    lines: &mut Parts<'_>,
+) -> Result<Vec<Step>, FileFault>
+    ensures { Gives (λ steps. steps.items) result (spec.steps_of version tower.now 3 lines.old) }
 {
     let mut steps = Vec::new(alloc);
     while !lines.is_end() {
@@ -89,7 +110,7 @@ fn steps_of(alloc: Global, tower: &TowerSpec, lines: &mut Parts<'_>) -> Result<V
             }
             return Err(fault(FaultKind::BadStep, number));
         }
-        let Some(step) = fitting_step(tower, line) else {
+        let Some(step) = fitting_step(version, tower, line) else {
             return Err(fault(FaultKind::BadStep, number));
         };
         steps.push(step)?;
@@ -106,9 +127,12 @@ fn file_of(alloc: Global, bytes: &[u8]) -> Result<TowerFile, FileFault>
         return Err(fault(FaultKind::NotAscii, line_at(place, bytes)));
     }
     let mut lines = Parts::new(bytes, b'\n');
+    let Some(version) = version_of(&mut lines) else {
+        return Err(fault(FaultKind::BadHeader, 1));
+    };
     let tower = tower_of(&mut lines)?;
-    let steps = steps_of(alloc, &tower, &mut lines)?;
-    Ok(TowerFile::of_lawful(tower, steps))
+    let steps = steps_of(alloc, version, &tower, &mut lines)?;
+    Ok(TowerFile::of_lawful(version, tower, steps))
 }
 
 /// The file that the bytes spell, or their first fault.

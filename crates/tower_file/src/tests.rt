@@ -95,8 +95,10 @@ fn faults_of_a_line(rt: HostRuntime) {
 
 #[test]
 fn faults_in_order(rt: HostRuntime) {
-    assert_fault(&rt, b"tower 2\natom\nw 0 \x07", FaultKind::NotAscii, 3);
-    assert_fault(&rt, b"tower 2\natom\nw 0", FaultKind::BadHeader, 1);
+    assert_fault(&rt, b"tower 3\natom\nw 0 \x07", FaultKind::NotAscii, 3);
+    assert_fault(&rt, b"tower 3\natom\nw 0", FaultKind::BadHeader, 1);
+    assert_fault(&rt, b"tower 2", FaultKind::BadHeader, 1);
+    assert_fault(&rt, b"tower 2\natom\nw 0", FaultKind::UnknownTower, 2);
     assert_fault(&rt, b"tower 1\nunary 1 x 0\nw 0", FaultKind::BadField, 2);
     assert_fault(&rt, b"tower 1\nunary 1 1 0\nw 0", FaultKind::BadSize, 2);
 }
@@ -163,6 +165,24 @@ fn printed_again(rt: HostRuntime) -> Result<(), Fail> {
         &rt,
         b"tower 1\nmatrix 2 2 1 0\nr 0\ng 0 0\ng 0 0\ng 0 0\ng 0 0\n",
     )?;
+    Ok(())
+}
+
+/// The schedule of a writer that stops, and one of a reader too.
+#[test]
+fn stopped_writer(rt: HostRuntime) -> Result<(), Fail> {
+    let stopped = b"tower 2\nsafe 0\nw 0 1\ng 0 0\nx 0\ng 0 0\nr 1\ng 1 0\ng 1 1\n";
+    assert_same(&rt, stopped)?;
+    assert_eq!(rt; parse(rt.alloc(), stopped)?.version(), Version::Two);
+    assert_same(&rt, b"tower 2\nsafe 0\n")?;
+    assert_fault(
+        &rt,
+        b"tower 1\nsafe 0\nw 0 1\ng 0 0\nx 0\ng 0 0\nr 1\ng 1 0\ng 1 1\n",
+        FaultKind::BadStep,
+        5,
+    );
+    assert_fault(&rt, b"tower 2\nsafe 0\nx 2\n", FaultKind::BadStep, 3);
+    assert_fault(&rt, b"tower 2\nsafe 0\nx 0 0\n", FaultKind::BadStep, 3);
     Ok(())
 }
 
@@ -257,7 +277,7 @@ fn made_by_hand(rt: HostRuntime) -> Result<(), Fail> {
     let mut steps = Vec::new(rt.alloc());
     steps.push(Step::Write { p: 0, v: 2 })?;
     steps.push(Step::Read { p: 1 })?;
-    let file = TowerFile::new(spec, steps).ok_or("the steps fit")?;
+    let file = TowerFile::new(Version::One, spec, steps).ok_or("the steps fit")?;
     assert_eq!(rt; file.spec(), spec);
     assert_eq!(rt; file.steps().len(), 2);
     let printed = print(rt.alloc(), &file)?;
@@ -268,8 +288,12 @@ fn made_by_hand(rt: HostRuntime) -> Result<(), Fail> {
 
     let mut steps = Vec::new(rt.alloc());
     steps.push(Step::Read { p: 2 })?;
-    assert!(rt; TowerFile::new(spec, steps).is_none());
-    assert!(rt; TowerFile::new(TowerSpec::Safe { init: 2 }, Vec::new(rt.alloc())).is_none());
+    assert!(rt; TowerFile::new(Version::One, spec, steps).is_none());
+    let unlawful = TowerSpec::Safe { init: 2 };
+    assert!(rt; TowerFile::new(Version::Two, unlawful, Vec::new(rt.alloc())).is_none());
+    let mut steps = Vec::new(rt.alloc());
+    steps.push(Step::Stop { p: 1 })?;
+    assert!(rt; TowerFile::new(Version::One, spec, steps).is_none());
     Ok(())
 }
 
@@ -286,6 +310,5 @@ fn told(rt: HostRuntime) -> Result<(), Fail> {
     let text = format!(in rt.alloc(); "{}", FaultKind::Memory)?;
     assert_eq!(rt; text.as_str(), "40 Memory");
     laws::one_spelling();
-    laws::one_number();
     Ok(())
 }

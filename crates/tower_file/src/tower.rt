@@ -1,7 +1,6 @@
 //! The six towers: their values and processes, which are lawful, and which steps fit them.
 
 ghost use Rattle.std.specs.Prelude.{◌≡◌, ◌<◌, ◌≤◌};
-ghost use Rattle.std.specs.List.{list_all};
 ghost use Rattle.tower_file.specs.Towers as spec;
 
 use frames::roles::{HasRoles, step_fits};
@@ -124,13 +123,6 @@ impl HasRoles for TowerSpec {
             (_, Op::Read) => 1 <= who && who < processes,
         }
     }
-}
-
-/// Whether each step fits the tower.
-pub(crate) fn all_fit(tower: &TowerSpec, steps: &[Step]) -> bool
-    ensures { result ≡ list_all (spec.fits tower.now) steps.now }
-{
-    steps.iter().all(|step| tower.fits(*step))
 }
 
 /// Whether a number lies between two others, these included.

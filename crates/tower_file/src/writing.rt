@@ -15,7 +15,7 @@ pub fn print(alloc: Global, file: &TowerFile) -> Result<Vec<u8>, AllocError>
     ensures { IfOk result (λ bytes. Spells bytes.items file.now) }
 {
     let mut out = Vec::new(alloc);
-    push_line(&mut out, "tower 1", &[])?;
+    push_line(&mut out, file.version().header(), &[])?;
     push_tower(&mut out, &file.spec())?;
     for step in file.steps() {
         push_step_line(&mut out, *step)?;

@@ -77,23 +77,26 @@ is_word w v h = (bytes_eq-Decides w v).0 h
 
 -- ---- steps
 
-step_by : (isw isr isg : Bool) (w : List ℕ) (ws : List (List ℕ)) (s : Step) → (isw ≡ true → w ≡ codes "w") → (isr ≡ true → w ≡ codes "r") → (isg ≡ true → w ≡ codes "g")
-    → cond isw (option_map (λ n. step.Write n.0 n.1) (two_numbers ws)) (cond isr (option_map (λ p. step.Read p) (one_number ws)) (cond isg (option_map (λ n. step.Go n.0 n.1) (two_numbers ws)) None)) ≡ Some s
+step_by : (isw isr isg isx : Bool) (w : List ℕ) (ws : List (List ℕ)) (s : Step) → (isw ≡ true → w ≡ codes "w") → (isr ≡ true → w ≡ codes "r") → (isg ≡ true → w ≡ codes "g") → (isx ≡ true → w ≡ codes "x")
+    → cond isw (option_map (λ n. step.Write n.0 n.1) (two_numbers ws)) (cond isr (option_map (λ p. step.Read p) (one_number ws)) (cond isg (option_map (λ n. step.Go n.0 n.1) (two_numbers ws)) (cond isx (option_map (λ p. step.Stop p) (one_number ws)) None))) ≡ Some s
     → join_with_byte 32 (w ∷ ws) ≡ step_text s
-step_by true isr isg w ws s e f g h =
+step_by true isr isg isx w ws s e f g k h =
     let a = mapped (λ n. step.Write n.0 n.1) (two_numbers ws) s h in
     joined w (codes "w") ws (a.0.0 ∷ a.0.1 ∷ []) (e refl) (two_are ws a.0 a.1) ∙ ap step_text a.2
-step_by false true isg w ws s e f g h =
+step_by false true isg isx w ws s e f g k h =
     let a = mapped (λ p. step.Read p) (one_number ws) s h in
     joined w (codes "r") ws (a.0 ∷ []) (f refl) (one_is ws a.0 a.1) ∙ ap step_text a.2
-step_by false false true w ws s e f g h =
+step_by false false true isx w ws s e f g k h =
     let a = mapped (λ n. step.Go n.0 n.1) (two_numbers ws) s h in
     joined w (codes "g") ws (a.0.0 ∷ a.0.1 ∷ []) (g refl) (two_are ws a.0 a.1) ∙ ap step_text a.2
-step_by false false false w ws s e f g h = absurd cc
+step_by false false false true w ws s e f g k h =
+    let a = mapped (λ p. step.Stop p) (one_number ws) s h in
+    joined w (codes "x") ws (a.0 ∷ []) (k refl) (one_is ws a.0 a.1) ∙ ap step_text a.2
+step_by false false false false w ws s e f g k h = absurd cc
 
 pub step_is : (ws : List (List ℕ)) (s : Step) → step_of ws ≡ Some s → join_with_byte 32 ws ≡ step_text s
 step_is [] s h = absurd cc
-step_is (w ∷ ws) s h = step_by (bytes_eq w (codes "w")) (bytes_eq w (codes "r")) (bytes_eq w (codes "g")) w ws s (is_word w (codes "w")) (is_word w (codes "r")) (is_word w (codes "g")) h
+step_is (w ∷ ws) s h = step_by (bytes_eq w (codes "w")) (bytes_eq w (codes "r")) (bytes_eq w (codes "g")) (bytes_eq w (codes "x")) w ws s (is_word w (codes "w")) (is_word w (codes "r")) (is_word w (codes "g")) (is_word w (codes "x")) h
 
 one_short : (ws : List (List ℕ)) (n : ℕ) → one_number ws ≡ Some n → n < 10 ^ 9
 one_short [] n h = absurd cc
@@ -109,23 +112,26 @@ two_short (w ∷ ws) n h =
     let b = some_then (one_number ws) (λ y. Some (a.0, y)) n a.2 in
     subst (λ (m : ℕ × ℕ). (m.0 < 10 ^ 9) × (m.1 < 10 ^ 9)) (same_Some (a.0, b.0) n b.2) ((decimal-number w a.0 a.1).0, one_short ws b.0 b.1)
 
-short_by : (isw isr isg : Bool) (ws : List (List ℕ)) (s : Step)
-    → cond isw (option_map (λ n. step.Write n.0 n.1) (two_numbers ws)) (cond isr (option_map (λ p. step.Read p) (one_number ws)) (cond isg (option_map (λ n. step.Go n.0 n.1) (two_numbers ws)) None)) ≡ Some s
+short_by : (isw isr isg isx : Bool) (ws : List (List ℕ)) (s : Step)
+    → cond isw (option_map (λ n. step.Write n.0 n.1) (two_numbers ws)) (cond isr (option_map (λ p. step.Read p) (one_number ws)) (cond isg (option_map (λ n. step.Go n.0 n.1) (two_numbers ws)) (cond isx (option_map (λ p. step.Stop p) (one_number ws)) None))) ≡ Some s
     → HasShortNumbers s
-short_by true isr isg ws s h =
+short_by true isr isg isx ws s h =
     let a = mapped (λ n. step.Write n.0 n.1) (two_numbers ws) s h in
     subst HasShortNumbers a.2 (two_short ws a.0 a.1)
-short_by false true isg ws s h =
+short_by false true isg isx ws s h =
     let a = mapped (λ p. step.Read p) (one_number ws) s h in
     subst HasShortNumbers a.2 (one_short ws a.0 a.1)
-short_by false false true ws s h =
+short_by false false true isx ws s h =
     let a = mapped (λ n. step.Go n.0 n.1) (two_numbers ws) s h in
     subst HasShortNumbers a.2 (two_short ws a.0 a.1)
-short_by false false false ws s h = absurd cc
+short_by false false false true ws s h =
+    let a = mapped (λ p. step.Stop p) (one_number ws) s h in
+    subst HasShortNumbers a.2 (one_short ws a.0 a.1)
+short_by false false false false ws s h = absurd cc
 
 step_short : (ws : List (List ℕ)) (s : Step) → step_of ws ≡ Some s → HasShortNumbers s
 step_short [] s h = absurd cc
-step_short (w ∷ ws) s h = short_by (bytes_eq w (codes "w")) (bytes_eq w (codes "r")) (bytes_eq w (codes "g")) ws s h
+step_short (w ∷ ws) s h = short_by (bytes_eq w (codes "w")) (bytes_eq w (codes "r")) (bytes_eq w (codes "g")) (bytes_eq w (codes "x")) ws s h
 
 pub step_again : (s : Step) → HasShortNumbers s → step_of (words (step_text s)) ≡ Some s
 step_again (step.Write p v) h =
@@ -138,6 +144,8 @@ step_again (step.Go p c) h =
     let a = h.0 in
     let b = h.1 in
     ap step_of (words-text (codes "g") (p ∷ c ∷ []) refl (a, (b, tt))) ∙ rw (number-decimal p a, number-decimal c b) refl
+step_again (step.Stop p) h =
+    ap step_of (words-text (codes "x") (p ∷ []) refl (h, tt)) ∙ rw (number-decimal p h) refl
 
 -- a line spells a step exactly where it is its text
 pub one_step : (line : List ℕ) (s : Step) → (step_of (words line) ≡ Some s) ↔ (HasShortNumbers s × (line ≡ step_text s))

@@ -7,13 +7,14 @@ use Rattle.frames.specs.declared.types.Step.{Step}
 use Rattle.frames.specs.declared.types.Step.TheVariants as step
 use Rattle.words.specs.Words.{next, after_next, one_number, two_numbers}
 
--- a step: `w P V`, `r P` or `g P C`, and no more words
+-- a step: `w P V`, `r P`, `g P C` or `x P`, and no more words
 abbrev pub step_of : List (List ℕ) → Option Step
 step_of ws =
     if bytes_eq (next ws) (codes "w") then option_map (λ n. step.Write n.0 n.1) (two_numbers (after_next ws))
     else (if bytes_eq (next ws) (codes "r") then option_map (λ p. step.Read p) (one_number (after_next ws))
     else (if bytes_eq (next ws) (codes "g") then option_map (λ n. step.Go n.0 n.1) (two_numbers (after_next ws))
-    else None))
+    else (if bytes_eq (next ws) (codes "x") then option_map (λ p. step.Stop p) (one_number (after_next ws))
+    else None)))
 
 -- a word, and numbers, with one space before each
 abbrev pub text : List ℕ → List ℕ → List ℕ
@@ -24,9 +25,11 @@ abbrev pub step_text : Step → List ℕ
 step_text (step.Write p v) = text (codes "w") (p ∷ v ∷ [])
 step_text (step.Read p) = text (codes "r") (p ∷ [])
 step_text (step.Go p c) = text (codes "g") (p ∷ c ∷ [])
+step_text (step.Stop p) = text (codes "x") (p ∷ [])
 
 -- the numbers of a step are below 10 ^ 9, as those that words write
 abbrev pub HasShortNumbers : Step → Type 0
 HasShortNumbers (step.Write p v) = (p < 10 ^ 9) × (v < 10 ^ 9)
 HasShortNumbers (step.Read p) = p < 10 ^ 9
 HasShortNumbers (step.Go p c) = (p < 10 ^ 9) × (c < 10 ^ 9)
+HasShortNumbers (step.Stop p) = p < 10 ^ 9

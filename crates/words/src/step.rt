@@ -27,6 +27,10 @@ pub fn step_of(words: &mut Parts<'_>) -> Option<Step>
         let (p, c) = two_numbers(words)?;
         return Some(Step::Go { p, c });
     }
+    if is(word, "x") {
+        let p = one_number(words)?;
+        return Some(Step::Stop { p });
+    }
     None
 }
 
@@ -38,6 +42,7 @@ pub fn push_step(out: &mut Vec<u8>, step: Step) -> io::Result<()>
         Step::Write { p, v } => push_words(out, "w", &[p, v]),
         Step::Read { p } => push_words(out, "r", &[p]),
         Step::Go { p, c } => push_words(out, "g", &[p, c]),
+        Step::Stop { p } => push_words(out, "x", &[p]),
     }
 }
 
