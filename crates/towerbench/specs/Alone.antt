@@ -12,7 +12,7 @@ use Rattle.towerbench.specs.Pages.{state_lines}
 
 -- a configuration with nothing said of its register
 abbrev pub alone : {R P : Type 0} → Configuration R P → Configuration ⊤ P
-alone c = record { register = tt; memory = c.memory; running = c.running }
+alone c = record { register = tt; memory = c.memory; running = c.running; stopped = c.stopped }
 
 pub replayed_alone : {R P : Type 0} (b : Behaviour P) (c : Configuration R P) (steps : List Step) → alone (replayed b c steps) ≡ replayed b (alone c) steps
 replayed_alone b c [] = refl

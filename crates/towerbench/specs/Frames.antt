@@ -1,5 +1,5 @@
 -- The bytes of frames, and the page of pending operations.
-use Rattle.std.specs.Prelude.{ℕ, List, [], ◌∷◌, ◌++◌, Option, Some, None, codes}
+use Rattle.std.specs.Prelude.{ℕ, Bool, List, [], ◌∷◌, ◌++◌, Option, Some, None, codes}
 use Rattle.std.specs.List.{flat_map, range_with_len}
 use Rattle.std.specs.Fmt.{decimal}
 use Rattle.frames.specs.declared.types.Op.{Op}
@@ -9,9 +9,9 @@ use Rattle.frames.specs.declared.types.FrameLayer.{FrameLayer}
 use Rattle.frames.specs.declared.types.FrameLayer.TheVariants.{Safe, Copies, Regular, Unary, Stamped, MatrixRead, MatrixWrite}
 use Rattle.frames.specs.declared.running.Running.{Running}
 use Rattle.frames.specs.Behaviour.{Behaviour}
-use Rattle.frames.specs.Configuration.{Configuration, running_at}
+use Rattle.frames.specs.Configuration.{Configuration, running_at, is_stopped}
 use Rattle.towerbench.specs.Texts.{line_end}
-use Rattle.towerbench.specs.Pages.{idle_line}
+use Rattle.towerbench.specs.Pages.{stopped_text, idle_line}
 
 -- the name of a layer; that of a matrix is one in both of its phases
 abbrev pub frame_name : FrameLayer → List ℕ
@@ -61,14 +61,14 @@ abbrev pub frames_text : List Frame → List ℕ
 frames_text [] = []
 frames_text (f ∷ fs) = frame_text f ++ flat_map inner_frame fs
 
--- a process with its frames
-abbrev pub frames_line : ℕ → List Frame → List ℕ
-frames_line p fs = codes "  p" ++ decimal p ++ codes " " ++ frames_text fs ++ line_end
+-- a process with its frames, and whether it has stopped
+abbrev pub frames_line : ℕ → List Frame → Bool → List ℕ
+frames_line p fs stopped = codes "  p" ++ decimal p ++ codes " " ++ frames_text fs ++ stopped_text stopped ++ line_end
 
-abbrev pub pending_line : {P : Type 0} → Behaviour P → ℕ → Option (Running P) → List ℕ
-pending_line b p None = idle_line p
-pending_line b p (Some r) = frames_line p (b.frames r.point)
+abbrev pub pending_line : {P : Type 0} → Behaviour P → ℕ → Option (Running P) → Bool → List ℕ
+pending_line b p None stopped = idle_line p stopped
+pending_line b p (Some r) stopped = frames_line p (b.frames r.point) stopped
 
 -- the page of pending operations: a line for each process
 abbrev pub pending_lines : {R P : Type 0} → Behaviour P → Configuration R P → List ℕ
-pending_lines b c = flat_map (λ p. pending_line b p (running_at p c)) (range_with_len 0 b.processes)
+pending_lines b c = flat_map (λ p. pending_line b p (running_at p c) (is_stopped p c)) (range_with_len 0 b.processes)

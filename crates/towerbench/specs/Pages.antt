@@ -12,14 +12,14 @@ use Rattle.frames.specs.declared.types.ActionKind.TheVariants.{WriteStart, Write
 use Rattle.frames.specs.declared.types.Layer.{Layer}
 use Rattle.frames.specs.declared.types.Layer.TheVariants.{Stamped, Matrix}
 use Rattle.frames.specs.declared.types.Reason.{Reason}
-use Rattle.frames.specs.declared.types.Reason.TheVariants.{Busy, Idle}
+use Rattle.frames.specs.declared.types.Reason.TheVariants.{Busy, Idle, Stopped}
 use Rattle.frames.specs.declared.types.Event.{Event}
-use Rattle.frames.specs.declared.types.Event.TheVariants.{Invoke, Got, Wrote, Refused, Void, Chosen}
+use Rattle.frames.specs.declared.types.Event.TheVariants.{Invoke, Got, Wrote, Refused, Void, Stop, Chosen}
 use Rattle.frames.specs.declared.types.Step.{Step}
 use Rattle.frames.specs.declared.types.Step.TheVariants as step
 use Rattle.frames.specs.declared.running.Running.{Running}
 use Rattle.frames.specs.Behaviour.{Behaviour}
-use Rattle.frames.specs.Configuration.{Configuration, running_at}
+use Rattle.frames.specs.Configuration.{Configuration, running_at, is_stopped}
 use Rattle.towerbench.specs.Texts.{line_end}
 use Rattle.towerbench.specs.Numbered.{numbered}
 
@@ -42,27 +42,34 @@ kind_name WriteEnd = codes "we"
 kind_name ReadStart = codes "rs"
 kind_name ReadEnd = codes "re"
 
--- a process that is idle, and one with an operation pending and its next bit action
-abbrev pub idle_line : ℕ → List ℕ
-idle_line p = codes "  p" ++ decimal p ++ codes " idle" ++ line_end
+-- what stands behind a process that has stopped
+abbrev pub stopped_text : Bool → List ℕ
+stopped_text stopped = if stopped then codes " stopped" else []
+
+-- a process that is idle, and one with an operation pending: its next bit action, or that it has stopped
+abbrev pub idle_line : ℕ → Bool → List ℕ
+idle_line p stopped = codes "  p" ++ decimal p ++ codes " idle" ++ stopped_text stopped ++ line_end
 
 abbrev pub busy_line : ℕ → Op → Action → List ℕ
 busy_line p o a =
     codes "  p" ++ decimal p ++ codes " " ++ op_text o ++ codes " next " ++ kind_name a.kind ++ codes " " ++ decimal a.cell ++ line_end
 
-abbrev pub process_line : {P : Type 0} → Behaviour P → ℕ → Option (Running P) → List ℕ
-process_line b p None = idle_line p
-process_line b p (Some r) = busy_line p r.op (b.acts r.point)
+abbrev pub stopped_line : ℕ → Op → List ℕ
+stopped_line p o = codes "  p" ++ decimal p ++ codes " " ++ op_text o ++ codes " stopped" ++ line_end
+
+abbrev pub process_line : {P : Type 0} → Behaviour P → ℕ → Option (Running P) → Bool → List ℕ
+process_line b p None stopped = idle_line p stopped
+process_line b p (Some r) stopped = if stopped then stopped_line p r.op else busy_line p r.op (b.acts r.point)
 
 abbrev pub process_lines : {R P : Type 0} → Behaviour P → Configuration R P → List ℕ
-process_lines b c = flat_map (λ p. process_line b p (running_at p c)) (range_with_len 0 b.processes)
+process_lines b c = flat_map (λ p. process_line b p (running_at p c) (is_stopped p c)) (range_with_len 0 b.processes)
 
 -- the page of one process: none where the register has no process of this number
 abbrev pub no_process_line : ℕ → List ℕ
 no_process_line p = codes "  p" ++ decimal p ++ codes " none" ++ line_end
 
 abbrev pub one_process : {R P : Type 0} → Behaviour P → ℕ → Configuration R P → List ℕ
-one_process b p c = if nat_lt p b.processes then process_line b p (running_at p c) else no_process_line p
+one_process b p c = if nat_lt p b.processes then process_line b p (running_at p c) (is_stopped p c) else no_process_line p
 
 -- a bit as a digit, and the values of all cells
 abbrev pub bit_name : Bool → List ℕ
@@ -129,6 +136,7 @@ layer_name Matrix = codes "matrix"
 abbrev pub reason_name : Reason → List ℕ
 reason_name Busy = codes "busy"
 reason_name Idle = codes "idle"
+reason_name Stopped = codes "stopped"
 
 abbrev pub event_process : Event → ℕ
 event_process (Invoke p o) = p
@@ -136,6 +144,7 @@ event_process (Got p v) = p
 event_process (Wrote p) = p
 event_process (Refused p layer) = p
 event_process (Void p reason) = p
+event_process (Stop p) = p
 event_process (Chosen p bit v) = p
 
 abbrev pub event_name : Event → List ℕ
@@ -144,6 +153,7 @@ event_name (Got p v) = codes "return " ++ decimal v
 event_name (Wrote p) = codes "return written"
 event_name (Refused p layer) = codes "refused spent " ++ layer_name layer
 event_name (Void p reason) = codes "void " ++ reason_name reason
+event_name (Stop p) = codes "stop"
 event_name (Chosen p bit v) = codes "chosen bit " ++ decimal bit ++ codes " value " ++ bit_name v
 
 -- the line of an event, with the index of its step

@@ -41,6 +41,7 @@ fn event_process(event: Event) -> u32
         | Event::Wrote(p)
         | Event::Refused(p, _)
         | Event::Void(p, _)
+        | Event::Stop(p)
         | Event::Chosen(p, _, _) => p,
     }
 }
@@ -64,6 +65,7 @@ fn push_event_name(out: &mut Vec<u8>, event: Event) -> io::Result<()>
             let reason = reason_name(reason);
             write!(out, "void {reason}")
         }
+        Event::Stop(_) => write!(out, "stop"),
         Event::Chosen(_, bit, value) => {
             let value = bit_name(value);
             write!(out, "chosen bit {bit} value {value}")
@@ -88,5 +90,6 @@ fn reason_name(reason: Reason) -> &'static str
     match reason {
         Reason::Busy => "busy",
         Reason::Idle => "idle",
+        Reason::Stopped => "stopped",
     }
 }

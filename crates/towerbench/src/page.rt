@@ -2,7 +2,7 @@
 
 ghost use Rattle.std.specs.Prelude.{◌≡◌, ◌++◌, OnOk, Option, length};
 ghost use Rattle.safe_bit.specs.Parts.{HasSize};
-ghost use Rattle.frames.specs.Configuration.{running_at};
+ghost use Rattle.frames.specs.Configuration.{running_at, is_stopped};
 ghost use Rattle.towerbench.specs.Numbered.{numbered};
 ghost use Rattle.towerbench.specs.Pages as spec;
 
@@ -57,15 +57,43 @@ fn push_processes<R: Register>(out: &mut Vec<u8>, config: &Config<R>) -> io::Res
 
 /// Adds the line of a process.
 fn push_process<R: Register>(out: &mut Vec<u8>, config: &Config<R>, p: u32) -> io::Result<()>
-    ensures { OnOk result (out.new.items ≡ out.old.items ++ spec.process_line (R.is config.now.register) p (running_at p config.now)) }
+    ensures { OnOk result (out.new.items ≡ out.old.items ++ spec.process_line (R.is config.now.register) p (running_at p config.now) (is_stopped p config.now)) }
 {
+    let stopped = config.stopped(p);
     let Some(op) = config.op(p) else {
-        return writeln!(out, "  p{p} idle");
+        return push_idle(out, p, stopped);
     };
+    if stopped {
+        return push_stopped(out, p, op);
+    }
     let Some(action) = config.action(p) else {
-        return writeln!(out, "  p{p} idle");
+        return push_idle(out, p, stopped);
     };
     push_busy(out, p, op, action)
+}
+
+/// Adds the line of a process that is idle.
+pub fn push_idle(out: &mut Vec<u8>, p: u32, stopped: bool) -> io::Result<()>
+    ensures { OnOk result (out.new.items ≡ out.old.items ++ spec.idle_line p stopped) }
+{
+    let stopped = stopped_text(stopped);
+    writeln!(out, "  p{p} idle{stopped}")
+}
+
+/// What stands behind a process that has stopped.
+pub fn stopped_text(stopped: bool) -> &'static str
+    ensures { result.now ≡ spec.stopped_text stopped }
+{
+    if stopped { " stopped" } else { "" }
+}
+
+/// Adds the line of a process that has stopped with an operation pending.
+fn push_stopped(out: &mut Vec<u8>, p: u32, op: Op) -> io::Result<()>
+    ensures { OnOk result (out.new.items ≡ out.old.items ++ spec.stopped_line p op) }
+{
+    write!(out, "  p{p} ")?;
+    push_op(out, op)?;
+    writeln!(out, " stopped")
 }
 
 /// Adds the line of one process, which the register may not have.

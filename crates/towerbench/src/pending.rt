@@ -2,9 +2,10 @@
 
 ghost use Rattle.std.specs.Prelude.{◌≡◌, ◌++◌, OnOk};
 ghost use Rattle.std.specs.List.{flat_map};
-ghost use Rattle.frames.specs.Configuration.{running_at};
+ghost use Rattle.frames.specs.Configuration.{running_at, is_stopped};
 ghost use Rattle.towerbench.specs.Frames as spec;
 
+use crate::page::{push_idle, stopped_text};
 use frames::config::Config;
 use frames::register::Register;
 use frames::types::{Frame, FrameLayer, Op};
@@ -33,21 +34,23 @@ fn push_process<R: Register>(
     config: &Config<R>,
     p: u32,
 ) -> io::Result<()>
-    ensures { OnOk result (out.new.items ≡ out.old.items ++ spec.pending_line (R.is config.now.register) p (running_at p config.now)) }
+    ensures { OnOk result (out.new.items ≡ out.old.items ++ spec.pending_line (R.is config.now.register) p (running_at p config.now) (is_stopped p config.now)) }
 {
+    let stopped = config.stopped(p);
     match config.stack(alloc, p) {
-        None => writeln!(out, "  p{p} idle"),
-        Some(stack) => push_frames(out, p, stack.as_slice()),
+        None => push_idle(out, p, stopped),
+        Some(stack) => push_frames(out, p, stack.as_slice(), stopped),
     }
 }
 
 /// Adds the line of a process with frames.
-fn push_frames(out: &mut Vec<u8>, p: u32, frames: &[Frame]) -> io::Result<()>
-    ensures { OnOk result (out.new.items ≡ out.old.items ++ spec.frames_line p frames.now) }
+fn push_frames(out: &mut Vec<u8>, p: u32, frames: &[Frame], stopped: bool) -> io::Result<()>
+    ensures { OnOk result (out.new.items ≡ out.old.items ++ spec.frames_line p frames.now stopped) }
 {
+    let stopped = stopped_text(stopped);
     write!(out, "  p{p} ")?;
     push_nested(out, frames)?;
-    writeln!(out)
+    writeln!(out, "{stopped}")
 }
 
 /// Adds frames, outermost first.
