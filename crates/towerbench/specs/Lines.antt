@@ -47,13 +47,14 @@ two_numbers ws = do
   b ← number (next (after_next ws))
   if is_end (after_next (after_next ws)) then Some (a, b) else None
 
--- a step: `w P V`, `r P` or `g P C`
+-- a step: `w P V`, `r P`, `g P C` or `x P`
 abbrev pub step_of : List (List ℕ) → Option Step
 step_of ws =
     if bytes_eq (next ws) (codes "w") then option_map (λ n. step.Write n.0 n.1) (two_numbers (after_next ws))
     else (if bytes_eq (next ws) (codes "r") then option_map (λ p. step.Read p) (one_number (after_next ws))
     else (if bytes_eq (next ws) (codes "g") then option_map (λ n. step.Go n.0 n.1) (two_numbers (after_next ws))
-    else None))
+    else (if bytes_eq (next ws) (codes "x") then option_map (λ p. step.Stop p) (one_number (after_next ws))
+    else None)))
 
 -- a branch, and no more words
 abbrev pub branch_of : List (List ℕ) → Option (List ℕ)

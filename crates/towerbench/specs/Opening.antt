@@ -9,6 +9,7 @@ use Rattle.tower_file.specs.declared.tower.TowerSpec.TheVariants.{Safe, Copies, 
 use Rattle.tower_file.specs.declared.fault.FaultKind.{FaultKind}
 use Rattle.tower_file.specs.declared.fault.FaultKind.TheVariants as kind
 use Rattle.tower_file.specs.declared.fault.FileFault.{FileFault}
+use Rattle.tower_file.specs.declared.version.Version.TheVariants.{One}
 use Rattle.tower_file.specs.Files.{File, file_of}
 use Rattle.tower_file.specs.Reading.{reading}
 use Rattle.towerbench.specs.declared.fault.StreamFault.{StreamFault}
@@ -21,7 +22,7 @@ use Rattle.towerbench.specs.Output.{output}
 
 -- the file that is opened, or its first fault
 abbrev pub opened : Option (List ℕ) → Result File FileFault
-opened None = Ok (file_of (Safe 0) [])
+opened None = Ok (file_of One (Safe 0) [])
 opened (Some bytes) = reading bytes
 
 -- what goes out for a script on a tower, from its initial value and steps on

@@ -121,6 +121,7 @@ abbrev pub step_text : Step → List ℕ
 step_text (step.Write p v) = codes "w " ++ decimal p ++ codes " " ++ decimal v
 step_text (step.Read p) = codes "r " ++ decimal p
 step_text (step.Go p c) = codes "g " ++ decimal p ++ codes " " ++ decimal c
+step_text (step.Stop p) = codes "x " ++ decimal p
 
 abbrev pub step_line : ℕ → Step → List ℕ
 step_line i s = codes "  " ++ decimal i ++ codes " " ++ step_text s ++ line_end

@@ -175,6 +175,10 @@ fn step_of(words: &mut Words<'_>) -> Option<Step>
         let (p, c) = two_numbers(words)?;
         return Some(Step::Go { p, c });
     }
+    if is(word, "x") {
+        let p = one_number(words)?;
+        return Some(Step::Stop { p });
+    }
     None
 }
 

@@ -43,5 +43,6 @@ fn push_step_text(out: &mut Vec<u8>, step: Step) -> io::Result<()>
         Step::Write { p, v } => write!(out, "w {p} {v}"),
         Step::Read { p } => write!(out, "r {p}"),
         Step::Go { p, c } => write!(out, "g {p} {c}"),
+        Step::Stop { p } => write!(out, "x {p}"),
     }
 }
