@@ -13,7 +13,7 @@ use Rattle.frames.specs.declared.types.Event.{Event}
 use Rattle.frames.specs.declared.types.Event.TheVariants.{Invoke, Got, Wrote, Refused, Void, Stop, Chosen}
 use Rattle.frames.specs.declared.types.StepEvents.{StepEvents}
 use Rattle.frames.specs.declared.running.Running.{Running}
-use Rattle.frames.specs.Behaviour.{Behaviour, Moved}
+use Rattle.frames.specs.Behaviour.{Behaviour}
 use Rattle.frames.specs.Fitting.{roles_of, process_of, step_fits}
 
 -- the register, its cells and words, and per process the operation that it has pending or none, and whether it has stopped
@@ -68,12 +68,8 @@ in_order (Some e) later = record { first = Some e; second = later }
 in_order None later = record { first = later; second = None }
 
 -- an operation after a step of it: an event of the step, then the return or the refusal
-abbrev pub acted : {P : Type 0} → ℕ → Op → Option Event → Moved P → Acted P
-acted who o event moved = record {
-  events = in_order event (return_of who moved.next);
-  running = still_running o moved.next;
-  memory = moved.memory;
-}
+abbrev pub acted : {P : Type 0} → ℕ → Op → Option Event → Next P → Memory → Acted P
+acted who o event next m = record { events = in_order event (return_of who next); running = still_running o next; memory = m }
 
 -- one event is recorded, and neither what the process has pending nor the memory changes
 abbrev pub only_records : {P : Type 0} → Event → Option (Running P) → Memory → Acted P
@@ -81,14 +77,14 @@ only_records event running m = record { events = in_order (Some event) None; run
 
 -- a process invokes an operation, if it has none pending
 abbrev pub invoking : {P : Type 0} → Behaviour P → ℕ → Op → Option (Running P) → Memory → Acted P
-invoking b who o None m = acted who o (Some (Invoke who o)) (b.begins who o m)
+invoking b who o None m = let begun = b.begins who o m in acted who o (Some (Invoke who o)) begun.next begun.memory
 invoking b who o (Some r) m = only_records (Void who Busy) (Some r) m
 
 -- a process makes its next bit action, if it has an operation pending
 abbrev pub going : {P : Type 0} → Behaviour P → ℕ → Bool → Option (Running P) → Memory → Acted P
 going b who choice None m = only_records (Void who Idle) None m
 going b who choice (Some r) m =
-    let moved = b.goes r.point choice m in acted who r.op (chosen_of who moved.chosen) moved
+    let moved = b.goes r.point choice m in acted who r.op (chosen_of who moved.chosen) moved.next moved.memory
 
 -- what a step does for a process that hasn't stopped; a stop leaves its operation pending
 abbrev pub acting : {P : Type 0} → Behaviour P → Step → Option (Running P) → Memory → Acted P

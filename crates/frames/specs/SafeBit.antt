@@ -1,5 +1,5 @@
 -- The register of one safe bit: its programs are the two actions of a write and of a read (Lamport 1986).
-use Rattle.std.specs.Prelude.{◌≡◌, ℕ, Bool, ◌&&◌, ◌==◌, nat_lt, [], ◌∷◌, Some, None, if◌then◌else◌}
+use Rattle.std.specs.Prelude.{◌≡◌, ℕ, ◌<◌, Bool, ◌&&◌, ◌==◌, nat_lt, [], ◌∷◌, Some, None, if◌then◌else◌}
 use Rattle.safe_bit.specs.Memory.{Memory, cell_at, on_cell}
 use Rattle.safe_bit.specs.Actions.{idle_cell, start_write, end_write, start_read, end_read, read_gives}
 use Rattle.frames.specs.declared.types.Op.{Op}
@@ -12,7 +12,7 @@ use Rattle.frames.specs.declared.types.Frame.{Frame}
 use Rattle.frames.specs.declared.types.Action.{Action}
 use Rattle.frames.specs.declared.safe.SafePoint.{SafePoint}
 use Rattle.frames.specs.declared.safe.SafePoint.TheVariants as at
-use Rattle.frames.specs.Behaviour.{Behaviour, Moved}
+use Rattle.frames.specs.Behaviour.{Behaviour, Begun, Moved}
 
 -- the bit of a value, and the value of a bit
 abbrev pub bit_of : ℕ → Bool
@@ -30,9 +30,9 @@ abbrev pub safe_initial : ℕ → Memory
 safe_initial v = record { cells = idle_cell (bit_of v) ∷ []; words = [] }
 
 -- an invocation makes no action
-abbrev pub safe_begins : ℕ → Op → Memory → Moved SafePoint
-safe_begins who (op.Write v) m = record { next = Pending (at.WriteStart (bit_of v)); chosen = None; memory = m }
-safe_begins who op.Read m = record { next = Pending at.ReadStart; chosen = None; memory = m }
+abbrev pub safe_begins : ℕ → Op → Memory → Begun SafePoint
+safe_begins who (op.Write v) m = record { next = Pending (at.WriteStart (bit_of v)); memory = m }
+safe_begins who op.Read m = record { next = Pending at.ReadStart; memory = m }
 
 -- a write is its start and its end, and so is a read
 abbrev pub safe_goes : SafePoint → Bool → Memory → Moved SafePoint
@@ -72,10 +72,10 @@ safe_behaviour = record {
   acts = safe_acts;
 }
 
--- the writer stands in the write of its value, the reader in its read
+-- process 0 stands in the write of a bit, process 1 in its read
 abbrev pub SafeReaches : ℕ → Op → SafePoint → Type 0
-SafeReaches who (op.Write v) (at.WriteStart bit) = (who ≡ 0) × (bit ≡ bit_of v)
-SafeReaches who (op.Write v) (at.WriteEnd bit) = (who ≡ 0) × (bit ≡ bit_of v)
+SafeReaches who (op.Write v) (at.WriteStart bit) = (who ≡ 0) × (v < 2) × (bit ≡ bit_of v)
+SafeReaches who (op.Write v) (at.WriteEnd bit) = (who ≡ 0) × (v < 2) × (bit ≡ bit_of v)
 SafeReaches who op.Read at.ReadStart = who ≡ 1
 SafeReaches who op.Read at.ReadEnd = who ≡ 1
 SafeReaches who (op.Write v) at.ReadStart = ⊥

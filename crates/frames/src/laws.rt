@@ -1,6 +1,11 @@
-//! What every step of every register keeps, for all configurations.
+//! What every register keeps, and every step of one, for all configurations.
 
-ghost use Rattle.std.specs.Prelude.{◌≡◌, ℕ, true, false, List};
+ghost use Rattle.std.specs.Prelude.{◌≡◌, ℕ, ◌<◌, Bool, true, false, List};
+ghost use Rattle.safe_bit.specs.declared.Place.{Place};
+ghost use Rattle.safe_bit.specs.Memory.{Memory};
+ghost use Rattle.safe_bit.specs.Parts.{LiesIn, part, with_part};
+ghost use Rattle.frames.specs.declared.types.Op.{Op};
+ghost use Rattle.frames.specs.Beside.{LeavesOthers};
 ghost use Rattle.frames.specs.declared.types.Step.{Step};
 ghost use Rattle.frames.specs.Configuration.{Configuration, fits_step, is_enabled, is_stopped, stepped, replayed};
 ghost use Rattle.frames.specs.Parked.{IsConfiguration};
@@ -23,4 +28,14 @@ pub fn stopped_for_good<R: Register>(register: &R)
 pub fn step_keeps<R: Register>(register: &R)
     ensures { (c : Configuration R R.Pending) (s : Step) → IsConfiguration (R.is register.now) (R.Holds register.now) (R.Reaches register.now) c → fits_step (R.is register.now) s ≡ true
         → IsConfiguration (R.is register.now) (R.Holds register.now) (R.Reaches register.now) (stepped (R.is register.now) c s) }
+{}
+
+/// `init`, `begin` and `go` at a place leave the part at any place apart from it as it was.
+pub fn leaves_others<R: Register>(register: &R)
+    ensures init { (at : Place) (m : Memory) (value : ℕ) → LiesIn at (R.is register.now).size m → value < (R.is register.now).values
+        → LeavesOthers at (R.is register.now).size m (with_part at ((R.is register.now).initial value) m) }
+    ensures begin { (at : Place) (m : Memory) (who : ℕ) (o : Op) → LiesIn at (R.is register.now).size m → R.Holds register.now (part at (R.is register.now).size m) → (R.is register.now).suits who o ≡ true
+        → LeavesOthers at (R.is register.now).size m (with_part at ((R.is register.now).begins who o (part at (R.is register.now).size m)).memory m) }
+    ensures go { (at : Place) (m : Memory) (who : ℕ) (o : Op) (p : R.Pending) (choice : Bool) → LiesIn at (R.is register.now).size m → R.Holds register.now (part at (R.is register.now).size m) → R.Reaches register.now who o p
+        → LeavesOthers at (R.is register.now).size m (with_part at ((R.is register.now).goes p choice (part at (R.is register.now).size m)).memory m) }
 {}

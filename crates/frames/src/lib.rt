@@ -2,11 +2,7 @@
 #![tactic(auto)]
 
 pub mod config;
-pub mod drive;
-pub mod fit;
 pub mod laws;
-pub mod layer;
-pub mod nested;
 mod own;
 pub mod register;
 pub mod roles;

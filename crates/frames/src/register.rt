@@ -12,6 +12,12 @@ use crate::types::{Action, Next, Op, Stack, Turned};
 use safe_bit::{Place, Store};
 use std::alloc::Global;
 
+/// The most cells that a register has.
+pub const MOST_CELLS: u32 = 4096;
+
+/// The most words that a register has.
+pub const MOST_WORDS: u32 = 65_536;
+
 /// What a register does, apart from its calls: all that a type over registers needs to know of one.
 pub trait Behaves {
     /// A point at which an operation stands between two bit actions; equal only to itself.
@@ -53,14 +59,12 @@ pub trait Register: Behaves + Copy + Eq {
     /// Sets its own memory to the initial value.
     fn init(&self, store: &mut Store, at: Place, value: u32)
         requires inside { LiesIn at (Self.is self.now).size store.old }
-        requires placed { IsPlaced at (Self.is self.now).size }
         requires value { value < (Self.is self.now).values }
         ensures { store.new ≡ with_part at ((Self.is self.now).initial value) store.old };
 
     /// A process invokes an operation.
     fn begin(&self, store: &mut Store, at: Place, who: u32, op: Op) -> Next<Self::Pending>
         requires inside { LiesIn at (Self.is self.now).size store.old }
-        requires placed { IsPlaced at (Self.is self.now).size }
         requires holds { Holds self.now (part at (Self.is self.now).size store.old) }
         requires fits { (Self.is self.now).suits who op ≡ true }
         ensures next { result ≡ ((Self.is self.now).begins who op (part at (Self.is self.now).size store.old)).next }
@@ -75,7 +79,6 @@ pub trait Register: Behaves + Copy + Eq {
         choice: bool,
     ) -> Turned<Self::Pending>
         requires inside { LiesIn at (Self.is self.now).size store.old }
-        requires placed { IsPlaced at (Self.is self.now).size }
         requires holds { Holds self.now (part at (Self.is self.now).size store.old) }
         requires reached { (who : ℕ) × ((op : Op) × Reaches self.now who op pending) }
         ensures next { result.next ≡ ((Self.is self.now).goes pending choice (part at (Self.is self.now).size store.old)).next }

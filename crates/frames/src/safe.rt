@@ -34,7 +34,7 @@ impl Behaves for Safe {
 
 impl Register for Safe {
     ghost use Rattle.std.specs.Prelude.{refl};
-    ghost use Rattle.frames.specs.SafeLaws.{safe_lawful, point_decides};
+    ghost use Rattle.frames.specs.laws.Safe.{safe_lawful, point_decides};
     ghost use Rattle.frames.specs.declared.safe.SafePoint.TheVariants.{WriteStart, WriteEnd, ReadStart, ReadEnd};
 
     ghost Holds = { λ _. HasSize safe_behaviour.size };

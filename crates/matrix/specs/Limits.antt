@@ -1,14 +1,16 @@
 -- The limits of a matrix's own numbers, and what refuses it.
-use Rattle.std.specs.Prelude.{ℕ, Bool, ◌&&◌, nat_le, Option, Some, if◌then◌else◌}
-use Rattle.frames.specs.declared.fit.LayerError.{LayerError}
-use Rattle.frames.specs.declared.fit.LayerError.TheVariants.{BadSize}
+use Rattle.std.specs.Prelude.{ℕ, Bool, ◌&&◌, nat_le, nat_lt, Option, Some, if◌then◌else◌}
+use Rattle.layers.specs.declared.fit.TheConstants.{LEAST_PROCESSES, LEAST_VALUES, MOST_VALUES}
+use Rattle.matrix.specs.declared.rules.TheConstants.{MOST_WRITERS}
+use Rattle.layers.specs.declared.fit.LayerError.{LayerError}
+use Rattle.layers.specs.declared.fit.LayerError.TheVariants.{BadSize}
 use Rattle.frames.specs.Behaviour.{Behaviour}
-use Rattle.frames.specs.Fit.{refusal_below}
+use Rattle.layers.specs.Fit.{refusal_below}
 use Rattle.matrix.specs.Program.{codes, matrix_table}
 
 -- 2 to 4 processes, 2 to 512 values, a last tag of at most 511, and at most 512 codes
 abbrev pub limits_hold : ℕ → ℕ → ℕ → Bool
-limits_hold n values last = nat_le 2 n && (nat_le n 4 && (nat_le 2 values && (nat_le values 512 && (nat_le last 511 && nat_le (codes n values last) 512))))
+limits_hold n values last = nat_le LEAST_PROCESSES n && (nat_le n MOST_WRITERS && (nat_le LEAST_VALUES values && (nat_le values MOST_VALUES && (nat_lt last MOST_VALUES && nat_le (codes n values last) MOST_VALUES))))
 
 -- the first that is wrong, if something is
 abbrev pub matrix_refusal : {P : Type 0} → ℕ → ℕ → ℕ → Behaviour P → Option LayerError

@@ -10,8 +10,8 @@ use Rattle.frames.specs.declared.types.Outcome.{Outcome}
 use Rattle.frames.specs.declared.types.Outcome.TheVariants.{Value, Written, Spent}
 use Rattle.frames.specs.declared.types.FrameLayer.TheVariants.{MatrixRead, MatrixWrite}
 use Rattle.frames.specs.declared.types.Frame.{Frame}
-use Rattle.frames.specs.declared.nested.Ask.{Ask}
-use Rattle.frames.specs.Nested.{Program, Ends, Asks, Table}
+use Rattle.layers.specs.declared.nested.Ask.{Ask}
+use Rattle.layers.specs.Nested.{Program, Ends, Asks, Table}
 use Rattle.matrix.specs.declared.task.MatrixTask.{MatrixTask}
 use Rattle.matrix.specs.declared.task.MatrixTask.TheVariants.{Column, Row}
 
@@ -67,10 +67,6 @@ abbrev pub matrix_asks : ℕ → MatrixTask → Ask
 matrix_asks n (Column who o j greatest) = record { part = j * n + who; who = 1; op = op.Read }
 matrix_asks n (Row who o j code) = record { part = who * n + j; who = 0; op = op.Write code }
 
-abbrev pub matrix_left : ℕ → MatrixTask → ℕ
-matrix_left n (Column who o j greatest) = n - (j + 1) + n
-matrix_left n (Row who o j code) = n - (j + 1)
-
 abbrev pub matrix_frame : MatrixTask → Frame
 matrix_frame (Column who o j greatest) = record { layer = MatrixRead; op = o; i = j; x = greatest }
 matrix_frame (Row who o j code) = record { layer = MatrixWrite; op = o; i = j; x = code }
@@ -96,7 +92,6 @@ matrix_table n values last = record {
   program = matrix_program n values last;
   asks = matrix_asks n;
   rest = matrix_rest n values last;
-  left = matrix_left n;
   frame = matrix_frame;
 }
 
@@ -114,6 +109,11 @@ pub record InWork (n values last who : ℕ) (o : Op) (p : ℕ) (q : Op) (j code 
   pub code_fits : code < codes n values last
   pub value_fits : ValueFits values q
 
+-- the code in a write's row is of its writer and its value, with a tag of 1 or more; a read passes on a code
+abbrev pub RowFits : ℕ → ℕ → ℕ → Op → ℕ → Type 0
+RowFits n values who (op.Write v) code = (tag : ℕ) × (code ≡ code_of n values (tag + 1) who v)
+RowFits n values who op.Read code = ⊤
+
 abbrev pub MatrixStands : ℕ → ℕ → ℕ → ℕ → Op → MatrixTask → Type 0
 MatrixStands n values last who o (Column p q j greatest) = InWork n values last who o p q j greatest
-MatrixStands n values last who o (Row p q j code) = InWork n values last who o p q j code
+MatrixStands n values last who o (Row p q j code) = InWork n values last who o p q j code × RowFits n values p q code

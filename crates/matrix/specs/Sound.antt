@@ -12,15 +12,21 @@ use Rattle.frames.specs.declared.types.Outcome.{Outcome}
 use Rattle.frames.specs.declared.types.Outcome.TheVariants.{Value, Written, Spent}
 use Rattle.frames.specs.Behaviour.{Answers}
 use Rattle.frames.specs.Equality.{op_eq, op_decides}
-use Rattle.frames.specs.Nested.{Program, Ends}
-use Rattle.frames.specs.Sound.{IsSound, IsSoundTable, IsNotSpent, Falls, FitsPart}
-use Rattle.frames.specs.NestedEquality.{both_true, decides_like}
+use Rattle.layers.specs.Nested.{Program, Ends}
+use Rattle.layers.specs.declared.fit.TheConstants.{LEAST_PROCESSES, LEAST_VALUES}
+use Rattle.layers.specs.Sound.{IsSound, IsSoundTable, IsNotSpent, Falls, FitsPart}
+use Rattle.layers.specs.laws.Equality.{both_true, decides_like}
 use Rattle.matrix.specs.declared.task.MatrixTask.{MatrixTask}
 use Rattle.matrix.specs.declared.task.MatrixTask.TheVariants.{Column, Row}
-use Rattle.matrix.specs.Program.{codes, code_of, tag_of, greater, ended, row_from, behind_column, column_from, matrix_program, matrix_rest, matrix_asks, matrix_left, matrix_suits, matrix_table, ValueFits, MatrixStands}
+use Rattle.matrix.specs.Program.{codes, code_of, tag_of, greater, ended, row_from, behind_column, column_from, matrix_program, matrix_rest, matrix_asks, matrix_suits, matrix_table, ValueFits, InWork, RowFits, MatrixStands}
 use Rattle.matrix.specs.Bounds.{code_fits, value_fits, tag_fits}
 
-module _ (n values last : ℕ) (some : 2 ≤ n) (few : n ≤ 4) (some_values : 2 ≤ values) (few_values : values ≤ 512) where
+-- how many parts are still to be read or written behind a task
+abbrev pub matrix_left : ℕ → MatrixTask → ℕ
+matrix_left n (Column who o j greatest) = n - (j + 1) + n
+matrix_left n (Row who o j code) = n - (j + 1)
+
+module _ (n values last : ℕ) (some : LEAST_PROCESSES ≤ n) (some_values : LEAST_VALUES ≤ values) where
   -- what a process may come to in an operation
   abbrev Sound : ℕ → Op → Program MatrixTask → Type 0
   Sound who o p = IsSound (matrix_table n values last) (MatrixStands n values last who o) (Answers values o) p
@@ -34,12 +40,12 @@ module _ (n values last : ℕ) (some : 2 ≤ n) (few : n ≤ 4) (some_values : 2
   greater_fits greatest Written lt answers = lt
   greater_fits greatest (Spent layer) lt answers = lt
 
-  row_sound : (who : ℕ) (o : Op) (p : ℕ) (q : Op) (left j code : ℕ) → left + j ≡ n → p ≡ who → q ≡ o → p < n → ValueFits values q → code < codes n values last
+  row_sound : (who : ℕ) (o : Op) (p : ℕ) (q : Op) (left j code : ℕ) → left + j ≡ n → p ≡ who → q ≡ o → p < n → ValueFits values q → code < codes n values last → RowFits n values p q code
       → Sound who o (row_from n values p q left j code)
-  row_sound who o p q zero j code here own same lt fits low = subst (λ r. Answers values r (ended values q code)) same (ended_answers q code)
-  row_sound who o p q (suc left) j code here own same lt fits low =
+  row_sound who o p q zero j code here own same lt fits low row = subst (λ r. Answers values r (ended values q code)) same (ended_answers q code)
+  row_sound who o p q (suc left) j code here own same lt fits low row =
       let e : left ≡ n - (j + 1) = omega arith in
-      (record { own = own; same = same; process = lt; part = omega arith; code_fits = low; value_fits = fits }, λ outcome. ap (λ l. row_from n values p q l (j + 1) code) e)
+      ((record { own = own; same = same; process = lt; part = omega arith; code_fits = low; value_fits = fits }, row), λ outcome. ap (λ l. row_from n values p q l (j + 1) code) e)
 
   behind_sound : (who : ℕ) (o : Op) (p : ℕ) (q : Op) (greatest : ℕ) → p ≡ who → q ≡ o → p < n → ValueFits values q → greatest < codes n values last
       → Sound who o (behind_column n values last p q greatest)
@@ -53,8 +59,8 @@ module _ (n values last : ℕ) (some : 2 ≤ n) (few : n ≤ 4) (some_values : 2
           let other : tag ≢ last = eqb-false tag last e in
           let few_tags : tag < last + 1 = tag_fits n values last greatest (omega arith) (omega arith) low in
           let before : tag < last = omega arith in
-          row_sound who o p (op.Write v) n 0 (code_of n values (tag + 1) p v) (omega arith) own same lt fits (code_fits n values last tag p v before lt fits)
-  behind_sound who o p op.Read greatest own same lt fits low = row_sound who o p op.Read n 0 greatest (omega arith) own same lt fits low
+          row_sound who o p (op.Write v) n 0 (code_of n values (tag + 1) p v) (omega arith) own same lt fits (code_fits n values last tag p v before lt fits) (tag, refl)
+  behind_sound who o p op.Read greatest own same lt fits low = row_sound who o p op.Read n 0 greatest (omega arith) own same lt fits low tt
 
   column_sound : (who : ℕ) (o : Op) (p : ℕ) (q : Op) (left j greatest : ℕ) → left + j ≡ n → p ≡ who → q ≡ o → p < n → ValueFits values q → greatest < codes n values last
       → Sound who o (column_from n values last p q left j greatest)
@@ -82,39 +88,48 @@ module _ (n values last : ℕ) (some : 2 ≤ n) (few : n ≤ 4) (some_values : 2
       column_sound who o p q (n - (j + 1)) (j + 1) (greater greatest outcome) (omega (arith, stands.part)) stands.own stands.same stands.process stands.value_fits
       (greater_fits greatest outcome stands.code_fits answers)
   rest_sound who o (Row p q j code) outcome stands answers on =
-      row_sound who o p q (n - (j + 1)) (j + 1) code (omega (arith, stands.part)) stands.own stands.same stands.process stands.value_fits stands.code_fits
+      row_sound who o p q (n - (j + 1)) (j + 1) code (omega (arith, stands.0.part)) stands.0.own stands.0.same stands.0.process stands.0.value_fits stands.0.code_fits stands.1
 
-  row_falls : (p : ℕ) (q : Op) (left j code many : ℕ) → left + j ≡ n → left ≤ many → Falls (matrix_table n values last) many (row_from n values p q left j code)
+  row_falls : (p : ℕ) (q : Op) (left j code many : ℕ) → left + j ≡ n → left ≤ many → Falls (matrix_left n) many (row_from n values p q left j code)
   row_falls p q zero j code many here enough = tt
   row_falls p q (suc left) j code many here enough = omega arith
 
-  behind_falls : (p : ℕ) (q : Op) (greatest many : ℕ) → n ≤ many → Falls (matrix_table n values last) many (behind_column n values last p q greatest)
+  behind_falls : (p : ℕ) (q : Op) (greatest many : ℕ) → n ≤ many → Falls (matrix_left n) many (behind_column n values last p q greatest)
   behind_falls p (op.Write v) greatest many enough = by_test (tag_of n values greatest == last)
     where
-      by_test : (end : Bool) → Falls (matrix_table n values last) many (if end then Ends (Spent spent.Matrix) else row_from n values p (op.Write v) n 0 (code_of n values (tag_of n values greatest + 1) p v))
+      by_test : (end : Bool) → Falls (matrix_left n) many (if end then Ends (Spent spent.Matrix) else row_from n values p (op.Write v) n 0 (code_of n values (tag_of n values greatest + 1) p v))
       by_test true = tt
       by_test false = row_falls p (op.Write v) n 0 (code_of n values (tag_of n values greatest + 1) p v) many (omega arith) enough
   behind_falls p op.Read greatest many enough = row_falls p op.Read n 0 greatest many (omega arith) enough
 
-  column_falls : (p : ℕ) (q : Op) (left j greatest many : ℕ) → left + j ≡ n → left + n ≤ many → Falls (matrix_table n values last) many (column_from n values last p q left j greatest)
+  column_falls : (p : ℕ) (q : Op) (left j greatest many : ℕ) → left + j ≡ n → left + n ≤ many → Falls (matrix_left n) many (column_from n values last p q left j greatest)
   column_falls p q zero j greatest many here enough = behind_falls p q greatest many (omega arith)
   column_falls p q (suc left) j greatest many here enough = omega arith
 
   rest_falls : (who : ℕ) (o : Op) (task : MatrixTask) (outcome : Outcome) → MatrixStands n values last who o task → Answers (codes n values last) (matrix_asks n task).op outcome → IsNotSpent outcome
-      → Falls (matrix_table n values last) (matrix_left n task) (matrix_rest n values last task outcome)
+      → Falls (matrix_left n) (matrix_left n task) (matrix_rest n values last task outcome)
   rest_falls who o (Column p q j greatest) outcome stands answers on =
       column_falls p q (n - (j + 1)) (j + 1) (greater greatest outcome) (n - (j + 1) + n) (omega (arith, stands.part)) (omega arith)
-  rest_falls who o (Row p q j code) outcome stands answers on = row_falls p q (n - (j + 1)) (j + 1) code (n - (j + 1)) (omega (arith, stands.part)) (omega arith)
+  rest_falls who o (Row p q j code) outcome stands answers on = row_falls p q (n - (j + 1)) (j + 1) code (n - (j + 1)) (omega (arith, stands.0.part)) (omega arith)
 
   asks_fit : (who : ℕ) (o : Op) (task : MatrixTask) → MatrixStands n values last who o task
       → ((matrix_asks n task).part < n * n) × FitsPart (codes n values last) 2 (matrix_asks n task).who (matrix_asks n task).op
   asks_fit who o (Column p q j greatest) stands = (mul-add-lt j n p n stands.part stands.process, (omega arith, omega arith))
-  asks_fit who o (Row p q j code) stands = (mul-add-lt p n j n stands.process stands.part, (refl, stands.code_fits))
+  asks_fit who o (Row p q j code) stands = (mul-add-lt p n j n stands.0.process stands.0.part, (refl, stands.0.code_fits))
 
-  pub matrix_sound : IsSoundTable (matrix_table n values last) (MatrixStands n values last)
+  work_suits : (who : ℕ) (o : Op) (p : ℕ) (q : Op) (j code : ℕ) → InWork n values last who o p q j code → matrix_suits n values who o ≡ true
+  work_suits who o p q j code work = subst (λ w. matrix_suits n values w o ≡ true) work.own (subst (λ r. matrix_suits n values p r ≡ true) work.same (by_operation q work.value_fits))
+    where
+      by_operation : (r : Op) → ValueFits values r → matrix_suits n values p r ≡ true
+      by_operation (op.Write v) low = let few = work.process in grind (arith, nat_tests)
+      by_operation op.Read low = let few = work.process in grind (arith, nat_tests)
+
+  stands_suits : (who : ℕ) (o : Op) (task : MatrixTask) → MatrixStands n values last who o task → matrix_suits n values who o ≡ true
+  stands_suits who o (Column p q j greatest) stands = work_suits who o p q j greatest stands
+  stands_suits who o (Row p q j code) stands = work_suits who o p q j code stands.0
+
+  pub matrix_sound : IsSoundTable (matrix_table n values last) (MatrixStands n values last) (matrix_left n)
   matrix_sound = record {
-    few_values = omega arith;
-    few_processes = omega arith;
     zero_writes = λ v lt. zero_writes v lt;
     others_read = λ who above below. others_read who below;
     nobody_else = process_of;
@@ -122,6 +137,7 @@ module _ (n values last : ℕ) (some : 2 ≤ n) (few : n ≤ 4) (some_values : 2
     first_fits = λ v j lt below. value_fits n values last v (omega arith) lt;
     first_words = λ v k lt below. absurd (omega arith);
     asks_fit = asks_fit;
+    stands_suits = stands_suits;
     begins_sound = begins_sound;
     rest_sound = rest_sound;
     rest_falls = rest_falls;

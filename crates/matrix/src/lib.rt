@@ -1,8 +1,7 @@
 //! A register of many writers: a square of registers, each written by one process and read by one.
 #![tactic(auto)]
 
-pub mod layer;
-mod register;
+mod rules;
 pub mod task;
 
-pub use register::Matrix;
+pub use rules::Matrix;

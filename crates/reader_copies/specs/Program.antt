@@ -7,13 +7,14 @@ use Rattle.frames.specs.declared.types.Outcome.{Outcome}
 use Rattle.frames.specs.declared.types.Outcome.TheVariants.{Written}
 use Rattle.frames.specs.declared.types.FrameLayer.TheVariants as layer
 use Rattle.frames.specs.declared.types.Frame.{Frame}
-use Rattle.frames.specs.declared.nested.Ask.{Ask}
-use Rattle.frames.specs.declared.fit.LayerError.{LayerError}
-use Rattle.frames.specs.declared.fit.LayerError.TheVariants.{BadSize}
+use Rattle.layers.specs.declared.nested.Ask.{Ask}
+use Rattle.layers.specs.declared.fit.TheConstants.{MOST_READERS}
+use Rattle.layers.specs.declared.fit.LayerError.{LayerError}
+use Rattle.layers.specs.declared.fit.LayerError.TheVariants.{BadSize}
 use Rattle.frames.specs.Behaviour.{Behaviour}
-use Rattle.frames.specs.Fit.{refusal_below}
-use Rattle.frames.specs.Nested.{Program, Ends, Asks, Table}
-use Rattle.frames.specs.OneWriter.{one_writer}
+use Rattle.layers.specs.Fit.{refusal_below}
+use Rattle.layers.specs.Nested.{Program, Ends, Asks, Table}
+use Rattle.layers.specs.OneWriter.{one_writer}
 use Rattle.reader_copies.specs.declared.task.CopiesTask.{CopiesTask}
 use Rattle.reader_copies.specs.declared.task.CopiesTask.TheVariants.{Writing, Reading}
 
@@ -31,10 +32,6 @@ copies_program readers who op.Read = Asks (Reading who) Ends
 abbrev pub copies_rest : ℕ → CopiesTask → Outcome → Program CopiesTask
 copies_rest readers (Writing v reader) o = write_from v (reader + 1) (readers - reader)
 copies_rest readers (Reading reader) o = Ends o
-
-abbrev pub copies_left : ℕ → CopiesTask → ℕ
-copies_left readers (Writing v reader) = readers - reader
-copies_left readers (Reading reader) = 0
 
 -- the copy for reader 1 is the first part; in each copy process 0 writes and process 1 reads
 abbrev pub copies_asks : CopiesTask → Ask
@@ -61,17 +58,16 @@ copies_table readers values = record {
   program = copies_program readers;
   asks = copies_asks;
   rest = copies_rest readers;
-  left = copies_left readers;
   frame = copies_frame;
 }
 
--- the writer stands at some reader's copy, in the write of its value; a reader stands in the read of its own copy
+-- process 0 stands at some reader's copy, in the write of its value; a reader stands in the read of its own copy
 abbrev pub CopiesStands : ℕ → ℕ → ℕ → Op → CopiesTask → Type 0
-CopiesStands readers values who (op.Write w) (Writing v reader) = (v ≡ w) × ((v < values) × ((1 ≤ reader) × (reader ≤ readers)))
-CopiesStands readers values who op.Read (Reading reader) = (reader ≡ who) × ((1 ≤ reader) × (reader ≤ readers))
+CopiesStands readers values who (op.Write w) (Writing v reader) = (who ≡ 0) × (v ≡ w) × (v < values) × (1 ≤ reader) × (reader ≤ readers)
+CopiesStands readers values who op.Read (Reading reader) = (reader ≡ who) × (1 ≤ reader) × (reader ≤ readers)
 CopiesStands readers values who (op.Write w) (Reading reader) = ⊥
 CopiesStands readers values who op.Read (Writing v reader) = ⊥
 
 -- why there can be no copies for so many readers: there are 1 to 4
 abbrev pub copies_refusal : {P : Type 0} → ℕ → Behaviour P → Option LayerError
-copies_refusal readers b = if nat_le 1 readers && nat_le readers 4 then refusal_below (copies_table readers b.values) b else Some BadSize
+copies_refusal readers b = if nat_le 1 readers && nat_le readers MOST_READERS then refusal_below (copies_table readers b.values) b else Some BadSize

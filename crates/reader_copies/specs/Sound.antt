@@ -8,50 +8,57 @@ use Rattle.frames.specs.declared.types.Op.{Op}
 use Rattle.frames.specs.declared.types.Op.TheVariants as op
 use Rattle.frames.specs.declared.types.Outcome.{Outcome}
 use Rattle.frames.specs.declared.types.Outcome.TheVariants.{Value, Written, Spent}
-use Rattle.frames.specs.declared.nested.Turn.TheVariants as turn
+use Rattle.layers.specs.declared.nested.Continuation.TheVariants as continuation
 use Rattle.frames.specs.Behaviour.{Answers}
-use Rattle.frames.specs.Settled.{settled}
-use Rattle.frames.specs.Sound.{IsSound, IsSoundTable, IsNotSpent, Falls, FitsPart}
-use Rattle.frames.specs.OneWriter as writer
+use Rattle.layers.specs.Settled.{settled}
+use Rattle.layers.specs.declared.fit.TheConstants.{MOST_READERS}
+use Rattle.layers.specs.Sound.{IsSound, IsSoundTable, IsNotSpent, Falls, FitsPart}
+use Rattle.layers.specs.OneWriter.{one_writer}
+use Rattle.layers.specs.laws.OneWriter as writer
 use Rattle.reader_copies.specs.declared.task.CopiesTask.{CopiesTask}
 use Rattle.reader_copies.specs.declared.task.CopiesTask.TheVariants.{Writing, Reading}
-use Rattle.reader_copies.specs.Program.{write_from, copies_program, copies_rest, copies_left, copies_table, copies_asks, CopiesStands}
+use Rattle.reader_copies.specs.Program.{write_from, copies_program, copies_rest, copies_table, copies_asks, CopiesStands}
+
+-- how many copies are still to be written behind a task
+abbrev pub copies_left : ℕ → CopiesTask → ℕ
+copies_left readers (Writing v reader) = readers - reader
+copies_left readers (Reading reader) = 0
 
 -- where copies are to be written, the next task is the first of them; where none is, the write is done
 pub settled_more : (base v reader copies : ℕ) (m : Memory) → 0 < copies
-    → settled base (write_from v reader copies) m ≡ record { turn = turn.Asks (Writing v reader); memory = m }
+    → settled base (write_from v reader copies) m ≡ record { continuation = continuation.Asks (Writing v reader); memory = m }
 settled_more base v reader zero m some = absurd (omega arith)
 settled_more base v reader (suc behind) m some = refl
 
 pub settled_none : (base v reader copies : ℕ) (m : Memory) → copies ≡ 0
-    → settled base (write_from v reader copies) m ≡ record { turn = turn.Ends Written; memory = m }
+    → settled base (write_from v reader copies) m ≡ record { continuation = continuation.Ends Written; memory = m }
 settled_none base v reader zero m none = refl
 settled_none base v reader (suc behind) m none = absurd (omega arith)
 
-module _ (readers values : ℕ) (some : 1 ≤ readers) (few : readers ≤ 4) (few_values : values < 2 ^ 32) where
+module _ (readers values : ℕ) (some : 1 ≤ readers) (few : readers ≤ MOST_READERS) where
   -- a write that has the copies for the readers from this one on before it
-  write_sound : (who w v reader copies : ℕ) → v ≡ w → v < values → 1 ≤ reader → reader + copies ≡ readers + 1
+  write_sound : (who w v reader copies : ℕ) → who ≡ 0 → v ≡ w → v < values → 1 ≤ reader → reader + copies ≡ readers + 1
       → IsSound (copies_table readers values) (CopiesStands readers values who (op.Write w)) (Answers values (op.Write w)) (write_from v reader copies)
-  write_sound who w v reader zero same lt first all = tt
-  write_sound who w v reader (suc behind) same lt first all =
-      ((same, (lt, (first, omega arith))), λ o. ap (write_from v (reader + 1)) (omega arith))
+  write_sound who w v reader zero writer same lt first all = tt
+  write_sound who w v reader (suc behind) writer same lt first all =
+      ((writer, same, lt, first, omega arith), λ o. ap (write_from v (reader + 1)) (omega arith))
 
-  write_falls : (v reader copies : ℕ) → reader + copies ≡ readers + 1 → Falls (copies_table readers values) copies (write_from v reader copies)
+  write_falls : (v reader copies : ℕ) → reader + copies ≡ readers + 1 → Falls (copies_left readers) copies (write_from v reader copies)
   write_falls v reader zero all = tt
   write_falls v reader (suc behind) all = omega arith
 
-  begins_sound : (who : ℕ) (o : Op) → writer.one_writer values (readers + 1) who o ≡ true
+  begins_sound : (who : ℕ) (o : Op) → one_writer values (readers + 1) who o ≡ true
       → IsSound (copies_table readers values) (CopiesStands readers values who o) (Answers values o) (copies_program readers who o)
-  begins_sound who (op.Write v) h = write_sound who v v 1 readers refl (writer.no_other_value values (readers + 1) who v h) (omega arith) (omega arith)
+  begins_sound who (op.Write v) h = write_sound who v v 1 readers (writer.writer_zero values (readers + 1) who v h) refl (writer.no_other_value values (readers + 1) who v h) (omega arith) (omega arith)
   begins_sound who op.Read h =
       let low = writer.reader_some values (readers + 1) who h in
       let high = writer.reader_few values (readers + 1) who h in
-      ((refl, (low, omega arith)), λ o. refl)
+      ((refl, low, omega arith), λ o. refl)
 
   rest_sound : (who : ℕ) (o : Op) (task : CopiesTask) (outcome : Outcome) → CopiesStands readers values who o task → Answers values (copies_asks task).op outcome → IsNotSpent outcome
       → IsSound (copies_table readers values) (CopiesStands readers values who o) (Answers values o) (copies_rest readers task outcome)
   rest_sound who (op.Write w) (Writing v reader) outcome stands answers on =
-      write_sound who w v (reader + 1) (readers - reader) stands.0 stands.1.0 (omega arith) (omega (arith, stands))
+      write_sound who w v (reader + 1) (readers - reader) stands.0 stands.1 stands.2 (omega arith) (omega (arith, stands.3, stands.4))
   rest_sound who op.Read (Reading reader) (Value x) stands answers on = answers
   rest_sound who op.Read (Reading reader) Written stands answers on = absurd answers
   rest_sound who op.Read (Reading reader) (Spent layer) stands answers on = absurd on
@@ -59,23 +66,27 @@ module _ (readers values : ℕ) (some : 1 ≤ readers) (few : readers ≤ 4) (fe
   rest_sound who op.Read (Writing v reader) outcome stands answers on = absurd stands
 
   rest_falls : (who : ℕ) (o : Op) (task : CopiesTask) (outcome : Outcome) → CopiesStands readers values who o task → Answers values (copies_asks task).op outcome → IsNotSpent outcome
-      → Falls (copies_table readers values) (copies_left readers task) (copies_rest readers task outcome)
-  rest_falls who (op.Write w) (Writing v reader) outcome stands answers on = write_falls v (reader + 1) (readers - reader) (omega (arith, stands))
+      → Falls (copies_left readers) (copies_left readers task) (copies_rest readers task outcome)
+  rest_falls who (op.Write w) (Writing v reader) outcome stands answers on = write_falls v (reader + 1) (readers - reader) (omega (arith, stands.3, stands.4))
   rest_falls who op.Read (Reading reader) outcome stands answers on = tt
   rest_falls who (op.Write w) (Reading reader) outcome stands answers on = absurd stands
   rest_falls who op.Read (Writing v reader) outcome stands answers on = absurd stands
 
   asks_fit : (who : ℕ) (o : Op) (task : CopiesTask) → CopiesStands readers values who o task
       → ((copies_asks task).part < readers) × FitsPart values 2 (copies_asks task).who (copies_asks task).op
-  asks_fit who (op.Write w) (Writing v reader) stands = (omega (arith, stands), (refl, stands.1.0))
-  asks_fit who op.Read (Reading reader) stands = (omega (arith, stands), (omega arith, omega arith))
+  asks_fit who (op.Write w) (Writing v reader) stands = (omega (arith, stands.3, stands.4), (refl, stands.2))
+  asks_fit who op.Read (Reading reader) stands = (omega (arith, stands.1, stands.2), (omega arith, omega arith))
   asks_fit who (op.Write w) (Reading reader) stands = absurd stands
   asks_fit who op.Read (Writing v reader) stands = absurd stands
 
-  pub copies_sound : IsSoundTable (copies_table readers values) (CopiesStands readers values)
+  stands_suits : (who : ℕ) (o : Op) (task : CopiesTask) → CopiesStands readers values who o task → one_writer values (readers + 1) who o ≡ true
+  stands_suits who (op.Write w) (Writing v reader) stands = writer.writer_suits values (readers + 1) who w stands.0 (omega arith) (rw stands.1 at stands.2)
+  stands_suits who op.Read (Reading reader) stands = writer.others_read values (readers + 1) who (omega (arith, stands.0, stands.1)) (omega (arith, stands.0, stands.2))
+  stands_suits who (op.Write w) (Reading reader) stands = absurd stands
+  stands_suits who op.Read (Writing v reader) stands = absurd stands
+
+  pub copies_sound : IsSoundTable (copies_table readers values) (CopiesStands readers values) (copies_left readers)
   copies_sound = record {
-    few_values = few_values;
-    few_processes = omega arith;
     zero_writes = λ v lt. writer.zero_writes values (readers + 1) v (omega arith) lt;
     others_read = λ who above below. writer.others_read values (readers + 1) who above below;
     nobody_else = λ who o h. writer.nobody_else values (readers + 1) who o h;
@@ -83,6 +94,7 @@ module _ (readers values : ℕ) (some : 1 ≤ readers) (few : readers ≤ 4) (fe
     first_fits = λ v j lt below. lt;
     first_words = λ v k lt below. absurd (omega arith);
     asks_fit = asks_fit;
+    stands_suits = stands_suits;
     begins_sound = begins_sound;
     rest_sound = rest_sound;
     rest_falls = rest_falls;

@@ -1,8 +1,7 @@
 //! Copies of a register of one reader, one for each reader.
 #![tactic(auto)]
 
-pub mod layer;
-mod register;
+mod rules;
 pub mod task;
 
-pub use register::Copies;
+pub use rules::Copies;

@@ -6,9 +6,9 @@ use Rattle.frames.specs.declared.types.Op.TheVariants as op
 use Rattle.frames.specs.declared.types.Outcome.TheVariants.{Written}
 use Rattle.frames.specs.declared.types.FrameLayer.TheVariants.{Regular}
 use Rattle.frames.specs.declared.types.Frame.{Frame}
-use Rattle.frames.specs.declared.nested.Ask.{Ask}
-use Rattle.frames.specs.Nested.{Program, Ends, Asks, Reads, Sets, Table}
-use Rattle.frames.specs.OneWriter.{one_writer}
+use Rattle.layers.specs.declared.nested.Ask.{Ask}
+use Rattle.layers.specs.Nested.{Program, Ends, Asks, Reads, Sets, Table}
+use Rattle.layers.specs.OneWriter.{one_writer}
 use Rattle.regular_bit.specs.declared.task.RegularTask.{RegularTask}
 use Rattle.regular_bit.specs.declared.task.RegularTask.TheVariants.{Writing, Reading}
 
@@ -41,13 +41,12 @@ regular_table processes = record {
   program = regular_program;
   asks = regular_asks;
   rest = λ task outcome. Ends outcome;
-  left = λ task. 0;
   frame = regular_frame;
 }
 
--- the writer stands in the write of its value, a reader in its own read
+-- process 0 stands in the write of its value, a reader in its own read
 abbrev pub RegularStands : ℕ → ℕ → Op → RegularTask → Type 0
-RegularStands processes who (op.Write w) (Writing v) = (v ≡ w) × (v < 2)
-RegularStands processes who op.Read (Reading reader) = (reader ≡ who) × ((1 ≤ reader) × (reader < processes))
+RegularStands processes who (op.Write w) (Writing v) = (who ≡ 0) × (v ≡ w) × (v < 2)
+RegularStands processes who op.Read (Reading reader) = (reader ≡ who) × (1 ≤ reader) × (reader < processes)
 RegularStands processes who (op.Write w) (Reading reader) = ⊥
 RegularStands processes who op.Read (Writing v) = ⊥

@@ -8,26 +8,27 @@ use Rattle.frames.specs.declared.types.Op.TheVariants as op
 use Rattle.frames.specs.declared.types.Outcome.{Outcome}
 use Rattle.frames.specs.declared.types.Outcome.TheVariants.{Value, Written, Spent}
 use Rattle.frames.specs.Behaviour.{Answers}
-use Rattle.frames.specs.Nested.{Ends, Asks, Sets}
-use Rattle.frames.specs.Sound.{IsSound, IsSoundTable, IsNotSpent, FitsPart}
-use Rattle.frames.specs.OneWriter as writer
+use Rattle.layers.specs.Nested.{Ends, Asks, Sets}
+use Rattle.layers.specs.Sound.{IsSound, IsSoundTable, IsNotSpent, FitsPart}
+use Rattle.layers.specs.OneWriter.{one_writer}
+use Rattle.layers.specs.laws.OneWriter as writer
 use Rattle.regular_bit.specs.declared.task.RegularTask.{RegularTask}
 use Rattle.regular_bit.specs.declared.task.RegularTask.TheVariants.{Writing, Reading}
 use Rattle.regular_bit.specs.Program.{regular_program, regular_table, regular_asks, RegularStands}
 
-module _ (processes : ℕ) (some : 0 < processes) (few : processes < 2 ^ 32) where
-  write_sound : (who v last : ℕ) → v < 2 → IsSound (regular_table processes) (RegularStands processes who (op.Write v)) (Answers 2 (op.Write v))
+module _ (processes : ℕ) (some : 0 < processes) where
+  write_sound : (who v last : ℕ) → who ≡ 0 → v < 2 → IsSound (regular_table processes) (RegularStands processes who (op.Write v)) (Answers 2 (op.Write v))
       (if last == v then Ends Written else Sets 0 v (Asks (Writing v) Ends))
-  write_sound who v last lt = by_test (last == v)
+  write_sound who v last writer lt = by_test (last == v)
     where
       by_test : (same : Bool) → IsSound (regular_table processes) (RegularStands processes who (op.Write v)) (Answers 2 (op.Write v))
           (if same then Ends Written else Sets 0 v (Asks (Writing v) Ends))
       by_test true = tt
-      by_test false = (omega arith, (lt, ((refl, lt), λ o. refl)))
+      by_test false = (omega arith, (lt, ((writer, refl, lt), λ o. refl)))
 
-  begins_sound : (who : ℕ) (o : Op) → writer.one_writer 2 processes who o ≡ true → IsSound (regular_table processes) (RegularStands processes who o) (Answers 2 o) (regular_program who o)
-  begins_sound who (op.Write v) h = (omega arith, λ last low. write_sound who v last (writer.no_other_value 2 processes who v h))
-  begins_sound who op.Read h = ((refl, (writer.reader_some 2 processes who h, writer.reader_few 2 processes who h)), λ o. refl)
+  begins_sound : (who : ℕ) (o : Op) → one_writer 2 processes who o ≡ true → IsSound (regular_table processes) (RegularStands processes who o) (Answers 2 o) (regular_program who o)
+  begins_sound who (op.Write v) h = (omega arith, λ last low. write_sound who v last (writer.writer_zero 2 processes who v h) (writer.no_other_value 2 processes who v h))
+  begins_sound who op.Read h = ((refl, writer.reader_some 2 processes who h, writer.reader_few 2 processes who h), λ o. refl)
 
   rest_sound : (who : ℕ) (o : Op) (task : RegularTask) (outcome : Outcome) → RegularStands processes who o task → Answers 2 (regular_asks task).op outcome → IsNotSpent outcome → Answers 2 o outcome
   rest_sound who (op.Write w) (Writing v) Written stands answers on = tt
@@ -40,15 +41,19 @@ module _ (processes : ℕ) (some : 0 < processes) (few : processes < 2 ^ 32) whe
   rest_sound who op.Read (Reading reader) (Spent layer) stands answers on = absurd on
 
   asks_fit : (who : ℕ) (o : Op) (task : RegularTask) → RegularStands processes who o task → ((regular_asks task).part < 1) × FitsPart 2 processes (regular_asks task).who (regular_asks task).op
-  asks_fit who (op.Write w) (Writing v) stands = (omega arith, (refl, stands.1))
-  asks_fit who op.Read (Reading reader) stands = (omega arith, stands.1)
+  asks_fit who (op.Write w) (Writing v) stands = (omega arith, (refl, stands.2))
+  asks_fit who op.Read (Reading reader) stands = (omega arith, (stands.1, stands.2))
   asks_fit who (op.Write w) (Reading reader) stands = absurd stands
   asks_fit who op.Read (Writing v) stands = absurd stands
 
-  pub regular_sound : IsSoundTable (regular_table processes) (RegularStands processes)
+  stands_suits : (who : ℕ) (o : Op) (task : RegularTask) → RegularStands processes who o task → one_writer 2 processes who o ≡ true
+  stands_suits who (op.Write w) (Writing v) stands = writer.writer_suits 2 processes who w stands.0 some (rw stands.1 at stands.2)
+  stands_suits who op.Read (Reading reader) stands = writer.others_read 2 processes who (omega (arith, stands.0, stands.1)) (omega (arith, stands.0, stands.2))
+  stands_suits who (op.Write w) (Reading reader) stands = absurd stands
+  stands_suits who op.Read (Writing v) stands = absurd stands
+
+  pub regular_sound : IsSoundTable (regular_table processes) (RegularStands processes) (λ _. 0)
   regular_sound = record {
-    few_values = omega arith;
-    few_processes = few;
     zero_writes = λ v lt. writer.zero_writes 2 processes v some lt;
     others_read = λ who above below. writer.others_read 2 processes who above below;
     nobody_else = λ who o h. writer.nobody_else 2 processes who o h;
@@ -56,6 +61,7 @@ module _ (processes : ℕ) (some : 0 < processes) (few : processes < 2 ^ 32) whe
     first_fits = λ v j lt below. lt;
     first_words = λ v k lt below. lt;
     asks_fit = asks_fit;
+    stands_suits = stands_suits;
     begins_sound = begins_sound;
     rest_sound = rest_sound;
     rest_falls = λ who o task outcome stands answers on. tt;

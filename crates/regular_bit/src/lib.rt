@@ -1,8 +1,7 @@
 //! A regular bit over a register of two values.
 #![tactic(auto)]
 
-pub mod layer;
-mod register;
+mod rules;
 pub mod task;
 
-pub use register::RegularBit;
+pub use rules::RegularBit;

@@ -2,4 +2,4 @@ pub mod Actions
 pub mod Memory
 pub mod Windows
 pub mod Parts
-pub mod Equality
+pub mod laws

@@ -1,11 +1,16 @@
 -- What a store is: a list of cells and a list of words, and the parts of it.
-use Rattle.std.specs.Prelude.{ℕ, List, slice_set, slice_index_or, replicate, false}
+use Rattle.std.specs.Prelude.{ℕ, ◌<◌, ◌^◌, List, length, slice_set, slice_index_or, replicate, false}
 use Rattle.safe_bit.specs.declared.Cell.{Cell}
 use Rattle.safe_bit.specs.Actions.{idle_cell}
 
 pub record Memory : Type 0 where
   pub cells : List Cell
   pub words : List ℕ
+
+-- each cell and each word has a number of 32 bits
+pub record IsNumbered (m : Memory) : Type 0 where
+  pub cells : length m.cells < 2 ^ 32
+  pub words : length m.words < 2 ^ 32
 
 -- what is read beyond the end
 abbrev pub no_cell : Cell

@@ -7,7 +7,7 @@
 
 ghost use Rattle.std.specs.Prelude.{◌≡◌, ◌<◌, ℕ, IfOk, length, Option, Some, None};
 ghost use Rattle.safe_bit.specs.Actions.{idle_cell, start_write, end_write, start_read, end_read, read_gives};
-ghost use Rattle.safe_bit.specs.Memory.{blank, cell_at, word_at, on_cell, with_word};
+ghost use Rattle.safe_bit.specs.Memory.{IsNumbered, blank, cell_at, word_at, on_cell, with_word};
 
 use std::alloc::{AllocError, Global};
 use std::marker::Model;
@@ -45,18 +45,20 @@ pub struct Store {
 }
 
 impl Model for Store {
-    ghost use Rattle.safe_bit.specs.Memory.{Memory};
+    ghost use Rattle.safe_bit.specs.Memory.{Memory, IsNumbered};
 
     ghost Value = { Memory };
 
     ghost view = { λ s. record { cells = s.cells.items; words = s.words.items } };
+
+    ghost invariant = { λ s. IsNumbered (record { cells = s.cells.items; words = s.words.items }) };
 }
 
 /// Two stores are equal where they hold the same cells and words.
 impl PartialEq for Store {
     ghost use Rattle.std.specs.Prelude.{◌≡◌};
     ghost use Rattle.std.specs.Bool.{Decides};
-    ghost use Rattle.safe_bit.specs.Equality.{memory_eq, memory_decides, per_from_decides};
+    ghost use Rattle.safe_bit.specs.laws.Equality.{memory_eq, memory_decides, per_from_decides};
 
     ghost eq = { memory_eq };
 
@@ -84,26 +86,33 @@ impl Store {
     pub fn new(alloc: Global, cells: u32, words: u32) -> Result<Store, AllocError>
         ensures { IfOk result (λ store. store ≡ blank cells words) }
     {
-        let mut store = Store {
-            cells: Vec::new(alloc),
-            words: Vec::new(alloc),
-        };
-        store.cells.resize(cells as usize, Cell::IDLE)?;
-        store.words.resize(words as usize, 0)?;
-        Ok(store)
+        let mut idle = Vec::new(alloc);
+        idle.resize(cells as usize, Cell::IDLE)?;
+        let mut zeros = Vec::new(alloc);
+        zeros.resize(words as usize, 0)?;
+        Ok(Store {
+            cells: idle,
+            words: zeros,
+        })
     }
 
     /// A store with the same cells and words.
     pub fn copy(&self, alloc: Global) -> Result<Store, AllocError>
         ensures { IfOk result (λ store. store ≡ self.now) }
     {
-        let mut store = Store {
-            cells: Vec::new(alloc),
-            words: Vec::new(alloc),
-        };
-        store.cells.extend_from_slice(&self.cells)?;
-        store.words.extend_from_slice(&self.words)?;
-        Ok(store)
+        let mut cells = Vec::new(alloc);
+        cells.extend_from_slice(&self.cells)?;
+        let mut words = Vec::new(alloc);
+        words.extend_from_slice(&self.words)?;
+        Ok(Store { cells, words })
+    }
+
+    /// Each of its cells and words has a number of 32 bits. It does nothing: callers learn this by its
+    /// contract.
+    pub fn numbered(&self)
+        ensures { IsNumbered self.now }
+    {
+        let _cells = &self.cells;
     }
 
     /// Cell `i`.

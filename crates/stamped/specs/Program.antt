@@ -2,7 +2,7 @@
 -- value (Lamport 1986; Herlihy and Shavit, chapter 4, the atomic register from a regular one by time stamps). Word 0 is the stamp of
 -- the last write, word 1 the greatest code read. That stamps end, that the stamp is raised as the write begins, and that `best` is
 -- set in the step that ends the read are this project's own.
-use Rattle.std.specs.Prelude.{◌≡◌, ℕ, ◌+◌, ◌*◌, ◌%◌, ◌<◌, ◌==◌, max, if◌then◌else◌}
+use Rattle.std.specs.Prelude.{◌≡◌, ℕ, ◌+◌, ◌*◌, ◌%◌, ◌<◌, ◌≤◌, ◌==◌, max, if◌then◌else◌}
 use Rattle.frames.specs.declared.types.Op.{Op}
 use Rattle.frames.specs.declared.types.Op.TheVariants as op
 use Rattle.frames.specs.declared.types.Layer.TheVariants as spent
@@ -10,9 +10,9 @@ use Rattle.frames.specs.declared.types.Outcome.{Outcome}
 use Rattle.frames.specs.declared.types.Outcome.TheVariants.{Value, Written, Spent}
 use Rattle.frames.specs.declared.types.FrameLayer.TheVariants as frame
 use Rattle.frames.specs.declared.types.Frame.{Frame}
-use Rattle.frames.specs.declared.nested.Ask.{Ask}
-use Rattle.frames.specs.Nested.{Program, Ends, Asks, Reads, Sets, Table}
-use Rattle.frames.specs.OneWriter.{one_writer}
+use Rattle.layers.specs.declared.nested.Ask.{Ask}
+use Rattle.layers.specs.Nested.{Program, Ends, Asks, Reads, Sets, Table}
+use Rattle.layers.specs.OneWriter.{one_writer}
 use Rattle.stamped.specs.declared.task.StampedTask.{StampedTask}
 use Rattle.stamped.specs.declared.task.StampedTask.TheVariants.{Writing, Reading}
 
@@ -57,13 +57,12 @@ stamped_table values last = record {
   program = stamped_program values last;
   asks = stamped_asks;
   rest = stamped_rest values;
-  left = λ task. 0;
   frame = stamped_frame;
 }
 
--- the writer stands in the write of a code of its value, the reader in its read
+-- process 0 stands in the write of a code of its value, whose stamp is 1 or more; process 1 in its read
 abbrev pub StampedStands : ℕ → ℕ → ℕ → Op → StampedTask → Type 0
-StampedStands values last who (op.Write w) (Writing v code) = (who ≡ 0) × ((v ≡ w) × ((code % values ≡ v) × (code < codes values last)))
+StampedStands values last who (op.Write w) (Writing v code) = (who ≡ 0) × (v ≡ w) × (code % values ≡ v) × (values ≤ code) × (code < codes values last)
 StampedStands values last who op.Read Reading = who ≡ 1
 StampedStands values last who (op.Write w) Reading = ⊥
 StampedStands values last who op.Read (Writing v code) = ⊥

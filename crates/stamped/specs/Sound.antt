@@ -1,9 +1,10 @@
 -- The stamped register's table is sound, and its tasks are equal only to themselves.
-use Rattle.std.proofs.Common.{◌≡◌, ◌≢◌, ℕ, ◌+◌, ◌*◌, ◌<◌, ◌≤◌, max, Bool, true, false, refl, arith, nat_eq}
+use Rattle.std.proofs.Common.{◌%◌, ◌≡◌, ◌≢◌, ℕ, ◌+◌, ◌*◌, ◌<◌, ◌≤◌, max, Bool, true, false, refl, arith, nat_eq}
 use Rattle.std.specs.Bool.{Decides}
 use Rattle.std.specs.Prelude.{◌==◌, if◌then◌else◌, ◌&&◌}
 use Rattle.std.proofs.lemmas.Bool.{eqb-false}
 use Rattle.std.proofs.lemmas.Bool.Decides.{Decides-and, Decides-eqb, Decides-like}
+use Rattle.std.proofs.Math.Nat.{add-mul}
 use Rattle.std.proofs.lemmas.Nat.{mul-add-lt, mod_below, mod-mul-add}
 use Rattle.frames.specs.declared.types.Op.{Op}
 use Rattle.frames.specs.declared.types.Op.TheVariants as op
@@ -11,10 +12,12 @@ use Rattle.frames.specs.declared.types.Layer.TheVariants as spent
 use Rattle.frames.specs.declared.types.Outcome.{Outcome}
 use Rattle.frames.specs.declared.types.Outcome.TheVariants.{Value, Written, Spent}
 use Rattle.frames.specs.Behaviour.{Answers}
-use Rattle.frames.specs.Nested.{Ends, Asks, Sets}
-use Rattle.frames.specs.Sound.{IsSound, IsSoundTable, IsNotSpent, Falls, FitsPart}
-use Rattle.frames.specs.OneWriter as writer
-use Rattle.frames.specs.NestedEquality.{both_true}
+use Rattle.layers.specs.Nested.{Ends, Asks, Sets}
+use Rattle.layers.specs.declared.fit.TheConstants.{LEAST_VALUES}
+use Rattle.layers.specs.Sound.{IsSound, IsSoundTable, IsNotSpent, Falls, FitsPart}
+use Rattle.layers.specs.OneWriter.{one_writer}
+use Rattle.layers.specs.laws.OneWriter as writer
+use Rattle.layers.specs.laws.Equality.{both_true}
 use Rattle.stamped.specs.declared.task.StampedTask.{StampedTask}
 use Rattle.stamped.specs.declared.task.StampedTask.TheVariants.{Writing, Reading}
 use Rattle.stamped.specs.Program.{stamped_program, stamped_table, stamped_asks, stamped_rest, codes, StampedStands}
@@ -23,11 +26,15 @@ use Rattle.stamped.specs.Program.{stamped_program, stamped_table, stamped_asks, 
 pub code_fits : (values last stamp v : ℕ) → stamp < last → v < values → (stamp + 1) * values + v < codes values last
 code_fits values last stamp v before lt = let h = mul-add-lt (stamp + 1) values v (last + 1) (omega arith) lt in omega (arith, h)
 
+-- a raised code has a stamp of 1 or more
+pub code_stamped : (values stamp v : ℕ) → values ≤ (stamp + 1) * values + v
+code_stamped values stamp v = omega (arith, add-mul stamp 1 values)
+
 -- an initial value is a code
 pub value_fits : (values last v : ℕ) → v < values → v < codes values last
 value_fits values last v lt = let h = mul-add-lt 0 values v (last + 1) (omega arith) lt in omega (arith, h)
 
-module _ (values last : ℕ) (some : 2 ≤ values) (few : values ≤ 512) where
+module _ (values last : ℕ) (some : LEAST_VALUES ≤ values) where
   write_sound : (who v stamp : ℕ) → who ≡ 0 → v < values → stamp < last + 1 → IsSound (stamped_table values last) (StampedStands values last who (op.Write v)) (Answers values (op.Write v))
       (if stamp == last then Ends (Spent spent.Stamped) else Sets 0 (stamp + 1) (Asks (Writing v ((stamp + 1) * values + v)) Ends))
   write_sound who v stamp zero lt low = by_test (stamp == last) refl
@@ -38,9 +45,9 @@ module _ (values last : ℕ) (some : 2 ≤ values) (few : values ≤ 512) where
       by_test false e =
           let other : stamp ≢ last = eqb-false stamp last e in
           let before : stamp < last = omega arith in
-          (omega arith, (omega arith, ((zero, (refl, (mod-mul-add (stamp + 1) values v lt, code_fits values last stamp v before lt))), λ o. refl)))
+          (omega arith, (omega arith, ((zero, refl, mod-mul-add (stamp + 1) values v lt, code_stamped values stamp v, code_fits values last stamp v before lt), λ o. refl)))
 
-  begins_sound : (who : ℕ) (o : Op) → writer.one_writer values 2 who o ≡ true → IsSound (stamped_table values last) (StampedStands values last who o) (Answers values o) (stamped_program values last who o)
+  begins_sound : (who : ℕ) (o : Op) → one_writer values 2 who o ≡ true → IsSound (stamped_table values last) (StampedStands values last who o) (Answers values o) (stamped_program values last who o)
   begins_sound who (op.Write v) h = (omega arith, λ stamp low. write_sound who v stamp (writer.writer_zero values 2 who v h) (writer.no_other_value values 2 who v h) low)
   begins_sound who op.Read h = (let above = writer.reader_some values 2 who h in let below = writer.reader_few values 2 who h in omega arith, λ o. refl)
 
@@ -60,7 +67,7 @@ module _ (values last : ℕ) (some : 2 ≤ values) (few : values ≤ 512) where
   rest_sound who op.Read (Writing v code) outcome stands answers on = absurd stands
 
   asks_fit : (who : ℕ) (o : Op) (task : StampedTask) → StampedStands values last who o task → ((stamped_asks task).part < 1) × FitsPart (codes values last) 2 (stamped_asks task).who (stamped_asks task).op
-  asks_fit who (op.Write w) (Writing v code) stands = (omega arith, (refl, stands.1.1.1))
+  asks_fit who (op.Write w) (Writing v code) stands = (omega arith, (refl, stands.4))
   asks_fit who op.Read Reading stands = (omega arith, (omega arith, omega arith))
   asks_fit who (op.Write w) Reading stands = absurd stands
   asks_fit who op.Read (Writing v code) stands = absurd stands
@@ -74,16 +81,22 @@ module _ (values last : ℕ) (some : 2 ≤ values) (few : values ≤ 512) where
 
   -- nothing follows a task
   rest_falls : (who : ℕ) (o : Op) (task : StampedTask) (outcome : Outcome) → StampedStands values last who o task → Answers (codes values last) (stamped_asks task).op outcome → IsNotSpent outcome
-      → Falls (stamped_table values last) 0 (stamped_rest values task outcome)
+      → Falls {Task = StampedTask} (λ _. 0) 0 (stamped_rest values task outcome)
   rest_falls who o (Writing v code) outcome stands answers on = tt
   rest_falls who o Reading Written stands answers on = tt
   rest_falls who o Reading (Value code) stands answers on = λ best. tt
   rest_falls who o Reading (Spent layer) stands answers on = tt
 
-  pub stamped_sound : IsSoundTable (stamped_table values last) (StampedStands values last)
+  stands_suits : (who : ℕ) (o : Op) (task : StampedTask) → StampedStands values last who o task → one_writer values 2 who o ≡ true
+  stands_suits who (op.Write w) (Writing v code) stands =
+      let low : code % values < values = mod_below code values (omega arith) in
+      writer.writer_suits values 2 who w stands.0 (omega arith) (omega (arith, low, stands.1, stands.2))
+  stands_suits who op.Read Reading stands = writer.others_read values 2 who (omega (arith, stands)) (omega (arith, stands))
+  stands_suits who (op.Write w) Reading stands = absurd stands
+  stands_suits who op.Read (Writing v code) stands = absurd stands
+
+  pub stamped_sound : IsSoundTable (stamped_table values last) (StampedStands values last) (λ _. 0)
   stamped_sound = record {
-    few_values = omega arith;
-    few_processes = omega arith;
     zero_writes = λ v lt. writer.zero_writes values 2 v (omega arith) lt;
     others_read = λ who above below. writer.others_read values 2 who above below;
     nobody_else = λ who o h. writer.nobody_else values 2 who o h;
@@ -91,6 +104,7 @@ module _ (values last : ℕ) (some : 2 ≤ values) (few : values ≤ 512) where
     first_fits = λ v j lt below. value_fits values last v lt;
     first_words = first_words;
     asks_fit = asks_fit;
+    stands_suits = stands_suits;
     begins_sound = begins_sound;
     rest_sound = rest_sound;
     rest_falls = rest_falls;

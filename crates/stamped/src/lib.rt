@@ -1,8 +1,7 @@
 //! A stamped register: one writer, one reader, over a register of stamped codes.
 #![tactic(auto)]
 
-pub mod layer;
-mod register;
+mod rules;
 pub mod task;
 
-pub use register::Stamped;
+pub use rules::Stamped;

@@ -3,7 +3,7 @@ use Rattle.std.proofs.Common.{◌≡◌, ℕ, ◌+◌, ◌*◌, ◌≤◌, Optio
 use Rattle.std.proofs.lemmas.Bool.Decides.{nat_tests}
 use Rattle.std.proofs.Math.Nat.{mul-le-mul, mul-le-mul_right}
 use Rattle.std.specs.Prelude.{MatchResult, IsOk}
-use Rattle.frames.specs.Fit.{refusal_below}
+use Rattle.layers.specs.Fit.{refusal_below}
 use Rattle.frames.specs.SafeBit.{safe_behaviour}
 use Rattle.reader_copies.specs.Program.{copies_refusal}
 use Rattle.regular_bit.specs.Program.{regular_table}

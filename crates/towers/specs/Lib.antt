@@ -2,3 +2,4 @@ pub mod Towers
 pub mod Built
 pub mod Neighbours
 pub mod ReadFirst
+pub mod Deep

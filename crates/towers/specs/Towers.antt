@@ -2,15 +2,15 @@
 use Rattle.std.specs.Prelude.{ℕ, ◌+◌, ◌*◌}
 use Rattle.frames.specs.Behaviour.{Behaviour}
 use Rattle.frames.specs.declared.safe.SafePoint.{SafePoint}
-use Rattle.frames.specs.declared.nested.Nested.{Nested}
-use Rattle.frames.specs.Nested.{layered}
+use Rattle.layers.specs.declared.nested.Nested.{Nested}
+use Rattle.layers.specs.Nested.{layered}
 use Rattle.frames.specs.SafeBit.{safe_behaviour}
 use Rattle.reader_copies.specs.declared.task.CopiesTask.{CopiesTask}
 use Rattle.reader_copies.specs.Program.{copies_table}
 use Rattle.regular_bit.specs.declared.task.RegularTask.{RegularTask}
 use Rattle.regular_bit.specs.Program.{regular_table}
 use Rattle.unary_number.specs.declared.task.UnaryTask.{UnaryTask}
-use Rattle.unary_number.specs.Program.{unary_number}
+use Rattle.unary_number.specs.Program.{unary_table}
 use Rattle.stamped.specs.declared.task.StampedTask.{StampedTask}
 use Rattle.stamped.specs.Program.{stamped_table}
 use Rattle.matrix.specs.declared.task.MatrixTask.{MatrixTask}
@@ -42,7 +42,7 @@ regular_tower readers = layered (regular_table (readers + 1)) (copies_tower read
 
 -- a unary number of so many values over regular bits
 abbrev pub unary_tower : ℕ → ℕ → Behaviour UnaryPoint
-unary_tower values readers = layered (unary_number values (readers + 1)) (regular_tower readers)
+unary_tower values readers = layered (unary_table values (readers + 1)) (regular_tower readers)
 
 -- a stamped register with a last stamp, over a unary number of its codes
 abbrev pub stamped_tower : ℕ → ℕ → Behaviour StampedPoint

@@ -10,6 +10,7 @@ ghost use Rattle.towers.specs.Towers.{copies_tower, regular_tower, unary_tower, 
 
 use frames::register::Behaves;
 use frames::safe::Safe;
+use layers::layered::Layered;
 use matrix::Matrix;
 use reader_copies::Copies;
 use regular_bit::RegularBit;
@@ -17,19 +18,19 @@ use stamped::Stamped;
 use unary_number::Unary;
 
 /// Copies of a safe bit.
-pub type CopiesTower = Copies<Safe>;
+pub type CopiesTower = Layered<Copies, Safe>;
 
 /// A regular bit over copies.
-pub type RegularTower = RegularBit<CopiesTower>;
+pub type RegularTower = Layered<RegularBit, CopiesTower>;
 
 /// A unary number over regular bits.
-pub type UnaryTower = Unary<RegularTower>;
+pub type UnaryTower = Layered<Unary, RegularTower>;
 
 /// A stamped register over a unary number.
-pub type StampedTower = Stamped<UnaryTower>;
+pub type StampedTower = Layered<Stamped, UnaryTower>;
 
 /// A matrix of stamped registers.
-pub type MatrixTower = Matrix<StampedTower>;
+pub type MatrixTower = Layered<Matrix, StampedTower>;
 
 /// Copies of a safe bit for 1 to 4 readers.
 pub fn copies(readers: u32) -> CopiesTower

@@ -2,6 +2,7 @@
 //! can be built, and how large they are.
 
 mod copies_rows;
+mod depth;
 mod matrix_rows;
 mod neighbours;
 mod read_first;
@@ -54,7 +55,7 @@ fn frame(layer: FrameLayer, op: Op, i: u32) -> Frame {
 }
 
 /// What a register tells of itself: its size, values, processes and depth.
-fn told<R: Register>(register: &R) -> (Place, u32, u32, u32) {
+fn numbers<R: Register>(register: &R) -> (Place, u32, u32, u32) {
     (
         register.size(),
         register.values(),

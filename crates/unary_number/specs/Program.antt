@@ -8,13 +8,14 @@ use Rattle.frames.specs.declared.types.Outcome.{Outcome}
 use Rattle.frames.specs.declared.types.Outcome.TheVariants.{Value, Written, Spent}
 use Rattle.frames.specs.declared.types.FrameLayer.TheVariants.{Unary}
 use Rattle.frames.specs.declared.types.Frame.{Frame}
-use Rattle.frames.specs.declared.nested.Ask.{Ask}
-use Rattle.frames.specs.declared.fit.LayerError.{LayerError}
-use Rattle.frames.specs.declared.fit.LayerError.TheVariants.{BadSize}
+use Rattle.layers.specs.declared.nested.Ask.{Ask}
+use Rattle.layers.specs.declared.fit.TheConstants.{LEAST_VALUES, MOST_VALUES}
+use Rattle.layers.specs.declared.fit.LayerError.{LayerError}
+use Rattle.layers.specs.declared.fit.LayerError.TheVariants.{BadSize}
 use Rattle.frames.specs.Behaviour.{Behaviour}
-use Rattle.frames.specs.Fit.{refusal_below}
-use Rattle.frames.specs.Nested.{Program, Ends, Asks, Table}
-use Rattle.frames.specs.OneWriter.{one_writer}
+use Rattle.layers.specs.Fit.{refusal_below}
+use Rattle.layers.specs.Nested.{Program, Ends, Asks, Table}
+use Rattle.layers.specs.OneWriter.{one_writer}
 use Rattle.unary_number.specs.declared.task.UnaryTask.{UnaryTask}
 use Rattle.unary_number.specs.declared.task.UnaryTask.TheVariants.{Setting, Clearing, Looking}
 
@@ -50,19 +51,14 @@ unary_asks (Setting x) = record { part = x; who = 0; op = op.Write 1 }
 unary_asks (Clearing x i) = record { part = i; who = 0; op = op.Write 0 }
 unary_asks (Looking who i left) = record { part = i; who = who; op = op.Read }
 
-abbrev pub unary_left : UnaryTask → ℕ
-unary_left (Setting x) = x
-unary_left (Clearing x i) = i
-unary_left (Looking who i left) = left
-
 abbrev pub unary_frame : UnaryTask → Frame
 unary_frame (Setting x) = record { layer = Unary; op = op.Write x; i = x; x = 0 }
 unary_frame (Clearing x i) = record { layer = Unary; op = op.Write x; i = i; x = 0 }
 unary_frame (Looking who i left) = record { layer = Unary; op = op.Read; i = i; x = 0 }
 
 -- the layer over registers of so many processes: `none` is the answer of a scan that finds no 1
-abbrev pub unary_table : Outcome → ℕ → ℕ → Table UnaryTask
-unary_table none values processes = record {
+abbrev pub unary_table_with : Outcome → ℕ → ℕ → Table UnaryTask
+unary_table_with none values processes = record {
   values = values;
   processes = processes;
   suits = one_writer values processes;
@@ -76,18 +72,17 @@ unary_table none values processes = record {
   program = unary_program none values;
   asks = unary_asks;
   rest = unary_rest none;
-  left = unary_left;
   frame = unary_frame;
 }
 
 -- the register's own table: a scan that finds none answers the greatest value
-abbrev pub unary_number : ℕ → ℕ → Table UnaryTask
-unary_number values processes = unary_table (Value (values - 1)) values processes
+abbrev pub unary_table : ℕ → ℕ → Table UnaryTask
+unary_table values processes = unary_table_with (Value (values - 1)) values processes
 
--- a write of x stands at bit x or at a bit below it; a read stands in its process's look at a bit, with the number of bits behind it
+-- process 0's write of x stands at bit x or at a bit below it; a read stands in its process's look at a bit, with the number of bits behind it
 abbrev pub UnaryStands : ℕ → ℕ → ℕ → Op → UnaryTask → Type 0
-UnaryStands values processes who (op.Write w) (Setting x) = (x ≡ w) × (w < values)
-UnaryStands values processes who (op.Write w) (Clearing x i) = (x ≡ w) × (i < w) × (w < values)
+UnaryStands values processes who (op.Write w) (Setting x) = (who ≡ 0) × (x ≡ w) × (w < values)
+UnaryStands values processes who (op.Write w) (Clearing x i) = (who ≡ 0) × (x ≡ w) × (i < w) × (w < values)
 UnaryStands values processes who op.Read (Looking reader i left) = (reader ≡ who) × (1 ≤ who) × (who < processes) × (i + left + 1 ≡ values)
 UnaryStands values processes who (op.Write w) (Looking reader i left) = ⊥
 UnaryStands values processes who op.Read (Setting x) = ⊥
@@ -95,4 +90,4 @@ UnaryStands values processes who op.Read (Clearing x i) = ⊥
 
 -- why there is no unary number of so many values over a register, if there is none: it has 2 to 512 values
 abbrev pub unary_refusal : {P : Type 0} → ℕ → Behaviour P → Option LayerError
-unary_refusal values b = if nat_le 2 values && nat_le values 512 then refusal_below (unary_number values b.processes) b else Some BadSize
+unary_refusal values b = if nat_le LEAST_VALUES values && nat_le values MOST_VALUES then refusal_below (unary_table values b.processes) b else Some BadSize

@@ -9,14 +9,22 @@ use Rattle.frames.specs.declared.types.Op.TheVariants as op
 use Rattle.frames.specs.declared.types.Outcome.{Outcome}
 use Rattle.frames.specs.declared.types.Outcome.TheVariants.{Value, Written, Spent}
 use Rattle.frames.specs.Behaviour.{Answers}
-use Rattle.frames.specs.Nested.{Ends}
-use Rattle.frames.specs.Sound.{IsSound, IsSoundTable, IsNotSpent, Falls, FitsPart}
-use Rattle.frames.specs.OneWriter as writer
+use Rattle.layers.specs.Nested.{Ends}
+use Rattle.layers.specs.declared.fit.TheConstants.{LEAST_VALUES}
+use Rattle.layers.specs.Sound.{IsSound, IsSoundTable, IsNotSpent, Falls, FitsPart}
+use Rattle.layers.specs.OneWriter.{one_writer}
+use Rattle.layers.specs.laws.OneWriter as writer
 use Rattle.unary_number.specs.declared.task.UnaryTask.{UnaryTask}
 use Rattle.unary_number.specs.declared.task.UnaryTask.TheVariants.{Setting, Clearing, Looking}
-use Rattle.unary_number.specs.Program.{clears_below, behind_look, looks_above, unary_program, unary_rest, unary_asks, unary_left, unary_table, unary_number, UnaryStands}
+use Rattle.unary_number.specs.Program.{clears_below, behind_look, looks_above, unary_program, unary_rest, unary_asks, unary_table_with, unary_table, UnaryStands}
 
-module _ (none : Outcome) (values processes : ℕ) (two : 2 ≤ values) (few_values : values < 2 ^ 32) (some : 0 < processes) (few : processes < 2 ^ 32)
+-- how many bits are still to be cleared or to be looked at behind a task
+abbrev pub unary_left : UnaryTask → ℕ
+unary_left (Setting x) = x
+unary_left (Clearing x i) = i
+unary_left (Looking who i left) = left
+
+module _ (none : Outcome) (values processes : ℕ) (two : LEAST_VALUES ≤ values) (some : 0 < processes)
     (answered : Answers values op.Read none) where
   first_bit : (value bit : ℕ) → (if bit == value then 1 else 0) < 2
   first_bit value bit = by_test (bit == value)
@@ -25,57 +33,57 @@ module _ (none : Outcome) (values processes : ℕ) (two : 2 ≤ values) (few_val
       by_test true = omega arith
       by_test false = omega arith
 
-  clears_sound : (who w x i : ℕ) → x ≡ w → i ≤ w → w < values → IsSound (unary_table none values processes) (UnaryStands values processes who (op.Write w)) (Answers values (op.Write w)) (clears_below x i)
-  clears_sound who w x zero same below low = tt
-  clears_sound who w x (suc i) same below low = ((same, omega arith, low), λ o. refl)
+  clears_sound : (who w x i : ℕ) → who ≡ 0 → x ≡ w → i ≤ w → w < values → IsSound (unary_table_with none values processes) (UnaryStands values processes who (op.Write w)) (Answers values (op.Write w)) (clears_below x i)
+  clears_sound who w x zero writer same below low = tt
+  clears_sound who w x (suc i) writer same below low = ((writer, same, omega arith, low), λ o. refl)
 
   looks_sound : (who reader i left : ℕ) → reader ≡ who → 1 ≤ who → who < processes → i + left + 1 ≡ values
-      → IsSound (unary_table none values processes) (UnaryStands values processes who op.Read) (Answers values op.Read) (looks_above none reader i left)
+      → IsSound (unary_table_with none values processes) (UnaryStands values processes who op.Read) (Answers values op.Read) (looks_above none reader i left)
   looks_sound who reader i zero same above below all = answered
   looks_sound who reader i (suc left) same above below all = ((same, above, below, omega arith), λ o. refl)
 
   looked_sound : (who reader i left bit : ℕ) → reader ≡ who → 1 ≤ who → who < processes → i + left + 1 ≡ values
-      → IsSound (unary_table none values processes) (UnaryStands values processes who op.Read) (Answers values op.Read) (behind_look i (looks_above none reader i left) (Value bit))
+      → IsSound (unary_table_with none values processes) (UnaryStands values processes who op.Read) (Answers values op.Read) (behind_look i (looks_above none reader i left) (Value bit))
   looked_sound who reader i left bit same above below all = by_test (bit == 1)
     where
-      by_test : (found : Bool) → IsSound (unary_table none values processes) (UnaryStands values processes who op.Read) (Answers values op.Read)
+      by_test : (found : Bool) → IsSound (unary_table_with none values processes) (UnaryStands values processes who op.Read) (Answers values op.Read)
           (if found then Ends (Value i) else looks_above none reader i left)
       by_test true = omega arith
       by_test false = looks_sound who reader i left same above below all
 
-  clears_fall : (w i n : ℕ) → i ≤ n → Falls (unary_table none values processes) n (clears_below w i)
+  clears_fall : (w i n : ℕ) → i ≤ n → Falls unary_left n (clears_below w i)
   clears_fall w zero n le = tt
   clears_fall w (suc i) n le = omega arith
 
-  looks_fall : (who i left : ℕ) → Falls (unary_table none values processes) left (looks_above none who i left)
+  looks_fall : (who i left : ℕ) → Falls unary_left left (looks_above none who i left)
   looks_fall who i zero = tt
   looks_fall who i (suc left) = omega arith
 
-  look_falls : (who i left bit : ℕ) → Falls (unary_table none values processes) left (behind_look i (looks_above none who i left) (Value bit))
+  look_falls : (who i left bit : ℕ) → Falls unary_left left (behind_look i (looks_above none who i left) (Value bit))
   look_falls who i left bit = by_test (bit == 1)
     where
-      by_test : (found : Bool) → Falls (unary_table none values processes) left (if found then Ends (Value i) else looks_above none who i left)
+      by_test : (found : Bool) → Falls unary_left left (if found then Ends (Value i) else looks_above none who i left)
       by_test true = tt
       by_test false = looks_fall who i left
 
-  begins_sound : (who : ℕ) (o : Op) → writer.one_writer values processes who o ≡ true
-      → IsSound (unary_table none values processes) (UnaryStands values processes who o) (Answers values o) (unary_program none values who o)
-  begins_sound who (op.Write x) h = ((refl, writer.no_other_value values processes who x h), λ o. refl)
+  begins_sound : (who : ℕ) (o : Op) → one_writer values processes who o ≡ true
+      → IsSound (unary_table_with none values processes) (UnaryStands values processes who o) (Answers values o) (unary_program none values who o)
+  begins_sound who (op.Write x) h = ((writer.writer_zero values processes who x h, refl, writer.no_other_value values processes who x h), λ o. refl)
   begins_sound who op.Read h = ((refl, writer.reader_some values processes who h, writer.reader_few values processes who h, omega arith), λ o. refl)
 
   asks_fit : (who : ℕ) (o : Op) (task : UnaryTask) → UnaryStands values processes who o task
       → ((unary_asks task).part < values) × FitsPart 2 processes (unary_asks task).who (unary_asks task).op
-  asks_fit who (op.Write w) (Setting x) stands = (omega (arith, stands.0, stands.1), (refl, omega arith))
-  asks_fit who (op.Write w) (Clearing x i) stands = (omega (arith, stands.1, stands.2), (refl, omega arith))
+  asks_fit who (op.Write w) (Setting x) stands = (omega (arith, stands.1, stands.2), (refl, omega arith))
+  asks_fit who (op.Write w) (Clearing x i) stands = (omega (arith, stands.2, stands.3), (refl, omega arith))
   asks_fit who op.Read (Looking reader i left) stands = (omega (arith, stands.3), (omega (arith, stands.0, stands.1), omega (arith, stands.0, stands.2)))
   asks_fit who (op.Write w) (Looking reader i left) stands = absurd stands
   asks_fit who op.Read (Setting x) stands = absurd stands
   asks_fit who op.Read (Clearing x i) stands = absurd stands
 
   rest_sound : (who : ℕ) (o : Op) (task : UnaryTask) (outcome : Outcome) → UnaryStands values processes who o task → Answers 2 (unary_asks task).op outcome → IsNotSpent outcome
-      → IsSound (unary_table none values processes) (UnaryStands values processes who o) (Answers values o) (unary_rest none task outcome)
-  rest_sound who (op.Write w) (Setting x) outcome stands answers on = clears_sound who w x x stands.0 (omega (arith, stands.0)) stands.1
-  rest_sound who (op.Write w) (Clearing x i) outcome stands answers on = clears_sound who w x i stands.0 (omega (arith, stands.1)) stands.2
+      → IsSound (unary_table_with none values processes) (UnaryStands values processes who o) (Answers values o) (unary_rest none task outcome)
+  rest_sound who (op.Write w) (Setting x) outcome stands answers on = clears_sound who w x x stands.0 stands.1 (omega (arith, stands.1)) stands.2
+  rest_sound who (op.Write w) (Clearing x i) outcome stands answers on = clears_sound who w x i stands.0 stands.1 (omega (arith, stands.2)) stands.3
   rest_sound who op.Read (Looking reader i left) (Value bit) stands answers on =
       looked_sound who reader i left bit stands.0 stands.1 stands.2 stands.3
   rest_sound who op.Read (Looking reader i left) Written stands answers on = absurd answers
@@ -85,17 +93,23 @@ module _ (none : Outcome) (values processes : ℕ) (two : 2 ≤ values) (few_val
   rest_sound who op.Read (Clearing x i) outcome stands answers on = absurd stands
 
   rest_falls : (who : ℕ) (o : Op) (task : UnaryTask) (outcome : Outcome) → UnaryStands values processes who o task → Answers 2 (unary_asks task).op outcome → IsNotSpent outcome
-      → Falls (unary_table none values processes) (unary_left task) (unary_rest none task outcome)
+      → Falls unary_left (unary_left task) (unary_rest none task outcome)
   rest_falls who o (Setting x) outcome stands answers on = clears_fall x x x (omega arith)
   rest_falls who o (Clearing x i) outcome stands answers on = clears_fall x i i (omega arith)
   rest_falls who o (Looking reader i left) (Value bit) stands answers on = look_falls reader i left bit
   rest_falls who o (Looking reader i left) Written stands answers on = tt
   rest_falls who o (Looking reader i left) (Spent layer) stands answers on = tt
 
-  pub unary_sound : IsSoundTable (unary_table none values processes) (UnaryStands values processes)
-  unary_sound = record {
-    few_values = few_values;
-    few_processes = few;
+  stands_suits : (who : ℕ) (o : Op) (task : UnaryTask) → UnaryStands values processes who o task → one_writer values processes who o ≡ true
+  stands_suits who (op.Write w) (Setting x) stands = writer.writer_suits values processes who w stands.0 some stands.2
+  stands_suits who (op.Write w) (Clearing x i) stands = writer.writer_suits values processes who w stands.0 some stands.3
+  stands_suits who op.Read (Looking reader i left) stands = writer.others_read values processes who stands.1 stands.2
+  stands_suits who (op.Write w) (Looking reader i left) stands = absurd stands
+  stands_suits who op.Read (Setting x) stands = absurd stands
+  stands_suits who op.Read (Clearing x i) stands = absurd stands
+
+  pub table_sound : IsSoundTable (unary_table_with none values processes) (UnaryStands values processes) unary_left
+  table_sound = record {
     zero_writes = λ v lt. writer.zero_writes values processes v some lt;
     others_read = λ who above below. writer.others_read values processes who above below;
     nobody_else = λ who o h. writer.nobody_else values processes who o h;
@@ -103,16 +117,17 @@ module _ (none : Outcome) (values processes : ℕ) (two : 2 ≤ values) (few_val
     first_fits = λ v j lt below. first_bit v j;
     first_words = λ v k lt below. omega arith;
     asks_fit = asks_fit;
+    stands_suits = stands_suits;
     begins_sound = begins_sound;
     rest_sound = rest_sound;
     rest_falls = rest_falls;
   }
 
 -- the register's own table: the answer of a scan that finds none is one of its values
-pub number_sound : (values processes : ℕ) → 2 ≤ values → values ≤ 512 → 0 < processes → processes < 2 ^ 32 → IsSoundTable (unary_number values processes) (UnaryStands values processes)
-number_sound values processes two few_values some few =
+pub unary_sound : (values processes : ℕ) → LEAST_VALUES ≤ values → 0 < processes → IsSoundTable (unary_table values processes) (UnaryStands values processes) unary_left
+unary_sound values processes two some =
     let greatest : Answers values op.Read (Value (values - 1)) = omega arith in
-    unary_sound (Value (values - 1)) values processes two (omega arith) some few greatest
+    table_sound (Value (values - 1)) values processes two some greatest
 
 -- the test of two tasks
 abbrev pub task_eq : UnaryTask → UnaryTask → Bool
@@ -140,7 +155,7 @@ task_decides (Clearing x i) (Looking q j n) = (λ h. cc, λ h. cc)
 task_decides (Looking p i m) (Setting y) = (λ h. cc, λ h. cc)
 task_decides (Looking p i m) (Clearing y j) = (λ h. cc, λ h. cc)
 
-pub table_alike : (m n p q : ℕ) → nat_eq m n && nat_eq p q ≡ true → unary_number m p ≡ unary_number n q
+pub table_alike : (m n p q : ℕ) → nat_eq m n && nat_eq p q ≡ true → unary_table m p ≡ unary_table n q
 table_alike m n p q h =
     let both = (Decides-and (nat_eq m n) (nat_eq p q) (Decides-eqb m n) (Decides-eqb p q)).0 h in
-    λ i. unary_number (both.0 i) (both.1 i)
+    λ i. unary_table (both.0 i) (both.1 i)

@@ -1,8 +1,7 @@
 //! A unary number over registers of two values.
 #![tactic(auto)]
 
-pub mod layer;
-mod register;
+mod rules;
 pub mod task;
 
-pub use register::Unary;
+pub use rules::Unary;

@@ -17,7 +17,7 @@ use Rattle.frames.specs.declared.types.Reason.TheVariants.{Busy, Idle, Stopped}
 use Rattle.frames.specs.declared.types.Event.{Event}
 use Rattle.frames.specs.declared.types.Event.TheVariants.{Invoke, Void}
 use Rattle.frames.specs.declared.running.Running.{Running}
-use Rattle.frames.specs.Behaviour.{Behaviour, Moved, IsLawful, GoesOn, StandsWell}
+use Rattle.frames.specs.Behaviour.{Behaviour, IsLawful, GoesOn, StandsWell}
 use Rattle.frames.specs.Fitting.{process_of}
 use Rattle.frames.specs.Configuration.{Configuration, Acted, running_at, is_stopped, fits_step, is_ready, is_enabled, mark, stepped, replayed, events_of, acted, acted_on, acting, acting_unless, put_acted, only_records, invoking, going, still_running, chosen_of, in_order}
 use Rattle.frames.specs.Parked.{IsConfiguration}
@@ -128,9 +128,9 @@ pub slot_after : {P : Type 0} (Reaches : ℕ → Op → P → Type 0) (Answer : 
 slot_after Reaches Answer p o (Pending point) h = h
 slot_after Reaches Answer p o (Done outcome) h = tt
 
-acted_well : {P : Type 0} (b : Behaviour P) (Holds : Memory → Type 0) (Reaches : ℕ → Op → P → Type 0) (p : ℕ) (o : Op) (event : Option Event) (moved : Moved P)
-    → GoesOn b Holds Reaches p o moved → LeavesWell Holds Reaches p (acted p o event moved)
-acted_well b Holds Reaches p o event moved on = record { holds = on.holds; reached = slot_after Reaches _ p o moved.next on.stands }
+acted_well : {P : Type 0} (b : Behaviour P) (Holds : Memory → Type 0) (Reaches : ℕ → Op → P → Type 0) (p : ℕ) (o : Op) (event : Option Event) (next : Next P) (m : Memory)
+    → GoesOn b Holds Reaches p o next m → LeavesWell Holds Reaches p (acted p o event next m)
+acted_well b Holds Reaches p o event next m on = record { holds = on.holds; reached = slot_after Reaches _ p o next on.stands }
 
 -- where nothing is pending
 nothing_reached : {P : Type 0} (Reaches : ℕ → Op → P → Type 0) (n p : ℕ) → IsReached Reaches p (get_or (replicate n None) p None)
@@ -146,13 +146,13 @@ nothing_reached {P} Reaches (suc n) (suc p) = subst (IsReached Reaches (suc p)) 
 module _ {P : Type 0} (b : Behaviour P) (Holds : Memory → Type 0) (Reaches : ℕ → Op → P → Type 0) (lawful : IsLawful b Holds Reaches) where
   invoking_well : (p : ℕ) (o : Op) (x : Option (Running P)) (m : Memory) → Holds m → IsReached Reaches p x → b.suits p o ≡ true
       → LeavesWell Holds Reaches p (invoking b p o x m)
-  invoking_well p o None m h r fits = acted_well b Holds Reaches p o (Some (Invoke p o)) (b.begins p o m) (lawful.begins_well p o m h fits)
+  invoking_well p o None m h r fits = acted_well b Holds Reaches p o (Some (Invoke p o)) (b.begins p o m).next (b.begins p o m).memory (lawful.begins_well p o m h fits)
   invoking_well p o (Some x) m h r fits = record { holds = h; reached = r }
 
   going_well : (p : ℕ) (choice : Bool) (x : Option (Running P)) (m : Memory) → Holds m → IsReached Reaches p x → LeavesWell Holds Reaches p (going b p choice x m)
   going_well p choice None m h r = record { holds = h; reached = r }
   going_well p choice (Some x) m h r =
-      acted_well b Holds Reaches p x.op (chosen_of p (b.goes x.point choice m).chosen) (b.goes x.point choice m) (lawful.goes_well p x.op x.point choice m h r)
+      acted_well b Holds Reaches p x.op (chosen_of p (b.goes x.point choice m).chosen) (b.goes x.point choice m).next (b.goes x.point choice m).memory (lawful.goes_well p x.op x.point choice m h r)
 
   acting_well : (s : Step) (x : Option (Running P)) (m : Memory) → Holds m → IsReached Reaches (process_of s) x → fits_step b s ≡ true
       → LeavesWell Holds Reaches (process_of s) (acting b s x m)

@@ -1,5 +1,5 @@
 use Rattle.std.proofs.Common.{◌∙◌, ap}
-use Rattle.frames.specs.Nested.{layered}
+use Rattle.layers.specs.Nested.{layered}
 use Rattle.frames.specs.Behaviour.{Behaviour}
 use Rattle.towers.specs.Towers.{StampedPoint}
 use Rattle.matrix.specs.Program.{matrix_table}

@@ -1,5 +1,5 @@
 use Rattle.std.proofs.Common.{◌∙◌, ap}
-use Rattle.frames.specs.Nested.{layered}
+use Rattle.layers.specs.Nested.{layered}
 use Rattle.regular_bit.specs.Program.{regular_table}
 use Rattle.towers.proofs.regular.Goals as goal
 

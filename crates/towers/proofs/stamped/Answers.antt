@@ -1,5 +1,5 @@
 use Rattle.std.proofs.Common.{◌∙◌, ap}
-use Rattle.frames.specs.Nested.{layered}
+use Rattle.layers.specs.Nested.{layered}
 use Rattle.stamped.specs.Program.{stamped_table}
 use Rattle.towers.proofs.stamped.Goals as goal
 

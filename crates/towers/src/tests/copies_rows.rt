@@ -1,10 +1,10 @@
 //! Copies over safe bits: which can be built, how large they are, and an overlapped write.
 
-use super::{frame, replayed, stands_in, told};
-use frames::fit::LayerError;
+use super::{frame, numbers, replayed, stands_in};
 use frames::register::Register;
 use frames::safe::Safe;
 use frames::types::{Action, ActionKind, Event, FrameLayer, Op, Step};
+use layers::fit::LayerError;
 use reader_copies::Copies;
 use safe_bit::{Place, Store};
 use std::alloc::{AllocError, Global};
@@ -27,7 +27,7 @@ fn limits<S: Register>(rt: &impl Abort, below: S) {
                     cell: readers,
                     word: 0,
                 };
-                assert_eq!(rt; told(&copies), (size, 2, readers + 1, 2), "{readers}");
+                assert_eq!(rt; numbers(&copies), (size, 2, readers + 1, 2), "{readers}");
             }
             Err(error) => assert!(rt; false, "{error}"),
         }
@@ -42,20 +42,6 @@ fn one_to_four_readers(rt: HostRuntime) -> Result<(), Fail> {
         Copies::new(of_two_readers, 1).err(),
         Some(LayerError::BadSize)
     );
-    Ok(())
-}
-
-#[test]
-fn copies_of_one_reader_up_to_depth_8(rt: HostRuntime) -> Result<(), Fail> {
-    let two = Copies::new(Safe, 1)?;
-    let three = Copies::new(two, 1)?;
-    let four = Copies::new(three, 1)?;
-    let five = Copies::new(four, 1)?;
-    let six = Copies::new(five, 1)?;
-    let seven = Copies::new(six, 1)?;
-    let eight = Copies::new(seven, 1)?;
-    assert_eq!(rt; eight.depth(), 8);
-    assert_eq!(rt; Copies::new(eight, 1).err(), Some(LayerError::BadSize));
     Ok(())
 }
 

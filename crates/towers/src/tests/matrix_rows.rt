@@ -3,12 +3,13 @@
 ghost use Rattle.std.specs.Prelude.{◌≡◌, IfOk, length};
 
 use super::read_first::ReadFirst;
-use super::{frame, replayed, stands_in, told};
+use super::{frame, numbers, replayed, stands_in};
 use crate::{matrix, stamped, unary};
-use frames::fit::LayerError;
 use frames::register::Register;
 use frames::safe::Safe;
 use frames::types::{Event, Frame, FrameLayer, Layer, Op, Step};
+use layers::fit::LayerError;
+use layers::layered::Layered;
 use matrix::Matrix;
 use safe_bit::{Place, Store};
 use std::alloc::{AllocError, Global};
@@ -213,7 +214,7 @@ fn spent_part_of_a_row<R: Register>(
 
 #[test]
 fn row_of_parts_to_be_read_first(rt: HostRuntime) -> Result<(), Fail> {
-    let parts = ReadFirst::new(Unary::new(Safe, 8)?)?;
+    let parts = Layered::new(Unary::new(Safe, 8)?, ReadFirst)?;
     spent_part_of_a_row(&rt, rt.alloc(), Matrix::new(parts, 2, 2, 1)?)?;
     Ok(())
 }
@@ -244,7 +245,11 @@ fn built<S: Register>(
     match Matrix::new(parts, n, values, last_tag) {
         Ok(matrix) => {
             assert_eq!(rt; Ok(matrix.size()), wanted, "{numbers:?}");
-            assert_eq!(rt; told(&matrix), (matrix.size(), values, n, 6), "{numbers:?}");
+            assert_eq!(rt;
+                numbers(&matrix),
+                (matrix.size(), values, n, 6),
+                "{numbers:?}"
+            );
         }
         Err(error) => assert_eq!(rt; Err(error), wanted, "{numbers:?}"),
     }

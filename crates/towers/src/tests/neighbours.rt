@@ -1,7 +1,7 @@
 //! Two unary numbers side by side in one store: work on one leaves the other as it was.
 
 ghost use Rattle.std.specs.Prelude.{◌≡◌, ◌⊎◌, true};
-ghost use Rattle.safe_bit.specs.Parts.{LiesIn, IsPlaced, part, origin};
+ghost use Rattle.safe_bit.specs.Parts.{LiesIn, part, origin};
 ghost use Rattle.frames.specs.Behaviour.{Answers, StandsWell};
 
 use crate::unary;
@@ -56,7 +56,6 @@ impl<R: Register> Neighbours<R> {
     /// Where one of them lies.
     fn place(&self, side: Side) -> Place
         ensures inside { LiesIn result (R.is self.now.register).size self.now.memory }
-        ensures placed { IsPlaced result (R.is self.now.register).size }
         ensures holds { R.Holds self.now.register (part result (R.is self.now.register).size self.now.memory) }
         ensures side { (result ≡ origin) ⊎ (result ≡ (R.is self.now.register).size) }
     {

@@ -1,11 +1,11 @@
 //! Regular bits over copies of safe bits: which can be built, how large they are, and their steps.
 
-use super::{frame, replayed, stands_in, told};
+use super::{frame, numbers, replayed, stands_in};
 use crate::regular;
-use frames::fit::LayerError;
 use frames::register::Register;
 use frames::safe::Safe;
 use frames::types::{Action, ActionKind, Event, FrameLayer, Op, Step};
+use layers::fit::LayerError;
 use regular_bit::RegularBit;
 use safe_bit::{Place, Store};
 use std::alloc::{AllocError, Global};
@@ -23,8 +23,8 @@ fn rows<R: Register>(
 ) -> Result<(), AllocError> {
     regular_same_value(rt, alloc, of_one)?;
     word_is_set_first(rt, alloc, of_two)?;
-    assert_eq!(rt; told(&of_one), (Place { cell: 1, word: 1 }, 2, 2, 3));
-    assert_eq!(rt; told(&of_four), (Place { cell: 4, word: 1 }, 2, 5, 3));
+    assert_eq!(rt; numbers(&of_one), (Place { cell: 1, word: 1 }, 2, 2, 3));
+    assert_eq!(rt; numbers(&of_four), (Place { cell: 4, word: 1 }, 2, 5, 3));
     assert!(rt; of_four == of_four);
     assert!(rt; of_four != of_two);
     Ok(())

@@ -3,11 +3,11 @@
 
 ghost use Rattle.std.specs.Prelude.{◌≡◌, IfOk, length};
 
-use super::{frame, replayed, stands_in, told};
+use super::{frame, numbers, replayed, stands_in};
 use crate::{stamped, unary};
-use frames::fit::LayerError;
 use frames::register::Register;
 use frames::types::{Action, ActionKind, Event, Frame, FrameLayer, Layer, Op, Step};
+use layers::fit::LayerError;
 use safe_bit::{Place, Store};
 use stamped::Stamped;
 use std::alloc::{AllocError, Global};
@@ -171,7 +171,7 @@ fn built<S: Register>(
         Ok(stamped) => {
             assert_eq!(rt; Ok(stamped.size()), wanted, "{values} {last}");
             assert_eq!(rt;
-                told(&stamped),
+                numbers(&stamped),
                 (stamped.size(), values, 2, 5),
                 "{values} {last}"
             );

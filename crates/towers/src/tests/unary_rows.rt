@@ -3,11 +3,11 @@
 
 ghost use Rattle.std.specs.Prelude.{◌≡◌, IfOk, length};
 
-use super::{frame, replayed, stands_in, told};
+use super::{frame, numbers, replayed, stands_in};
 use crate::{regular, unary};
-use frames::fit::LayerError;
 use frames::register::Register;
 use frames::types::{Action, ActionKind, Event, FrameLayer, Op, Step};
+use layers::fit::LayerError;
 use reader_copies::Copies;
 use safe_bit::{Place, Store};
 use std::alloc::{AllocError, Global};
@@ -156,7 +156,7 @@ fn limits<S: Register>(rt: &impl Abort, bits: S) {
         match Unary::new(bits, values) {
             Ok(unary) => {
                 let size = Place { cell, word };
-                assert_eq!(rt; told(&unary), (size, values, 5, 4), "{values}");
+                assert_eq!(rt; numbers(&unary), (size, values, 5, 4), "{values}");
             }
             Err(error) => assert!(rt; false, "{error}"),
         }

@@ -1,6 +1,6 @@
 use Rattle.std.proofs.Common.{rules, ◌≡◌}
 use Rattle.std.proofs.lemmas.Bool.Decides.{Decides-at}
-use Rattle.safe_bit.specs.Equality.{memory_eq, memory_decides}
+use Rattle.safe_bit.specs.laws.Equality.{memory_eq, memory_decides}
 use Rattle.safe_bit.proofs.StorePartialEq.eq.Goals as goal
 
 pub returns-then-eq-clause-same : goal.returns-then-eq-clause-same

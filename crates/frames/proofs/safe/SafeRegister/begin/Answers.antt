@@ -1,6 +1,6 @@
 use Rattle.std.proofs.Common.{sym}
-use Rattle.safe_bit.specs.Parts.{with_part-own}
-use Rattle.frames.specs.SafeLaws.{safe_size}
+use Rattle.safe_bit.specs.laws.Parts.{with_part-own}
+use Rattle.frames.specs.laws.Safe.{safe_size}
 use Rattle.frames.proofs.safe.SafeRegister.begin.Goals as goal
 
 pub returns-in-Write-clause-memory : goal.returns-in-Write-clause-memory

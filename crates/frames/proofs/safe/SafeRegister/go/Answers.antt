@@ -1,6 +1,6 @@
 use Rattle.std.proofs.Common.{◌∙◌}
 use Rattle.safe_bit.specs.Actions.{start_write, end_write, start_read, end_read}
-use Rattle.frames.specs.SafeLaws.{on_own_cell}
+use Rattle.frames.specs.laws.Safe.{on_own_cell}
 use Rattle.frames.proofs.safe.SafeRegister.go.Goals as goal
 
 pub returns-in-WriteStart-clause-memory : goal.returns-in-WriteStart-clause-memory

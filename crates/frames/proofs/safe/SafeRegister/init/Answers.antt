@@ -1,5 +1,5 @@
 use Rattle.std.proofs.Common.{◌∙◌}
-use Rattle.frames.specs.SafeLaws.{with_own_cell}
+use Rattle.frames.specs.laws.Safe.{with_own_cell}
 use Rattle.frames.proofs.safe.SafeRegister.init.Goals as goal
 
 pub returns : goal.returns

@@ -1,0 +1,17 @@
+-- A layer that lies at a place in a store: its parts and own words, found there and put back.
+use Rattle.safe_bit.specs.declared.Place.{Place}
+use Rattle.safe_bit.specs.Memory.{Memory}
+use Rattle.safe_bit.specs.Parts.{LiesIn, IsPlaced, part}
+use Rattle.frames.specs.Behaviour.{Behaviour}
+use Rattle.layers.specs.Nested.{Table, layer_size}
+use Rattle.layers.specs.Sound.{LayerHolds}
+
+-- the layer's own memory, at a place in a store
+abbrev pub own : {Task P : Type 0} → Table Task → Behaviour P → Place → Memory → Memory
+own t b at m = part at (layer_size t b.size) m
+
+-- a layer lies at a place: it is inside, can be numbered, and its memory holds
+pub record LayerLies {Task P : Type 0} (t : Table Task) (b : Behaviour P) (Holds : Memory → Type 0) (at : Place) (m : Memory) : Type 0 where
+  pub inside : LiesIn at (layer_size t b.size) m
+  pub placed : IsPlaced at (layer_size t b.size)
+  pub holds : LayerHolds t b Holds (own t b at m)

@@ -1,0 +1,7 @@
+pub mod Nested
+pub mod Sound
+pub mod Settled
+pub mod InPlace
+pub mod Fit
+pub mod OneWriter
+pub mod laws

@@ -1,0 +1,74 @@
+//! Which registers a layer can stand on.
+
+ghost use Rattle.std.specs.Prelude.{◌≡◌, ◌*◌, ◌<◌, ◌≤◌, MatchResult, OnOk, Some, None};
+ghost use Rattle.layers.specs.Sound.{FitsBelow};
+ghost use Rattle.layers.specs.Fit.{refusal_below, number_of};
+
+use crate::construction::Construction;
+use frames::register::{MOST_CELLS, MOST_WORDS, Register};
+use frames::types::STACK_FRAMES;
+use thiserror::Error;
+
+/// The least number of values of a layer.
+pub const LEAST_VALUES: u32 = 2;
+
+/// The most values of a unary number, and the most codes below a stamped register and a matrix.
+pub const MOST_VALUES: u32 = 512;
+
+/// The most readers beside one writer.
+pub const MOST_READERS: u32 = 4;
+
+/// The least number of processes of a layer.
+pub const LEAST_PROCESSES: u32 = 2;
+
+/// The most processes of a layer: a writer and the most readers.
+pub const MOST_PROCESSES: u32 = 5;
+
+/// Why a layer can't be built.
+#[derive(Clone, Copy, Debug, PartialEq, Eq, Error)]
+pub enum LayerError {
+    /// A limit is broken, or the register below hasn't the processes, the values or the depth that
+    /// the layer needs.
+    #[error("1 BadSize")]
+    BadSize,
+    /// The layer would have more than 4,096 cells or 65,536 words.
+    #[error("2 TooManyBits")]
+    TooManyBits,
+}
+
+impl LayerError {
+    /// The number of the refusal.
+    pub fn number(self) -> u32
+        ensures { result ≡ number_of self }
+    {
+        match self {
+            LayerError::BadSize => 1,
+            LayerError::TooManyBits => 2,
+        }
+    }
+}
+
+/// Whether the layer can stand on the register.
+pub fn fits_below<L: Construction, S: Register>(layer: &L, below: &S) -> Result<(), LayerError>
+    ensures refusal { MatchResult result (λ _. refusal_below (L.table layer.now) (S.is below.now) ≡ None) (λ e. refusal_below (L.table layer.now) (S.is below.now) ≡ Some e) }
+    ensures fit { OnOk result (FitsBelow (L.table layer.now) (S.is below.now)) }
+{
+    let few = layer.values() < LEAST_VALUES || layer.processes() < LEAST_PROCESSES;
+    if few || layer.processes() > MOST_PROCESSES {
+        return Err(LayerError::BadSize);
+    }
+    if below.values() != layer.inner_values()
+        || below.processes() != layer.inner_processes()
+        || below.depth() as usize >= STACK_FRAMES
+    {
+        return Err(LayerError::BadSize);
+    }
+    let size = below.size();
+    let parts = u64::from(layer.parts());
+    let cells = parts * u64::from(size.cell);
+    let words = parts * u64::from(size.word) + u64::from(layer.words());
+    if cells > u64::from(MOST_CELLS) || words > u64::from(MOST_WORDS) {
+        return Err(LayerError::TooManyBits);
+    }
+    Ok(())
+}

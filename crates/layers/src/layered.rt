@@ -1,0 +1,130 @@
+//! One register for every layer: a construction over a register below.
+
+ghost use Rattle.std.specs.Prelude.{◌≡◌, MatchResult, IfOk, Some, None};
+ghost use Rattle.layers.specs.Nested.{layered};
+ghost use Rattle.layers.specs.Sound.{FitsBelow};
+ghost use Rattle.layers.specs.Fit.{refusal_below};
+
+use crate::construction::{Construction, Rules};
+use crate::drive;
+use crate::fit::{LayerError, fits_below};
+use crate::nested::Nested;
+use frames::register::{Behaves, Register};
+use frames::types::{Action, Next, Op, Stack, Turned};
+use safe_bit::{Place, Store};
+use std::alloc::{AllocError, Global};
+
+/// A construction over a register: each of its parts is the register below, at a place of its own.
+#[derive(Debug, PartialEq, Eq)]
+pub struct Layered<L: Rules, S: Behaves> {
+    /// The register that each part is.
+    pub below: S,
+    /// The construction's own rules.
+    pub layer: L,
+    ghost fit: { FitsBelow (L.table layer) (S.is below) },
+}
+
+impl<L: Rules + Copy, S: Behaves + Copy> Clone for Layered<L, S> {
+    ghost use Rattle.std.specs.Prelude.{◌≡◌, ⊤};
+
+    ghost is_clone = { λ r copy. copy ≡ r };
+
+    ghost is_infallible = { λ _. ⊤ };
+
+    fn clone(&self) -> Result<Self, AllocError> {
+        Ok(*self)
+    }
+}
+
+impl<L: Rules + Copy, S: Behaves + Copy> Copy for Layered<L, S> {}
+
+impl<L: Construction, S: Register> Layered<L, S> {
+    /// The construction over the register below. Refused as BadSize where the register hasn't the
+    /// processes or the values that its parts need or has depth 8, else as TooManyBits where there
+    /// would be more than 4,096 cells or 65,536 words.
+    pub fn new(below: S, layer: L) -> Result<Layered<L, S>, LayerError>
+        ensures refused { MatchResult result (λ _. refusal_below (L.table layer) (S.is below) ≡ None) (λ e. refusal_below (L.table layer) (S.is below) ≡ Some e) }
+        ensures built { IfOk result (λ r. ⟦<Layered<L, S> as Behaves>⟧.is r ≡ layered (L.table layer) (S.is below)) }
+        ensures below { IfOk result (λ r. r.below ≡ below) }
+    {
+        fits_below(&layer, &below)?;
+        Ok(Layered { below, layer })
+    }
+
+    /// The register below.
+    pub fn below(&self) -> S
+        ensures { result ≡ self.now.below }
+    {
+        self.below
+    }
+}
+
+impl<L: Rules, S: Behaves> Behaves for Layered<L, S> {
+    type Pending = Nested<L::Task, S::Pending>;
+
+    ghost is = { λ r. layered (L.table r.layer) (S.is r.below) };
+}
+
+impl<L: Construction, S: Register> Register for Layered<L, S> {
+    ghost use Rattle.layers.specs.Sound.{LayerHolds, LayerReaches};
+    ghost use Rattle.layers.specs.laws.Over.{over};
+    ghost use Rattle.layers.specs.laws.Layered.{layer_lawful};
+    ghost use Rattle.layers.specs.laws.Equality.{nested_decides, layered_alike, both_true};
+
+    ghost Holds = { λ r. LayerHolds (L.table r.layer) (S.is r.below) (S.Holds r.below) };
+
+    ghost Reaches = { λ r. LayerReaches (L.table r.layer) (L.Stands r.layer) (S.Reaches r.below) };
+
+    fn size(&self) -> Place {
+        drive::size(&self.layer, &self.below)
+    }
+
+    fn values(&self) -> u32 {
+        self.layer.values()
+    }
+
+    fn processes(&self) -> u32 {
+        self.layer.processes()
+    }
+
+    fn depth(&self) -> u32 {
+        drive::depth(&self.layer, &self.below)
+    }
+
+    fn fits(&self, who: u32, op: Op) -> bool {
+        self.layer.fits(who, op)
+    }
+
+    fn init(&self, store: &mut Store, at: Place, value: u32) {
+        drive::init(&self.layer, &self.below, store, at, value);
+    }
+
+    fn begin(&self, store: &mut Store, at: Place, who: u32, op: Op) -> Next<Self::Pending> {
+        drive::begin(&self.layer, &self.below, store, at, who, op)
+    }
+
+    fn go(
+        &self,
+        store: &mut Store,
+        at: Place,
+        pending: Self::Pending,
+        choice: bool,
+    ) -> Turned<Self::Pending> {
+        drive::go(&self.layer, &self.below, store, at, pending, choice)
+    }
+
+    fn stack(&self, alloc: Global, pending: &Self::Pending) -> Stack {
+        drive::stack(&self.layer, &self.below, alloc, pending)
+    }
+
+    fn action(&self, pending: &Self::Pending, at: Place) -> Action {
+        drive::action(&self.layer, &self.below, pending, at)
+    }
+
+    ghost lawful = { λ r. layer_lawful (over (S.lawful r.below) (L.sound r.layer) r.fit) };
+
+    ghost alike = { λ a b h. let both = both_true (S.PartialEq.eq a.below b.below) (L.PartialEq.eq a.layer b.layer) h in
+        layered_alike (L.table a.layer) (L.table b.layer) (S.is a.below) (S.is b.below) (L.alike a.layer b.layer both.1) (S.alike a.below b.below both.0) };
+
+    ghost same_pending = { nested_decides L.Task.PartialEq.eq S.Pending.PartialEq.eq L.same_task S.same_pending };
+}

@@ -1,0 +1,303 @@
+//! The rules of a matrix, whatever register stands below.
+
+ghost use Rattle.std.specs.Prelude.{◌≡◌, ℕ, ◌+◌, ◌-◌, ◌*◌, ◌<◌, ◌≤◌, ◌^◌, MatchResult, IfOk, Some, None};
+ghost use Rattle.layers.specs.declared.fit.TheConstants.{LEAST_PROCESSES, LEAST_VALUES, MOST_VALUES};
+ghost use Rattle.matrix.specs.declared.rules.TheConstants.{MOST_WRITERS};
+ghost use Rattle.layers.specs.Nested.{layered};
+ghost use Rattle.matrix.specs.Program.{matrix_table};
+ghost use Rattle.matrix.specs.Limits.{matrix_refusal};
+
+use crate::task::MatrixTask;
+use frames::register::{Behaves, Register};
+use frames::types::{Frame, FrameLayer, Layer, Op, Outcome};
+use layers::construction::{Construction, Rules};
+use layers::fit::{LEAST_PROCESSES, LEAST_VALUES, LayerError, MOST_VALUES};
+use layers::layered::Layered;
+use layers::nested::{Ask, Continuation};
+use safe_bit::Store;
+
+/// The most processes of a matrix, each of which writes.
+pub const MOST_WRITERS: u32 = 4;
+
+/// A register that each of n processes writes and reads, over n * n registers of tagged codes: an
+/// operation reads its column, and then writes the greatest code, or a write its own with a greater
+/// tag, to its row. It is this project's own, after an idea of Vitanyi and Awerbuch (1986).
+#[derive(Debug, PartialEq, Eq)]
+pub struct Matrix {
+    /// How many processes it has; there are as many rows and columns.
+    pub n: u32,
+    /// How many values it has.
+    pub values: u32,
+    /// The last tag.
+    pub last: u32,
+    ghost some: { LEAST_PROCESSES ≤ n },
+    ghost few: { n ≤ MOST_WRITERS },
+    ghost some_values: { LEAST_VALUES ≤ values },
+    ghost few_values: { values ≤ MOST_VALUES },
+    ghost few_tags: { last < MOST_VALUES },
+    ghost few_codes: { (last + 1) * n * values ≤ MOST_VALUES },
+}
+
+impl Clone for Matrix {
+    fn clone(&self) -> Result<Self, std::alloc::AllocError> {
+        Ok(*self)
+    }
+}
+
+impl Copy for Matrix {}
+
+impl Matrix {
+    /// The matrix of n processes, 2 to 4, and so many values, 2 to 512, with tags up to `last_tag`,
+    /// at most 511, over a register of `(last_tag + 1) * n * values` values, at most 512, and 2
+    /// processes. Refused as BadSize where one of these is broken or the register below has depth 8,
+    /// else as TooManyBits where there would be more than 4,096 cells or 65,536 words.
+    pub fn new<S: Register>(
+        below: S,
+        n: u32,
+        values: u32,
+        last_tag: u32,
+    ) -> Result<Layered<Matrix, S>, LayerError>
+        ensures refused { MatchResult result (λ _. matrix_refusal n values last_tag (S.is below) ≡ None) (λ e. matrix_refusal n values last_tag (S.is below) ≡ Some e) }
+        ensures built { IfOk result (λ r. ⟦<Layered<Matrix, S> as Behaves>⟧.is r ≡ layered (matrix_table n values last_tag) (S.is below)) }
+        ensures below { IfOk result (λ r. r.below ≡ below) }
+    {
+        if !(LEAST_PROCESSES..=MOST_WRITERS).contains(&n) {
+            return Err(LayerError::BadSize);
+        }
+        if values < LEAST_VALUES || values > MOST_VALUES || last_tag >= MOST_VALUES {
+            return Err(LayerError::BadSize);
+        }
+        if (last_tag + 1) * n * values > MOST_VALUES {
+            return Err(LayerError::BadSize);
+        }
+        let layer = Matrix {
+            n,
+            values,
+            last: last_tag,
+        };
+        Layered::new(below, layer)
+    }
+}
+
+impl Matrix {
+    ghost use Rattle.matrix.specs.Program.{codes, code_of, tag_of, row_from, behind_column, column_from, ValueFits};
+    ghost use Rattle.matrix.specs.Turns.{ComesTo};
+
+    /// What a process comes to that has read its column up to part `j`.
+    fn at_column(&self, who: u32, op: Op, j: u32, greatest: u32) -> Continuation<MatrixTask>
+        requires process { who < self.now.n }
+        requires part { j ≤ self.now.n }
+        requires value { ValueFits self.now.values op }
+        requires code { greatest < codes self.now.n self.now.values self.now.last }
+        ensures { ComesTo (column_from self.now.n self.now.values self.now.last who op (self.now.n - j) j greatest) result }
+    {
+        if j < self.n {
+            Continuation::Asks(MatrixTask::Column {
+                who,
+                op,
+                j,
+                greatest,
+            })
+        } else {
+            self.behind_column(who, op, greatest)
+        }
+    }
+
+    /// What a process comes to that has read its column.
+    fn behind_column(&self, who: u32, op: Op, greatest: u32) -> Continuation<MatrixTask>
+        requires process { who < self.now.n }
+        requires value { ValueFits self.now.values op }
+        requires code { greatest < codes self.now.n self.now.values self.now.last }
+        ensures { ComesTo (behind_column self.now.n self.now.values self.now.last who op greatest) result }
+    {
+        match op {
+            Op::Write(v) => {
+                let tag = self.tag_of(greatest);
+                if tag == self.last {
+                    return Continuation::Ends(Outcome::Spent(Layer::Matrix));
+                }
+                self.at_row(who, op, self.raised(tag, who, v))
+            }
+            Op::Read => self.at_row(who, op, greatest),
+        }
+    }
+
+    /// What a process comes to that is about to write its row.
+    fn at_row(&self, who: u32, op: Op, code: u32) -> Continuation<MatrixTask>
+        requires { who < self.now.n }
+        ensures { ComesTo (row_from self.now.n self.now.values who op self.now.n 0 code) result }
+    {
+        Continuation::Asks(MatrixTask::Row {
+            who,
+            op,
+            j: 0,
+            code,
+        })
+    }
+
+    /// What a process comes to that has written its row up to part `j`.
+    fn along_row(&self, who: u32, op: Op, j: u32, code: u32) -> Continuation<MatrixTask>
+        requires process { who < self.now.n }
+        requires part { j ≤ self.now.n }
+        ensures { ComesTo (row_from self.now.n self.now.values who op (self.now.n - j) j code) result }
+    {
+        if j < self.n {
+            return Continuation::Asks(MatrixTask::Row { who, op, j, code });
+        }
+        match op {
+            Op::Write(_) => Continuation::Ends(Outcome::Written),
+            Op::Read => Continuation::Ends(Outcome::Value(code % self.values)),
+        }
+    }
+
+    /// The tag of a code.
+    fn tag_of(&self, code: u32) -> u32
+        requires { code < codes self.now.n self.now.values self.now.last }
+        ensures tag { result ≡ tag_of self.now.n self.now.values code }
+        ensures few { result ≤ self.now.last }
+    {
+        code / (self.n * self.values)
+    }
+
+    /// The code of the next tag, a writer and a value.
+    fn raised(&self, tag: u32, who: u32, v: u32) -> u32
+        requires tag { tag < self.now.last }
+        requires process { who < self.now.n }
+        requires value { v < self.now.values }
+        ensures code { result ≡ code_of self.now.n self.now.values (tag + 1) who v }
+    {
+        ((tag + 1) * self.n + who) * self.values + v
+    }
+}
+
+impl Rules for Matrix {
+    type Task = MatrixTask;
+
+    ghost table = { λ l. matrix_table l.n l.values l.last };
+}
+
+impl Construction for Matrix {
+    ghost use Rattle.std.specs.Prelude.{refl};
+    ghost use Rattle.matrix.specs.Program.{matrix_table, MatrixStands};
+    ghost use Rattle.matrix.specs.Sound.{matrix_left, matrix_sound, task_eq, task_decides, table_alike};
+    ghost use Rattle.matrix.specs.declared.task.MatrixTask.TheVariants.{Column, Row};
+    ghost use Rattle.frames.specs.declared.types.Op.TheVariants.{Write, Read};
+    ghost use Rattle.layers.specs.laws.Equality.{decides_like};
+
+    ghost Stands = { λ l. MatrixStands l.n l.values l.last };
+
+    ghost left = { λ l. matrix_left l.n };
+
+    fn parts(&self) -> u32 {
+        self.n * self.n
+    }
+
+    fn words(&self) -> u32 {
+        0
+    }
+
+    fn values(&self) -> u32 {
+        self.values
+    }
+
+    fn processes(&self) -> u32 {
+        self.n
+    }
+
+    fn inner_values(&self) -> u32 {
+        (self.last + 1) * self.n * self.values
+    }
+
+    fn inner_processes(&self) -> u32 {
+        2
+    }
+
+    fn fits(&self, who: u32, op: Op) -> bool {
+        match op {
+            Op::Write(v) => who < self.n && v < self.values,
+            Op::Read => who < self.n,
+        }
+    }
+
+    fn first(&self, value: u32, _part: u32) -> u32 {
+        value
+    }
+
+    fn first_word(&self, _value: u32, _word: u32) -> u32
+        ensures { result ≡ 0 }
+    {
+        0
+    }
+
+    fn start(&self, _store: &mut Store, _base: u32, who: u32, op: Op) -> Continuation<MatrixTask> {
+        self.at_column(who, op, 0, 0)
+    }
+
+    fn after(
+        &self,
+        _store: &mut Store,
+        _base: u32,
+        task: MatrixTask,
+        outcome: Outcome,
+    ) -> Continuation<MatrixTask> {
+        match task {
+            MatrixTask::Column {
+                who,
+                op,
+                j,
+                greatest,
+            } => {
+                let greatest = match outcome {
+                    Outcome::Value(code) => greatest.max(code),
+                    _ => greatest,
+                };
+                self.at_column(who, op, j + 1, greatest)
+            }
+            MatrixTask::Row { who, op, j, code } => self.along_row(who, op, j + 1, code),
+        }
+    }
+
+    fn asks(&self, task: MatrixTask) -> Ask {
+        match task {
+            MatrixTask::Column { who, j, .. } => Ask {
+                part: j * self.n + who,
+                who: 1,
+                op: Op::Read,
+            },
+            MatrixTask::Row { who, j, code, .. } => Ask {
+                part: who * self.n + j,
+                who: 0,
+                op: Op::Write(code),
+            },
+        }
+    }
+
+    fn frame(&self, task: MatrixTask) -> Frame {
+        match task {
+            MatrixTask::Column {
+                op,
+                j,
+                greatest,
+                ..
+            } => Frame {
+                layer: FrameLayer::MatrixRead,
+                op,
+                i: j,
+                x: greatest,
+            },
+            MatrixTask::Row { op, j, code, .. } => Frame {
+                layer: FrameLayer::MatrixWrite,
+                op,
+                i: j,
+                x: code,
+            },
+        }
+    }
+
+    ghost sound = { λ l. matrix_sound l.n l.values l.last l.some l.some_values };
+
+    ghost alike = { λ a b h. table_alike a.n b.n a.values b.values a.last b.last h };
+
+    ghost same_task = { decides_like ⟦<MatrixTask as PartialEq>⟧.eq (task_eq ⟦<Op as PartialEq>⟧.eq) (elim [ Column _ _ _ _ ↦ elim [ Column _ _ _ _ ↦ refl | Row _ _ _ _ ↦ refl ] | Row _ _ _ _ ↦ elim [ Column _ _ _ _ ↦ refl | Row _ _ _ _ ↦ refl ] ])
+        (task_decides ⟦<Op as PartialEq>⟧.eq (elim [ Write _ ↦ elim [ Write _ ↦ refl | Read ↦ refl ] | Read ↦ elim [ Write _ ↦ refl | Read ↦ refl ] ])) };
+}

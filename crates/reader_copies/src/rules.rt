@@ -1,0 +1,175 @@
+//! The rules of copies, whatever register stands below.
+
+ghost use Rattle.std.specs.Prelude.{◌≡◌, ℕ, ◌<◌, ◌≤◌, ◌^◌, MatchResult, IfOk, Some, None};
+ghost use Rattle.layers.specs.declared.fit.TheConstants.{MOST_READERS};
+ghost use Rattle.layers.specs.OneWriter.{one_writer};
+ghost use Rattle.layers.specs.Nested.{layered};
+ghost use Rattle.reader_copies.specs.Program.{copies_table, copies_refusal};
+
+use crate::task::CopiesTask;
+use frames::register::{Behaves, Register};
+use frames::types::{Frame, FrameLayer, Op, Outcome};
+use layers::construction::{Construction, Rules, one_writer};
+use layers::fit::{LayerError, MOST_READERS};
+use layers::layered::Layered;
+use layers::nested::{Ask, Continuation};
+use safe_bit::Store;
+
+/// A register of several readers: a copy of a register of one reader for each of them. A write writes
+/// them one after the other, that for reader 1 first; a reader reads its own (Lamport 1986; Herlihy
+/// and Shavit, chapter 4).
+#[derive(Debug, PartialEq, Eq)]
+pub struct Copies {
+    /// How many readers there are, each with a copy of its own.
+    pub readers: u32,
+    /// How many values each copy has.
+    pub values: u32,
+    ghost some: { 1 ≤ readers },
+    ghost few: { readers ≤ MOST_READERS },
+}
+
+impl Clone for Copies {
+    fn clone(&self) -> Result<Self, std::alloc::AllocError> {
+        Ok(*self)
+    }
+}
+
+impl Copy for Copies {}
+
+impl Copies {
+    /// Copies of the register below for 1 to 4 readers. Refused as BadSize for any other number of
+    /// readers, or where the register below has fewer than 2 values, hasn't 2 processes or has depth
+    /// 8, else as TooManyBits where there would be more than 4,096 cells or 65,536 words.
+    pub fn new<S: Register>(below: S, readers: u32) -> Result<Layered<Copies, S>, LayerError>
+        ensures refused { MatchResult result (λ _. copies_refusal readers (S.is below) ≡ None) (λ e. copies_refusal readers (S.is below) ≡ Some e) }
+        ensures built { IfOk result (λ r. ⟦<Layered<Copies, S> as Behaves>⟧.is r ≡ layered (copies_table readers (S.is below).values) (S.is below)) }
+        ensures below { IfOk result (λ r. r.below ≡ below) }
+    {
+        if readers == 0 || readers > MOST_READERS {
+            return Err(LayerError::BadSize);
+        }
+        let layer = Copies {
+            readers,
+            values: below.values(),
+        };
+        Layered::new(below, layer)
+    }
+}
+
+impl Rules for Copies {
+    type Task = CopiesTask;
+
+    ghost table = { λ l. copies_table l.readers l.values };
+}
+
+impl Construction for Copies {
+    ghost use Rattle.std.specs.Prelude.{refl};
+    ghost use Rattle.reader_copies.specs.Program.{copies_table, CopiesStands};
+    ghost use Rattle.reader_copies.specs.Sound.{copies_left, copies_sound, task_eq, task_decides, layers_alike};
+    ghost use Rattle.reader_copies.specs.declared.task.CopiesTask.TheVariants.{Writing, Reading};
+    ghost use Rattle.layers.specs.laws.Equality.{decides_like};
+
+    ghost Stands = { λ l. CopiesStands l.readers l.values };
+
+    ghost left = { λ l. copies_left l.readers };
+
+    fn parts(&self) -> u32 {
+        self.readers
+    }
+
+    fn words(&self) -> u32 {
+        0
+    }
+
+    fn values(&self) -> u32 {
+        self.values
+    }
+
+    fn processes(&self) -> u32 {
+        self.readers + 1
+    }
+
+    fn inner_values(&self) -> u32 {
+        self.values
+    }
+
+    fn inner_processes(&self) -> u32 {
+        2
+    }
+
+    fn fits(&self, who: u32, op: Op) -> bool {
+        one_writer(self.values, self.readers + 1, who, op)
+    }
+
+    fn first(&self, value: u32, _part: u32) -> u32 {
+        value
+    }
+
+    fn first_word(&self, _value: u32, _word: u32) -> u32
+        ensures { result ≡ 0 }
+    {
+        0
+    }
+
+    #[tactic(auto, using(crate::specs::Sound::settled_more))]
+    fn start(&self, _store: &mut Store, _base: u32, who: u32, op: Op) -> Continuation<CopiesTask> {
+        Continuation::Asks(match op {
+            Op::Write(v) => CopiesTask::Writing { v, reader: 1 },
+            Op::Read => CopiesTask::Reading { reader: who },
+        })
+    }
+
+    #[tactic(auto, using(crate::specs::Sound::settled_more, crate::specs::Sound::settled_none))]
+    fn after(
+        &self,
+        _store: &mut Store,
+        _base: u32,
+        task: CopiesTask,
+        outcome: Outcome,
+    ) -> Continuation<CopiesTask> {
+        match task {
+            CopiesTask::Writing { v, reader } if reader < self.readers => Continuation::Asks(
+                CopiesTask::Writing {
+                    v,
+                    reader: reader + 1,
+                },
+            ),
+            CopiesTask::Writing { .. } => Continuation::Ends(Outcome::Written),
+            CopiesTask::Reading { .. } => Continuation::Ends(outcome),
+        }
+    }
+
+    fn asks(&self, task: CopiesTask) -> Ask {
+        match task {
+            CopiesTask::Writing { v, reader } => Ask {
+                part: reader - 1,
+                who: 0,
+                op: Op::Write(v),
+            },
+            CopiesTask::Reading { reader } => Ask {
+                part: reader - 1,
+                who: 1,
+                op: Op::Read,
+            },
+        }
+    }
+
+    fn frame(&self, task: CopiesTask) -> Frame {
+        let (op, reader) = match task {
+            CopiesTask::Writing { v, reader } => (Op::Write(v), reader),
+            CopiesTask::Reading { reader } => (Op::Read, reader),
+        };
+        Frame {
+            layer: FrameLayer::Copies,
+            op,
+            i: reader,
+            x: 0,
+        }
+    }
+
+    ghost sound = { λ l. copies_sound l.readers l.values l.some l.few };
+
+    ghost alike = { λ a b h. layers_alike a.readers b.readers a.values b.values h };
+
+    ghost same_task = { decides_like ⟦<CopiesTask as PartialEq>⟧.eq task_eq (elim [ Writing _ _ ↦ elim [ Writing _ _ ↦ refl | Reading _ ↦ refl ] | Reading _ ↦ elim [ Writing _ _ ↦ refl | Reading _ ↦ refl ] ]) task_decides };
+}

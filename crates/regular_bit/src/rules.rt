@@ -1,0 +1,163 @@
+//! The rules of a regular bit, whatever register stands below.
+
+ghost use Rattle.std.specs.Prelude.{◌≡◌, ℕ, ◌<◌, ◌≤◌, ◌^◌, MatchResult, IfOk, Some, None};
+ghost use Rattle.layers.specs.OneWriter.{one_writer};
+ghost use Rattle.layers.specs.Fit.{refusal_below};
+ghost use Rattle.layers.specs.Nested.{layered};
+ghost use Rattle.regular_bit.specs.Program.{regular_table};
+
+use crate::task::RegularTask;
+use frames::register::{Behaves, Register};
+use frames::types::{Frame, FrameLayer, Op, Outcome};
+use layers::construction::{Construction, Rules, one_writer};
+use layers::fit::LayerError;
+use layers::layered::Layered;
+use layers::nested::{Ask, Continuation};
+use safe_bit::Store;
+
+/// A regular bit over a register of two values: a write of the last value is done at once, any other
+/// writes below; a read reads below (Lamport 1986; Herlihy and Shavit, chapter 4).
+#[derive(Debug, PartialEq, Eq)]
+pub struct RegularBit {
+    /// How many processes it has: one writes, the others read.
+    pub processes: u32,
+    ghost some: { 0 < processes },
+}
+
+impl Clone for RegularBit {
+    fn clone(&self) -> Result<Self, std::alloc::AllocError> {
+        Ok(*self)
+    }
+}
+
+impl Copy for RegularBit {}
+
+impl RegularBit {
+    /// The regular bit over a register of two values, with that register's 2 to 5 processes. Refused
+    /// as BadSize where the register below hasn't two values, hasn't so many processes or has depth
+    /// 8, else as TooManyBits where there would be more than 4,096 cells or 65,536 words.
+    pub fn new<S: Register>(below: S) -> Result<Layered<RegularBit, S>, LayerError>
+        ensures refused { MatchResult result (λ _. refusal_below (regular_table (S.is below).processes) (S.is below) ≡ None)
+            (λ e. refusal_below (regular_table (S.is below).processes) (S.is below) ≡ Some e) }
+        ensures built { IfOk result (λ r. ⟦<Layered<RegularBit, S> as Behaves>⟧.is r ≡ layered (regular_table (S.is below).processes) (S.is below)) }
+        ensures below { IfOk result (λ r. r.below ≡ below) }
+    {
+        let processes = below.processes();
+        if processes == 0 {
+            return Err(LayerError::BadSize);
+        }
+        let layer = RegularBit { processes };
+        Layered::new(below, layer)
+    }
+}
+
+impl Rules for RegularBit {
+    type Task = RegularTask;
+
+    ghost table = { λ l. regular_table l.processes };
+}
+
+impl Construction for RegularBit {
+    ghost use Rattle.std.specs.Prelude.{refl};
+    ghost use Rattle.regular_bit.specs.Program.{regular_table, RegularStands};
+    ghost use Rattle.regular_bit.specs.Sound.{regular_sound, task_eq, task_decides, table_alike};
+    ghost use Rattle.regular_bit.specs.declared.task.RegularTask.TheVariants.{Writing, Reading};
+    ghost use Rattle.layers.specs.laws.Equality.{decides_like};
+
+    ghost Stands = { λ l. RegularStands l.processes };
+
+    ghost left = { λ _ _. 0 };
+
+    fn parts(&self) -> u32 {
+        1
+    }
+
+    fn words(&self) -> u32 {
+        1
+    }
+
+    fn values(&self) -> u32 {
+        2
+    }
+
+    fn processes(&self) -> u32 {
+        self.processes
+    }
+
+    fn inner_values(&self) -> u32 {
+        2
+    }
+
+    fn inner_processes(&self) -> u32 {
+        self.processes
+    }
+
+    fn fits(&self, who: u32, op: Op) -> bool {
+        one_writer(2, self.processes, who, op)
+    }
+
+    fn first(&self, value: u32, _part: u32) -> u32 {
+        value
+    }
+
+    fn first_word(&self, value: u32, _word: u32) -> u32 {
+        value
+    }
+
+    fn start(&self, store: &mut Store, base: u32, who: u32, op: Op) -> Continuation<RegularTask> {
+        match op {
+            Op::Write(v) => {
+                if store.word(base) == v {
+                    return Continuation::Ends(Outcome::Written);
+                }
+                store.set_word(base, v);
+                Continuation::Asks(RegularTask::Writing(v))
+            }
+            Op::Read => Continuation::Asks(RegularTask::Reading(who)),
+        }
+    }
+
+    fn after(
+        &self,
+        _store: &mut Store,
+        _base: u32,
+        _task: RegularTask,
+        outcome: Outcome,
+    ) -> Continuation<RegularTask> {
+        Continuation::Ends(outcome)
+    }
+
+    fn asks(&self, task: RegularTask) -> Ask {
+        match task {
+            RegularTask::Writing(v) => Ask {
+                part: 0,
+                who: 0,
+                op: Op::Write(v),
+            },
+            RegularTask::Reading(who) => Ask {
+                part: 0,
+                who,
+                op: Op::Read,
+            },
+        }
+    }
+
+    fn frame(&self, task: RegularTask) -> Frame {
+        let op = match task {
+            RegularTask::Writing(v) => Op::Write(v),
+            RegularTask::Reading(_) => Op::Read,
+        };
+        Frame {
+            layer: FrameLayer::Regular,
+            op,
+            i: 0,
+            x: 0,
+        }
+    }
+
+    ghost sound = { λ l. regular_sound l.processes l.some };
+
+    ghost alike = { λ a b h. table_alike a.processes b.processes h };
+
+    ghost same_task = { decides_like ⟦<RegularTask as PartialEq>⟧.eq task_eq (elim [ Writing _ ↦ elim [ Writing _ ↦ refl | Reading _ ↦ refl ] | Reading _ ↦ elim [ Writing _ ↦ refl | Reading _ ↦ refl ] ]) task_decides };
+}

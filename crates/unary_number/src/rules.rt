@@ -1,0 +1,220 @@
+//! The rules of a unary number, whatever registers stand below.
+
+ghost use Rattle.std.specs.Prelude.{◌≡◌, ℕ, ◌<◌, ◌≤◌, ◌+◌, ◌-◌, ◌^◌, MatchResult, IfOk, Some, None};
+ghost use Rattle.safe_bit.specs.Memory.{Memory};
+ghost use Rattle.frames.specs.declared.types.Outcome.TheVariants.{Value};
+ghost use Rattle.layers.specs.declared.fit.TheConstants.{LEAST_VALUES, MOST_VALUES};
+ghost use Rattle.layers.specs.Settled.{settled};
+ghost use Rattle.unary_number.specs.Program.{clears_below, looks_above, unary_table, unary_refusal};
+ghost use Rattle.layers.specs.Nested.{layered};
+
+use crate::task::UnaryTask;
+use frames::register::{Behaves, Register};
+use frames::types::{Frame, FrameLayer, Op, Outcome};
+use layers::construction::{Construction, Rules, one_writer};
+use layers::fit::{LEAST_VALUES, LayerError, MOST_VALUES};
+use layers::layered::Layered;
+use layers::nested::{Ask, Continuation};
+use safe_bit::Store;
+
+/// A unary number of 2 to 512 values over as many registers of two values, its bits: a write of x
+/// sets bit x and then clears the bits below it, downward; a read looks from bit 0 upward for the
+/// first 1 (Lamport 1986; Herlihy and Shavit, chapter 4).
+#[derive(Debug, PartialEq, Eq)]
+pub struct Unary {
+    /// How many values it has, and so how many bits.
+    pub values: u32,
+    /// How many processes it has: one writes, the others read.
+    pub processes: u32,
+    ghost two: { LEAST_VALUES ≤ values },
+    ghost few: { values ≤ MOST_VALUES },
+    ghost some: { 0 < processes },
+}
+
+impl Clone for Unary {
+    fn clone(&self) -> Result<Self, std::alloc::AllocError> {
+        Ok(*self)
+    }
+}
+
+impl Copy for Unary {}
+
+impl Unary {
+    /// The unary number of this many values over registers of two values, with those registers'
+    /// processes. Refused as BadSize where the values aren't 2 to 512, or where the register below
+    /// hasn't two values, hasn't 2 to 5
+    /// processes or has depth 8, else as TooManyBits where there would be more than 4,096
+    /// cells or 65,536 words.
+    pub fn new<S: Register>(below: S, values: u32) -> Result<Layered<Unary, S>, LayerError>
+        ensures refused { MatchResult result (λ _. unary_refusal values (S.is below) ≡ None) (λ e. unary_refusal values (S.is below) ≡ Some e) }
+        ensures built { IfOk result (λ r. ⟦<Layered<Unary, S> as Behaves>⟧.is r ≡ layered (unary_table values (S.is below).processes) (S.is below)) }
+        ensures below { IfOk result (λ r. r.below ≡ below) }
+    {
+        if !(LEAST_VALUES..=MOST_VALUES).contains(&values) {
+            return Err(LayerError::BadSize);
+        }
+        let processes = below.processes();
+        if processes == 0 {
+            return Err(LayerError::BadSize);
+        }
+        let layer = Unary { values, processes };
+        Layered::new(below, layer)
+    }
+}
+
+impl Unary {
+    /// A read by process `who` found 0 in bit `i`, behind which there are `left` more.
+    fn look_above(&self, who: u32, i: u32, left: u32) -> Continuation<UnaryTask>
+        requires { i + left < self.now.values }
+        ensures { (base : ℕ) (m : Memory) → settled base (looks_above (Value (self.now.values - 1)) who i left) m ≡ record { continuation = result; memory = m } }
+    {
+        if left == 0 {
+            return Continuation::Ends(Outcome::Value(self.values - 1));
+        }
+        Continuation::Asks(UnaryTask::Looking {
+            who,
+            i: i + 1,
+            left: left - 1,
+        })
+    }
+}
+
+/// A write of `x` has the bits below bit `i` left to clear.
+fn clear_below(x: u32, i: u32) -> Continuation<UnaryTask>
+    ensures { (base : ℕ) (m : Memory) → settled base (clears_below x i) m ≡ record { continuation = result; memory = m } }
+{
+    if i == 0 {
+        return Continuation::Ends(Outcome::Written);
+    }
+    Continuation::Asks(UnaryTask::Clearing { x, i: i - 1 })
+}
+
+impl Rules for Unary {
+    type Task = UnaryTask;
+
+    ghost table = { λ l. unary_table l.values l.processes };
+}
+
+impl Construction for Unary {
+    ghost use Rattle.std.specs.Prelude.{refl};
+    ghost use Rattle.unary_number.specs.Program.{unary_table, UnaryStands};
+    ghost use Rattle.unary_number.specs.Sound.{unary_left, unary_sound, task_eq, task_decides, table_alike};
+    ghost use Rattle.unary_number.specs.declared.task.UnaryTask.TheVariants.{Setting, Clearing, Looking};
+    ghost use Rattle.layers.specs.laws.Equality.{decides_like};
+
+    ghost Stands = { λ l. UnaryStands l.values l.processes };
+
+    ghost left = { λ _. unary_left };
+
+    fn parts(&self) -> u32 {
+        self.values
+    }
+
+    fn words(&self) -> u32 {
+        0
+    }
+
+    fn values(&self) -> u32 {
+        self.values
+    }
+
+    fn processes(&self) -> u32 {
+        self.processes
+    }
+
+    fn inner_values(&self) -> u32 {
+        2
+    }
+
+    fn inner_processes(&self) -> u32 {
+        self.processes
+    }
+
+    fn fits(&self, who: u32, op: Op) -> bool {
+        one_writer(self.values, self.processes, who, op)
+    }
+
+    fn first(&self, value: u32, bit: u32) -> u32 {
+        u32::from(bit == value)
+    }
+
+    fn first_word(&self, _value: u32, _word: u32) -> u32
+        ensures { result ≡ 0 }
+    {
+        0
+    }
+
+    fn start(&self, _store: &mut Store, _base: u32, who: u32, op: Op) -> Continuation<UnaryTask> {
+        match op {
+            Op::Write(x) => Continuation::Asks(UnaryTask::Setting(x)),
+            Op::Read => Continuation::Asks(UnaryTask::Looking {
+                who,
+                i: 0,
+                left: self.values - 1,
+            }),
+        }
+    }
+
+    fn after(
+        &self,
+        _store: &mut Store,
+        _base: u32,
+        task: UnaryTask,
+        outcome: Outcome,
+    ) -> Continuation<UnaryTask> {
+        match task {
+            UnaryTask::Setting(x) => clear_below(x, x),
+            UnaryTask::Clearing { x, i } => clear_below(x, i),
+            UnaryTask::Looking { who, i, left } => match outcome {
+                Outcome::Value(bit) => {
+                    if bit == 1 {
+                        Continuation::Ends(Outcome::Value(i))
+                    } else {
+                        self.look_above(who, i, left)
+                    }
+                }
+                Outcome::Written | Outcome::Spent(_) => Continuation::Ends(outcome),
+            },
+        }
+    }
+
+    fn asks(&self, task: UnaryTask) -> Ask {
+        match task {
+            UnaryTask::Setting(x) => Ask {
+                part: x,
+                who: 0,
+                op: Op::Write(1),
+            },
+            UnaryTask::Clearing { x: _, i } => Ask {
+                part: i,
+                who: 0,
+                op: Op::Write(0),
+            },
+            UnaryTask::Looking { who, i, left: _ } => Ask {
+                part: i,
+                who,
+                op: Op::Read,
+            },
+        }
+    }
+
+    fn frame(&self, task: UnaryTask) -> Frame {
+        let (op, i) = match task {
+            UnaryTask::Setting(x) => (Op::Write(x), x),
+            UnaryTask::Clearing { x, i } => (Op::Write(x), i),
+            UnaryTask::Looking { who: _, i, left: _ } => (Op::Read, i),
+        };
+        Frame {
+            layer: FrameLayer::Unary,
+            op,
+            i,
+            x: 0,
+        }
+    }
+
+    ghost sound = { λ l. unary_sound l.values l.processes l.two l.some };
+
+    ghost alike = { λ a b h. table_alike a.values b.values a.processes b.processes h };
+
+    ghost same_task = { decides_like ⟦<UnaryTask as PartialEq>⟧.eq task_eq (elim [ Setting _ ↦ elim [ Setting _ ↦ refl | Clearing _ _ ↦ refl | Looking _ _ _ ↦ refl ] | Clearing _ _ ↦ elim [ Setting _ ↦ refl | Clearing _ _ ↦ refl | Looking _ _ _ ↦ refl ] | Looking _ _ _ ↦ elim [ Setting _ ↦ refl | Clearing _ _ ↦ refl | Looking _ _ _ ↦ refl ] ]) task_decides };
+}

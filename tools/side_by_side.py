@@ -1,0 +1,293 @@
+"""The crates of this repository, and work on them side by side.
+
+`rt` lets one run at a time into a crate and all that it stands on, so two crates over one library wait for each other.
+Here each crate is worked on in a tree of its own, a scratch folder that has the crate's files and the libraries below it as
+they are built; what was made is then put back. Needs Python 3.8, as `rt` does.
+"""
+import collections
+import fcntl
+import os
+import re
+import shutil
+import signal
+import subprocess
+import sys
+import tempfile
+import threading
+import time
+from concurrent.futures import FIRST_COMPLETED, ThreadPoolExecutor, wait
+
+TOP = os.path.dirname(os.path.dirname(os.path.realpath(__file__)))
+PARTS = ("src", "specs", "proofs")
+# A check takes 1 to 3 GB.
+MEMORY_OF_A_CHECK = 3 * 10**9
+# It gains little from more than 4 processors.
+JOBS_OF_A_CHECK = 4
+SECONDS_BETWEEN_NEWS = 60
+LINES_SHOWN = 20
+
+# waits: the keys of the tasks that have to go well first; lines: about how long it takes; most_jobs: how many processors it can
+# use; work: is given how many it may use, and returns whether it went well.
+Task = collections.namedtuple("Task", "waits lines most_jobs work")
+
+
+def say(text):
+    print(f"towerbench: {text}", file=sys.stderr, flush=True)
+
+
+def rows():
+    """Returns the row of each crate in crates.txt, by its name."""
+    found = {}
+    with open(f"{TOP}/crates.txt", encoding="utf-8") as file:
+        for line in file:
+            head, colon, libraries = line.partition("#")[0].strip().partition(":")
+            if head:
+                found[head.split()[0]] = head + colon + libraries
+    return found
+
+
+def crates_of():
+    """Returns each crate of crates.txt, with the crates of the repository that it stands on."""
+    libraries = {name: row.partition(":")[2].replace(",", " ").split() for name, row in rows().items()}
+    return {name: [it for it in below if it in libraries] for name, below in libraries.items()}
+
+
+def all_below(crates, name):
+    """Returns all that a crate stands on, each after what it stands on itself."""
+    found = []
+    for it in crates[name]:
+        found += [lower for lower in [*all_below(crates, it), it] if lower not in found]
+    return found
+
+
+def lines_of(name):
+    """Returns how many lines a crate's files have."""
+    count = 0
+    for part in PARTS:
+        for folder, _, files in os.walk(f"{TOP}/crates/{name}/{part}"):
+            for it in files:
+                with open(f"{folder}/{it}", "rb") as file:
+                    count += file.read().count(b"\n")
+    return count
+
+
+def is_program(name):
+    return os.path.isfile(f"{TOP}/crates/{name}/src/main.rt")
+
+
+def link_or_copy(source, target):
+    try:
+        os.link(source, target)
+    except OSError:
+        shutil.copy2(source, target)
+
+
+class Tree:
+    """A scratch tree for work on one crate, which nothing else works on meanwhile. Used by `with`."""
+
+    def __init__(self, crates, name, has_out=True):
+        self.name, self.below, self.has_out = name, all_below(crates, name), has_out
+        self.top = tempfile.mkdtemp(prefix="towerbench-")
+        self.folder, self.home = f"{self.top}/crates/{name}", f"{TOP}/crates/{name}"
+        self.held = {}
+
+    def __enter__(self):
+        try:
+            # (in the order of `rt`, so that neither waits for the other in a ring)
+            for it in sorted([*self.below, self.name]):
+                self.held[it] = lock(f"{TOP}/crates/{it}", fcntl.LOCK_EX if it == self.name else fcntl.LOCK_SH)
+            self.fill()
+        except BaseException:
+            self.__exit__()
+            raise
+        for it in self.below:
+            os.close(self.held.pop(it))
+        return self
+
+    def __exit__(self, *_):
+        shutil.rmtree(self.top, ignore_errors=True)
+        for it in self.held.values():
+            os.close(it)
+
+    def fill(self):
+        with open(f"{self.top}/crates.txt", "w", encoding="utf-8") as listed:
+            listed.writelines(f"{row}\n" for it, row in rows().items() if it in (*self.below, self.name))
+        for it in [*self.below, self.name]:
+            for part in PARTS:
+                self.bring(f"crates/{it}/{part}", shutil.copy2)
+            # (a library that is built is only read, so a link to it serves)
+            if it != self.name:
+                self.bring(f"crates/{it}/out/rlib", link_or_copy)
+        if self.has_out:
+            self.bring(f"crates/{self.name}/out", link_or_copy)
+        os.makedirs(f"{self.folder}/out", exist_ok=True)
+
+    def bring(self, path, copy):
+        if os.path.isdir(f"{TOP}/{path}"):
+            shutil.copytree(f"{TOP}/{path}", f"{self.top}/{path}", copy_function=copy)
+
+    def put_back(self):
+        """Gives the crate what was made in out/."""
+        shutil.rmtree(f"{self.home}/out", ignore_errors=True)
+        shutil.move(f"{self.folder}/out", f"{self.home}/out")
+
+
+def lock(folder, kind):
+    """Waits until no other run works in the folder, and returns what keeps others out until it is closed."""
+    held, has_said = os.open(folder, os.O_RDONLY), False
+    while not PROCESSES.are_ended:
+        try:
+            fcntl.flock(held, kind | fcntl.LOCK_NB)
+            break
+        except BlockingIOError:
+            if not has_said:
+                say(f"waiting for another run to finish in {os.path.relpath(folder)}")
+            has_said = True
+            time.sleep(0.2)
+        except OSError:
+            # Some file systems have no locks.
+            break
+    return held
+
+
+class Processes:
+    """The commands that are running, so that all can be ended at once."""
+
+    def __init__(self):
+        self.running, self.are_ended, self.turn = set(), False, threading.Lock()
+
+    def call(self, words, folder, log):
+        """Runs a command with no input, and returns whether it ended with status 0."""
+        with open(log, "wb") as out:
+            with self.turn:
+                if self.are_ended:
+                    return False
+                how = {"stdin": subprocess.DEVNULL, "stdout": out, "stderr": subprocess.STDOUT}
+                process = subprocess.Popen(words, cwd=folder, **how)
+                self.running.add(process)
+            status = process.wait()
+            with self.turn:
+                self.running.discard(process)
+        return status == 0
+
+    def end_all(self):
+        with self.turn:
+            self.are_ended = True
+            for it in self.running:
+                it.terminate()
+
+
+PROCESSES = Processes()
+
+
+def prove(crates, name, jobs):
+    """Proves and builds one crate over those below it, and returns whether it is proved."""
+    with Tree(crates, name) as tree:
+        # (a program is built by `rt run`, which also runs it, here on no input)
+        verb = "run" if is_program(name) else "lib"
+        log = f"{tree.folder}/out/prove.log"
+        is_proved = PROCESSES.call(["rt", verb, "--jobs", str(jobs)], tree.folder, log)
+        has_failed = not is_proved and not PROCESSES.are_ended
+        tree.put_back()
+    if has_failed:
+        show_failure(f"{TOP}/crates/{name}/out/prove.log", name)
+    return is_proved
+
+
+def show_failure(log, name):
+    with open(log, encoding="utf-8", errors="replace") as it:
+        lines = it.read().splitlines()
+    say(f"{name} is not proved; all that its proof said is in {os.path.relpath(log)}, which ends:")
+    print(*lines[-LINES_SHOWN:], sep="\n", file=sys.stderr, flush=True)
+
+
+def proofs(crates, names):
+    """Returns the tasks that prove these crates and all that they stand on, by their names."""
+    wanted = {it for name in names for it in [*all_below(crates, name), name]}
+    return {
+        name: Task(crates[name], lines_of(name), JOBS_OF_A_CHECK, lambda jobs, it=name: prove(crates, it, jobs))
+        for name in crates
+        if name in wanted
+    }
+
+
+def number_in(file, pattern):
+    try:
+        with open(file, encoding="utf-8") as it:
+            return int(re.search(pattern, it.read()).group(1))
+    except (OSError, AttributeError):
+        return None
+
+
+def lanes():
+    """Returns how many checks may run side by side: one a processor, as many as memory holds, and at least one."""
+    processors = len(os.sched_getaffinity(0))
+    quota, period = (number_in("/sys/fs/cgroup/cpu.max", it) for it in (r"^(\d+)", r" (\d+)"))
+    if quota and period:
+        processors = min(processors, quota // period)
+    free = 1024 * (number_in("/proc/meminfo", r"MemAvailable:\s+(\d+)") or 0)
+    limit, held = number_in("/sys/fs/cgroup/memory.max", r"(\d+)"), number_in("/sys/fs/cgroup/memory.stat", r"anon (\d+)")
+    if limit and held is not None:
+        free = min(free, limit - held)
+    return max(1, min(processors, free // MEMORY_OF_A_CHECK))
+
+
+def chains(tasks):
+    """Returns for each task the lines of the longest chain of tasks that begins with it."""
+    found = {}
+
+    def of(key):
+        if key not in found:
+            above = [it for it, task in tasks.items() if key in task.waits]
+            found[key] = tasks[key].lines + max(map(of, above), default=0)
+        return found[key]
+
+    for key in tasks:
+        of(key)
+    return found
+
+
+def run_side_by_side(tasks, tell):
+    """Runs the tasks, those with the longest chain behind them first, and returns whether all went well.
+
+    Once one fails, the others are ended. `tell` is given those that are done and those that run, each with its seconds, whenever
+    that changes and once a minute."""
+    free, chain = lanes(), chains(tasks)
+    left, running, done = sorted(tasks, key=lambda it: -chain[it]), {}, {}
+    is_well = True
+    with ThreadPoolExecutor(free) as pool:
+        try:
+            while running or (left and is_well):
+                ready = [it for it in left if is_well and all(below in done for below in tasks[it].waits)]
+                for at, key in enumerate(ready):
+                    if free:
+                        # (a processor that no other task waits for goes to the proof that begins now)
+                        jobs = max(1, min(tasks[key].most_jobs, free // (len(ready) - at)))
+                        left.remove(key)
+                        free -= jobs
+                        running[pool.submit(tasks[key].work, jobs)] = key, jobs, time.monotonic()
+                now = time.monotonic()
+                tell(done, {key: now - since for key, _, since in running.values()})
+                for it in wait(running, SECONDS_BETWEEN_NEWS, FIRST_COMPLETED).done:
+                    key, jobs, since = running.pop(it)
+                    free += jobs
+                    if it.result():
+                        done[key] = time.monotonic() - since
+                    elif is_well:
+                        is_well = False
+                        PROCESSES.end_all()
+        except BaseException:
+            PROCESSES.end_all()
+            raise
+    if is_well:
+        tell(done, {})
+    return is_well
+
+
+def end_by_signals():
+    """Has a request to end the run end its commands too, and remove its scratch trees."""
+    def end(*_):
+        raise SystemExit(130)
+
+    for it in (signal.SIGINT, signal.SIGTERM, signal.SIGHUP):
+        signal.signal(it, end)
