@@ -294,3 +294,18 @@ fn steps_beyond_the_cells(rt: HostRuntime) -> Result<(), Fail> {
     assert_eq!(rt; answers.as_slice(), b"0: edit 1\n".as_slice());
     Ok(())
 }
+
+/// A thousand steps: writes of 1 and of 0, one after the other, and the invocation of one more.
+#[test]
+fn thousand_steps(rt: HostRuntime) -> Result<(), Fail> {
+    let mut file = Vec::from_slice(rt.alloc(), b"tower 1\nsafe 0\n".as_slice())?;
+    for _ in 0..166 {
+        file.extend_from_slice(b"w 0 1\ng 0 0\ng 0 0\nw 0 0\ng 0 0\ng 0 0\n".as_slice())?;
+    }
+    file.extend_from_slice(b"w 0 1\ng 0 0\ng 0 0\nw 0 0\n".as_slice())?;
+    let want =
+        "0: state main 1000 of 1000\n  p0 write 0 next ws 0\n  p1 idle\n  bits 1\n  words -\n";
+    let answers = written(rt.alloc(), file.as_slice(), 65536, "0 state main 1000\n")?;
+    assert_eq!(rt; answers.as_slice(), want.as_bytes());
+    Ok(())
+}
