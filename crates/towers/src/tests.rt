@@ -55,7 +55,7 @@ fn frame(layer: FrameLayer, op: Op, i: u32) -> Frame {
 }
 
 /// What a register tells of itself: its size, values, processes and depth.
-fn numbers<R: Register>(register: &R) -> (Place, u32, u32, u32) {
+fn shape_of<R: Register>(register: &R) -> (Place, u32, u32, u32) {
     (
         register.size(),
         register.values(),

@@ -1,6 +1,6 @@
 //! Copies over safe bits: which can be built, how large they are, and an overlapped write.
 
-use super::{frame, numbers, replayed, stands_in};
+use super::{frame, replayed, shape_of, stands_in};
 use frames::register::Register;
 use frames::safe::Safe;
 use frames::types::{Action, ActionKind, Event, FrameLayer, Op, Step};
@@ -27,7 +27,7 @@ fn limits<S: Register>(rt: &impl Abort, below: S) {
                     cell: readers,
                     word: 0,
                 };
-                assert_eq!(rt; numbers(&copies), (size, 2, readers + 1, 2), "{readers}");
+                assert_eq!(rt; shape_of(&copies), (size, 2, readers + 1, 2), "{readers}");
             }
             Err(error) => assert!(rt; false, "{error}"),
         }

@@ -3,7 +3,7 @@
 ghost use Rattle.std.specs.Prelude.{◌≡◌, IfOk, length};
 
 use super::read_first::ReadFirst;
-use super::{frame, numbers, replayed, stands_in};
+use super::{frame, replayed, shape_of, stands_in};
 use crate::{matrix, stamped, unary};
 use frames::register::Register;
 use frames::safe::Safe;
@@ -246,7 +246,7 @@ fn built<S: Register>(
         Ok(matrix) => {
             assert_eq!(rt; Ok(matrix.size()), wanted, "{numbers:?}");
             assert_eq!(rt;
-                numbers(&matrix),
+                shape_of(&matrix),
                 (matrix.size(), values, n, 6),
                 "{numbers:?}"
             );

@@ -1,6 +1,6 @@
 //! Regular bits over copies of safe bits: which can be built, how large they are, and their steps.
 
-use super::{frame, numbers, replayed, stands_in};
+use super::{frame, replayed, shape_of, stands_in};
 use crate::regular;
 use frames::register::Register;
 use frames::safe::Safe;
@@ -23,8 +23,8 @@ fn rows<R: Register>(
 ) -> Result<(), AllocError> {
     regular_same_value(rt, alloc, of_one)?;
     word_is_set_first(rt, alloc, of_two)?;
-    assert_eq!(rt; numbers(&of_one), (Place { cell: 1, word: 1 }, 2, 2, 3));
-    assert_eq!(rt; numbers(&of_four), (Place { cell: 4, word: 1 }, 2, 5, 3));
+    assert_eq!(rt; shape_of(&of_one), (Place { cell: 1, word: 1 }, 2, 2, 3));
+    assert_eq!(rt; shape_of(&of_four), (Place { cell: 4, word: 1 }, 2, 5, 3));
     assert!(rt; of_four == of_four);
     assert!(rt; of_four != of_two);
     Ok(())

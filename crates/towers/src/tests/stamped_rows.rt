@@ -3,7 +3,7 @@
 
 ghost use Rattle.std.specs.Prelude.{◌≡◌, IfOk, length};
 
-use super::{frame, numbers, replayed, stands_in};
+use super::{frame, replayed, shape_of, stands_in};
 use crate::{stamped, unary};
 use frames::register::Register;
 use frames::types::{Action, ActionKind, Event, Frame, FrameLayer, Layer, Op, Step};
@@ -171,7 +171,7 @@ fn built<S: Register>(
         Ok(stamped) => {
             assert_eq!(rt; Ok(stamped.size()), wanted, "{values} {last}");
             assert_eq!(rt;
-                numbers(&stamped),
+                shape_of(&stamped),
                 (stamped.size(), values, 2, 5),
                 "{values} {last}"
             );

@@ -3,7 +3,7 @@
 
 ghost use Rattle.std.specs.Prelude.{◌≡◌, IfOk, length};
 
-use super::{frame, numbers, replayed, stands_in};
+use super::{frame, replayed, shape_of, stands_in};
 use crate::{regular, unary};
 use frames::register::Register;
 use frames::types::{Action, ActionKind, Event, FrameLayer, Op, Step};
@@ -156,7 +156,7 @@ fn limits<S: Register>(rt: &impl Abort, bits: S) {
         match Unary::new(bits, values) {
             Ok(unary) => {
                 let size = Place { cell, word };
-                assert_eq!(rt; numbers(&unary), (size, values, 5, 4), "{values}");
+                assert_eq!(rt; shape_of(&unary), (size, values, 5, 4), "{values}");
             }
             Err(error) => assert!(rt; false, "{error}"),
         }
