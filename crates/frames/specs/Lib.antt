@@ -2,6 +2,7 @@ pub mod Behaviour
 pub mod Placed
 pub mod SafeBit
 pub mod Fitting
+pub mod OneWriter
 pub mod Configuration
 pub mod Parked
 pub mod Equality

@@ -9,7 +9,7 @@ use Rattle.frames.specs.declared.types.Op.{Op}
 use Rattle.frames.specs.declared.types.Op.TheVariants as op
 use Rattle.frames.specs.declared.types.Step.{Step}
 use Rattle.frames.specs.declared.types.Step.TheVariants as step
-use Rattle.frames.specs.OneWriter.{nobody_else, no_other_value}
+use Rattle.frames.specs.laws.OneWriter.{nobody_else, no_other_value}
 use Rattle.tower_file.specs.declared.tower.TowerSpec.{TowerSpec}
 use Rattle.tower_file.specs.declared.tower.TowerSpec.TheVariants.{Safe, Copies, Regular, Unary, Stamped, Matrix}
 use Rattle.tower_file.specs.declared.fault.FaultKind.TheVariants.{BadHeader, BadStep}

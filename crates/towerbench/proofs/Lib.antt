@@ -1,8 +1,9 @@
 pub mod Splits
-pub mod Digits
 pub mod PageLines
 pub mod Fronts
 pub mod Tellings
-pub mod Streams
+pub mod Known
+pub mod Turns
 pub mod Opened
 pub mod CommandLines
+pub mod Endings

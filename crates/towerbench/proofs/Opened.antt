@@ -1,28 +1,61 @@
--- What goes out where a file is opened.
-use Rattle.std.proofs.Common.{◌≡◌, ℕ, Bool, List, Option, Some, None, Result, Ok, Err, OnOk, subst, sym, ap, ◌∙◌}
-use Rattle.std.specs.Prelude.{IfSome}
-use Rattle.std.specs.Io.KnownBytes.{Appends}
+-- What a run over a file comes to, from what one over its register and steps comes to.
+use Rattle.std.proofs.Common.{◌≡◌, ◌≤◌, ℕ, List, length, Option, Result, Ok, Err, OnOk, subst, sym, ap, ◌∙◌}
+use Rattle.std.specs.Prelude.{⊤, IfErr}
+use Rattle.std.specs.Result.{IsErrAnd}
 use Rattle.frames.specs.declared.types.Step.{Step}
 use Rattle.frames.specs.Behaviour.{Behaviour}
 use Rattle.tower_file.specs.declared.tower.TowerSpec.{TowerSpec}
 use Rattle.tower_file.specs.Files.{File}
+use Rattle.towerbench.specs.declared.fault.StreamFault.{StreamFault}
+use Rattle.towerbench.specs.declared.fault.StreamFault.TheVariants as streams
+use Rattle.towerbench.specs.declared.fault.Fault.{Fault}
+use Rattle.towerbench.specs.declared.fault.Fault.TheVariants as fault
 use Rattle.towerbench.specs.World.{opening}
-use Rattle.towerbench.specs.Output.{output}
-use Rattle.towerbench.specs.Opening.{opened, output_of, output_on}
+use Rattle.towerbench.specs.Answers.{answer_line}
+use Rattle.towerbench.specs.Scripts.{answers_to}
+use Rattle.towerbench.specs.Conversations.{Answering, Breaks}
+use Rattle.towerbench.specs.Faults.{of_streams}
+use Rattle.towerbench.specs.Opening.{opened, answers_of, answers_on, IsBroken, FailsOver, EndsOver, Ran, RanInto}
 
--- what a run wrote on a tower is what it writes on the file of this tower
-pub on_file : {P T E : Type 0} (r : Result T E) (remaining before after : Option (List ℕ)) (cells value : ℕ) (b d : Behaviour P) (steps : List Step) (tower given : TowerSpec) (f : File)
-    → b ≡ d → steps ≡ f.steps → given ≡ f.spec → given ≡ tower → ((ss : List Step) → output_of tower ss ≡ output (opening d value ss))
-    → OnOk r (IfSome remaining (λ script. (marks : ℕ → Bool) × Appends before after (output (opening b value steps) cells script marks)))
-    → OnOk r (IfSome remaining (λ script. (marks : ℕ → Bool) × Appends before after (output_on f cells script marks)))
-on_file r remaining before after cells value b d steps tower given f same_tower same_steps spec is written h =
-    subst (λ o. OnOk r (IfSome remaining (λ script. (marks : ℕ → Bool) × Appends before after (o script marks))))
-    ((λ i. output (opening (same_tower i) value (same_steps i)) cells) ∙ sym (ap (λ o. o cells) (written f.steps)) ∙ ap (λ t. output_of t f.steps cells) (sym is ∙ spec)) h
+module _ (old now before after : Option (List ℕ)) where
+  -- what a run over a register comes to is what it comes to over the file of its tower
+  pub on_file : {P : Type 0} (r : Result ⊤ Fault) (cells value : ℕ) (b d : Behaviour P) (steps : List Step) (tower given : TowerSpec) (f : File)
+      → b ≡ d → steps ≡ f.steps → given ≡ f.spec → given ≡ tower → ((ss : List Step) → answers_of tower cells ss ≡ answers_to answer_line (opening d value cells ss))
+      → EndsOver cells steps (answers_to answer_line (opening b value cells steps)) old now before after r
+      → EndsOver cells f.steps (answers_on f cells) old now before after r
+  on_file {P} r cells value b d steps tower given f same_tower same_steps spec is written h =
+      subst (λ (a : Answering). EndsOver cells f.steps a old now before after r)
+      (sym (written f.steps) ∙ ap (λ t. answers_of t cells f.steps) (sym is ∙ spec))
+      (subst (λ (ss : List Step). EndsOver cells ss (answers_to answer_line (opening d value cells ss)) old now before after r) same_steps
+      (subst (λ (x : Behaviour P). EndsOver cells steps (answers_to answer_line (opening x value cells steps)) old now before after r) same_tower h))
 
--- the same, told of the file that the bytes spell
-pub with_file : {T E : Type 0} (r : Result T E) (remaining before after file : Option (List ℕ)) (cells : ℕ) (f : File) → opened file ≡ Ok f
-    → OnOk r (IfSome remaining (λ script. (marks : ℕ → Bool) × Appends before after (output_on f cells script marks)))
-    → OnOk r (IfSome remaining (λ script. (x : File) × ((opened file ≡ Ok x) × ((marks : ℕ → Bool) × Appends before after (output_on x cells script marks)))))
-with_file (Ok x) (Some script) before after file cells f e h = (f, (e, h))
-with_file (Ok x) None before after file cells f e h = tt
-with_file (Err y) remaining before after file cells f e h = tt
+  module _ (cells : ℕ) (steps : List Step) (answering : Answering) where
+    by_fault : (e : StreamFault) → length steps ≤ cells → Breaks answering e old now before after → FailsOver cells steps answering old now before after (of_streams e)
+    by_fault streams.Read room b = record { room = room; broke = b }
+    by_fault streams.Write room b = record { room = room; broke = b }
+    by_fault streams.TooLong room b = record { room = room; broke = b }
+    by_fault streams.Memory room b = record { room = room; broke = b }
+
+    -- a fault of the streams, handed on
+    pub handed : (r : Result ⊤ Fault) (e : StreamFault) (Is : Fault → Type 0) → IsErrAnd r Is → ((x : Fault) → Is x → x ≡ of_streams e) → length steps ≤ cells
+        → Breaks answering e old now before after → EndsOver cells steps answering old now before after r
+    handed (Ok done) e Is k same room b = absurd k
+    handed (Err x) e Is k same room b = subst (λ (y : Fault). FailsOver cells steps answering old now before after y) (sym (same x k)) (by_fault e room b)
+
+  -- what a run comes to, clause by clause, told of the file that the bytes spell
+  module _ (file : Option (List ℕ)) (cells : ℕ) where
+    abbrev Runs : Result ⊤ Fault → Type 0
+    Runs r = record { done : OnOk r (Ran file cells old now before after); fault : IfErr r (RanInto file cells old now before after) }
+
+    module _ (f : File) (is : opened file ≡ Ok f) where
+      over_open : (x : Fault) → FailsOver cells f.steps (answers_on f cells) old now before after x → RanInto file cells old now before after x
+      over_open (fault.File e) h = absurd h
+      over_open (fault.Refused e) h = (f, (is, h))
+      over_open fault.Read h = (f, (is, h))
+      over_open fault.Write h = (f, (is, h))
+      over_open fault.TooLong h = (f, (is, h))
+      over_open fault.Memory h = (f, (is, h))
+
+      pub with_file : (r : Result ⊤ Fault) → EndsOver cells f.steps (answers_on f cells) old now before after r → Runs r
+      with_file (Ok done) h = record { done = (f, (is, h)); fault = tt }
+      with_file (Err x) h = record { done = tt; fault = over_open x h }

@@ -17,6 +17,7 @@ use Rattle.towerbench.specs.declared.reply.Reply.TheVariants.{Refused}
 use Rattle.towerbench.specs.Refusals.{first_refusal}
 use Rattle.towerbench.specs.Lines.{read_line}
 use Rattle.towerbench.specs.World.{World, Acted, edit_by, look_refusals}
+use Rattle.towerbench.specs.Scripts.{Answered}
 use Rattle.towerbench.specs.Texts.{answer_text, bad_line_text}
 use Rattle.towerbench.specs.Frames.{pending_lines}
 use Rattle.towerbench.specs.Pages.{page_head, steps_head, state_lines, one_process, memory_lines, history_lines, step_lines}
@@ -59,30 +60,25 @@ abbrev pub look_text : Bool → ℕ → Option Refusal → List ℕ → List ℕ
 look_text false session refusal page = page_unless refusal session page
 look_text true session refusal page = answer_text session (Refused Memory)
 
--- what a line leaves, and the bytes that it answers
-pub record Answered (P : Type 0) : Type 0 where
-  pub world : World P
-  pub text : List ℕ
-
 -- a command of a session, where there is memory for it
-abbrev pub replied : {P : Type 0} → ℕ → Acted P → Answered P
+abbrev pub replied : {P : Type 0} → ℕ → Acted P → Answered (World P)
 replied session acted = record { world = acted.world; text = answer_text session acted.reply }
 
-abbrev pub performed : {P : Type 0} → ℕ → ℕ → Command → World P → Answered P
-performed cells session (Edit branch edit) w = replied session (edit_by cells session branch edit w)
-performed cells session (Look branch query) w =
+abbrev pub performed : {P : Type 0} → ℕ → Command → World P → Answered (World P)
+performed session (Edit branch edit) w = replied session (edit_by session branch edit w)
+performed session (Look branch query) w =
     record { world = w; text = page_unless (first_refusal (look_refusals branch query w)) session (page session query w) }
 
 -- a call; refused memory, it leaves the world
-abbrev pub answer_call : {P : Type 0} → ℕ → Bool → Call → World P → Answered P
-answer_call cells false c w = performed cells c.session c.command w
-answer_call cells true c w = record { world = w; text = answer_text c.session (Refused Memory) }
+abbrev pub answer_call : {P : Type 0} → Bool → Call → World P → Answered (World P)
+answer_call false c w = performed c.session c.command w
+answer_call true c w = record { world = w; text = answer_text c.session (Refused Memory) }
 
 -- line n, as it reads
-abbrev pub answer_to : {P : Type 0} → ℕ → Bool → ℕ → Line → World P → Answered P
-answer_to cells memory n line.Blank w = record { world = w; text = [] }
-answer_to cells memory n line.Bad w = record { world = w; text = bad_line_text n }
-answer_to cells memory n (line.Call c) w = answer_call cells memory c w
+abbrev pub answer_to : {P : Type 0} → Bool → ℕ → Line → World P → Answered (World P)
+answer_to memory n line.Blank w = record { world = w; text = [] }
+answer_to memory n line.Bad w = record { world = w; text = bad_line_text n }
+answer_to memory n (line.Call c) w = answer_call memory c w
 
-abbrev pub answer_line : {P : Type 0} → ℕ → Bool → ℕ → List ℕ → World P → Answered P
-answer_line cells memory n text w = answer_to cells memory n (read_line text) w
+abbrev pub answer_line : {P : Type 0} → Bool → ℕ → List ℕ → World P → Answered (World P)
+answer_line memory n text w = answer_to memory n (read_line text) w

@@ -1,5 +1,4 @@
 pub mod Names
-pub mod Words
 pub mod Lines
 pub mod Refusals
 pub mod Texts
@@ -9,8 +8,12 @@ pub mod Pages
 pub mod Frames
 pub mod Answers
 pub mod Alone
-pub mod Output
+pub mod Scripts
+pub mod Conversations
 pub mod Told
+pub mod LineFronts
 pub mod Ranges
+pub mod Faults
 pub mod Opening
 pub mod CommandLine
+pub mod Endings

@@ -1,12 +1,9 @@
 -- The grammar of a line of a script.
-use Rattle.std.specs.Prelude.{ℕ, List, [], ◌∷◌, Option, Some, None, option_and_then, Bool, false, ◌==◌, ◌&&◌, ◌||◌, not, nat_le, length, codes, if◌then◌else◌}
+use Rattle.std.specs.Prelude.{ℕ, List, [], ◌∷◌, Option, Some, None, Bool, ◌==◌, ◌&&◌, nat_le, length, codes, if◌then◌else◌}
 use Rattle.std.specs.Option.{option_map}
 use Rattle.std.specs.List.{list_all}
 use Rattle.std.specs.Str.{bytes_eq}
-use Rattle.std.specs.Char.{is_ascii_digit}
-use Rattle.std.specs.Str.Parse.{digits_value}
 use Rattle.frames.specs.declared.types.Step.{Step}
-use Rattle.frames.specs.declared.types.Step.TheVariants as step
 use Rattle.towerbench.specs.declared.command.Command.{Command}
 use Rattle.towerbench.specs.declared.command.Command.TheVariants.{Edit, Look}
 use Rattle.towerbench.specs.declared.command.Edit.TheVariants.{Insert, Remove, Replace}
@@ -16,44 +13,12 @@ use Rattle.towerbench.specs.declared.command.Call.{Call}
 use Rattle.towerbench.specs.declared.command.Line.{Line}
 use Rattle.towerbench.specs.declared.command.Line.TheVariants as line
 use Rattle.towerbench.specs.Names.{name}
-use Rattle.towerbench.specs.Words.{words, next, after_next, is_end}
-
--- then, where there is a value
-infixl 10 ◌>>=◌
-abbrev pub ◌>>=◌ : {A B : Type 0} → Option A → (A → Option B) → Option B
-o >>= f = option_and_then f o
-
--- a number: 0, or a digit from 1 on and then digits, at most 9 in all
-abbrev pub is_number : List ℕ → Bool
-is_number [] = false
-is_number (d ∷ ds) = (nat_le (length ds) 8 && (not (d == 48) || length ds == 0)) && list_all is_ascii_digit (d ∷ ds)
-
-abbrev pub number : List ℕ → Option ℕ
-number word = if is_number word then Some (digits_value 10 word) else None
+use Rattle.words.specs.Words.{◌>>=◌, words, next, after_next, is_end, number}
+use Rattle.words.specs.Steps.{step_of}
 
 -- a branch: 1 to 16 bytes
 abbrev pub branch : List ℕ → Option (List ℕ)
 branch word = if length word == 0 then None else name word
-
--- one number, or two, and no more words
-abbrev pub one_number : List (List ℕ) → Option ℕ
-one_number ws = do
-  a ← number (next ws)
-  if is_end (after_next ws) then Some a else None
-
-abbrev pub two_numbers : List (List ℕ) → Option (ℕ × ℕ)
-two_numbers ws = do
-  a ← number (next ws)
-  b ← number (next (after_next ws))
-  if is_end (after_next (after_next ws)) then Some (a, b) else None
-
--- a step: `w P V`, `r P` or `g P C`
-abbrev pub step_of : List (List ℕ) → Option Step
-step_of ws =
-    if bytes_eq (next ws) (codes "w") then option_map (λ n. step.Write n.0 n.1) (two_numbers (after_next ws))
-    else (if bytes_eq (next ws) (codes "r") then option_map (λ p. step.Read p) (one_number (after_next ws))
-    else (if bytes_eq (next ws) (codes "g") then option_map (λ n. step.Go n.0 n.1) (two_numbers (after_next ws))
-    else None))
 
 -- a branch, and no more words
 abbrev pub branch_of : List (List ℕ) → Option (List ℕ)

@@ -16,7 +16,7 @@ use Rattle.frames.specs.declared.types.Reason.TheVariants.{Busy, Idle, Stopped}
 use Rattle.frames.specs.declared.types.Event.{Event}
 use Rattle.frames.specs.declared.types.Event.TheVariants.{Invoke, Got, Wrote, Refused, Void, Stop, Chosen}
 use Rattle.frames.specs.declared.types.Step.{Step}
-use Rattle.frames.specs.declared.types.Step.TheVariants as step
+use Rattle.words.specs.Steps.{step_text}
 use Rattle.frames.specs.declared.running.Running.{Running}
 use Rattle.frames.specs.Behaviour.{Behaviour}
 use Rattle.frames.specs.Configuration.{Configuration, running_at, is_stopped}
@@ -116,11 +116,6 @@ memory_lines m = numbered cell_line 0 m.cells ++ words_line m
 -- the first line of the page of a branch's steps, and a line for each of them with its index
 abbrev pub steps_head : ℕ → ℕ → List ℕ
 steps_head session len = page_title session (codes "steps") ++ decimal len ++ line_end
-
-abbrev pub step_text : Step → List ℕ
-step_text (step.Write p v) = codes "w " ++ decimal p ++ codes " " ++ decimal v
-step_text (step.Read p) = codes "r " ++ decimal p
-step_text (step.Go p c) = codes "g " ++ decimal p ++ codes " " ++ decimal c
 
 abbrev pub step_line : ℕ → Step → List ℕ
 step_line i s = codes "  " ++ decimal i ++ codes " " ++ step_text s ++ line_end

@@ -15,31 +15,33 @@ use Rattle.towerbench.specs.declared.reply.Reply.{Reply}
 use Rattle.towerbench.specs.declared.reply.Reply.TheVariants.{Edited, Refused}
 use Rattle.towerbench.specs.Refusals.{first_refusal}
 
--- the register that is worked on and its initial value; the steps of the one branch `main`, how many
--- edits were accepted, how many commands were logged, and how many cells were ever made
+-- the register that is worked on and its initial value; the most cells that may be made; the steps of the one
+-- branch `main`, how many edits were accepted, how many commands were logged, and how many cells were ever made
 pub record World (P : Type 0) : Type 0 where
   pub tower : Behaviour P
   pub value : ℕ
+  pub cells : ℕ
   pub steps : List Step
   pub edits : ℕ
   pub logged : ℕ
   pub made : ℕ
 
--- the world before the first call: a register at a value, and steps
-abbrev pub opening : {P : Type 0} → Behaviour P → ℕ → List Step → World P
-opening b value steps = record { tower = b; value = value; steps = steps; edits = 0; logged = 0; made = length steps }
+-- the world before the first call: a register at a value, the most cells, and steps
+abbrev pub opening : {P : Type 0} → Behaviour P → ℕ → ℕ → List Step → World P
+opening b value cells steps = record { tower = b; value = value; cells = cells; steps = steps; edits = 0; logged = 0; made = length steps }
 
 -- a book: the same by a register itself, of a type that tells what each of its registers does
 pub record Held (R : Type 0) : Type 0 where
   pub register : R
   pub value : ℕ
+  pub cells : ℕ
   pub steps : List Step
   pub edits : ℕ
   pub logged : ℕ
   pub made : ℕ
 
 abbrev pub world_of : {R P : Type 0} → (R → Behaviour P) → Held R → World P
-world_of is h = record { tower = is h.register; value = h.value; steps = h.steps; edits = h.edits; logged = h.logged; made = h.made }
+world_of is h = record { tower = is h.register; value = h.value; cells = h.cells; steps = h.steps; edits = h.edits; logged = h.logged; made = h.made }
 
 -- the log's limit
 abbrev pub log_limit : ℕ
@@ -69,14 +71,14 @@ overfills cells (Remove place) made = false
 overfills cells (Replace place step) made = false
 
 -- why an edit is refused, in order
-abbrev pub edit_refusals : {P : Type 0} → ℕ → ℕ → List ℕ → Edit → World P → List (Bool × Refusal)
-edit_refusals cells session branch edit w =
+abbrev pub edit_refusals : {P : Type 0} → ℕ → List ℕ → Edit → World P → List (Bool × Refusal)
+edit_refusals session branch edit w =
     (nat_le log_limit w.logged, LogFull)
     ∷ (nat_lt 15 session, NoSession)
     ∷ (not (fits_edit w.tower edit), BadStep)
     ∷ (not (is_main branch), NoBranch)
     ∷ (is_misplaced edit (length w.steps), NoPlace)
-    ∷ (overfills cells edit w.made, Full)
+    ∷ (overfills w.cells edit w.made, Full)
     ∷ []
 
 -- whether a look is at a place beyond the end of a branch of this length
@@ -125,8 +127,8 @@ abbrev pub edit_unless : {P : Type 0} → Option Refusal → Edit → World P �
 edit_unless None edit w = record { world = edited edit w; reply = Edited (w.edits + 1) }
 edit_unless (Some r) edit w = record { world = refused r w; reply = Refused r }
 
-abbrev pub edit_by : {P : Type 0} → ℕ → ℕ → List ℕ → Edit → World P → Acted P
-edit_by cells session branch edit w = edit_unless (first_refusal (edit_refusals cells session branch edit w)) edit w
+abbrev pub edit_by : {P : Type 0} → ℕ → List ℕ → Edit → World P → Acted P
+edit_by session branch edit w = edit_unless (first_refusal (edit_refusals session branch edit w)) edit w
 
 -- what the calls keep: the value is one of the register's, each step fits, and the counts are within the log
 pub record IsWorld {P : Type 0} (w : World P) : Type 0 where

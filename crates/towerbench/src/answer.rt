@@ -6,6 +6,7 @@ ghost use Rattle.towerbench.specs.World.{world_of, look_refusals};
 ghost use Rattle.towerbench.specs.Texts.{answer_text};
 ghost use Rattle.towerbench.specs.Answers as spec;
 
+use crate::answering::Answers;
 use crate::book::Book;
 use crate::command::{Call, Command, Line, Query};
 use crate::line::read_line;
@@ -18,23 +19,50 @@ use frames::register::Register;
 use std::alloc::{AllocError, Global};
 use std::io;
 
+impl<R: Register> Answers for Book<R> {
+    ghost use Rattle.towerbench.specs.World.{World, world_of};
+    ghost use Rattle.towerbench.specs.Answers.{answer_line};
+    ghost use Rattle.towerbench.specs.LineFronts.{answer_line-front};
+
+    ghost Worlds = { World R.Pending };
+
+    ghost world = { world_of R.is };
+
+    ghost define = { answer_line };
+
+    ghost reads_front = { answer_line-front };
+
+    // Each answer is made apart, so that a page that memory is refused for leaves nothing behind.
+    fn answer(
+        &mut self,
+        alloc: Global,
+        out: &mut Vec<u8>,
+        number: u32,
+        line: &[u8],
+    ) -> Result<(), AllocError> {
+        let mut text = Vec::new(alloc);
+        answer_line(&mut text, alloc, self, number, line)?;
+        out.extend_from_slice(&text)?;
+        Ok(())
+    }
+}
+
 /// Answers line `number`, in place of what `out` held. An error comes only where there is no memory
 /// for a line of the answer.
-pub fn answer_line<R: Register>(
+fn answer_line<R: Register>(
     out: &mut Vec<u8>,
     alloc: Global,
     book: &mut Book<R>,
-    cells: u32,
     number: u32,
     line: &[u8],
 ) -> Result<(), AllocError>
-    ensures { OnOk result ((memory : Bool) × (spec.answer_line cells memory number line.now (world_of R.is book.old) ≡ record { world = world_of R.is book.new; text = out.new.items })) }
+    ensures { OnOk result ((memory : Bool) × (spec.answer_line memory number line.now (world_of R.is book.old) ≡ record { world = world_of R.is book.new; text = out.new.items })) }
 {
     out.clear();
     match read_line(line) {
         Line::Blank => Ok(()),
         Line::Bad => push_bad_line(out, number),
-        Line::Call(call) => answer_call(out, alloc, book, cells, call),
+        Line::Call(call) => answer_call(out, alloc, book, call),
     }
 }
 
@@ -43,16 +71,15 @@ fn answer_call<R: Register>(
     out: &mut Vec<u8>,
     alloc: Global,
     book: &mut Book<R>,
-    cells: u32,
     call: Call,
 ) -> Result<(), AllocError>
     requires { out.old.items ≡ [] }
-    ensures { OnOk result ((memory : Bool) × (spec.answer_call cells memory call (world_of R.is book.old) ≡ record { world = world_of R.is book.new; text = out.new.items })) }
+    ensures { OnOk result ((memory : Bool) × (spec.answer_call memory call (world_of R.is book.old) ≡ record { world = world_of R.is book.new; text = out.new.items })) }
 {
     let session = call.session;
     match call.command {
         Command::Edit { branch, edit } => {
-            let reply = book.act(cells, session, &branch, edit);
+            let reply = book.act(session, &branch, edit);
             let reply = reply.unwrap_or(Reply::Refused(Refusal::Memory));
             push_reply(out, session, reply)
         }

@@ -21,12 +21,13 @@ const LOG_LIMIT: u32 = 1 << 20;
 /// The greatest number of a session.
 const LAST_SESSION: u32 = 15;
 
-/// A register and its initial value, the steps of the branch `main`, and the counts of edits, of
-/// logged commands and of cells made.
+/// A register and its initial value, the most cells that may be made, the steps of the branch `main`,
+/// and the counts of edits, of logged commands and of cells made.
 #[derive(Drop)]
 pub struct Book<R: Register> {
     register: R,
     value: u32,
+    cells: u32,
     steps: Vec<Step>,
     edits: u32,
     logged: u32,
@@ -38,23 +39,25 @@ impl<R: Register> Model for Book<R> {
 
     ghost Value = { Held R };
 
-    ghost view = { λ b. record { register = b.register; value = b.value; steps = b.steps.items; edits = b.edits; logged = b.logged; made = b.made } };
+    ghost view = { λ b. record { register = b.register; value = b.value; cells = b.cells; steps = b.steps.items; edits = b.edits; logged = b.logged; made = b.made } };
 
-    ghost invariant = { λ b. IsWorld (world_of R.is (record { register = b.register; value = b.value; steps = b.steps.items; edits = b.edits; logged = b.logged; made = b.made })) };
+    ghost invariant = { λ b. IsWorld (world_of R.is (record { register = b.register; value = b.value; cells = b.cells; steps = b.steps.items; edits = b.edits; logged = b.logged; made = b.made })) };
 }
 
 impl<R: Register> Book<R> {
-    /// The book before the first call: a register at a value, and steps that fit it.
-    pub fn new(register: R, value: u32, steps: Vec<Step>) -> Book<R>
+    /// The book before the first call: a register at a value, the most cells that may be made, and
+    /// steps that fit the register.
+    pub fn new(register: R, value: u32, cells: u32, steps: Vec<Step>) -> Book<R>
         requires value { value < (R.is register).values }
         requires fit { All (λ s. fits_step (R.is register) s ≡ true) steps.items }
         requires few { length steps.items < 2 ^ 32 }
-        ensures { world_of R.is result ≡ opening (R.is register) value steps.items }
+        ensures { world_of R.is result ≡ opening (R.is register) value cells steps.items }
     {
         let made = steps.len() as u32;
         Book {
             register,
             value,
+            cells,
             steps,
             edits: 0,
             logged: 0,
@@ -86,19 +89,13 @@ impl<R: Register> Book<R> {
     }
 
     /// Makes an edit, or refuses it. Want of memory changes nothing.
-    pub fn act(
-        &mut self,
-        cells: u32,
-        session: u32,
-        branch: &Name,
-        edit: Edit,
-    ) -> Result<Reply, AllocError>
-        ensures ok { IfOk result (λ reply. edit_by cells session branch.now edit (world_of R.is self.old) ≡ record { world = world_of R.is self.new; reply = reply }) }
-        ensures last { OnErr result (first_refusal (edit_refusals cells session branch.now edit (world_of R.is self.old)) ≡ None) }
+    pub fn act(&mut self, session: u32, branch: &Name, edit: Edit) -> Result<Reply, AllocError>
+        ensures ok { IfOk result (λ reply. edit_by session branch.now edit (world_of R.is self.old) ≡ record { world = world_of R.is self.new; reply = reply }) }
+        ensures last { OnErr result (first_refusal (edit_refusals session branch.now edit (world_of R.is self.old)) ≡ None) }
         ensures err { OnErr result (self.new ≡ self.old) }
     {
-        match self.edit_refusal(cells, session, branch, edit) {
-            None => self.make(cells, edit),
+        match self.edit_refusal(session, branch, edit) {
+            None => self.make(edit),
             Some(refusal) => {
                 self.count(refusal);
                 Ok(Reply::Refused(refusal))
@@ -107,26 +104,26 @@ impl<R: Register> Book<R> {
     }
 
     /// Makes an edit that nothing refuses. Want of memory changes nothing.
-    fn make(&mut self, cells: u32, edit: Edit) -> Result<Reply, AllocError>
+    fn make(&mut self, edit: Edit) -> Result<Reply, AllocError>
         requires fits { fits_edit (R.is self.old.register) edit ≡ true }
         requires place { is_misplaced edit (length self.old.steps) ≡ false }
-        requires room { overfills cells edit self.old.made ≡ false }
+        requires room { overfills self.old.cells edit self.old.made ≡ false }
         requires logged { self.old.logged < log_limit }
         ensures world { OnOk result (world_of R.is self.new ≡ edited edit (world_of R.is self.old)) }
         ensures reply { IfOk result (λ reply. reply ≡ Reply.Edited (self.old.edits + 1)) }
         ensures err { OnErr result (self.new ≡ self.old) }
     {
         match edit {
-            Edit::Insert { place, step } => self.insert(cells, place, step),
+            Edit::Insert { place, step } => self.insert(place, step),
             Edit::Remove { place } => Ok(self.remove(place)),
             Edit::Replace { place, step } => Ok(self.replace(place, step)),
         }
     }
 
     /// Puts a new cell before the cell at a place, or at the end. Want of memory changes nothing.
-    fn insert(&mut self, cells: u32, place: u32, step: Step) -> Result<Reply, AllocError>
+    fn insert(&mut self, place: u32, step: Step) -> Result<Reply, AllocError>
         requires place { place ≤ length self.old.steps }
-        requires room { self.old.made < cells }
+        requires room { self.old.made < self.old.cells }
         requires fits { fits_step (R.is self.old.register) step ≡ true }
         requires logged { self.old.logged < log_limit }
         ensures world { OnOk result (world_of R.is self.new ≡ edited (Edit.Insert place step) (world_of R.is self.old)) }
@@ -197,8 +194,8 @@ impl<R: Register> Book<R> {
     }
 
     /// Why an edit is refused, if it is.
-    fn edit_refusal(&self, cells: u32, session: u32, branch: &Name, edit: Edit) -> Option<Refusal>
-        ensures { result ≡ first_refusal (edit_refusals cells session branch.now edit (world_of R.is self.now)) }
+    fn edit_refusal(&self, session: u32, branch: &Name, edit: Edit) -> Option<Refusal>
+        ensures { result ≡ first_refusal (edit_refusals session branch.now edit (world_of R.is self.now)) }
     {
         if self.logged >= LOG_LIMIT {
             return Some(Refusal::LogFull);
@@ -215,7 +212,7 @@ impl<R: Register> Book<R> {
         if is_misplaced(edit, self.steps.len()) {
             return Some(Refusal::NoPlace);
         }
-        if overfills(cells, edit, self.made) {
+        if overfills(self.cells, edit, self.made) {
             return Some(Refusal::Full);
         }
         None

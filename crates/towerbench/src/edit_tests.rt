@@ -3,25 +3,6 @@
 use crate::tests::check;
 use std::test::Fail;
 
-#[test]
-fn remove_insert(rt: HostRuntime) -> Result<(), Fail> {
-    let script = "0 insert main 0 w 0 1\n0 insert main 1 g 0 0\n0 insert main 2 g 0 0\n\
-        0 insert main 3 w 0 0\n0 insert main 4 g 0 0\n0 insert main 5 g 0 0\n\
-        0 remove main 2\n0 history main 5\n0 state main 5\n\
-        0 insert main 2 g 0 0\n0 history main 6\n0 state main 6\n";
-    let want = "0: edit 1\n0: edit 2\n0: edit 3\n0: edit 4\n0: edit 5\n0: edit 6\n\
-        0: edit 7\n\
-        0: history main 5 of 5\n  0 p0 invoke write 1\n  2 p0 void busy\n\
-        \x20 3 p0 return written\n  4 p0 void idle\n\
-        0: state main 5 of 5\n  p0 idle\n  p1 idle\n  bits 1\n  words -\n\
-        0: edit 8\n\
-        0: history main 6 of 6\n  0 p0 invoke write 1\n  2 p0 return written\n\
-        \x20 3 p0 invoke write 0\n  5 p0 return written\n\
-        0: state main 6 of 6\n  p0 idle\n  p1 idle\n  bits 0\n  words -\n";
-    check(&rt, rt.alloc(), 65536, script, want)?;
-    Ok(())
-}
-
 /// A cell idle, being written, read and hit, hit after the write's end, read and not hit, and
 /// hit by a write that begins after the read.
 #[test]

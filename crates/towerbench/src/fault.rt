@@ -1,12 +1,9 @@
 //! Why a run ends before its script does.
 
-ghost use Rattle.std.specs.Prelude.{◌≡◌};
-ghost use Rattle.towerbench.specs.Opening as spec;
-
 use crate::refusal::Refusal;
 use crate::tower_source::SourceFault;
 use thiserror::Error;
-use tower_file::{FaultKind, FileFault};
+use tower_file::FileFault;
 
 /// A fault of a script's streams.
 #[derive(Clone, Copy, Debug, PartialEq, Eq, Error)]
@@ -28,10 +25,11 @@ pub enum StreamFault {
 /// A fault of a run: of its file, or of its script's streams.
 #[derive(Clone, Copy, Debug, PartialEq, Eq, Error)]
 pub enum Fault {
-    /// The tower file spells none.
+    /// The bytes of the tower file spell none, or there is no memory to read them.
     #[error("file {0}")]
     File(FileFault),
-    /// The tower file can't be opened within the limits.
+    /// The tower can't be opened: its steps are more than the cells that may be made, or there is no
+    /// memory for them.
     #[error("open refused {0}")]
     Refused(Refusal),
     /// A read failed.
@@ -48,30 +46,24 @@ pub enum Fault {
     Memory,
 }
 
-/// A fault of the program: of reading its file, or of its run.
+/// A fault of the program: of reading its words or its file, of its run, or of printing the help.
 #[derive(Clone, Copy, Debug, PartialEq, Eq, Error)]
 pub enum ProgramFault {
     #[error("{0}")]
     Source(SourceFault),
     #[error("{0}")]
     Run(Fault),
-}
-
-impl From<SourceFault> for ProgramFault {
-    fn from(fault: SourceFault) -> ProgramFault {
-        ProgramFault::Source(fault)
-    }
-}
-
-impl From<Fault> for ProgramFault {
-    fn from(fault: Fault) -> ProgramFault {
-        ProgramFault::Run(fault)
-    }
+    /// A write of the help failed, or took no bytes.
+    #[error("write failed")]
+    Help,
+    /// There was no memory to read the words.
+    #[error("memory")]
+    Memory,
 }
 
 impl From<StreamFault> for Fault {
     ghost use Rattle.std.specs.Prelude.{◌≡◌};
-    ghost use Rattle.towerbench.specs.Opening.{of_streams};
+    ghost use Rattle.towerbench.specs.Faults.{of_streams};
 
     ghost from_gives = { λ fault e. e ≡ of_streams fault };
 
@@ -82,15 +74,5 @@ impl From<StreamFault> for Fault {
             StreamFault::TooLong => Fault::TooLong,
             StreamFault::Memory => Fault::Memory,
         }
-    }
-}
-
-/// The fault of a run that a file's fault is: one for want of memory has no line.
-pub fn of_file(fault: FileFault) -> Fault
-    ensures { result ≡ spec.of_file fault }
-{
-    match fault.kind {
-        FaultKind::Memory => Fault::Memory,
-        _ => Fault::File(fault),
     }
 }

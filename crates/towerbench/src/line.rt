@@ -2,14 +2,14 @@
 
 ghost use Rattle.std.specs.Prelude.{◌≡◌};
 ghost use Rattle.std.specs.List.{list_all};
-ghost use Rattle.std.specs.Str.{bytes_eq};
 ghost use Rattle.towerbench.specs.Lines as spec;
 
 use crate::command::{Call, Command, Edit, Line, Query};
 use crate::name::Name;
-use crate::number::number;
-use crate::words::Words;
 use frames::types::Step;
+use words::number::number;
+use words::parts::Parts;
+use words::step::{is, step_of};
 
 /// The most bytes of a call.
 const MOST_BYTES: usize = 255;
@@ -31,7 +31,7 @@ fn called(line: &[u8]) -> Line
     if line.len() > MOST_BYTES || !all_plain(line) {
         return Line::Bad;
     }
-    match call_of(&mut Words::new(line)) {
+    match call_of(&mut Parts::new(line, b' ')) {
         None => Line::Bad,
         Some(call) => Line::Call(call),
     }
@@ -45,7 +45,7 @@ fn all_plain(line: &[u8]) -> bool
 }
 
 /// Reads the number of a session, and a command.
-fn call_of(words: &mut Words<'_>) -> Option<Call>
+fn call_of(words: &mut Parts<'_>) -> Option<Call>
     ensures { result ≡ spec.call_of words.old }
 {
     let session = number(words.next())?;
@@ -54,7 +54,7 @@ fn call_of(words: &mut Words<'_>) -> Option<Call>
 }
 
 /// Reads a command.
-fn command_of(words: &mut Words<'_>) -> Option<Command>
+fn command_of(words: &mut Parts<'_>) -> Option<Command>
     ensures { result ≡ spec.command_of words.old }
 {
     let word = words.next();
@@ -77,7 +77,7 @@ fn command_of(words: &mut Words<'_>) -> Option<Command>
 }
 
 /// Reads a look that begins with this word.
-fn look_of(word: &[u8], words: &mut Words<'_>) -> Option<Command>
+fn look_of(word: &[u8], words: &mut Parts<'_>) -> Option<Command>
     ensures { result ≡ spec.look_of word.now words.old }
 {
     if is(word, "steps") {
@@ -94,7 +94,7 @@ fn look_of(word: &[u8], words: &mut Words<'_>) -> Option<Command>
 }
 
 /// Reads a look at a place, by its word.
-fn place_look_of(word: &[u8], words: &mut Words<'_>) -> Option<Command>
+fn place_look_of(word: &[u8], words: &mut Parts<'_>) -> Option<Command>
     ensures { result ≡ spec.place_look_of word.now words.old }
 {
     let (branch, place) = place_of(words)?;
@@ -122,7 +122,7 @@ fn query_at(word: &[u8], place: u32) -> Option<Query>
 }
 
 /// Reads a branch, and no more.
-fn branch_of(words: &mut Words<'_>) -> Option<Name>
+fn branch_of(words: &mut Parts<'_>) -> Option<Name>
     ensures { result ≡ spec.branch_of words.old }
 {
     let branch = branch(words.next())?;
@@ -130,7 +130,7 @@ fn branch_of(words: &mut Words<'_>) -> Option<Name>
 }
 
 /// Reads a branch and a place, and no more.
-fn place_of(words: &mut Words<'_>) -> Option<(Name, u32)>
+fn place_of(words: &mut Parts<'_>) -> Option<(Name, u32)>
     ensures { result ≡ spec.place_of words.old }
 {
     let branch = branch(words.next())?;
@@ -139,7 +139,7 @@ fn place_of(words: &mut Words<'_>) -> Option<(Name, u32)>
 }
 
 /// Reads a branch, a place and a process, and no more words.
-fn process_at(words: &mut Words<'_>) -> Option<(Name, u32, u32)>
+fn process_at(words: &mut Parts<'_>) -> Option<(Name, u32, u32)>
     ensures { result ≡ spec.process_at words.old }
 {
     let branch = branch(words.next())?;
@@ -149,50 +149,13 @@ fn process_at(words: &mut Words<'_>) -> Option<(Name, u32, u32)>
 }
 
 /// Reads a branch, a place and a step.
-fn step_at(words: &mut Words<'_>) -> Option<(Name, u32, Step)>
+fn step_at(words: &mut Parts<'_>) -> Option<(Name, u32, Step)>
     ensures { result ≡ spec.step_at words.old }
 {
     let branch = branch(words.next())?;
     let place = number(words.next())?;
     let step = step_of(words)?;
     Some((branch, place, step))
-}
-
-/// Reads a step.
-fn step_of(words: &mut Words<'_>) -> Option<Step>
-    ensures { result ≡ spec.step_of words.old }
-{
-    let word = words.next();
-    if is(word, "w") {
-        let (p, v) = two_numbers(words)?;
-        return Some(Step::Write { p, v });
-    }
-    if is(word, "r") {
-        let p = one_number(words)?;
-        return Some(Step::Read { p });
-    }
-    if is(word, "g") {
-        let (p, c) = two_numbers(words)?;
-        return Some(Step::Go { p, c });
-    }
-    None
-}
-
-/// Reads one number, and no more.
-fn one_number(words: &mut Words<'_>) -> Option<u32>
-    ensures { result ≡ spec.one_number words.old }
-{
-    let first = number(words.next())?;
-    words.is_end().then_some(first)
-}
-
-/// Reads two numbers, and no more.
-fn two_numbers(words: &mut Words<'_>) -> Option<(u32, u32)>
-    ensures { result ≡ spec.two_numbers words.old }
-{
-    let first = number(words.next())?;
-    let second = number(words.next())?;
-    words.is_end().then_some((first, second))
 }
 
 /// Reads the name of a branch, 1 to 16 bytes.
@@ -203,11 +166,4 @@ fn branch(word: &[u8]) -> Option<Name>
         return None;
     }
     Name::new(word)
-}
-
-/// Whether a word is this text.
-fn is(word: &[u8], text: &str) -> bool
-    ensures { result ≡ bytes_eq word.now text.now }
-{
-    word == text.as_bytes()
 }

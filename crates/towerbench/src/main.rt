@@ -2,6 +2,7 @@
 #![tactic(auto)]
 
 pub mod answer;
+pub mod answering;
 pub mod book;
 pub mod command;
 pub mod command_line;
@@ -10,12 +11,12 @@ mod command_line_tests;
 pub mod conversation;
 #[cfg(test)]
 mod edit_tests;
+pub mod ending;
 pub mod fault;
 pub mod history;
 pub mod line;
 pub mod look;
 pub mod name;
-pub mod number;
 pub mod options;
 pub mod page;
 pub mod pending;
@@ -27,6 +28,7 @@ pub mod run;
 pub mod schedule;
 #[cfg(test)]
 mod stream_tests;
+pub mod streams;
 #[cfg(test)]
 mod tests;
 pub mod text;
@@ -34,7 +36,6 @@ pub mod tool;
 pub mod tower_source;
 #[cfg(test)]
 mod tower_source_tests;
-pub mod words;
 
 use std::process::ExitCode;
 use std::rt::Env;

@@ -199,6 +199,48 @@ fn matrix_first_read_spent(rt: HostRuntime) -> Result<(), Fail> {
     Ok(())
 }
 
+/// A writer stops in the middle of its write, which then overlaps each read.
+#[test]
+fn stopped_writer(rt: HostRuntime) -> Result<(), Fail> {
+    let file = "tower 2\nsafe 0\nw 0 1\ng 0 0\nx 0\ng 0 0\nr 1\ng 1 0\ng 1 1\n";
+    let script = "0 history main 7\n0 state main 7\n0 bits main 7\n0 pending main 7\n";
+    let want = "0: history main 7 of 7\n  0 p0 invoke write 1\n  2 p0 stop\n\
+        \x20 3 p0 void stopped\n  4 p1 invoke read\n  6 p1 chosen bit 0 value 1\n\
+        \x20 6 p1 return 1\n\
+        0: state main 7 of 7\n  p0 write 1 stopped\n  p1 idle\n  bits 0\n  words -\n\
+        0: bits main 7 of 7\n  0 0 1 -\n  words -\n\
+        0: pending main 7 of 7\n  p0 safe w 1 1 stopped\n  p1 idle\n";
+    check(&rt, rt.alloc(), file, script, want)?;
+    let older = b"tower 1\nsafe 0\nw 0 1\ng 0 0\nx 0\ng 0 0\nr 1\ng 1 0\ng 1 1\n";
+    let fault = FileFault {
+        kind: FaultKind::BadStep,
+        line: 5,
+    };
+    assert_eq!(rt;
+        written(rt.alloc(), older, 65536, "").err(),
+        Some(Fault::File(fault))
+    );
+    Ok(())
+}
+
+/// A stop of a process that isn't there is refused; a second stop is void.
+#[test]
+fn stopped_regular(rt: HostRuntime) -> Result<(), Fail> {
+    let file = "tower 2\nregular 2 0\nw 0 1\ng 0 0\ng 0 0\nx 0\nr 1\ng 1 0\ng 1 0\n\
+        r 2\ng 2 0\ng 2 0\n";
+    let script = "0 insert main 10 x 3\n0 insert main 10 x 2\n0 insert main 11 x 2\n\
+        0 steps main\n0 history main 12\n0 process main 12 2\n";
+    let want = "0: refused 30 BadStep\n0: edit 1\n0: edit 2\n\
+        0: steps main 12\n  0 w 0 1\n  1 g 0 0\n  2 g 0 0\n  3 x 0\n  4 r 1\n  5 g 1 0\n\
+        \x20 6 g 1 0\n  7 r 2\n  8 g 2 0\n  9 g 2 0\n  10 x 2\n  11 x 2\n\
+        0: history main 12 of 12\n  0 p0 invoke write 1\n  3 p0 stop\n  4 p1 invoke read\n\
+        \x20 6 p1 return 1\n  7 p2 invoke read\n  9 p2 return 0\n  10 p2 stop\n\
+        \x20 11 p2 void stopped\n\
+        0: process main 12 of 12\n  p2 idle stopped\n";
+    check(&rt, rt.alloc(), file, script, want)?;
+    Ok(())
+}
+
 #[test]
 fn file_faults(rt: HostRuntime) {
     for (file, kind, line) in [
@@ -253,44 +295,17 @@ fn steps_beyond_the_cells(rt: HostRuntime) -> Result<(), Fail> {
     Ok(())
 }
 
-/// A writer stops in the middle of its write, which then overlaps each read.
+/// A thousand steps: writes of 1 and of 0, one after the other, and the invocation of one more.
 #[test]
-fn stopped_writer(rt: HostRuntime) -> Result<(), Fail> {
-    let file = "tower 2\nsafe 0\nw 0 1\ng 0 0\nx 0\ng 0 0\nr 1\ng 1 0\ng 1 1\n";
-    let script = "0 history main 7\n0 state main 7\n0 bits main 7\n0 pending main 7\n";
-    let want = "0: history main 7 of 7\n  0 p0 invoke write 1\n  2 p0 stop\n\
-        \x20 3 p0 void stopped\n  4 p1 invoke read\n  6 p1 chosen bit 0 value 1\n\
-        \x20 6 p1 return 1\n\
-        0: state main 7 of 7\n  p0 write 1 stopped\n  p1 idle\n  bits 0\n  words -\n\
-        0: bits main 7 of 7\n  0 0 1 -\n  words -\n\
-        0: pending main 7 of 7\n  p0 safe w 1 1 stopped\n  p1 idle\n";
-    check(&rt, rt.alloc(), file, script, want)?;
-    let older = b"tower 1\nsafe 0\nw 0 1\ng 0 0\nx 0\ng 0 0\nr 1\ng 1 0\ng 1 1\n";
-    let fault = FileFault {
-        kind: FaultKind::BadStep,
-        line: 5,
-    };
-    assert_eq!(rt;
-        written(rt.alloc(), older, 65536, "").err(),
-        Some(Fault::File(fault))
-    );
-    Ok(())
-}
-
-/// A stop of a process that isn't there is refused; a second stop is void.
-#[test]
-fn stopped_regular(rt: HostRuntime) -> Result<(), Fail> {
-    let file = "tower 2\nregular 2 0\nw 0 1\ng 0 0\ng 0 0\nx 0\nr 1\ng 1 0\ng 1 0\n\
-        r 2\ng 2 0\ng 2 0\n";
-    let script = "0 insert main 10 x 3\n0 insert main 10 x 2\n0 insert main 11 x 2\n\
-        0 steps main\n0 history main 12\n0 process main 12 2\n";
-    let want = "0: refused 30 BadStep\n0: edit 1\n0: edit 2\n\
-        0: steps main 12\n  0 w 0 1\n  1 g 0 0\n  2 g 0 0\n  3 x 0\n  4 r 1\n  5 g 1 0\n\
-        \x20 6 g 1 0\n  7 r 2\n  8 g 2 0\n  9 g 2 0\n  10 x 2\n  11 x 2\n\
-        0: history main 12 of 12\n  0 p0 invoke write 1\n  3 p0 stop\n  4 p1 invoke read\n\
-        \x20 6 p1 return 1\n  7 p2 invoke read\n  9 p2 return 0\n  10 p2 stop\n\
-        \x20 11 p2 void stopped\n\
-        0: process main 12 of 12\n  p2 idle stopped\n";
-    check(&rt, rt.alloc(), file, script, want)?;
+fn thousand_steps(rt: HostRuntime) -> Result<(), Fail> {
+    let mut file = Vec::from_slice(rt.alloc(), b"tower 1\nsafe 0\n".as_slice())?;
+    for _ in 0..166 {
+        file.extend_from_slice(b"w 0 1\ng 0 0\ng 0 0\nw 0 0\ng 0 0\ng 0 0\n".as_slice())?;
+    }
+    file.extend_from_slice(b"w 0 1\ng 0 0\ng 0 0\nw 0 0\n".as_slice())?;
+    let want =
+        "0: state main 1000 of 1000\n  p0 write 0 next ws 0\n  p1 idle\n  bits 1\n  words -\n";
+    let answers = written(rt.alloc(), file.as_slice(), 65536, "0 state main 1000\n")?;
+    assert_eq!(rt; answers.as_slice(), want.as_bytes());
     Ok(())
 }

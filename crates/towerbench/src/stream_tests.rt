@@ -1,12 +1,16 @@
 //! Streams that end early, fail or give their bytes slowly, and the statuses of the program.
 
+use crate::fault::{Fault, ProgramFault};
+use crate::refusal::Refusal;
 use crate::tool::tool;
 use std::alloc::{AllocError, Global};
-use std::io;
+use std::cell::Cell;
 use std::io::{ErrorKind, Read, Write};
 use std::process::Abort;
 use std::rt::Files;
 use std::test::Fail;
+use std::{fs, io};
+use tower_file::{FaultKind, FileFault};
 
 /// Gives a script byte by byte, each behind an interrupted read, and at the end the fault, if any.
 #[derive(Drop)]
@@ -347,4 +351,230 @@ fn words_without_memory(rt: HostRuntime) {
     assert_eq!(rt; status, 1);
     assert!(rt; out.is_empty());
     assert_eq!(rt; errors.as_slice(), b"towerbench: memory\n".as_slice());
+}
+
+/// Counts the writes, and the bytes that came by them.
+#[derive(Drop)]
+struct Counted<'a> {
+    writes: &'a Cell<usize>,
+    bytes: &'a Cell<usize>,
+}
+
+impl Write for Counted<'_> {
+    fn write(&mut self, buf: &[u8]) -> io::Result<usize> {
+        self.writes.set(self.writes.get().wrapping_add(1));
+        self.bytes.set(self.bytes.get().wrapping_add(buf.len()));
+        Ok(buf.len())
+    }
+
+    fn flush(&mut self) -> io::Result<()> {
+        Ok(())
+    }
+}
+
+/// Gives a script piece by piece, and looks at each read at what was written before.
+#[derive(Drop)]
+struct Watching<'a> {
+    pieces: &'a [&'a str],
+    writes: &'a Cell<usize>,
+    bytes: &'a Cell<usize>,
+    seen: Vec<(usize, usize)>,
+}
+
+impl Read for Watching<'_> {
+    fn read(&mut self, buf: &mut [u8]) -> io::Result<usize> {
+        self.seen.push((self.writes.get(), self.bytes.get()))?;
+        let Some((first, others)) = self.pieces.split_first() else {
+            return Ok(0);
+        };
+        let piece = first.as_bytes();
+        let count = piece.len().min(buf.len());
+        buf[..count].copy_from_slice(&piece[..count]);
+        self.pieces = others;
+        Ok(count)
+    }
+}
+
+/// The answers to the lines of one read are written at once, before the next read; a line that goes on is
+/// answered where it ends, and where nothing is answered nothing is written.
+#[test]
+fn answers_go_out_together(rt: HostRuntime) {
+    let (writes, bytes) = (Cell::new(0), Cell::new(0));
+    let pieces = [
+        "0 insert main 0 r 1\n0 insert main 0 r 1\n0 sta",
+        "te main 0\n# nothing",
+        " more\n",
+    ];
+    let mut reader = Watching {
+        pieces: pieces.as_slice(),
+        writes: &writes,
+        bytes: &bytes,
+        seen: Vec::new(rt.alloc()),
+    };
+    let mut writer = Counted {
+        writes: &writes,
+        bytes: &bytes,
+    };
+    let mut errors = Vec::new(rt.alloc());
+    let words = Ok(Vec::new(rt.alloc()));
+    let status = tool(&rt, words, &mut reader, &mut writer, &mut errors);
+    assert_eq!(rt; status, 0);
+    // two edits of 10 bytes, and a page of 60
+    assert_eq!(rt;
+        reader.seen.as_slice(),
+        [(0, 0), (1, 20), (2, 80), (2, 80)].as_slice()
+    );
+}
+
+/// Short lines by the thousand are answered by one write for each read.
+#[test]
+fn many_short_lines(rt: HostRuntime) -> Result<(), Fail> {
+    let script = vec![in rt.alloc(); b'\n'; 40_000]?;
+    let (writes, bytes) = (Cell::new(0), Cell::new(0));
+    let mut lines = Vec::new(rt.alloc());
+    for _ in 0..20_000 {
+        lines.extend_from_slice(b"x\n".as_slice())?;
+    }
+    for (script, most) in [(script.as_slice(), 0), (lines.as_slice(), 10)] {
+        let mut reader = script;
+        let mut writer = Counted {
+            writes: &writes,
+            bytes: &bytes,
+        };
+        let mut errors = Vec::new(rt.alloc());
+        let words = Ok(Vec::new(rt.alloc()));
+        let status = tool(&rt, words, &mut reader, &mut writer, &mut errors);
+        assert_eq!(rt; status, 0);
+        assert!(rt; writes.get() <= most);
+    }
+    Ok(())
+}
+
+/// A writer that fails is no fault where there is nothing to write.
+#[test]
+fn nothing_to_write(rt: HostRuntime) {
+    let script = b"# nothing to write\n\n#";
+    let mut errors = Vec::new(rt.alloc());
+    let words = Ok(Vec::new(rt.alloc()));
+    let mut closed = Closed { fails: true };
+    let status = tool(&rt, words, &mut script.as_slice(), &mut closed, &mut errors);
+    assert_eq!(rt; status, 0);
+    let words = Ok(Vec::new(rt.alloc()));
+    let status = tool(&rt, words, &mut script.as_slice(), &mut Stuck, &mut errors);
+    assert_eq!(rt; status, 0);
+    assert!(rt; errors.is_empty());
+}
+
+/// Tells whether it was asked for bytes.
+#[derive(Drop)]
+struct Asked {
+    asked: bool,
+}
+
+impl Read for Asked {
+    fn read(&mut self, _buf: &mut [u8]) -> io::Result<usize> {
+        self.asked = true;
+        Ok(0)
+    }
+}
+
+/// Words are refused, and the help is given, before the reader is asked.
+#[test]
+fn words_before_the_script(rt: HostRuntime) -> Result<(), Fail> {
+    for (texts, status) in [(["--cells", "0"].as_slice(), 2), (["--help"].as_slice(), 0)] {
+        let words = Ok(words_of(rt.alloc(), texts)?);
+        let mut reader = Asked { asked: false };
+        let mut out = Vec::new(rt.alloc());
+        let mut errors = Vec::new(rt.alloc());
+        let ended = tool(&rt, words, &mut reader, &mut out, &mut errors);
+        assert_eq!(rt; ended, status);
+        assert!(rt; !reader.asked);
+    }
+    Ok(())
+}
+
+/// Asserts what the program tells on its words.
+fn check_words<F: Abort + Files + AllocGlobal>(
+    rt: &F,
+    texts: &[&str],
+    script: &str,
+    want: &str,
+    fault: &str,
+) -> Result<(), Fail> {
+    let words = Ok(words_of(rt.alloc(), texts)?);
+    let mut out = Vec::new(rt.alloc());
+    let mut errors = Vec::new(rt.alloc());
+    let status = tool(rt, words, &mut script.as_bytes(), &mut out, &mut errors);
+    assert_eq!(rt; out.as_slice(), want.as_bytes());
+    assert_eq!(rt; errors.as_slice(), fault.as_bytes());
+    assert_eq!(rt; status, if fault.is_empty() { 0 } else { 1 });
+    Ok(())
+}
+
+/// The cells that may be made are those that the words tell.
+#[test]
+fn cells_by_the_words(rt: HostRuntime) -> Result<(), Fail> {
+    let script = "0 insert main 0 r 1\n0 insert main 0 r 1\n";
+    let want = "0: edit 1\n0: refused 24 Full\n";
+    check_words(&rt, ["--cells", "1"].as_slice(), script, want, "")
+}
+
+/// A file of two steps is opened where so many cells may be made, and they count as made.
+#[test]
+fn file_of_two_steps(rt: HostRuntime) -> Result<(), Fail> {
+    let path = "/tmp/towerbench-file-of-two-steps.tower";
+    fs::write(&rt, path, "tower 1\nsafe 0\nr 1\ng 1 0\n")?;
+    let script = "0 steps main\n0 insert main 0 r 1\n";
+    let steps = "0: steps main 2\n  0 r 1\n  1 g 1 0\n0: edit 1\n";
+    check_words(&rt, [path].as_slice(), script, steps, "")?;
+    let full = "0: steps main 2\n  0 r 1\n  1 g 1 0\n0: refused 24 Full\n";
+    check_words(&rt, [path, "--cells", "2"].as_slice(), script, full, "")?;
+    let refused = "towerbench: open refused 24 Full\n";
+    check_words(&rt, ["--cells=1", path].as_slice(), script, "", refused)?;
+    fs::remove_file(&rt, path)?;
+    Ok(())
+}
+
+/// 2^20 commands are logged, refused ones too, and none after them.
+#[test]
+fn log_full(rt: HostRuntime) -> Result<(), Fail> {
+    let mut script = Vec::new(rt.alloc());
+    for _ in 0..1 + (1 << 20) {
+        script.extend_from_slice(b"0 remove m 0\n".as_slice())?;
+    }
+    let mut out = Vec::new(rt.alloc());
+    let mut errors = Vec::new(rt.alloc());
+    let words = Ok(Vec::new(rt.alloc()));
+    let status = tool(&rt, words, &mut script.as_slice(), &mut out, &mut errors);
+    assert_eq!(rt; status, 0);
+    // 2^20 lines of 23 bytes, and one of 22
+    assert_eq!(rt; out.len(), (23 << 20) + 22);
+    assert!(rt; out.ends_with(b"0: refused 20 NoBranch\n0: refused 35 LogFull\n".as_slice()));
+    Ok(())
+}
+
+/// Want of memory, by where it came.
+#[test]
+fn memory_told(rt: HostRuntime) -> Result<(), Fail> {
+    let file = FileFault {
+        kind: FaultKind::Memory,
+        line: 0,
+    };
+    for (fault, want) in [
+        (
+            ProgramFault::Run(Fault::File(file)),
+            "file line 0: 40 Memory",
+        ),
+        (
+            ProgramFault::Run(Fault::Refused(Refusal::Memory)),
+            "open refused 40 Memory",
+        ),
+        (ProgramFault::Run(Fault::Memory), "memory"),
+        (ProgramFault::Memory, "memory"),
+        (ProgramFault::Help, "write failed"),
+    ] {
+        let text = format!(in rt.alloc(); "{fault}")?;
+        assert_eq!(rt; text.as_str(), want);
+    }
+    Ok(())
 }

@@ -44,43 +44,6 @@ fn first_run(rt: HostRuntime) -> Result<(), Fail> {
 }
 
 #[test]
-fn idle_page(rt: HostRuntime) -> Result<(), Fail> {
-    let want = "0: state main 0 of 0\n  p0 idle\n  p1 idle\n  bits 0\n  words -\n\
-        0: history main 0 of 0\n  none\n";
-    check(
-        &rt,
-        rt.alloc(),
-        65536,
-        "0 state main 0\n0 history main 0\n",
-        want,
-    )?;
-    Ok(())
-}
-
-#[test]
-fn overlapped_read(rt: HostRuntime) -> Result<(), Fail> {
-    let script = "0 insert main 0 w 0 1\n0 insert main 1 g 0 0\n0 insert main 2 r 1\n\
-        0 insert main 3 g 1 0\n0 insert main 4 g 0 0\n0 insert main 5 g 1 0\n\
-        0 history main 6\n0 state main 6\n";
-    let want = "0: edit 1\n0: edit 2\n0: edit 3\n0: edit 4\n0: edit 5\n0: edit 6\n\
-        0: history main 6 of 6\n  0 p0 invoke write 1\n  2 p1 invoke read\n  4 p0 return written\n\
-        \x20 5 p1 chosen bit 0 value 0\n  5 p1 return 0\n\
-        0: state main 6 of 6\n  p0 idle\n  p1 idle\n  bits 1\n  words -\n";
-    check(&rt, rt.alloc(), 65536, script, want)?;
-    Ok(())
-}
-
-#[test]
-fn voids(rt: HostRuntime) -> Result<(), Fail> {
-    let script =
-        "0 insert main 0 r 1\n0 insert main 1 r 1\n0 insert main 2 g 0 0\n0 history main 3\n";
-    let want = "0: edit 1\n0: edit 2\n0: edit 3\n\
-        0: history main 3 of 3\n  0 p1 invoke read\n  1 p1 void busy\n  2 p0 void idle\n";
-    check(&rt, rt.alloc(), 65536, script, want)?;
-    Ok(())
-}
-
-#[test]
 fn cells_full(rt: HostRuntime) -> Result<(), Fail> {
     let script = "0 insert main 0 r 1\n0 insert main 0 r 1\n0 insert main 0 r 1\n\
         0 insert main 0 r 1\n0 insert main 0 r 1\n";
@@ -174,7 +137,9 @@ fn bad_lines(rt: HostRuntime) -> Result<(), Fail> {
         "0 insert main 0",
         "0 insert main 0 w 0",
         "0 insert main 0 r 1 0",
-        "0 insert main 0 x 1",
+        "0 insert main 0 y 1",
+        "0 insert main 0 x",
+        "0 insert main 0 x 0 0",
         "0 remove main",
         "0 remove main 0 r 1",
         "0 replace main 0",

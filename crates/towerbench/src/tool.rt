@@ -1,14 +1,21 @@
 //! What the program does with its words and its streams.
 
-ghost use Rattle.std.specs.Prelude.{◌≡◌, ◌≤◌, [], None, IfOk, OnOk};
+ghost use Rattle.std.specs.Prelude.{◌≡◌, ◌≤◌, IfOk, OnErr, map};
+ghost use Rattle.std.specs.Option.{is_some, option_map};
+ghost use Rattle.std.specs.String.{string_bytes};
 ghost use Rattle.towerbench.specs.Ranges.{AreLimits};
-ghost use Rattle.towerbench.specs.Opening.{Wrote, WroteOn};
+ghost use Rattle.towerbench.specs.declared.ending.Ending.{Ending};
+ghost use Rattle.towerbench.specs.Opening.{IsUntouched};
+ghost use Rattle.towerbench.specs.Endings.{IsPrinted, EndsBy, WorksOut, RunsOver, status_of};
 
 use crate::command_line::{Invocation, parse};
-use crate::fault::{Fault, ProgramFault};
+use crate::ending::Ending;
+use crate::fault::ProgramFault;
 use crate::options::Options;
 use crate::run::run;
+use crate::streams::write_whole;
 use crate::tower_source::read_file;
+use std::alloc::Global;
 use std::io;
 use std::io::{ErrorKind, Read, Write};
 use std::rt::Files;
@@ -23,13 +30,15 @@ pub fn tool<F: Files + AllocGlobal, R: Read, W: Write, E: Write>(
     errors: &mut E,
 ) -> u8
     ensures status { result ≤ 2 }
-    ensures done { IfOk words (λ ws. ws.items ≡ [] → result ≡ 0 → Wrote None 65536 (R.remaining reader.old) (W.contents writer.old) (W.contents writer.new)) }
+    ensures ends { IfOk words (λ ws. (ending : Ending) × EndsBy (map string_bytes ws.items) (R.remaining reader.old) (R.remaining reader.new) (W.contents writer.old) (W.contents writer.new) ending × (result ≡ status_of ending)) }
+    ensures unread { OnErr words (IsUntouched (R.remaining reader.old) (R.remaining reader.new) (W.contents writer.old) (W.contents writer.new) × (1 ≤ result)) }
 {
     match words {
-        Ok(words) => follow(files, words.as_slice(), reader, writer, errors),
-        Err(e) if e.kind() == ErrorKind::OutOfMemory => {
-            tell(errors, ProgramFault::Run(Fault::Memory))
+        Ok(words) => {
+            let ending = follow(files, words.as_slice(), reader, writer);
+            report(errors, ending)
         }
+        Err(e) if e.kind() == ErrorKind::OutOfMemory => tell(errors, ProgramFault::Memory),
         Err(_) => {
             let _ = writeln!(errors, "towerbench: a word of the command line is not text");
             2
@@ -37,30 +46,34 @@ pub fn tool<F: Files + AllocGlobal, R: Read, W: Write, E: Write>(
     }
 }
 
+/// Tells what the program came to, where that is no good end, and answers the status that goes with it.
+fn report<E: Write>(errors: &mut E, ending: Ending) -> u8
+    ensures { result ≡ status_of ending }
+{
+    match ending {
+        Ending::Done => 0,
+        Ending::Refused(text) => {
+            let _ = errors.write_all(text.as_bytes());
+            2
+        }
+        Ending::Faulted(fault) => tell(errors, fault),
+    }
+}
+
 /// Does what the words ask for.
-fn follow<F: Files + AllocGlobal, R: Read, W: Write, E: Write>(
+fn follow<F: Files + AllocGlobal, R: Read, W: Write>(
     files: &F,
     words: &[String],
     reader: &mut R,
     writer: &mut W,
-    errors: &mut E,
-) -> u8
-    ensures status { result ≤ 2 }
-    ensures done { words.now ≡ [] → result ≡ 0 → Wrote None 65536 (R.remaining reader.old) (W.contents writer.old) (W.contents writer.new) }
+) -> Ending
+    ensures { EndsBy (map string_bytes words.now) (R.remaining reader.old) (R.remaining reader.new) (W.contents writer.old) (W.contents writer.new) result }
 {
     match parse(files.alloc(), words) {
-        Invocation::Run { file, options } => {
-            match work(files, file, options, reader, writer) {
-                Ok(()) => 0,
-                Err(fault) => tell(errors, fault),
-            }
-        }
-        Invocation::Help(text) => print(writer, errors, &text),
-        Invocation::Refused(text) => {
-            let _ = errors.write_all(text.as_bytes());
-            2
-        }
-        Invocation::Memory => tell(errors, ProgramFault::Run(Fault::Memory)),
+        Invocation::Run { file, options } => work(files, file, options, reader, writer),
+        Invocation::Help(text) => print(writer, &text),
+        Invocation::Refused(text) => Ending::Refused(text),
+        Invocation::Memory => Ending::Faulted(ProgramFault::Memory),
     }
 }
 
@@ -71,33 +84,53 @@ fn work<F: Files + AllocGlobal, R: Read, W: Write>(
     options: Options,
     reader: &mut R,
     writer: &mut W,
-) -> Result<(), ProgramFault>
+) -> Ending
     requires { AreLimits options }
-    ensures { OnOk result (WroteOn file.entry options.cells (R.remaining reader.old) (W.contents writer.old) (W.contents writer.new)) }
+    ensures { WorksOut (is_some file.entry) options.cells (R.remaining reader.old) (R.remaining reader.new) (W.contents writer.old) (W.contents writer.new) result }
 {
     let Some(path) = file else {
-        run(files.alloc(), None, options, reader, writer)?;
-        return Ok(());
+        return answer_over(files.alloc(), None, options, reader, writer);
     };
-    let bytes = read_file(files, path)?;
-    run(
-        files.alloc(),
-        Some(bytes.as_slice()),
-        options,
-        reader,
-        writer,
-    )?;
-    Ok(())
+    match read_file(files, path) {
+        Ok(bytes) => answer_over(
+            files.alloc(),
+            Some(bytes.as_slice()),
+            options,
+            reader,
+            writer,
+        ),
+        Err(fault) => Ending::Faulted(ProgramFault::Source(fault)),
+    }
 }
 
-/// Prints the help, and answers the status that goes with it.
-fn print<W: Write, E: Write>(writer: &mut W, errors: &mut E, text: &str) -> u8
-    ensures { result ≤ 1 }
+/// Answers the script over the bytes of a tower file, or over none.
+fn answer_over<R: Read, W: Write>(
+    alloc: Global,
+    bytes: Option<&[u8]>,
+    options: Options,
+    reader: &mut R,
+    writer: &mut W,
+) -> Ending
+    requires { AreLimits options }
+    ensures { RunsOver (option_map (λ bytes. bytes.now) bytes.entry) options.cells (R.remaining reader.old) (R.remaining reader.new) (W.contents writer.old) (W.contents writer.new) result }
 {
-    if writer.write_all(text.as_bytes()).is_ok() && writer.flush().is_ok() {
-        return 0;
+    match run(alloc, bytes, options, reader, writer) {
+        Ok(()) => Ending::Done,
+        Err(fault) => Ending::Faulted(ProgramFault::Run(fault)),
     }
-    tell(errors, ProgramFault::Run(Fault::Write))
+}
+
+/// Prints the help.
+fn print<W: Write>(writer: &mut W, text: &str) -> Ending
+    ensures { IsPrinted (W.contents writer.old) (W.contents writer.new) result }
+{
+    let Ok(()) = write_whole(writer, text.as_bytes()) else {
+        return Ending::Faulted(ProgramFault::Help);
+    };
+    let Ok(()) = writer.flush() else {
+        return Ending::Faulted(ProgramFault::Help);
+    };
+    Ending::Done
 }
 
 /// Tells of a fault, and answers the status that goes with it, told or not.

@@ -12,7 +12,7 @@ use crate::parts::Parts;
 const MOST_DIGITS: usize = 9;
 
 /// The number that a word writes: 0, or a digit from 1 on and more digits, at most 9 in all.
-fn number(word: &[u8]) -> Option<u32>
+pub fn number(word: &[u8]) -> Option<u32>
     ensures { result ≡ spec.number word.now }
 {
     if is_number(word) {

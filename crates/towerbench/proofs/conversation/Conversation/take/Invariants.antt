@@ -1,12 +1,11 @@
-use Rattle.std.proofs.Common.{◌≤◌, ◌+◌, ◌++◌, ℕ, List, Option, take}
-use Rattle.towerbench.specs.World.{World, world_of}
+use Rattle.std.proofs.Common.{◌≤◌, ◌+◌, ◌++◌, ℕ, List, take}
 use Rattle.towerbench.specs.Told.{Told}
 use Rattle.towerbench.proofs.conversation.Conversation.take.Given as goal
 
 abbrev pub invariant-loop-byte : goal.invariant-loop-byte
 invariant-loop-byte g l = record {
   few : l.self.lines ≤ l.initial.self.lines + l.byte-index;
-  told : (start : World _) (before : Option (List ℕ)) (seen : List ℕ)
-      → Told start l.cells before (g.W.Write.contents l.initial.writer) seen (world_of g.R.Behaves.is l.initial.self.book) l.initial.self.lines l.initial.self.line.items
-      → Told start l.cells before (g.W.Write.contents l.writer) (seen ++ take l.byte-index l.piece) (world_of g.R.Behaves.is l.self.book) l.self.lines l.self.line.items;
+  told : (start : g.A.Answers.Worlds) (seen front : List ℕ)
+      → Told g.A.Answers.define start seen (g.A.Answers.world l.initial.answers) l.initial.self.lines l.initial.self.line.items (front ++ l.initial.self.out.items)
+      → Told g.A.Answers.define start (seen ++ take l.byte-index l.piece) (g.A.Answers.world l.answers) l.self.lines l.self.line.items (front ++ l.self.out.items);
 }

@@ -1,0 +1,67 @@
+-- What the program comes to, by what its words ask for.
+use Rattle.std.specs.Prelude.{◌≡◌, ◌⊎◌, ℕ, Bool, true, List, Option}
+use Rattle.std.specs.Option.{is_some}
+use Rattle.std.specs.Io.KnownBytes.{Appends}
+use Rattle.clap.specs.Words.{Text}
+use Rattle.towerbench.specs.declared.options.Options.{Options}
+use Rattle.towerbench.specs.declared.fault.ProgramFault.TheVariants.{Source, Run, Help, Memory}
+use Rattle.towerbench.specs.declared.ending.Ending.{Ending}
+use Rattle.towerbench.specs.declared.ending.Ending.TheVariants.{Done, Refused, Faulted}
+use Rattle.towerbench.specs.CommandLine.{Says, AsksHelp, IsWrong}
+use Rattle.towerbench.specs.Opening.{IsUntouched, Ran, RanInto}
+
+-- bytes that stand for a file: there are some exactly where one is named
+abbrev pub IsRead : Bool → Option (List ℕ) → Type 0
+IsRead named bytes = is_some bytes ≡ named
+
+-- what a run over these bytes, or over none, comes to
+abbrev pub RunsOver : Option (List ℕ) → ℕ → Option (List ℕ) → Option (List ℕ) → Option (List ℕ) → Option (List ℕ) → Ending → Type 0
+RunsOver bytes cells old now before after Done = Ran bytes cells old now before after
+RunsOver bytes cells old now before after (Refused text) = ⊥
+RunsOver bytes cells old now before after (Faulted (Source e)) = ⊥
+RunsOver bytes cells old now before after (Faulted (Run e)) = RanInto bytes cells old now before after e
+RunsOver bytes cells old now before after (Faulted Help) = ⊥
+RunsOver bytes cells old now before after (Faulted Memory) = ⊥
+
+-- what a run comes to over the file that is named, or over none; a file that can't be read ends it before anything is read or written
+abbrev pub WorksOut : Bool → ℕ → Option (List ℕ) → Option (List ℕ) → Option (List ℕ) → Option (List ℕ) → Ending → Type 0
+WorksOut named cells old now before after Done = (bytes : Option (List ℕ)) × IsRead named bytes × Ran bytes cells old now before after
+WorksOut named cells old now before after (Refused text) = ⊥
+WorksOut named cells old now before after (Faulted (Source e)) = (named ≡ true) × IsUntouched old now before after
+WorksOut named cells old now before after (Faulted (Run e)) = (bytes : Option (List ℕ)) × IsRead named bytes × RanInto bytes cells old now before after e
+WorksOut named cells old now before after (Faulted Help) = ⊥
+WorksOut named cells old now before after (Faulted Memory) = ⊥
+
+-- the words are taken: they name a file or none, and options, and the run over these comes to this
+abbrev pub RunsBy : List Text → Option (List ℕ) → Option (List ℕ) → Option (List ℕ) → Option (List ℕ) → Ending → Type 0
+RunsBy words old now before after ending = (file : Option Text) × ((options : Options) × (Says words file options × WorksOut (is_some file) options.cells old now before after ending))
+
+-- the help went out, or a front of it before a write failed
+abbrev pub IsPrinted : Option (List ℕ) → Option (List ℕ) → Ending → Type 0
+IsPrinted before after Done = (help : List ℕ) × Appends before after help
+IsPrinted before after (Refused text) = ⊥
+IsPrinted before after (Faulted Help) = (front : List ℕ) × Appends before after front
+IsPrinted before after (Faulted (Source e)) = ⊥
+IsPrinted before after (Faulted (Run e)) = ⊥
+IsPrinted before after (Faulted Memory) = ⊥
+
+-- the words ask for the help, and nothing is read
+abbrev pub HelpsBy : List Text → Option (List ℕ) → Option (List ℕ) → Option (List ℕ) → Option (List ℕ) → Ending → Type 0
+HelpsBy words old now before after ending = AsksHelp words × (now ≡ old) × IsPrinted before after ending
+
+-- What the program comes to. It is done where the words ask for the help and it was written, or name a file or none and
+-- options, and the script was answered over these; the words are refused only where they are wrong; a fault is that of
+-- the file, of the run, of a write of the help, or a want of memory to read the words.
+abbrev pub EndsBy : List Text → Option (List ℕ) → Option (List ℕ) → Option (List ℕ) → Option (List ℕ) → Ending → Type 0
+EndsBy words old now before after Done = HelpsBy words old now before after Done ⊎ RunsBy words old now before after Done
+EndsBy words old now before after (Refused text) = IsWrong words × IsUntouched old now before after
+EndsBy words old now before after (Faulted Help) = HelpsBy words old now before after (Faulted Help)
+EndsBy words old now before after (Faulted Memory) = IsUntouched old now before after
+EndsBy words old now before after (Faulted (Source e)) = RunsBy words old now before after (Faulted (Source e))
+EndsBy words old now before after (Faulted (Run e)) = RunsBy words old now before after (Faulted (Run e))
+
+-- the exit status
+abbrev pub status_of : Ending → ℕ
+status_of Done = 0
+status_of (Refused text) = 2
+status_of (Faulted e) = 1
