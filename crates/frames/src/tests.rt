@@ -4,11 +4,24 @@
 use crate::config::Config;
 use crate::safe::Safe;
 use crate::types::{Action, ActionKind, Event, Frame, FrameLayer, Op, Reason, Step, StepEvents};
+use std::alloc::{AllocError, Global};
 use std::process::Abort;
 use std::test::Fail;
 
+/// A write of 1 is invoked, and started; each with its events.
+const WRITE_INVOKED: Row = (
+    Step::Write { p: 0, v: 1 },
+    Some(Event::Invoke(0, Op::Write(1))),
+    None,
+);
+
+const WRITE_STARTED: Row = (Step::Go { p: 0, c: 0 }, None, None);
+
+/// A step, and the events that it has to record.
+type Row = (Step, Option<Event>, Option<Event>);
+
 /// Makes each step, and compares its events.
-fn run(rt: &impl Abort, config: &mut Config<Safe>, rows: &[(Step, Option<Event>, Option<Event>)]) {
+fn run(rt: &impl Abort, config: &mut Config<Safe>, rows: &[Row]) {
     for (step, first, second) in rows {
         assert!(rt; config.fits(*step), "{step:?}");
         let events = StepEvents {
@@ -19,19 +32,21 @@ fn run(rt: &impl Abort, config: &mut Config<Safe>, rows: &[(Step, Option<Event>,
     }
 }
 
+/// A safe bit that was at 0, after steps whose events are compared.
+fn ran(rt: &impl Abort, alloc: Global, rows: &[Row]) -> Result<Config<Safe>, AllocError> {
+    let mut config = Config::initial(alloc, Safe, 0)?;
+    run(rt, &mut config, rows);
+    Ok(config)
+}
+
 #[test]
 fn overlapped_read(rt: HostRuntime) -> Result<(), Fail> {
-    let mut config = Config::initial(rt.alloc(), Safe, 0)?;
-    run(
+    let config = ran(
         &rt,
-        &mut config,
+        rt.alloc(),
         &[
-            (
-                Step::Write { p: 0, v: 1 },
-                Some(Event::Invoke(0, Op::Write(1))),
-                None,
-            ),
-            (Step::Go { p: 0, c: 0 }, None, None),
+            WRITE_INVOKED,
+            WRITE_STARTED,
             (Step::Read { p: 1 }, Some(Event::Invoke(1, Op::Read)), None),
             (Step::Go { p: 1, c: 0 }, None, None),
             (Step::Go { p: 0, c: 0 }, Some(Event::Wrote(0)), None),
@@ -41,17 +56,16 @@ fn overlapped_read(rt: HostRuntime) -> Result<(), Fail> {
                 Some(Event::Got(1, 0)),
             ),
         ],
-    );
+    )?;
     assert!(rt; config.store().cell(0).value);
     Ok(())
 }
 
 #[test]
 fn voids(rt: HostRuntime) -> Result<(), Fail> {
-    let mut config = Config::initial(rt.alloc(), Safe, 0)?;
-    run(
+    let config = ran(
         &rt,
-        &mut config,
+        rt.alloc(),
         &[
             (Step::Read { p: 1 }, Some(Event::Invoke(1, Op::Read)), None),
             (
@@ -65,7 +79,7 @@ fn voids(rt: HostRuntime) -> Result<(), Fail> {
                 None,
             ),
         ],
-    );
+    )?;
     Ok(())
 }
 
@@ -77,12 +91,8 @@ fn stopped_writer(rt: HostRuntime) -> Result<(), Fail> {
         &rt,
         &mut config,
         &[
-            (
-                Step::Write { p: 0, v: 1 },
-                Some(Event::Invoke(0, Op::Write(1))),
-                None,
-            ),
-            (Step::Go { p: 0, c: 0 }, None, None),
+            WRITE_INVOKED,
+            WRITE_STARTED,
             (Step::Stop { p: 0 }, Some(Event::Stop(0)), None),
             (Step::Go { p: 0, c: 0 }, void, None),
             (Step::Write { p: 0, v: 0 }, void, None),
@@ -123,18 +133,7 @@ fn copy_stands_alone(rt: HostRuntime) -> Result<(), Fail> {
 #[test]
 fn pending_write(rt: HostRuntime) -> Result<(), Fail> {
     let mut config = Config::initial(rt.alloc(), Safe, 0)?;
-    run(
-        &rt,
-        &mut config,
-        &[
-            (
-                Step::Write { p: 0, v: 1 },
-                Some(Event::Invoke(0, Op::Write(1))),
-                None,
-            ),
-            (Step::Go { p: 0, c: 0 }, None, None),
-        ],
-    );
+    run(&rt, &mut config, &[WRITE_INVOKED, WRITE_STARTED]);
     assert_eq!(rt; config.store().cell(0).writing, Some(true));
     assert_eq!(rt; config.op(0), Some(Op::Write(1)));
     let frame = Frame {

@@ -1,7 +1,6 @@
 -- A program up to its next task or its end: what a layer does between two operations of its parts, on its own words alone.
 use Rattle.std.proofs.Common.{ℕ, ◌+◌}
 use Rattle.safe_bit.specs.Memory.{Memory, word_at, with_word}
-use Rattle.safe_bit.specs.Parts.{part}
 use Rattle.frames.specs.declared.types.Outcome.{Outcome}
 use Rattle.frames.specs.declared.types.Next.TheVariants.{Done}
 use Rattle.frames.specs.declared.types.Next.{Next}

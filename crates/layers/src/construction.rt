@@ -13,6 +13,18 @@ use crate::nested::{Ask, Continuation};
 use frames::types::{Frame, Op, Outcome};
 use safe_bit::Store;
 
+/// The numbers of a construction: how many parts and words of its own it has, how many values and
+/// processes, and how many of each the register below has to have.
+#[derive(Clone, Copy, Debug, PartialEq, Eq)]
+pub struct Shape {
+    pub parts: u32,
+    pub words: u32,
+    pub values: u32,
+    pub processes: u32,
+    pub inner_values: u32,
+    pub inner_processes: u32,
+}
+
 /// The programs of a construction, apart from its calls: all that a type over constructions needs to know of one.
 pub trait Rules {
     /// A point in a program: the operation of a part that is in work.
@@ -31,29 +43,14 @@ pub trait Construction: Rules + Copy + Eq {
     // How many tasks can still follow a task.
     ghost left: { Self → Self.Task → ℕ };
 
-    /// How many parts it has.
-    fn parts(&self) -> u32
-        ensures { result ≡ (Self.table self.now).parts };
-
-    /// How many words of its own it has.
-    fn words(&self) -> u32
-        ensures { result ≡ (Self.table self.now).words };
-
-    /// How many values it has.
-    fn values(&self) -> u32
-        ensures { result ≡ (Self.table self.now).values };
-
-    /// How many processes it has.
-    fn processes(&self) -> u32
-        ensures { result ≡ (Self.table self.now).processes };
-
-    /// How many values each part has to have.
-    fn inner_values(&self) -> u32
-        ensures { result ≡ (Self.table self.now).inner_values };
-
-    /// How many processes each part has to have.
-    fn inner_processes(&self) -> u32
-        ensures { result ≡ (Self.table self.now).inner_processes };
+    /// Its numbers, and those of the register that each of its parts has to be.
+    fn shape(&self) -> Shape
+        ensures parts { result.parts ≡ (Self.table self.now).parts }
+        ensures words { result.words ≡ (Self.table self.now).words }
+        ensures values { result.values ≡ (Self.table self.now).values }
+        ensures processes { result.processes ≡ (Self.table self.now).processes }
+        ensures inner_values { result.inner_values ≡ (Self.table self.now).inner_values }
+        ensures inner_processes { result.inner_processes ≡ (Self.table self.now).inner_processes };
 
     /// Whether the operation fits the process.
     fn fits(&self, who: u32, op: Op) -> bool

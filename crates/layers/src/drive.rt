@@ -25,9 +25,10 @@ pub(crate) fn size<L: Construction, S: Register>(layer: &L, below: &S) -> Place
     ensures { result ≡ (layered (L.table layer.now) (S.is below.now)).size }
 {
     let size = below.size();
+    let shape = layer.shape();
     Place {
-        cell: layer.parts() * size.cell,
-        word: layer.parts() * size.word + layer.words(),
+        cell: shape.parts * size.cell,
+        word: shape.parts * size.word + shape.words,
     }
 }
 
@@ -72,7 +73,7 @@ fn init_parts<L: Construction, S: Register>(
     requires value { value < (L.table layer.now).values }
     ensures { store.new ≡ with_part at (first_parts (L.table layer.now) (S.is below.now) value (L.table layer.now).parts) store.old }
 {
-    for part in 0..layer.parts() {
+    for part in 0..layer.shape().parts {
         let place = part_place(layer, below, at, part);
         below.init(store, place, layer.first(value, part));
     }
@@ -85,7 +86,7 @@ fn init_words<L: Construction>(layer: &L, store: &mut Store, base: u32, value: u
     ensures { store.new ≡ record store.old { words = splice base (gathered (λ k. (L.table layer.now).first_word value k ∷ []) (L.table layer.now).words) store.old.words } }
 {
     store.numbered();
-    for word in 0..layer.words() {
+    for word in 0..layer.shape().words {
         store.set_word(base + word, layer.first_word(value, word));
     }
 }
@@ -206,7 +207,7 @@ fn words_at<L: Construction, S: Register>(layer: &L, below: &S, at: Place) -> u3
     requires placed { IsPlaced at (layer_size (L.table layer.now) (S.is below.now).size) }
     ensures { result ≡ at.word + own_words (L.table layer.now) (S.is below.now).size }
 {
-    at.word + layer.parts() * below.size().word
+    at.word + layer.shape().parts * below.size().word
 }
 
 /// A task's part is asked for the task's operation.

@@ -53,20 +53,21 @@ pub fn fits_below<L: Construction, S: Register>(layer: &L, below: &S) -> Result<
     ensures refusal { MatchResult result (λ _. refusal_below (L.table layer.now) (S.is below.now) ≡ None) (λ e. refusal_below (L.table layer.now) (S.is below.now) ≡ Some e) }
     ensures fit { OnOk result (FitsBelow (L.table layer.now) (S.is below.now)) }
 {
-    let few = layer.values() < LEAST_VALUES || layer.processes() < LEAST_PROCESSES;
-    if few || layer.processes() > MOST_PROCESSES {
+    let shape = layer.shape();
+    let few = shape.values < LEAST_VALUES || shape.processes < LEAST_PROCESSES;
+    if few || shape.processes > MOST_PROCESSES {
         return Err(LayerError::BadSize);
     }
-    if below.values() != layer.inner_values()
-        || below.processes() != layer.inner_processes()
+    if below.values() != shape.inner_values
+        || below.processes() != shape.inner_processes
         || below.depth() as usize >= STACK_FRAMES
     {
         return Err(LayerError::BadSize);
     }
     let size = below.size();
-    let parts = u64::from(layer.parts());
+    let parts = u64::from(shape.parts);
     let cells = parts * u64::from(size.cell);
-    let words = parts * u64::from(size.word) + u64::from(layer.words());
+    let words = parts * u64::from(size.word) + u64::from(shape.words);
     if cells > u64::from(MOST_CELLS) || words > u64::from(MOST_WORDS) {
         return Err(LayerError::TooManyBits);
     }

@@ -80,11 +80,11 @@ impl<L: Construction, S: Register> Register for Layered<L, S> {
     }
 
     fn values(&self) -> u32 {
-        self.layer.values()
+        self.layer.shape().values
     }
 
     fn processes(&self) -> u32 {
-        self.layer.processes()
+        self.layer.shape().processes
     }
 
     fn depth(&self) -> u32 {

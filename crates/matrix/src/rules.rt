@@ -10,7 +10,7 @@ ghost use Rattle.matrix.specs.Limits.{matrix_refusal};
 use crate::task::MatrixTask;
 use frames::register::{Behaves, Register};
 use frames::types::{Frame, FrameLayer, Layer, Op, Outcome};
-use layers::construction::{Construction, Rules};
+use layers::construction::{Construction, Rules, Shape};
 use layers::fit::{LEAST_PROCESSES, LEAST_VALUES, LayerError, MOST_VALUES};
 use layers::layered::Layered;
 use layers::nested::{Ask, Continuation};
@@ -188,28 +188,15 @@ impl Construction for Matrix {
 
     ghost left = { λ l. matrix_left l.n };
 
-    fn parts(&self) -> u32 {
-        self.n * self.n
-    }
-
-    fn words(&self) -> u32 {
-        0
-    }
-
-    fn values(&self) -> u32 {
-        self.values
-    }
-
-    fn processes(&self) -> u32 {
-        self.n
-    }
-
-    fn inner_values(&self) -> u32 {
-        (self.last + 1) * self.n * self.values
-    }
-
-    fn inner_processes(&self) -> u32 {
-        2
+    fn shape(&self) -> Shape {
+        Shape {
+            parts: self.n * self.n,
+            words: 0,
+            values: self.values,
+            processes: self.n,
+            inner_values: (self.last + 1) * self.n * self.values,
+            inner_processes: 2,
+        }
     }
 
     fn fits(&self, who: u32, op: Op) -> bool {

@@ -9,7 +9,7 @@ ghost use Rattle.reader_copies.specs.Program.{copies_table, copies_refusal};
 use crate::task::CopiesTask;
 use frames::register::{Behaves, Register};
 use frames::types::{Frame, FrameLayer, Op, Outcome};
-use layers::construction::{Construction, Rules, one_writer};
+use layers::construction::{Construction, Rules, Shape, one_writer};
 use layers::fit::{LayerError, MOST_READERS};
 use layers::layered::Layered;
 use layers::nested::{Ask, Continuation};
@@ -73,28 +73,15 @@ impl Construction for Copies {
 
     ghost left = { λ l. copies_left l.readers };
 
-    fn parts(&self) -> u32 {
-        self.readers
-    }
-
-    fn words(&self) -> u32 {
-        0
-    }
-
-    fn values(&self) -> u32 {
-        self.values
-    }
-
-    fn processes(&self) -> u32 {
-        self.readers + 1
-    }
-
-    fn inner_values(&self) -> u32 {
-        self.values
-    }
-
-    fn inner_processes(&self) -> u32 {
-        2
+    fn shape(&self) -> Shape {
+        Shape {
+            parts: self.readers,
+            words: 0,
+            values: self.values,
+            processes: self.readers + 1,
+            inner_values: self.values,
+            inner_processes: 2,
+        }
     }
 
     fn fits(&self, who: u32, op: Op) -> bool {

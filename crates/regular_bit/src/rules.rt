@@ -9,7 +9,7 @@ ghost use Rattle.regular_bit.specs.Program.{regular_table};
 use crate::task::RegularTask;
 use frames::register::{Behaves, Register};
 use frames::types::{Frame, FrameLayer, Op, Outcome};
-use layers::construction::{Construction, Rules, one_writer};
+use layers::construction::{Construction, Rules, Shape, one_writer};
 use layers::fit::LayerError;
 use layers::layered::Layered;
 use layers::nested::{Ask, Continuation};
@@ -68,28 +68,15 @@ impl Construction for RegularBit {
 
     ghost left = { λ _ _. 0 };
 
-    fn parts(&self) -> u32 {
-        1
-    }
-
-    fn words(&self) -> u32 {
-        1
-    }
-
-    fn values(&self) -> u32 {
-        2
-    }
-
-    fn processes(&self) -> u32 {
-        self.processes
-    }
-
-    fn inner_values(&self) -> u32 {
-        2
-    }
-
-    fn inner_processes(&self) -> u32 {
-        self.processes
+    fn shape(&self) -> Shape {
+        Shape {
+            parts: 1,
+            words: 1,
+            values: 2,
+            processes: self.processes,
+            inner_values: 2,
+            inner_processes: self.processes,
+        }
     }
 
     fn fits(&self, who: u32, op: Op) -> bool {

@@ -9,7 +9,7 @@ ghost use Rattle.stamped.specs.Limits.{stamped_refusal};
 use crate::task::StampedTask;
 use frames::register::{Behaves, Register};
 use frames::types::{Frame, FrameLayer, Layer, Op, Outcome};
-use layers::construction::{Construction, Rules, one_writer};
+use layers::construction::{Construction, Rules, Shape, one_writer};
 use layers::fit::{LEAST_VALUES, LayerError, MOST_VALUES};
 use layers::layered::Layered;
 use layers::nested::{Ask, Continuation};
@@ -80,28 +80,15 @@ impl Construction for Stamped {
 
     ghost left = { λ _ _. 0 };
 
-    fn parts(&self) -> u32 {
-        1
-    }
-
-    fn words(&self) -> u32 {
-        2
-    }
-
-    fn values(&self) -> u32 {
-        self.values
-    }
-
-    fn processes(&self) -> u32 {
-        2
-    }
-
-    fn inner_values(&self) -> u32 {
-        (self.last + 1) * self.values
-    }
-
-    fn inner_processes(&self) -> u32 {
-        2
+    fn shape(&self) -> Shape {
+        Shape {
+            parts: 1,
+            words: 2,
+            values: self.values,
+            processes: 2,
+            inner_values: (self.last + 1) * self.values,
+            inner_processes: 2,
+        }
     }
 
     fn fits(&self, who: u32, op: Op) -> bool {

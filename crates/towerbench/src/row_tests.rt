@@ -1,31 +1,12 @@
 //! Tower files with scripts and their answers, worked by hand.
 
-ghost use Rattle.std.specs.Prelude.{◌≤◌, ◌^◌};
-
 use crate::fault::Fault;
-use crate::options::Options;
 use crate::refusal::Refusal;
-use crate::run::run;
+use crate::tests::written;
 use std::alloc::Global;
 use std::process::Abort;
 use std::test::Fail;
 use tower_file::{FaultKind, FileFault};
-
-/// What a run over a file writes, where at most so many cells may be made, or its fault.
-fn written(alloc: Global, file: &[u8], cells: u32, script: &str) -> Result<Vec<u8>, Fault>
-    requires some { 1 ≤ cells }
-    requires few { cells ≤ 2 ^ 24 }
-{
-    let options = Options {
-        workers: 0,
-        cells,
-        branches: 64,
-    };
-    let mut reader = script.as_bytes();
-    let mut writer = Vec::new(alloc);
-    run(alloc, Some(file), options, &mut reader, &mut writer)?;
-    Ok(writer)
-}
 
 /// Asserts what a script answers over a file.
 fn check(
@@ -35,7 +16,7 @@ fn check(
     script: &str,
     want: &str,
 ) -> Result<(), Fault> {
-    let answers = written(alloc, file.as_bytes(), 65536, script)?;
+    let answers = written(alloc, Some(file.as_bytes()), 65536, script)?;
     assert_eq!(rt; answers.as_slice(), want.as_bytes());
     Ok(())
 }
@@ -217,7 +198,7 @@ fn stopped_writer(rt: HostRuntime) -> Result<(), Fail> {
         line: 5,
     };
     assert_eq!(rt;
-        written(rt.alloc(), older, 65536, "").err(),
+        written(rt.alloc(), Some(older), 65536, "").err(),
         Some(Fault::File(fault))
     );
     Ok(())
@@ -270,7 +251,7 @@ fn file_faults(rt: HostRuntime) {
             3,
         ),
     ] {
-        let fault = written(rt.alloc(), file, 65536, "0 state main 0\n").err();
+        let fault = written(rt.alloc(), Some(file), 65536, "0 state main 0\n").err();
         assert_eq!(rt;
             fault,
             Some(Fault::File(FileFault { kind, line })),
@@ -278,7 +259,7 @@ fn file_faults(rt: HostRuntime) {
         );
     }
     let file = b"tower 1\nunary 512 1 0\nw 0 511\n";
-    assert!(rt; written(rt.alloc(), file, 65536, "").is_ok());
+    assert!(rt; written(rt.alloc(), Some(file), 65536, "").is_ok());
 }
 
 /// A file of more steps than there may be cells isn't opened; its cells count as made.
@@ -286,11 +267,11 @@ fn file_faults(rt: HostRuntime) {
 fn steps_beyond_the_cells(rt: HostRuntime) -> Result<(), Fail> {
     let file = b"tower 1\nsafe 0\nr 1\ng 1 0\n";
     let full = Fault::Refused(Refusal::Full);
-    assert_eq!(rt; written(rt.alloc(), file, 1, "").err(), Some(full));
+    assert_eq!(rt; written(rt.alloc(), Some(file), 1, "").err(), Some(full));
     let script = "0 insert main 0 r 1\n";
-    let answers = written(rt.alloc(), file, 2, script)?;
+    let answers = written(rt.alloc(), Some(file), 2, script)?;
     assert_eq!(rt; answers.as_slice(), b"0: refused 24 Full\n".as_slice());
-    let answers = written(rt.alloc(), file, 3, script)?;
+    let answers = written(rt.alloc(), Some(file), 3, script)?;
     assert_eq!(rt; answers.as_slice(), b"0: edit 1\n".as_slice());
     Ok(())
 }
@@ -305,7 +286,12 @@ fn thousand_steps(rt: HostRuntime) -> Result<(), Fail> {
     file.extend_from_slice(b"w 0 1\ng 0 0\ng 0 0\nw 0 0\n".as_slice())?;
     let want =
         "0: state main 1000 of 1000\n  p0 write 0 next ws 0\n  p1 idle\n  bits 1\n  words -\n";
-    let answers = written(rt.alloc(), file.as_slice(), 65536, "0 state main 1000\n")?;
+    let answers = written(
+        rt.alloc(),
+        Some(file.as_slice()),
+        65536,
+        "0 state main 1000\n",
+    )?;
     assert_eq!(rt; answers.as_slice(), want.as_bytes());
     Ok(())
 }

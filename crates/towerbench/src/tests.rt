@@ -9,6 +9,27 @@ use std::alloc::Global;
 use std::process::Abort;
 use std::test::Fail;
 
+/// What a run writes over a file or none, where at most so many cells may be made, or its fault.
+pub fn written(
+    alloc: Global,
+    file: Option<&[u8]>,
+    cells: u32,
+    script: &str,
+) -> Result<Vec<u8>, Fault>
+    requires some { 1 ≤ cells }
+    requires few { cells ≤ 2 ^ 24 }
+{
+    let options = Options {
+        workers: 0,
+        cells,
+        branches: 64,
+    };
+    let mut reader = script.as_bytes();
+    let mut writer = Vec::new(alloc);
+    run(alloc, file, options, &mut reader, &mut writer)?;
+    Ok(writer)
+}
+
 /// Asserts what a script answers, where at most so many cells may be made.
 pub fn check(
     rt: &impl Abort,
@@ -20,15 +41,8 @@ pub fn check(
     requires some { 1 ≤ cells }
     requires few { cells ≤ 2 ^ 24 }
 {
-    let options = Options {
-        workers: 0,
-        cells,
-        branches: 64,
-    };
-    let mut reader = script.as_bytes();
-    let mut writer = Vec::new(alloc);
-    run(alloc, None, options, &mut reader, &mut writer)?;
-    assert_eq!(rt; writer.as_slice(), want.as_bytes());
+    let answers = written(alloc, None, cells, script)?;
+    assert_eq!(rt; answers.as_slice(), want.as_bytes());
     Ok(())
 }
 

@@ -21,6 +21,13 @@ use std::process::Abort;
 /// What a worked schedule comes to.
 type Tried = Result<(), AllocError>;
 
+/// An invocation of a write of 1 by process 0, and of a read by process 1 and 2.
+const WRITE_1: Step = Step::Write { p: 0, v: 1 };
+
+const READ_1: Step = Step::Read { p: 1 };
+
+const READ_2: Step = Step::Read { p: 2 };
+
 /// The next bit action of process 0, 1 and 2; a hit read gives 0.
 const GO_0: Step = Step::Go { p: 0, c: 0 };
 

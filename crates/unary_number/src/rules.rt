@@ -11,7 +11,7 @@ ghost use Rattle.layers.specs.Nested.{layered};
 use crate::task::UnaryTask;
 use frames::register::{Behaves, Register};
 use frames::types::{Frame, FrameLayer, Op, Outcome};
-use layers::construction::{Construction, Rules, one_writer};
+use layers::construction::{Construction, Rules, Shape, one_writer};
 use layers::fit::{LEAST_VALUES, LayerError, MOST_VALUES};
 use layers::layered::Layered;
 use layers::nested::{Ask, Continuation};
@@ -106,28 +106,15 @@ impl Construction for Unary {
 
     ghost left = { λ _. unary_left };
 
-    fn parts(&self) -> u32 {
-        self.values
-    }
-
-    fn words(&self) -> u32 {
-        0
-    }
-
-    fn values(&self) -> u32 {
-        self.values
-    }
-
-    fn processes(&self) -> u32 {
-        self.processes
-    }
-
-    fn inner_values(&self) -> u32 {
-        2
-    }
-
-    fn inner_processes(&self) -> u32 {
-        self.processes
+    fn shape(&self) -> Shape {
+        Shape {
+            parts: self.values,
+            words: 0,
+            values: self.values,
+            processes: self.processes,
+            inner_values: 2,
+            inner_processes: self.processes,
+        }
     }
 
     fn fits(&self, who: u32, op: Op) -> bool {

@@ -7,7 +7,6 @@ use Rattle.safe_bit.specs.Memory.{Memory, word_at, with_word}
 use Rattle.safe_bit.specs.Parts.{HasSize, LiesIn, part, with_part}
 use Rattle.safe_bit.specs.laws.Parts.{HasSize-part, HasSize-with_word, LiesIn-with_part, part-with_part, with_part-with_part, with_part-own, word_at-part, with_word-part}
 use Rattle.frames.specs.declared.types.Outcome.{Outcome}
-use Rattle.layers.specs.declared.nested.Continuation.TheVariants as continuation
 use Rattle.frames.specs.Behaviour.{Behaviour}
 use Rattle.layers.specs.Nested.{Program, Ends, Asks, Reads, Sets, Table, own_words, asked, behind_part, advance}
 use Rattle.layers.specs.Sound.{IsSound, Falls, WordsHold, LayerHolds}

@@ -1,6 +1,8 @@
 //! Copies over safe bits: which can be built, how large they are, and an overlapped write.
 
-use super::{GO_0, GO_1, GO_2, Tried, frame, replayed, shape_of, stands_in};
+use super::{
+    GO_0, GO_1, GO_2, READ_1, READ_2, Tried, WRITE_1, frame, replayed, shape_of, stands_in,
+};
 use frames::register::Register;
 use frames::safe::Safe;
 use frames::types::{Action, ActionKind, Event, FrameLayer, Op, Step};
@@ -47,17 +49,7 @@ fn one_to_four_readers(rt: HostRuntime) -> Result<(), Fail> {
 
 /// A write of 1 to two copies; reader 1 reads between them, reader 2 beside the second.
 const WRITE_BETWEEN_TWO_READS: [Step; 11] = [
-    Step::Write { p: 0, v: 1 },
-    GO_0,
-    GO_0,
-    Step::Read { p: 1 },
-    GO_1,
-    GO_1,
-    GO_0,
-    Step::Read { p: 2 },
-    GO_2,
-    GO_0,
-    GO_2,
+    WRITE_1, GO_0, GO_0, READ_1, GO_1, GO_1, GO_0, READ_2, GO_2, GO_0, GO_2,
 ];
 
 /// A write of two copies, a read between them, and one beside the second.

@@ -3,7 +3,7 @@
 ghost use Rattle.std.specs.Prelude.{◌≡◌, IfOk, length};
 
 use super::read_first::ReadFirst;
-use super::{Tried, frame, replayed, shape_of, stands_in};
+use super::{READ_1, Tried, WRITE_1, frame, replayed, shape_of, stands_in};
 use crate::{matrix, stamped, unary};
 use frames::register::Register;
 use frames::safe::Safe;
@@ -34,7 +34,7 @@ fn invoked(
 
 /// Process 0 writes 1, and then process 1 makes an operation of so many bit actions.
 fn after_a_write(alloc: Global, invocation: Step, actions: usize) -> Result<Vec<Step>, AllocError> {
-    let mut steps = invoked(alloc, Step::Write { p: 0, v: 1 }, 0, 12)?;
+    let mut steps = invoked(alloc, WRITE_1, 0, 12)?;
     let others = invoked(alloc, invocation, 1, actions)?;
     steps.extend_from_slice(&others)?;
     Ok(steps)
@@ -82,7 +82,7 @@ fn matrix_spent<R: Register>(rt: &impl Abort, alloc: Global, register: R) -> Tri
 
 /// Process 1 reads behind a write: it writes the code that it found to its row.
 fn read_writes_its_row<R: Register>(rt: &impl Abort, alloc: Global, register: R) -> Tried {
-    let steps = after_a_write(alloc, Step::Read { p: 1 }, 38)?;
+    let steps = after_a_write(alloc, READ_1, 38)?;
     let history = [
         (0, Event::Invoke(0, Op::Write(1))),
         (12, Event::Wrote(0)),
@@ -125,7 +125,7 @@ fn coded(layer: FrameLayer, op: Op, x: u32) -> Frame {
 /// A write in its column, and then in its row.
 fn matrix_pending<R: Register>(rt: &impl Abort, alloc: Global, register: R) -> Tried {
     let history = [(0, Event::Invoke(0, Op::Write(1)))];
-    let steps = invoked(alloc, Step::Write { p: 0, v: 1 }, 0, 0)?;
+    let steps = invoked(alloc, WRITE_1, 0, 0)?;
     let config = replayed(rt, alloc, register, &steps, &history)?;
     let reading = [
         frame(FrameLayer::MatrixRead, Op::Write(1), 0),
@@ -137,7 +137,7 @@ fn matrix_pending<R: Register>(rt: &impl Abort, alloc: Global, register: R) -> T
     ];
     stands_in(rt, alloc, &config, 0, &reading);
     stands_in(rt, alloc, &config, 1, &[]);
-    let steps = invoked(alloc, Step::Write { p: 0, v: 1 }, 0, 4)?;
+    let steps = invoked(alloc, WRITE_1, 0, 4)?;
     let config = replayed(rt, alloc, register, &steps, &history)?;
     let writing = [
         coded(FrameLayer::MatrixWrite, Op::Write(1), 5),
@@ -174,7 +174,7 @@ fn matrix_rows(rt: HostRuntime) -> Result<(), Fail> {
 
 /// A write whose second part is spent: what it wrote to the first stays.
 fn spent_part_of_a_row<R: Register>(rt: &impl Abort, alloc: Global, register: R) -> Tried {
-    let steps = invoked(alloc, Step::Write { p: 0, v: 1 }, 0, 16)?;
+    let steps = invoked(alloc, WRITE_1, 0, 16)?;
     let history = [
         (0, Event::Invoke(0, Op::Write(1))),
         (16, Event::Refused(0, Layer::Stamped)),

@@ -2,7 +2,7 @@
 //! In a matrix each process reads the part on the diagonal, and only the others read its other parts.
 
 use frames::types::{Frame, FrameLayer, Layer, Op, Outcome};
-use layers::construction::{Construction, Rules, one_writer};
+use layers::construction::{Construction, Rules, Shape, one_writer};
 use layers::nested::{Ask, Continuation};
 use safe_bit::Store;
 
@@ -29,65 +29,28 @@ impl Construction for ReadFirst {
 
     ghost left = { λ _ _. 0 };
 
-    fn parts(&self) -> u32 {
-        1
-    }
-
-    fn words(&self) -> u32 {
-        1
-    }
-
-    fn values(&self) -> u32 {
-        8
-    }
-
-    fn processes(&self) -> u32 {
-        2
-    }
-
-    fn inner_values(&self) -> u32 {
-        8
-    }
-
-    fn inner_processes(&self) -> u32 {
-        2
+    fn shape(&self) -> Shape {
+        Shape {
+            parts: 1,
+            words: 1,
+            values: 8,
+            processes: 2,
+            inner_values: 8,
+            inner_processes: 2,
+        }
     }
 
     fn fits(&self, who: u32, op: Op) -> bool {
         one_writer(8, 2, who, op)
     }
 
-    fn first(&self, value: u32, _part: u32) -> u32 {
-        value
-    }
-
-    fn first_word(&self, _value: u32, _word: u32) -> u32 {
-        0
-    }
-
-    fn start(&self, store: &mut Store, base: u32, _who: u32, op: Op) -> Continuation<Op> {
-        match op {
-            Op::Write(v) => {
-                if store.word(base) == 0 {
-                    return Continuation::Ends(Outcome::Spent(Layer::Stamped));
-                }
-                Continuation::Asks(Op::Write(v))
-            }
-            Op::Read => {
-                store.set_word(base, 1);
-                Continuation::Asks(Op::Read)
-            }
+    fn frame(&self, task: Op) -> Frame {
+        Frame {
+            layer: FrameLayer::Regular,
+            op: task,
+            i: 0,
+            x: 0,
         }
-    }
-
-    fn after(
-        &self,
-        _store: &mut Store,
-        _base: u32,
-        _task: Op,
-        outcome: Outcome,
-    ) -> Continuation<Op> {
-        Continuation::Ends(outcome)
     }
 
     fn asks(&self, task: Op) -> Ask {
@@ -105,12 +68,36 @@ impl Construction for ReadFirst {
         }
     }
 
-    fn frame(&self, task: Op) -> Frame {
-        Frame {
-            layer: FrameLayer::Regular,
-            op: task,
-            i: 0,
-            x: 0,
+    fn first_word(&self, _value: u32, _word: u32) -> u32 {
+        0
+    }
+
+    fn first(&self, value: u32, _part: u32) -> u32 {
+        value
+    }
+
+    fn after(
+        &self,
+        _store: &mut Store,
+        _base: u32,
+        _task: Op,
+        outcome: Outcome,
+    ) -> Continuation<Op> {
+        Continuation::Ends(outcome)
+    }
+
+    fn start(&self, store: &mut Store, base: u32, _who: u32, op: Op) -> Continuation<Op> {
+        match op {
+            Op::Write(v) => {
+                if store.word(base) == 0 {
+                    return Continuation::Ends(Outcome::Spent(Layer::Stamped));
+                }
+                Continuation::Asks(Op::Write(v))
+            }
+            Op::Read => {
+                store.set_word(base, 1);
+                Continuation::Asks(Op::Read)
+            }
         }
     }
 

@@ -1,6 +1,6 @@
 //! Regular bits over copies of safe bits: which can be built, how large they are, and their steps.
 
-use super::{GO_0, GO_2, Tried, action, frame, replayed, shape_of, stands_in};
+use super::{GO_0, GO_2, READ_2, Tried, WRITE_1, action, frame, replayed, shape_of, stands_in};
 use crate::regular;
 use frames::register::Register;
 use frames::safe::Safe;
@@ -59,13 +59,7 @@ fn regular_same_value<R: Register>(rt: &impl Abort, alloc: Global, register: R) 
 }
 
 /// A write of 1 that stands at its first copy's end, and a read by process 2 of the other copy.
-const WRITE_AND_READ: [Step; 5] = [
-    Step::Write { p: 0, v: 1 },
-    GO_0,
-    Step::Read { p: 2 },
-    GO_2,
-    GO_2,
-];
+const WRITE_AND_READ: [Step; 5] = [WRITE_1, GO_0, READ_2, GO_2, GO_2];
 
 /// The word is set as the write begins, before a copy is written.
 fn word_is_set_first<R: Register>(rt: &impl Abort, alloc: Global, register: R) -> Tried {

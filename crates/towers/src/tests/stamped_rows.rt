@@ -3,7 +3,7 @@
 
 ghost use Rattle.std.specs.Prelude.{◌≡◌, IfOk, length};
 
-use super::{GO_0, GO_1, Tried, action, frame, replayed, shape_of, stands_in};
+use super::{GO_0, GO_1, READ_1, Tried, WRITE_1, action, frame, replayed, shape_of, stands_in};
 use crate::{stamped, unary};
 use frames::register::Register;
 use frames::types::{ActionKind, Event, Frame, FrameLayer, Layer, Op, Step};
@@ -31,11 +31,11 @@ fn store_at(alloc: Global, first: bool, last: bool, words: [u32; 3]) -> Result<S
 /// A write of 1 that stands in its last bit action, and two reads beside it: the first finds the
 /// new code and the second, by its choice, the old.
 const STAMPED_BEST: [Step; 16] = [
-    Step::Write { p: 0, v: 1 },
+    WRITE_1,
     GO_0,
     GO_0,
     GO_0,
-    Step::Read { p: 1 },
+    READ_1,
     GO_1,
     GO_1,
     GO_1,
@@ -44,7 +44,7 @@ const STAMPED_BEST: [Step; 16] = [
     GO_1,
     GO_1,
     GO_1,
-    Step::Read { p: 1 },
+    READ_1,
     GO_1,
     Step::Go { p: 1, c: 1 },
 ];
@@ -107,14 +107,7 @@ fn stamped_best_at_12<R: Register>(rt: &impl Abort, alloc: Global, register: R) 
 
 /// A write to its end, and a second one, which is refused and changes nothing.
 fn stamped_spent<R: Register>(rt: &impl Abort, alloc: Global, register: R) -> Tried {
-    let steps = [
-        Step::Write { p: 0, v: 1 },
-        GO_0,
-        GO_0,
-        GO_0,
-        GO_0,
-        Step::Write { p: 0, v: 0 },
-    ];
+    let steps = [WRITE_1, GO_0, GO_0, GO_0, GO_0, Step::Write { p: 0, v: 0 }];
     let history = [
         (0, Event::Invoke(0, Op::Write(1))),
         (4, Event::Wrote(0)),

@@ -3,7 +3,7 @@
 
 ghost use Rattle.std.specs.Prelude.{◌≡◌, IfOk, length};
 
-use super::{GO_0, GO_1, Tried, action, frame, replayed, shape_of, stands_in};
+use super::{GO_0, GO_1, READ_1, Tried, action, frame, replayed, shape_of, stands_in};
 use crate::{regular, unary};
 use frames::register::Register;
 use frames::types::{ActionKind, Event, FrameLayer, Op, Step};
@@ -44,7 +44,7 @@ const UNARY_OVERLAP: [Step; 13] = [
     Step::Write { p: 0, v: 3 },
     GO_0,
     GO_0,
-    Step::Read { p: 1 },
+    READ_1,
     GO_0,
     GO_1,
     GO_1,

@@ -7,19 +7,6 @@ use Rattle.layers.specs.laws.InPlace.{part_holds, asked_next, asked_memory}
 use Rattle.layers.specs.laws.Over.{over}
 use Rattle.layers.proofs.drive.ask.Goals as goal
 
-pub begin-requires-clause-holds : goal.begin-requires-clause-holds
-begin-requires-clause-holds g c =
-    let l = over (g.met.S.Register.lawful c.args.below.now) (g.met.L.Construction.sound c.args.layer.now) c.requires.fit in
-    let t = g.L.Rules.table c.args.layer.now in
-    let b = g.S.Behaves.is c.args.below.now in
-    let Holds = g.S.Register.Holds c.args.below.now in
-    let fit = asks_fit l c.requires.stands.0 c.requires.stands.1.0 c.args.task c.requires.stands.1.1 in
-    let a = c.asks-ask.result in
-    let e : a ≡ t.asks c.args.task = c.asks-ask.ensures in
-    let lt : a.part < t.parts = rw e fit.0 in
-    subst (λ q. Holds (part q b.size c.args.store.now)) (sym c.part_place-place.ensures)
-    (part_holds l c.args.at c.args.store.now c.requires.lies a.part lt)
-
 pub returns : goal.returns
 returns g c =
     let l = over (g.met.S.Register.lawful c.args.below.now) (g.met.L.Construction.sound c.args.layer.now) c.requires.fit in
@@ -32,10 +19,18 @@ returns g c =
     let suits : b.suits a.who a.op ≡ true = rw e fit.1 in
     record {
       next = c.begin.ensures.next ∙ ap (λ q. (b.begins a.who a.op (part q b.size c.args.store.now)).next) c.part_place-place.ensures
-    ∙ asked_next l c.args.at c.args.store.now c.requires.lies a lt
-    ∙ ap (λ x. (asked b x (own t b c.args.at c.args.store.now)).next) e;
+          ∙ asked_next l c.args.at c.args.store.now c.requires.lies a lt
+          ∙ ap (λ x. (asked b x (own t b c.args.at c.args.store.now)).next) e;
       memory = c.begin.ensures.memory
-    ∙ ap (λ q. with_part q (b.begins a.who a.op (part q b.size c.args.store.now)).memory c.args.store.now) c.part_place-place.ensures
-    ∙ asked_memory l c.args.at c.args.store.now c.requires.lies a lt suits
-    ∙ ap (λ x. with_part c.args.at (asked b x (own t b c.args.at c.args.store.now)).memory c.args.store.now) e;
+          ∙ ap (λ q. with_part q (b.begins a.who a.op (part q b.size c.args.store.now)).memory c.args.store.now) c.part_place-place.ensures
+          ∙ asked_memory l c.args.at c.args.store.now c.requires.lies a lt suits
+          ∙ ap (λ x. with_part c.args.at (asked b x (own t b c.args.at c.args.store.now)).memory c.args.store.now) e;
     }
+
+pub begin-requires-clause-holds : goal.begin-requires-clause-holds
+begin-requires-clause-holds g c =
+    let a = c.asks-ask.result in
+    let l = over (g.met.S.Register.lawful c.args.below.now) (g.met.L.Construction.sound c.args.layer.now) c.requires.fit in
+    let lt : a.part < (g.L.Rules.table c.args.layer.now).parts = rw c.asks-ask.ensures (asks_fit l c.requires.stands.0 c.requires.stands.1.0 c.args.task c.requires.stands.1.1).0 in
+    subst (λ q. g.S.Register.Holds c.args.below.now (part q (g.S.Behaves.is c.args.below.now).size c.args.store.now)) (sym c.part_place-place.ensures)
+    (part_holds l c.args.at c.args.store.now c.requires.lies a.part lt)
