@@ -1,7 +1,7 @@
 //! A conversation: the script comes in by pieces, and the answers to each piece go out together.
 
 ghost use Rattle.std.specs.Prelude.{◌≡◌, ◌++◌, ◌∷◌, [], ◌<◌, ◌≤◌, ◌+◌, ◌^◌, ℕ, List, Option, OnOk, OnErr, IfOk, IfErr, IfSome, length, nat_lt, if◌then◌else◌};
-ghost use Rattle.std.specs.Io.KnownBytes.{Appends, Consumes, IsAtEnd};
+ghost use Rattle.std.specs.Io.KnownBytes.{Appends, IsAtEnd};
 ghost use Rattle.towerbench.specs.Scripts.{answers_to, IsAnswer};
 ghost use Rattle.towerbench.specs.Told.{Told, Reached, Turned, Finished};
 ghost use Rattle.towerbench.specs.Conversations.{IsAnswered, Breaks, IsFront};

@@ -1,7 +1,7 @@
 //! One read, and one write of all bytes.
 
-ghost use Rattle.std.specs.Prelude.{◌≡◌, ◌++◌, [], ◌<◌, ◌≤◌, ℕ, List, OnErr, OnOk, IfOk, IfErr, IfSome, MatchOption, length, take};
-ghost use Rattle.std.specs.Io.KnownBytes.{Appends, Consumes, IsAtEnd, Keeps};
+ghost use Rattle.std.specs.Prelude.{◌≡◌, [], ◌<◌, ◌≤◌, ℕ, List, OnErr, OnOk, IfOk, IfErr, IfSome, MatchOption, length, take};
+ghost use Rattle.std.specs.Io.KnownBytes.{Appends, Consumes, IsAtEnd};
 ghost use Rattle.towerbench.specs.Conversations.{IsFront};
 
 use crate::fault::StreamFault;
