@@ -376,6 +376,7 @@ impl Write for Counted<'_> {
 #[derive(Drop)]
 struct Watching<'a> {
     pieces: &'a [&'a str],
+    next: usize,
     writes: &'a Cell<usize>,
     bytes: &'a Cell<usize>,
     seen: Vec<(usize, usize)>,
@@ -384,13 +385,13 @@ struct Watching<'a> {
 impl Read for Watching<'_> {
     fn read(&mut self, buf: &mut [u8]) -> io::Result<usize> {
         self.seen.push((self.writes.get(), self.bytes.get()))?;
-        let Some((first, others)) = self.pieces.split_first() else {
+        let Some(piece) = self.pieces.get(self.next) else {
             return Ok(0);
         };
-        let piece = first.as_bytes();
+        let piece = piece.as_bytes();
         let count = piece.len().min(buf.len());
         buf[..count].copy_from_slice(&piece[..count]);
-        self.pieces = others;
+        self.next = self.next.wrapping_add(1);
         Ok(count)
     }
 }
@@ -407,6 +408,7 @@ fn answers_go_out_together(rt: HostRuntime) {
     ];
     let mut reader = Watching {
         pieces: pieces.as_slice(),
+        next: 0,
         writes: &writes,
         bytes: &bytes,
         seen: Vec::new(rt.alloc()),
