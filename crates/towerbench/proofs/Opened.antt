@@ -15,7 +15,7 @@ use Rattle.towerbench.specs.Answers.{answer_line}
 use Rattle.towerbench.specs.Scripts.{answers_to}
 use Rattle.towerbench.specs.Conversations.{Answering, Breaks}
 use Rattle.towerbench.specs.Faults.{of_streams}
-use Rattle.towerbench.specs.Opening.{opened, answers_of, answers_on, IsBroken, FailsOver, EndsOver, Ran, RanInto}
+use Rattle.towerbench.specs.Opening.{opened, answers_of, answers_on, FailsOver, EndsOver, Ran, RanInto}
 
 module _ (old now before after : Option (List ℕ)) where
   -- what a run over a register comes to is what it comes to over the file of its tower

@@ -3,7 +3,7 @@ use Rattle.std.proofs.Common.{Result, Ok, Err, OnOk, ◌≡◌, ℕ, ◌+◌, �
 use Rattle.std.proofs.lemmas.Bool.Decides.{nat_tests}
 use Rattle.std.specs.List.{fold}
 use Rattle.std.proofs.lemmas.List.Sums.{fold_push, fold-append}
-use Rattle.towerbench.specs.Scripts.{Answered, Definition, Marks, Progress, beginning, further, next_line, after_lines, answers_to, lines_of, all_but_last, whole_lines, is_line_end, IsAnswer}
+use Rattle.towerbench.specs.Scripts.{Definition, Marks, Progress, beginning, further, next_line, after_lines, answers_to, lines_of, all_but_last, whole_lines, is_line_end, IsAnswer}
 use Rattle.towerbench.specs.Told.{Told}
 use Rattle.towerbench.specs.Conversations.{IsFront}
 use Rattle.towerbench.proofs.Splits.{split-push, split-push_cut}

@@ -1,4 +1,4 @@
-use Rattle.std.proofs.Common.{◌≡◌, ◌+◌, ◌≤◌, ◌<◌, ◌^◌, arith}
+use Rattle.std.proofs.Common.{◌+◌, ◌≤◌, ◌<◌, ◌^◌, arith}
 use Rattle.towerbench.proofs.Turns.{reached_start, breaks_long, finished, broken}
 use Rattle.towerbench.proofs.conversation.converse.Goals as goal
 
