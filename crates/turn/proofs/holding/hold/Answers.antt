@@ -1,0 +1,56 @@
+use Rattle.std.proofs.Common.{ℕ, ◌<◌, sym, ap, ◌∙◌, subst}
+use Rattle.atomic_table.specs.Table.{Me}
+use Rattle.turn.specs.declared.view.View.{View}
+use Rattle.turn.specs.Shares.{has}
+use Rattle.turn.specs.ShareLaws.{number_held}
+use Rattle.turn.specs.Histories.{released}
+use Rattle.turn.proofs.Holds.{still_has, all_seen, one_more, still_owns, holding}
+use Rattle.turn.proofs.holding.hold.Goals as goal
+
+pub grab-requires-clause-some : goal.grab-requires-clause-some
+grab-requires-clause-some g c = (_, (number_held c.args.place.now.me.0.shares c.requires.number.1 c.requires.number.2).1)
+
+pub work-answer-requires : goal.work-answer-requires
+work-answer-requires g c = subst (λ (n : ℕ). n < 16) (sym c.requires.number.0) (number_held c.args.place.now.me.0.shares c.requires.number.1 c.requires.number.2).0
+
+pub publish-requires-clause-own : goal.publish-requires-clause-own
+publish-requires-clause-own g c =
+    let t = c.take-value.ensures in
+    still_has g.T.Counted.by g.T.Counted.entries c.args.place.now.me c.grab.new.place.me c.take-value.new.place.me c.take-value.result c.grab.ensures.grabs c.requires.idle.0 t.value t.empty c.args.number
+    (ap (has c.args.place.now.me.0.shares) c.requires.number.0 ∙ (number_held c.args.place.now.me.0.shares c.requires.number.1 c.requires.number.2).1)
+
+pub publish-requires-clause-added : goal.publish-requires-clause-added
+publish-requires-clause-added g c =
+    let t = c.take-value.ensures in let adds = c.work-answer.ensures.added in (
+      all_seen g.T.Counted.by g.T.Counted.entries c.args.place.now.me c.grab.new.place.me c.take-value.new.place.me c.take-value.result c.grab.ensures.grabs c.requires.idle.0 t.value t.empty _ _ adds,
+      one_more g.T.Counted.by g.T.Counted.entries c.args.place.now.me c.grab.new.place.me c.take-value.new.place.me c.take-value.result c.grab.ensures.grabs c.requires.idle.0 t.value t.empty _ _ adds,
+    )
+
+pub put-requires-clause-published : goal.put-requires-clause-published
+put-requires-clause-published g c =
+    let t = c.take-value.ensures in let adds = c.work-answer.ensures.added in
+    all_seen g.T.Counted.by g.T.Counted.entries c.args.place.now.me c.grab.new.place.me c.take-value.new.place.me c.take-value.result c.grab.ensures.grabs c.requires.idle.0 t.value t.empty _ _ adds ∙ sym (ap (λ (m : Me _ (View _)). m.0.seen) c.publish.ensures.published)
+
+pub release-requires-clause-full : goal.release-requires-clause-full
+release-requires-clause-full g c =
+    let t = c.take-value.ensures in let adds = c.work-answer.ensures.added in let full = c.put.ensures.full in (
+      c.work-answer.new.value,
+      ap (λ (m : Me _ (View _)). m.1) full,
+      all_seen g.T.Counted.by g.T.Counted.entries c.args.place.now.me c.grab.new.place.me c.take-value.new.place.me c.take-value.result c.grab.ensures.grabs c.requires.idle.0 t.value t.empty _ _ adds
+          ∙ sym (ap (λ (m : Me _ (View _)). m.0.seen) full ∙ ap (λ (m : Me _ (View _)). m.0.seen) c.publish.ensures.published),
+    )
+
+pub returns-clause-owns : goal.returns-clause-owns
+returns-clause-owns g c =
+    let t = c.take-value.ensures in let adds = c.work-answer.ensures.added in
+    still_owns g.T.Counted.by g.T.Counted.entries c.args.place.now.me c.grab.new.place.me c.take-value.new.place.me c.take-value.result c.grab.ensures.grabs c.requires.idle.0 t.value t.empty _ _ adds _
+    (ap (λ (m : Me _ (View _)). m.0) c.release.ensures.released
+    ∙ (ap (λ (m : Me _ (View _)). released m.0) c.put.ensures.full ∙ ap (λ (m : Me _ (View _)). released m.0) c.publish.ensures.published))
+
+pub returns-clause-held : goal.returns-clause-held
+returns-clause-held g c =
+    let t = c.take-value.ensures in let adds = c.work-answer.ensures.added in
+    holding g.T.Counted.by g.T.Counted.entries c.args.place.now.me c.grab.new.place.me c.take-value.new.place.me c.take-value.result c.grab.ensures.grabs c.requires.idle.0 t.value t.empty _ _ adds _
+    (ap (λ (m : Me _ (View _)). m.0) c.release.ensures.released
+    ∙ (ap (λ (m : Me _ (View _)). released m.0) c.put.ensures.full ∙ ap (λ (m : Me _ (View _)). released m.0) c.publish.ensures.published))
+    (λ before after. g.W.Work.relation c.args.work.now before after c.work-answer.result c.work-answer.new.self) c.requires.number.0 c.work-answer.ensures.kept
