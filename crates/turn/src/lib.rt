@@ -9,6 +9,8 @@ mod refusal;
 mod rule;
 mod shares;
 mod steps;
+#[cfg(test)]
+mod tests;
 mod turn;
 mod view;
 
