@@ -55,20 +55,31 @@ module _ {T E : Type 0} (by : E → ℕ) (entries : T → List E) where
       pub one_more : AtMostOne by n (grown m2.0 x1)
       one_more = subst (AtMostOne by n) (sym grown_is) adds.2
 
-      module _ (w : V) (ends : w ≡ released (published m2.0 (grown m2.0 x1))) where
-        pub still_owns : OwnsItsCalls by w
-        still_owns = subst (OwnsItsCalls by) (sym (ends ∙ ap (λ (v : V). released (published v (grown m2.0 x1))) (ap (λ (m : M). m.0) empty ∙ ap (λ (m : M). m.0) grabs.1)))
-            (λ share held. under_append by share (entries grabs.0) (grown m2.0 x1)
-            ∙ (ap (λ (l : List E). l ++ under by share (grown m2.0 x1)) (grabs.4 share held) ∙ sym (under_append by share m0.0.calls (grown m2.0 x1))))
+      module _ (m3 : M) (published_is : m3 ≡ (published m2.0 (grown m2.0 x1), m2.1)) where
+        pub put_ready : entries x1 ≡ m3.0.seen
+        put_ready = all_seen ∙ sym (ap (λ (m : M). m.0.seen) published_is)
 
-        pub holding : (relation : List E → List E → Type 0) → n ≡ number m0.0.shares → relation (entries x0) (entries x1) → Holding by relation m0.0 w
-        holding relation same kept = (
-          entries x0,
-          grown m2.0 x1,
-          subst (λ (x : T). StartsWith (entries x) m0.0.seen) same_value grabs.2,
-          subst (λ (x : T). m0.0.told ≤ length (entries x)) same_value grabs.3,
-          subst (λ (k : ℕ). AtMostOne by k (grown m2.0 x1)) same one_more,
-          ends ∙ ap (λ (v : V). released (published v (grown m2.0 x1))) taken_view,
-          subst (relation (entries x0)) (all_seen ∙ ap (λ (l : List E). l ++ grown m2.0 x1) seen_is) kept,
-          λ all. ap entries (sym same_value) ∙ grabs.5 all,
-        )
+        module _ (m4 : M) (full : m4 ≡ (m3.0, (0, Some x1) ∷ [])) where
+          pub release_ready : (x : T) × (m4.1 ≡ (0, Some x) ∷ []) × (entries x ≡ m4.0.seen)
+          release_ready = (x1, ap (λ (m : M). m.1) full, put_ready ∙ sym (ap (λ (m : M). m.0.seen) full))
+
+          module _ (m5 : M) (released_is : m5 ≡ (released m4.0, [])) where
+            ends : m5.0 ≡ released (published m2.0 (grown m2.0 x1))
+            ends = ap (λ (m : M). m.0) released_is ∙ (ap (λ (m : M). released m.0) full ∙ ap (λ (m : M). released m.0) published_is)
+
+            pub still_owns : OwnsItsCalls by m5.0
+            still_owns = subst (OwnsItsCalls by) (sym (ends ∙ ap (λ (v : V). released (published v (grown m2.0 x1))) (ap (λ (m : M). m.0) empty ∙ ap (λ (m : M). m.0) grabs.1)))
+                (λ share held. under_append by share (entries grabs.0) (grown m2.0 x1)
+                ∙ (ap (λ (l : List E). l ++ under by share (grown m2.0 x1)) (grabs.4 share held) ∙ sym (under_append by share m0.0.calls (grown m2.0 x1))))
+
+            pub holding : (relation : List E → List E → Type 0) → n ≡ number m0.0.shares → relation (entries x0) (entries x1) → Holding by relation m0.0 m5.0
+            holding relation same kept = (
+              entries x0,
+              grown m2.0 x1,
+              subst (λ (x : T). StartsWith (entries x) m0.0.seen) same_value grabs.2,
+              subst (λ (x : T). m0.0.told ≤ length (entries x)) same_value grabs.3,
+              subst (λ (k : ℕ). AtMostOne by k (grown m2.0 x1)) same one_more,
+              ends ∙ ap (λ (v : V). released (published v (grown m2.0 x1))) taken_view,
+              subst (relation (entries x0)) (all_seen ∙ ap (λ (l : List E). l ++ grown m2.0 x1) seen_is) kept,
+              λ all. ap entries (sym same_value) ∙ grabs.5 all,
+            )

@@ -48,6 +48,10 @@ module _ {E : Type 0} where
     met = (v.seen, w.seen);
   }
 
+  -- After a join: shares and calls are together, the longer of the two lists was seen, which the other begins, and the length of the list was told
+  abbrev pub IsJoined : View E → View E → View E → Type 0
+  IsJoined v w after = (n : ℕ) × (after ≡ told_of (joined v w) n) × ((joined v w).told ≤ n) × (length after.seen ≤ n) × StartsWith after.seen v.seen × StartsWith after.seen w.seen
+
 module _ {E : Type 0} (by : E → ℕ) where
   -- the entries under a share
   abbrev pub under : ℕ → List E → List E

@@ -2,7 +2,7 @@
 
 ghost use Rattle.std.specs.Prelude.{◌≡◌, ◌≢◌, ◌≤◌, ◌<◌, ℕ, All, IfOk, MatchResult, length};
 ghost use Rattle.turn.specs.Shares.{HasAll, count, next_least};
-ghost use Rattle.turn.specs.Histories.{StartsWith, Holding, OwnsItsCalls, first_view, told_of, kept, handed, joined};
+ghost use Rattle.turn.specs.Histories.{Holding, IsJoined, OwnsItsCalls, first_view, told_of, kept, handed};
 ghost use Rattle.turn.specs.Rule.{IsTurn, IsSamePlace};
 ghost use Rattle.turn.specs.Chairs.{IsOf, view};
 
@@ -84,8 +84,7 @@ impl<T: Counted + Drop> Turn<T> {
     pub fn join(&self, chair: &mut Chair<T>, other: Chair<T>)
         requires { IsOf self.now chair.old × IsOf self.now other }
         ensures turn { IsOf self.now chair.new }
-        ensures joined { (n : ℕ) × (view chair.new ≡ told_of (joined (view chair.old) (view other)) n) × ((joined (view chair.old) (view other)).told ≤ n) × (length (view chair.new).seen ≤ n) }
-        ensures met { StartsWith (view chair.new).seen (view chair.old).seen × StartsWith (view chair.new).seen (view other).seen }
+        ensures joined { IsJoined (view chair.old) (view other) (view chair.new) }
         ensures owns { OwnsItsCalls T.by (view chair.new) }
     {
         chair.take_in(&self.table.shared, other);
@@ -135,8 +134,7 @@ impl<T: Counted + Drop> Chair<T> {
     fn take_in(&mut self, board: &Board<T>, other: Chair<T>)
         requires turn { IsTurn board.now.table_id self.old.place × IsTurn board.now.table_id other.place }
         ensures same { IsSamePlace self.old.place self.new.place }
-        ensures joined { (n : ℕ) × (view self.new ≡ told_of (joined (view self.old) (view other)) n) × ((joined (view self.old) (view other)).told ≤ n) × (length (view self.new).seen ≤ n) }
-        ensures met { StartsWith (view self.new).seen (view self.old).seen × StartsWith (view self.new).seen (view other).seen }
+        ensures joined { IsJoined (view self.old) (view other) (view self.new) }
         ensures owns { OwnsItsCalls T.by (view self.new) }
     {
         let together = self.shares.together(&other.shares);
