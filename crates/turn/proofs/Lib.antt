@@ -1,0 +1,4 @@
+pub mod Fronts
+pub mod Keeps
+pub mod Holds
+pub mod Calls

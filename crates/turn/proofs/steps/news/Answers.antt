@@ -1,0 +1,6 @@
+use Rattle.std.proofs.Common.{rules}
+use Rattle.turn.proofs.Keeps.{tells}
+use Rattle.turn.proofs.steps.news.Goals as goal
+
+pub load-requires : goal.load-requires
+load-requires g c = (search rules, search rules, tells g.T.Counted.by g.T.Counted.entries _ _ _)

@@ -1,0 +1,13 @@
+-- Chairs of a turn.
+use Rattle.std.specs.Prelude.{◌≡◌}
+use Rattle.turn.specs.declared.view.View.{View}
+use Rattle.turn.specs.declared.chair.Chair.{Chair}
+use Rattle.turn.specs.declared.turn.Turn.{Turn}
+
+-- what a chair knows
+abbrev pub view : {T E : Type 0} {g : _} → Chair T E g → View E
+view chair = chair.place.me.0
+
+-- the chair is one of this turn
+abbrev pub IsOf : {T E : Type 0} {g : _} → Turn T E → Chair T E g → Type 0
+IsOf turn chair = chair.place.table_id ≡ turn.table.shared.table_id

@@ -1,0 +1,158 @@
+//! The calls of a turn.
+
+ghost use Rattle.std.specs.Prelude.{◌≡◌, ◌≢◌, ◌≤◌, ◌<◌, ℕ, All, IfOk, MatchResult, length};
+ghost use Rattle.turn.specs.Shares.{HasAll, count, next_least};
+ghost use Rattle.turn.specs.Histories.{Holding, IsJoined, OwnsItsCalls, first_view, told_of, kept, handed};
+ghost use Rattle.turn.specs.Rule.{IsTurn, IsSamePlace};
+ghost use Rattle.turn.specs.Chairs.{IsOf, view};
+
+use crate::chair::Chair;
+use crate::counted::{Counted, Work};
+use crate::holding::hold;
+use crate::refusal::ChairsOut;
+use crate::rule::Board;
+use crate::shares::Shares;
+use crate::steps::{join, news, split};
+use crate::turn::Turn;
+use atomic_table::Table;
+use std::alloc::{AllocError, Global};
+use std::marker::Brand;
+use std::snapshot::Snapshot;
+use std::sync::Wait;
+
+impl<T: Counted + Drop> Turn<T> {
+    /// Puts the value behind a turn, with one chair that holds all 16 shares and has seen the value's list.
+    /// Err where memory was refused; the value is then dropped.
+    pub fn new(alloc: Global, value: T) -> Result<(Turn<T>, Chair<T>), AllocError>
+        requires { All (λ e. 16 ≤ T.by e) (T.entries value) }
+        ensures chair { IfOk result (λ r. view r.1 ≡ first_view (T.entries value)) }
+        ensures turn { IfOk result (λ r. IsOf r.0 r.1) }
+    {
+        let length = value.len();
+        let about = Snapshot::of(&value);
+        let mut slots = Vec::new(alloc);
+        slots.push(Some(value))?;
+        let Ok((table, place)) = Table::new(alloc, &[0, length], slots, &about) else {
+            return Err(AllocError);
+        };
+        let chair = Chair {
+            place,
+            shares: Shares::every(),
+        };
+        Ok((Turn { table }, chair))
+    }
+
+    /// Waits for the turn, does the work on the value under the chair's number, and gives the turn back.
+    /// The work takes memory where it says so; the call itself takes none.
+    pub fn with<W: Work<T>, R: Wait>(&self, rt: &R, chair: &mut Chair<T>, work: &mut W) -> W::Out
+        requires { IsOf self.now chair.old }
+        ensures turn { IsOf self.now chair.new }
+        ensures held { Holding T.by (λ before after. W.relation work.old before after result work.new) (view chair.old) (view chair.new) }
+        ensures owns { OwnsItsCalls T.by (view chair.new) }
+    {
+        let number = chair.shares.number() as u32;
+        hold(rt, &self.table.shared, &mut chair.place, number, work)
+    }
+
+    /// How long the list is by now. It waits for nobody.
+    pub fn news(&self, chair: &mut Chair<T>) -> u64
+        requires { IsOf self.now chair.old }
+        ensures turn { IsOf self.now chair.new }
+        ensures told { view chair.new ≡ told_of (view chair.old) result }
+        ensures seen { length (view chair.old).seen ≤ result }
+        ensures grows { (view chair.old).told ≤ result }
+    {
+        news(&self.table.shared, &mut chair.place)
+    }
+
+    /// Gives the next least shares after the chair's number, as many as asked, to a new chair, with the calls under them.
+    /// Both have then seen what the chair had.
+    pub fn split(&self, chair: &mut Chair<T>, shares: u32) -> Chair<T>
+        requires turn { IsOf self.now chair.old }
+        requires some { 0 < shares }
+        requires fewer { shares < count (view chair.old).shares }
+        ensures turn { IsOf self.now chair.new × IsOf self.now result }
+        ensures kept { view chair.new ≡ kept T.by (next_least shares (view chair.old).shares) (view chair.old) }
+        ensures given { view result ≡ handed T.by (next_least shares (view chair.old).shares) (view chair.old) }
+        ensures owns { OwnsItsCalls T.by (view chair.new) × OwnsItsCalls T.by (view result) }
+    {
+        chair.give(&self.table.shared, shares)
+    }
+
+    /// Takes another chair's shares and calls in. What one of the two had seen begins what the other had;
+    /// the chair has then seen the longer one.
+    pub fn join(&self, chair: &mut Chair<T>, other: Chair<T>)
+        requires { IsOf self.now chair.old × IsOf self.now other }
+        ensures turn { IsOf self.now chair.new }
+        ensures joined { IsJoined (view chair.old) (view other) (view chair.new) }
+        ensures owns { OwnsItsCalls T.by (view chair.new) }
+    {
+        chair.take_in(&self.table.shared, other);
+    }
+
+    /// Takes the value out, by a chair that holds all 16 shares: it has seen the whole list.
+    /// A chair that lacks one is refused, and turn and chair are handed back.
+    pub fn close(self, chair: Chair<T>) -> Result<T, (ChairsOut, Turn<T>, Chair<T>)>
+        requires { IsOf self chair }
+        ensures { MatchResult result (λ value. HasAll (view chair).shares × (T.entries value ≡ (view chair).seen)) (λ r. (¬ HasAll (view chair).shares) × (r.1 ≡ self) × (r.2 ≡ chair)) }
+    {
+        if !chair.shares.is_every() {
+            return Err((ChairsOut, self, chair));
+        }
+        Ok(chair.into_value(self))
+    }
+}
+
+impl<T: Counted + Drop> Chair<T> {
+    /// How many shares it holds.
+    pub fn shares(&self) -> u32
+        ensures { result ≡ count (view self.now).shares }
+    {
+        self.shares.count() as u32
+    }
+
+    fn give(&mut self, board: &Board<T>, shares: u32) -> Chair<T>
+        requires turn { IsTurn board.now.table_id self.old.place }
+        requires some { 0 < shares }
+        requires fewer { shares < count (view self.old).shares }
+        ensures same { IsSamePlace self.old.place self.new.place }
+        ensures given_place { result.place.table_id ≡ self.old.place.table_id }
+        ensures kept { view self.new ≡ kept T.by (next_least shares (view self.old).shares) (view self.old) }
+        ensures given { view result ≡ handed T.by (next_least shares (view self.old).shares) (view self.old) }
+        ensures owns { OwnsItsCalls T.by (view self.new) × OwnsItsCalls T.by (view result) }
+    {
+        let given = self.shares.next_least(shares as usize);
+        let left = self.shares.without(&given);
+        let place = split::<T, Brand>(board, &mut self.place, &given);
+        self.shares = left;
+        Chair {
+            place,
+            shares: given,
+        }
+    }
+
+    fn take_in(&mut self, board: &Board<T>, other: Chair<T>)
+        requires turn { IsTurn board.now.table_id self.old.place × IsTurn board.now.table_id other.place }
+        ensures same { IsSamePlace self.old.place self.new.place }
+        ensures joined { IsJoined (view self.old) (view other) (view self.new) }
+        ensures owns { OwnsItsCalls T.by (view self.new) }
+    {
+        let together = self.shares.together(&other.shares);
+        join(board, &mut self.place, other.into_place());
+        news(board, &mut self.place);
+        self.shares = together;
+    }
+
+    fn into_value(self, turn: Turn<T>) -> T
+        requires { IsOf turn self × HasAll (view self).shares }
+        ensures { T.entries result ≡ (view self).seen }
+    {
+        let mut closed = turn.into_table().close_with(self.into_place());
+        let value = closed.take(0);
+        closed.free();
+        match value {
+            Some(value) => value,
+            None => unreachable!(),
+        }
+    }
+}

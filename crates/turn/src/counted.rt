@@ -1,0 +1,38 @@
+//! What lies behind a turn, and the work that is done on it.
+
+ghost use Rattle.std.specs.Prelude.{◌≡◌, ℕ, ◌<◌, ◌++◌, List, length};
+ghost use Rattle.turn.specs.Entries.{AtMostOne};
+
+/// A value that stands for a list of entries, each made by the chair whose number it carries.
+pub trait Counted {
+    ghost use Rattle.std.specs.Prelude.{◌≡◌, ℕ, List, length};
+
+    type Entry;
+
+    /// The list.
+    ghost entries: { Self → List Self.Entry };
+
+    /// The number of the chair that made an entry.
+    ghost by: { Self.Entry → ℕ };
+
+    /// How long the list is.
+    fn len(&self) -> u64
+        ensures { result ≡ length (entries self.now) };
+}
+
+/// Work on a value, done while the turn is held.
+pub trait Work<T: Counted> {
+    ghost use Rattle.std.specs.Prelude.{◌≡◌, ℕ, ◌<◌, ◌++◌, List, length};
+    ghost use Rattle.turn.specs.Entries.{AtMostOne};
+
+    type Out;
+
+    /// What the work promises: of itself before, the list before, the list after, its answer, and itself after.
+    ghost relation: { Self → List T.Entry → List T.Entry → Self.Out → Self → Type 0 };
+
+    /// Works on the value for the chair of this number.
+    fn work(&mut self, value: &mut T, number: u32) -> Self::Out
+        requires { number < 16 }
+        ensures kept { relation self.old (T.entries value.old) (T.entries value.new) result self.new }
+        ensures added { (added : List T.Entry) × (T.entries value.new ≡ T.entries value.old ++ added) × AtMostOne T.by number added };
+}

@@ -1,0 +1,85 @@
+//! Sets of shares.
+
+ghost use Rattle.std.specs.Prelude.{◌≡◌, ◌<◌, ◌≤◌, ◌↔◌, IsTrue, position};
+ghost use Rattle.turn.specs.Shares.{HasAll, count, every_share, next_least, number, rank, together, without};
+
+/// A set of the shares 0 to 15: share i is in it where mark i is set.
+#[derive(Clone, Copy, Debug, PartialEq, Eq)]
+pub(crate) struct Shares {
+    pub(crate) marks: [bool; 16],
+}
+
+impl Shares {
+    pub(crate) fn every() -> Shares
+        ensures { result.marks ≡ every_share }
+    {
+        Shares { marks: [true; 16] }
+    }
+
+    /// How many they are.
+    pub(crate) fn count(&self) -> usize
+        ensures { result ≡ count self.now.marks }
+    {
+        self.marks.iter().filter(|held| **held).count()
+    }
+
+    pub(crate) fn is_every(&self) -> bool
+        ensures { IsTrue result ↔ HasAll self.now.marks }
+    {
+        self.marks.iter().all(|held| *held)
+    }
+
+    /// The least share.
+    fn least(&self) -> Option<usize>
+        ensures { result ≡ position (λ held. held) self.now.marks }
+    {
+        self.marks.iter().position(|held| *held)
+    }
+
+    /// The least share, and 16 where there is none.
+    pub(crate) fn number(&self) -> usize
+        ensures { result ≡ number self.now.marks }
+    {
+        self.least().unwrap_or(16)
+    }
+
+    /// How many shares are less than this one.
+    fn rank(&self, share: usize) -> usize
+        requires { share ≤ 16 }
+        ensures { result ≡ rank self.now.marks share }
+    {
+        self.marks[..share].iter().filter(|held| **held).count()
+    }
+
+    /// The next least shares after the least.
+    pub(crate) fn next_least(&self, many: usize) -> Shares
+        ensures { result.marks ≡ next_least many self.now.marks }
+    {
+        let mut marks = [false; 16];
+        for share in 0..16 {
+            let lesser = self.rank(share);
+            marks[share] = self.marks[share] & (0 < lesser) & (lesser <= many);
+        }
+        Shares { marks }
+    }
+
+    pub(crate) fn without(&self, given: &Shares) -> Shares
+        ensures { result.marks ≡ without self.now.marks given.now.marks }
+    {
+        let mut marks = [false; 16];
+        for share in 0..16 {
+            marks[share] = self.marks[share] & !given.marks[share];
+        }
+        Shares { marks }
+    }
+
+    pub(crate) fn together(&self, others: &Shares) -> Shares
+        ensures { result.marks ≡ together self.now.marks others.now.marks }
+    {
+        let mut marks = [false; 16];
+        for share in 0..16 {
+            marks[share] = self.marks[share] | others.marks[share];
+        }
+        Shares { marks }
+    }
+}

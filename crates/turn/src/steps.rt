@@ -1,0 +1,122 @@
+//! The eight kinds of atomic step, and one holding of the turn.
+
+ghost use Rattle.std.specs.Prelude.{◌≡◌, ℕ, ◌++◌, true, false, [], ◌∷◌, Some, None, List, length};
+ghost use Rattle.turn.specs.Shares.{has};
+ghost use Rattle.turn.specs.Entries.{AtMostOne};
+ghost use Rattle.turn.specs.Histories.{HoldsSome, published, released, told_of, kept, handed, joined};
+ghost use Rattle.turn.specs.Rule.{Grabs, IsTurn, IsSamePlace, NewsTells};
+
+use crate::counted::Counted;
+use crate::rule::{Added, Board, Given, Grab, JoinIn, News, Place, Publish, Release, SplitOff};
+use crate::shares::Shares;
+use std::sync::Wait;
+use std::thread;
+
+/// Takes the turn, when it is free.
+pub(crate) fn grab<T: Counted, R: Wait>(rt: &R, board: &Board<T>, place: &mut Place<T>)
+    requires turn { IsTurn board.now.table_id place.old }
+    requires some { HoldsSome place.old.me.0 }
+    ensures same { IsSamePlace place.old place.new }
+    ensures grabs { Grabs T.by T.entries place.old.me place.new.me }
+{
+    for _ in rt.forever() {
+        if board.compare_exchange::<Grab<T>>(place, 0, 0, 1) == 0 {
+            return;
+        }
+        thread::yield_now();
+    }
+    unreachable!()
+}
+
+/// Takes the value out of the slot.
+pub(crate) fn take<T: Counted>(board: &Board<T>, place: &mut Place<T>) -> T
+    requires turn { IsTurn board.now.table_id place.old }
+    requires full { (x : T) × (place.old.me.1 ≡ (0, Some x) ∷ []) }
+    ensures same { IsSamePlace place.old place.new }
+    ensures value { place.old.me.1 ≡ (0, Some result) ∷ [] }
+    ensures empty { place.new.me ≡ (place.old.me.0, (0, None) ∷ []) }
+{
+    match board.exchange(place, 0, None) {
+        Some(value) => value,
+        None => unreachable!(),
+    }
+}
+
+/// Makes the list's new length known.
+pub(crate) fn publish<T: Counted, N: Added<T::Entry>>(
+    board: &Board<T>,
+    place: &mut Place<T>,
+    value: &T,
+    number: u32,
+)
+    requires turn { IsTurn board.now.table_id place.old }
+    requires holds { place.old.me.0.holds ≡ true }
+    requires own { has place.old.me.0.shares number ≡ true }
+    requires added { (T.entries value.now ≡ place.old.me.0.seen ++ N.added) × AtMostOne T.by number N.added }
+    ensures same { IsSamePlace place.old place.new }
+    ensures published { place.new.me ≡ (published place.old.me.0 N.added, place.old.me.1) }
+{
+    board.store::<Publish<T, N>>(place, 1, value.len());
+}
+
+/// Puts the value back into the slot.
+pub(crate) fn put<T: Counted>(board: &Board<T>, place: &mut Place<T>, value: T)
+    requires turn { IsTurn board.now.table_id place.old }
+    requires empty { place.old.me.1 ≡ (0, None) ∷ [] }
+    requires published { T.entries value ≡ place.old.me.0.seen }
+    ensures same { IsSamePlace place.old place.new }
+    ensures full { place.new.me ≡ (place.old.me.0, (0, Some value) ∷ []) }
+{
+    let taken_out = board.exchange(place, 0, Some(value));
+    let None = taken_out else { unreachable!() };
+}
+
+/// Gives the turn back.
+pub(crate) fn release<T: Counted>(board: &Board<T>, place: &mut Place<T>)
+    requires turn { IsTurn board.now.table_id place.old }
+    requires holds { place.old.me.0.holds ≡ true }
+    requires full { (x : T) × (place.old.me.1 ≡ (0, Some x) ∷ []) × (T.entries x ≡ place.old.me.0.seen) }
+    ensures same { IsSamePlace place.old place.new }
+    ensures released { place.new.me ≡ (released place.old.me.0, []) }
+{
+    board.store::<Release<T>>(place, 0, 0);
+}
+
+/// Reads the list's length.
+pub(crate) fn news<T: Counted>(board: &Board<T>, place: &mut Place<T>) -> u64
+    requires turn { IsTurn board.now.table_id place.old }
+    ensures same { IsSamePlace place.old place.new }
+    ensures tells { NewsTells T.by T.entries place.old.me result place.new.me }
+{
+    board.load::<News<T>>(place, 1)
+}
+
+/// Cuts the given shares off, for a place of their own.
+pub(crate) fn split<T: Counted, G: Given>(
+    board: &Board<T>,
+    place: &mut Place<T>,
+    given: &Shares,
+) -> Place<T>
+    requires turn { IsTurn board.now.table_id place.old }
+    requires idle { place.old.me.0.holds ≡ false }
+    requires given { given.now.marks ≡ G.given }
+    requires own { (share : ℕ) → has G.given share ≡ true → has place.old.me.0.shares share ≡ true }
+    ensures same { IsSamePlace place.old place.new }
+    ensures kept { place.new.me ≡ (kept T.by G.given place.old.me.0, place.old.me.1) }
+    ensures given { (result.table_id ≡ place.old.table_id) × (result.me ≡ (handed T.by G.given place.old.me.0, [])) }
+{
+    let _ = given;
+    board.split_seat::<SplitOff<T, G>>(place)
+}
+
+/// Takes another place's shares in.
+pub(crate) fn join<T: Counted>(board: &Board<T>, place: &mut Place<T>, other: Place<T>)
+    requires turn { IsTurn board.now.table_id place.old }
+    requires other { (other.table_id ≡ board.now.table_id) × (other.me.1 ≡ []) }
+    requires idle { (place.old.me.0.holds ≡ false) × (other.me.0.holds ≡ false) }
+    requires some { HoldsSome place.old.me.0 × HoldsSome other.me.0 }
+    ensures same { IsSamePlace place.old place.new }
+    ensures joined { place.new.me ≡ (joined place.old.me.0 other.me.0, place.old.me.1) }
+{
+    board.join_seat::<JoinIn<T>>(place, other);
+}

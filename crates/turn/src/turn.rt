@@ -1,0 +1,34 @@
+//! The turn: one value behind one lock.
+
+ghost use Rattle.std.specs.Prelude.{◌≡◌};
+
+use crate::counted::Counted;
+use crate::rule::Rule;
+use crate::view::View;
+use atomic_table::Table;
+use std::alloc::Global;
+use std::snapshot::Snapshot;
+
+pub(crate) type Lock<T> = Table<
+    Option<T>,
+    View<<T as Counted>::Entry>,
+    Snapshot<T>,
+    Rule<T>,
+    Global,
+>;
+
+/// One value behind one lock, which chairs share by reference.
+#[derive(Drop)]
+pub struct Turn<T: Counted> {
+    pub(crate) table: Lock<T>,
+    ghost sized: { (table.shared.table_id.words ≡ 2) × (table.shared.table_id.slots ≡ 1) },
+}
+
+impl<T: Counted> Turn<T> {
+    pub(crate) fn into_table(self) -> Lock<T>
+        ensures { result ≡ self.table }
+    {
+        let Self { table } = self;
+        table
+    }
+}
