@@ -22,7 +22,7 @@ impl Job for Square {
 
     type Run = u64;
 
-    ghost use Rattle.std.specs.Prelude.{◌≡◌, ◌*◌, Some};
+    ghost use Rattle.std.specs.Prelude.{◌≡◌, ◌*◌, IfSome};
 
     ghost named = { λ job. job.key };
 
@@ -130,25 +130,67 @@ fn two_threads(rt: HostRuntime) -> Result<(), Fail> {
     Ok(())
 }
 
-/// Without a thief there is nobody to meet: the first offer is held until its limit.
+/// Jobs under the letters, one of which is refused memory.
+fn letters(alloc: Global) -> Result<Vec<Square>, AllocError> {
+    let mut jobs = Vec::new(alloc);
+    for (key, n) in ('a'..='z').zip(1..27u64) {
+        let number = if key == 'q' { None } else { Some(n) };
+        jobs.push(Square { key, number })?;
+    }
+    Ok(jobs)
+}
+
+/// What becomes of them.
+fn squared_letters(alloc: Global) -> Result<Vec<Done<char, u64>>, AllocError> {
+    let mut all = Vec::new(alloc);
+    for (key, n) in ('a'..='z').zip(1..27u64) {
+        let outcome = if key == 'q' {
+            Outcome::NoMemory
+        } else {
+            Outcome::Ran(n.wrapping_mul(n))
+        };
+        all.push(Done { key, outcome })?;
+    }
+    Ok(all)
+}
+
+impl Counts {
+    fn new(alloc: Global, jobs: usize) -> Result<Counts, AllocError> {
+        let mut offers = Vec::new(alloc);
+        for _ in 0..jobs {
+            offers.push(AtomicU64::new(0))?;
+        }
+        Ok(Counts { offers })
+    }
+
+    /// Whether each job was offered once.
+    fn each_once(&self) -> bool {
+        self.offers
+            .iter()
+            .all(|offers| offers.load(Ordering::SeqCst) == 1)
+    }
+}
+
+/// Any number of thieves gives the same outcomes, and each job is offered once. A job that is
+/// refused memory has its own place among the others.
 #[test]
-fn caller_alone(rt: HostRuntime) -> Result<(), Fail> {
-    let gate = Meeting::new();
-    let jobs = vec![in rt.alloc();
-        Square {
-            key: 'a',
-            number: Some(3)
-        },
-    ]?;
-    let all = Crew::run(&rt, rt.alloc(), jobs, 0, &gate)?;
-    assert!(rt; !gate.both_met());
-    assert_eq!(rt;
-        all.as_slice(),
-        [Done {
-            key: 'a',
-            outcome: Outcome::Ran(9)
-        }]
-        .as_slice()
-    );
+fn any_number_of_thieves(rt: HostRuntime) -> Result<(), Fail> {
+    let expected = squared_letters(rt.alloc())?;
+    for thieves in [0, 1, 3] {
+        let jobs = letters(rt.alloc())?;
+        let gate = Counts::new(rt.alloc(), jobs.len())?;
+        let all = Crew::run(&rt, rt.alloc(), jobs, thieves, &gate)?;
+        assert_eq!(rt; all.as_slice(), expected.as_slice());
+        assert!(rt; gate.each_once());
+    }
+    Ok(())
+}
+
+/// No jobs have no outcomes.
+#[test]
+fn no_jobs(rt: HostRuntime) -> Result<(), Fail> {
+    let jobs: Vec<Square> = Vec::new(rt.alloc());
+    let all = Crew::run(&rt, rt.alloc(), jobs, 1, &NoGate)?;
+    assert!(rt; all.is_empty());
     Ok(())
 }
