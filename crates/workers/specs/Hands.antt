@@ -32,7 +32,8 @@ pub record Knows (count : ℕ) (v : Hand) : Type 0 where
   pub idle : v.parts ≡ 0 → v.taken ≡ []
 
 -- Of the jobs 0 to count - 1 each is in the deque or was taken by one hand, once: however numbers are weighed, those that were taken and
--- those in the deque weigh what the numbers below count do. The parts of all hands are 8 together
+-- those in the deque weigh what the numbers below count do. The parts of all hands are 8 together,
+-- more than the caller and its 4 thieves need
 pub record IsDealt (items : List ℕ) (hands : List Hand) : Type 0 where
   pub count : ℕ
   pub whole : total (λ v. v.parts) hands ≡ 8

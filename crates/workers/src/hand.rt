@@ -7,7 +7,7 @@ use std::collections::LinkedList;
 
 /// What a pass knows: its parts of the right to know the whole, how many jobs were dealt, and which
 /// it has taken. No value of it is made.
-pub struct Hand {
+pub(crate) struct Hand {
     pub parts: u32,
     pub count: usize,
     pub taken: LinkedList<usize>,
