@@ -110,9 +110,9 @@ impl Crew {
     /// one outcome for each job, in the order of the jobs. Each job is offered to the gate by the
     /// thread that is about to run it.
     ///
-    /// A thief that can't be started is done without, and with none the caller runs all jobs. Room
-    /// for all outcomes is had before the first job is run; where it is refused, the jobs are
-    /// dropped. A job whose run is refused memory has the outcome `NoMemory`.
+    /// There are at most 4 thieves. One that can't be started is done without, and with none the
+    /// caller runs all jobs. Room for all outcomes is had before the first job is run; where it is
+    /// refused, the jobs are dropped. A job whose run is refused memory has the outcome `NoMemory`.
     pub fn run<R: Threads + Wait + Sync, J: Job + Sync + Drop, G: Gate<R> + Sync>(
         rt: &R,
         alloc: Global,
