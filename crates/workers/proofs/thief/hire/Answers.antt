@@ -1,0 +1,5 @@
+use Rattle.workers.proofs.Dealing.{hires}
+use Rattle.workers.proofs.thief.hire.Goals as goal
+
+pub another-pass-requires : goal.another-pass-requires
+another-pass-requires g c = hires _ _ c.requires

@@ -1,0 +1,4 @@
+pub mod Outcomes
+pub mod Hands
+pub mod Slots
+pub mod Owner

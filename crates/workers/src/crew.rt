@@ -1,0 +1,137 @@
+//! The crew: the caller deals the jobs' numbers to a deque, and works at it beside its thieves.
+
+ghost use Rattle.std.specs.Prelude.{◌≡◌, ◌<◌, ◌≤◌, ◌-◌, [], length, vec_capacity, IfOk};
+ghost use denote.Param.Send.{IsSend, IsSync};
+ghost use Rattle.crossbeam_deque.specs.Handles.{view, IsPassOf, stealer_deque, worker_deque, worker_flavor, worker_view};
+ghost use Rattle.workers.specs.Hands.{hand, HasAll};
+ghost use Rattle.workers.specs.Outcomes.{OneForEach};
+ghost use Rattle.workers.specs.Owner.{SameOwner};
+ghost use Rattle.workers.specs.Slots.{HasTray, IsAtWork};
+
+use crate::gate::Gate;
+use crate::hand::{ComesBack, Deals, Owner, Pops};
+use crate::job::{Done, Job};
+use crate::slots::{Slots, put, put_all, under_keys, vacant};
+use crate::thief::{hire, run_job, steal_all};
+use std::alloc::{AllocError, Global};
+use std::sync::Wait;
+use std::thread;
+use std::thread::Threads;
+
+/// A crew of the caller and its thieves.
+pub struct Crew;
+
+/// A deque into which the numbers of the jobs were dealt, in order.
+fn deal(alloc: Global, jobs: usize) -> Result<Owner, AllocError>
+    ensures { IfOk result (λ owner. (worker_flavor owner ≡ 0) × (worker_view owner ≡ hand 8 jobs [])) }
+{
+    let mut owner = Owner::fifo_as(alloc, jobs)?;
+    for index in 0..jobs {
+        let Ok(()) = owner.push_as::<Deals>(index) else {
+            unreachable!()
+        };
+    }
+    Ok(owner)
+}
+
+/// Takes jobs and runs them, until the deque is empty.
+fn work<W: Wait, J: Job, G: Gate<W>>(
+    rt: &W,
+    alloc: Global,
+    gate: &G,
+    jobs: &[J],
+    mut owner: Owner,
+    mut slots: Slots<J::Run>,
+) -> (Owner, Slots<J::Run>)
+where
+    J::Run: Drop,
+    requires fifo { worker_flavor owner ≡ 0 }
+    requires ready { IsAtWork J.gives jobs.now (worker_view owner) slots.items }
+    ensures same { SameOwner owner result.0 }
+    ensures done { IsAtWork J.gives jobs.now (worker_view result.0) result.1.items }
+    ensures all { HasAll (worker_view result.0) }
+{
+    while let Some(index) = owner.pop_as::<Pops>() {
+        let outcome = run_job(rt, alloc, gate, jobs, index);
+        put(&mut slots, index, outcome);
+    }
+    (owner, slots)
+}
+
+/// Runs the jobs that are in the deque, with thieves in threads of their own. What a thief has taken
+/// goes over to the owner. A thief for which there is no memory is done without; one for which no
+/// thread can be made finds an empty deque, since the caller then works first.
+fn share<R: Threads + Wait + Sync, J: Job + Sync, G: Gate<R> + Sync>(
+    rt: &R,
+    alloc: Global,
+    gate: &G,
+    jobs: &[J],
+    thieves: u32,
+    mut owner: Owner,
+    slots: Slots<J::Run>,
+) -> (Owner, Slots<J::Run>)
+where
+    J::Run: Send + Drop,
+    requires fifo { worker_flavor owner ≡ 0 }
+    requires parts { thieves < (worker_view owner).parts }
+    requires ready { IsAtWork J.gives jobs.now (worker_view owner) slots.items }
+    ensures same { SameOwner owner result.0 }
+    ensures done { IsAtWork J.gives jobs.now (worker_view result.0) result.1.items }
+{
+    if thieves == 0 {
+        return work(rt, alloc, gate, jobs, owner, slots);
+    }
+    let Ok(thief) = hire(alloc, &mut owner, jobs.len()) else {
+        return work(rt, alloc, gate, jobs, owner, slots);
+    };
+    let (thief, (mut owner, mut slots)) = thread::join(
+        rt,
+        move ||
+            requires pass { IsPassOf (stealer_deque thief.deque) thief.pass }
+            requires room { length jobs.now ≤ vec_capacity thief.tray }
+            requires tray { HasTray J.gives jobs.now (view thief.pass) thief.tray.items }
+            ensures { IsPassOf (stealer_deque thief.deque) result.pass × HasTray J.gives jobs.entry.now (view result.pass) result.tray.items }
+        { steal_all(rt, alloc, gate, jobs, thief) },
+        move ||
+            requires sync { IsSync R.row × IsSync J.row × IsSync G.row × IsSend J.Run.row }
+            requires fifo { worker_flavor owner ≡ 0 }
+            requires parts { (0 < thieves) × (thieves - 1 < (worker_view owner).parts) }
+            requires ready { IsAtWork J.gives jobs.now (worker_view owner) slots.items }
+            ensures { SameOwner owner result.0 × IsAtWork J.gives jobs.entry.now (worker_view result.0) result.1.items }
+        { share(rt, alloc, gate, jobs, thieves - 1, owner, slots) },
+    );
+    owner.absorb::<ComesBack>(thief.pass);
+    put_all(&mut slots, thief.tray);
+    (owner, slots)
+}
+
+impl Crew {
+    /// Runs each job once: the caller and its thieves take the jobs from one deque, in order. Gives
+    /// one outcome for each job, in the order of the jobs. Each job is offered to the gate by the
+    /// thread that is about to run it.
+    ///
+    /// There are at most 4 thieves. One that can't be started is done without, and with none the
+    /// caller runs all jobs. Room for all outcomes is had before the first job is run; where it is
+    /// refused, the jobs are dropped. A job whose run is refused memory has the outcome `NoMemory`.
+    pub fn run<R: Threads + Wait + Sync, J: Job + Sync + Drop, G: Gate<R> + Sync>(
+        rt: &R,
+        alloc: Global,
+        jobs: Vec<J>,
+        thieves: u32,
+        gate: &G,
+    ) -> Result<Vec<Done<J::Key, J::Run>>, AllocError>
+    where
+        J::Key: Drop,
+        J::Run: Send + Drop,
+        requires { thieves ≤ 4 }
+        ensures { IfOk result (λ all. OneForEach J.named J.gives jobs.items all.items) }
+    {
+        let jobs = jobs.as_slice();
+        let all = Vec::with_capacity(alloc, jobs.len())?;
+        let slots = vacant(alloc, jobs.len())?;
+        let owner = deal(alloc, jobs.len())?;
+        let (owner, slots) = share(rt, alloc, gate, jobs, thieves, owner, slots);
+        let (_, slots) = work(rt, alloc, gate, jobs, owner, slots);
+        Ok(under_keys(jobs, slots, all))
+    }
+}

@@ -1,0 +1,13 @@
+//! Jobs run by a crew: the caller and its thieves share one deque of the jobs' numbers.
+#![tactic(auto)]
+
+mod crew;
+pub mod gate;
+mod hand;
+pub mod job;
+mod slots;
+#[cfg(test)]
+mod tests;
+mod thief;
+
+pub use crew::Crew;

@@ -1,0 +1,62 @@
+//! The jobs' outcomes, each in the place of its job, as they come.
+
+ghost use Rattle.std.specs.Prelude.{◌≡◌, ◌<◌, ◌≤◌, [], length, replicate, slice_set, vec_capacity, vec_len, IfOk, Some, None, All};
+ghost use Rattle.workers.specs.Outcomes.{OneForEach};
+ghost use Rattle.workers.specs.Slots.{AreFull, with_all};
+
+use crate::job::{Done, Job, Outcome};
+use crate::thief::Taken;
+use std::alloc::{AllocError, Global};
+
+/// A slot for each job, with nothing in it until the job's outcome is known.
+pub(crate) type Slots<R> = Vec<Option<Outcome<R>>>;
+
+/// Slots with nothing in them.
+pub(crate) fn vacant<R>(alloc: Global, count: usize) -> Result<Slots<R>, AllocError>
+    ensures { IfOk result (λ slots. slots.items ≡ replicate count None) }
+{
+    let mut slots = Vec::with_capacity(alloc, count)?;
+    for _ in 0..count {
+        slots.push_reserved(None);
+    }
+    Ok(slots)
+}
+
+/// Puts an outcome into the slot of the job with this index.
+pub(crate) fn put<R: Drop>(slots: &mut Slots<R>, index: usize, outcome: Outcome<R>)
+    requires { index < length slots.old.items }
+    ensures { slots.new.items ≡ slice_set slots.old.items index (Some outcome) }
+{
+    slots[index] = Some(outcome);
+}
+
+/// Puts the outcomes of a tray into their slots.
+pub(crate) fn put_all<R: Drop>(slots: &mut Slots<R>, tray: Vec<Taken<R>>)
+    requires { All (λ t. t.index < length slots.old.items) tray.items }
+    ensures { slots.new.items ≡ with_all slots.old.items tray.items }
+{
+    for taken in tray {
+        put(slots, taken.index, taken.outcome);
+    }
+}
+
+/// The outcomes of all slots in the order of the jobs, each under its job's key.
+pub(crate) fn under_keys<J: Job>(
+    jobs: &[J],
+    slots: Slots<J::Run>,
+    mut all: Vec<Done<J::Key, J::Run>>,
+) -> Vec<Done<J::Key, J::Run>>
+where
+    J::Run: Drop,
+    requires full { AreFull J.gives jobs.now slots.items }
+    requires first { (all.items ≡ []) × (vec_len all ≡ 0) }
+    requires room { length jobs.now ≤ vec_capacity all }
+    ensures { OneForEach J.named J.gives jobs.now result.items }
+{
+    for slot in slots {
+        let Some(outcome) = slot else { unreachable!() };
+        let key = jobs[all.len()].key();
+        all.push_reserved(Done { key, outcome });
+    }
+    all
+}

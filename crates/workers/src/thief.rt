@@ -1,0 +1,100 @@
+//! Thieves: each takes jobs from the caller's deque, in a thread of its own.
+
+ghost use Rattle.std.specs.Prelude.{◌≡◌, ◌<◌, ◌≤◌, ◌-◌, [], length, vec_capacity, IfOk, OnOk, OnErr};
+ghost use Rattle.crossbeam_deque.specs.Handles.{view, IsPassOf, stealer_deque, worker_deque, worker_view, SameWorker};
+ghost use Rattle.workers.specs.Hands.{hand};
+ghost use Rattle.workers.specs.Slots.{HasTray, IsOutcomeAt};
+
+use crate::gate::Gate;
+use crate::hand::{Hires, Other, Owner, Part, Steals};
+use crate::job::{Job, Outcome};
+use crossbeam_deque::Steal;
+use std::alloc::{AllocError, Global};
+use std::sync::Wait;
+
+/// The outcome of a job, with the job's index.
+#[derive(Drop)]
+pub(crate) struct Taken<R> {
+    pub index: usize,
+    pub outcome: Outcome<R>,
+}
+
+/// What a thief works with: its end of the deque, its pass, and a tray for the outcomes.
+#[derive(Drop)]
+pub(crate) struct Thief<R> {
+    pub deque: Other,
+    pub pass: Part,
+    pub tray: Vec<Taken<R>>,
+}
+
+/// A thief with one part of the owner's, and room for the outcomes of this many jobs.
+pub(crate) fn hire<R: Drop>(
+    alloc: Global,
+    owner: &mut Owner,
+    jobs: usize,
+) -> Result<Thief<R>, AllocError>
+    requires { 1 < (worker_view owner.old).parts }
+    ensures same { SameWorker owner.old owner.new }
+    ensures hired { let v = worker_view owner.old in
+        IfOk result (λ t. IsPassOf (worker_deque owner.old) t.pass × (stealer_deque t.deque ≡ worker_deque owner.old)
+        × (view t.pass ≡ hand 1 v.count []) × (t.tray.items ≡ []) × (vec_capacity t.tray ≡ jobs)) }
+    ensures left { let v = worker_view owner.old in OnOk result (worker_view owner.new ≡ hand (v.parts - 1) v.count v.taken) }
+    ensures alone { OnErr result (worker_view owner.new ≡ worker_view owner.old) }
+{
+    let deque = owner.stealer()?;
+    let tray = Vec::with_capacity(alloc, jobs)?;
+    let pass = owner.another::<Hires>();
+    Ok(Thief { deque, pass, tray })
+}
+
+/// Offers a job to the gate, and runs it.
+pub(crate) fn run_job<W: Wait, J: Job, G: Gate<W>>(
+    rt: &W,
+    alloc: Global,
+    gate: &G,
+    jobs: &[J],
+    index: usize,
+) -> Outcome<J::Run>
+    requires { index < length jobs.now }
+    ensures { IsOutcomeAt J.gives jobs.now index result }
+{
+    gate.offer(rt, index);
+    match jobs[index].run(alloc) {
+        Ok(run) => Outcome::Ran(run),
+        Err(AllocError) => Outcome::NoMemory,
+    }
+}
+
+/// Takes jobs and runs them, until the deque is empty.
+pub(crate) fn steal_all<W: Wait, J: Job, G: Gate<W>>(
+    rt: &W,
+    alloc: Global,
+    gate: &G,
+    jobs: &[J],
+    thief: Thief<J::Run>,
+) -> Thief<J::Run>
+where
+    J::Run: Drop,
+    requires pass { IsPassOf (stealer_deque thief.deque) thief.pass }
+    requires room { length jobs.now ≤ vec_capacity thief.tray }
+    requires tray { HasTray J.gives jobs.now (view thief.pass) thief.tray.items }
+    ensures pass { IsPassOf (stealer_deque thief.deque) result.pass }
+    ensures tray { HasTray J.gives jobs.now (view result.pass) result.tray.items }
+{
+    let Thief {
+        deque,
+        mut pass,
+        mut tray,
+    } = thief;
+    for _ in rt.forever() {
+        match deque.steal_as::<Steals>(&mut pass) {
+            Steal::Success(index) => {
+                let outcome = run_job(rt, alloc, gate, jobs, index);
+                tray.push_reserved(Taken { index, outcome });
+            }
+            Steal::Retry => {}
+            Steal::Empty => break,
+        }
+    }
+    Thief { deque, pass, tray }
+}
