@@ -130,6 +130,7 @@ module _ (n values last : ℕ) (some : LEAST_PROCESSES ≤ n) (some_values : LEA
 
   pub matrix_sound : IsSoundTable (matrix_table n values last) (MatrixStands n values last) (matrix_left n)
   matrix_sound = record {
+    stands_suits = stands_suits;
     zero_writes = λ v lt. zero_writes v lt;
     others_read = λ who above below. others_read who below;
     nobody_else = process_of;
@@ -137,7 +138,6 @@ module _ (n values last : ℕ) (some : LEAST_PROCESSES ≤ n) (some_values : LEA
     first_fits = λ v j lt below. value_fits n values last v (omega arith) lt;
     first_words = λ v k lt below. absurd (omega arith);
     asks_fit = asks_fit;
-    stands_suits = stands_suits;
     begins_sound = begins_sound;
     rest_sound = rest_sound;
     rest_falls = rest_falls;
