@@ -298,7 +298,7 @@ fn made_by_hand(rt: HostRuntime) -> Result<(), Fail> {
 }
 
 #[test]
-fn told(rt: HostRuntime) -> Result<(), Fail> {
+fn texts_of_faults(rt: HostRuntime) -> Result<(), Fail> {
     let fault = FileFault {
         kind: FaultKind::BadStep,
         line: 4,

@@ -42,7 +42,7 @@ pub fn parse<'a>(alloc: Global, words: &'a [String]) -> Invocation<'a>
     };
     let matches = match command.try_get_matches_from(words) {
         Ok(matches) => matches,
-        Err(error) => return told(alloc, &error),
+        Err(error) => return invocation_of(alloc, &error),
     };
     let Some(cells) = matches.get_one::<u32>(CELLS) else {
         unreachable!();
@@ -79,7 +79,7 @@ fn command<'a>(alloc: Global) -> Result<Command<'a>, AllocError>
 }
 
 /// What is told of words that aren't taken.
-fn told<'a>(alloc: Global, error: &Error) -> Invocation<'a>
+fn invocation_of<'a>(alloc: Global, error: &Error) -> Invocation<'a>
     ensures { Tells (kind_of error.now) result }
 {
     let Ok(text) = format!(in alloc; "{error}") else {

@@ -135,7 +135,7 @@ fn help(rt: HostRuntime) -> Result<(), Fail> {
 
 /// What is told names what is wrong.
 #[test]
-fn told(rt: HostRuntime) -> Result<(), Fail> {
+fn what_is_wrong_is_named(rt: HostRuntime) -> Result<(), Fail> {
     for (line, want) in [
         (
             "--cells 0",

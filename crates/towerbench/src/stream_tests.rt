@@ -86,7 +86,7 @@ impl Write for Stuck {
 }
 
 /// The program's status with no words, its answers and its fault lines.
-fn told<F: Files + AllocGlobal, R: Read>(files: &F, reader: &mut R) -> (u8, Vec<u8>, Vec<u8>) {
+fn tool_over<F: Files + AllocGlobal, R: Read>(files: &F, reader: &mut R) -> (u8, Vec<u8>, Vec<u8>) {
     let mut out = Vec::new(files.alloc());
     let mut errors = Vec::new(files.alloc());
     let words = Ok(Vec::new(files.alloc()));
@@ -102,7 +102,7 @@ fn check<F: Abort + Files + AllocGlobal, R: Read>(
     want: &str,
     fault: &str,
 ) {
-    let (ended, out, errors) = told(rt, reader);
+    let (ended, out, errors) = tool_over(rt, reader);
     assert_eq!(rt; out.as_slice(), want.as_bytes());
     assert_eq!(rt; errors.as_slice(), fault.as_bytes());
     assert_eq!(rt; ended, status);

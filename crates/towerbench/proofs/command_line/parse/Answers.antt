@@ -8,8 +8,8 @@ use Rattle.towerbench.proofs.command_line.parse.Goals as goal
 pub returns-in-Err : goal.returns-in-Err
 returns-in-Err c =
     let words = map string_bytes c.args.words.now in
-    let asked = tells c.in-Ok.command words c.in-Err.error c.told.result c.in-Ok.ensures (c.in-Err.ensures.kinds (free c.in-Ok.command c.in-Ok.ensures)) c.told.ensures in
-    record { asked = asked; bare = λ none. bare words c.told.result (ap (map string_bytes) none) asked }
+    let asked = tells c.in-Ok.command words c.in-Err.error c.invocation_of.result c.in-Ok.ensures (c.in-Err.ensures.kinds (free c.in-Ok.command c.in-Ok.ensures)) c.invocation_of.ensures in
+    record { asked = asked; bare = λ none. bare words c.invocation_of.result (ap (map string_bytes) none) asked }
 
 pub unreachable-requires : goal.unreachable-requires
 unreachable-requires c =
