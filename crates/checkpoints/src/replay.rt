@@ -1,8 +1,8 @@
 //! Replay: steps made one after another.
 
-ghost use Rattle.std.specs.Prelude.{◌≡◌, ◌<◌, length, IfOk};
+ghost use Rattle.std.specs.Prelude.{◌≡◌, ◌<◌, IfOk};
 ghost use Rattle.frames.specs.Configuration.{initial_configuration, replayed, history};
-ghost use Rattle.checkpoints.specs.Segment.{AllFit, LeadsIn};
+ghost use Rattle.checkpoints.specs.Segment.{AllFit};
 
 use crate::events::Events;
 use frames::config::Config;
@@ -35,8 +35,7 @@ pub fn replay<R: Register>(
     replay_from(alloc, initial, steps)
 }
 
-/// Makes the steps one after another, from a configuration. That some list of as many steps leads
-/// to the configuration after them is said by itself, for those that know no more of a run.
+/// Makes the steps one after another, from a configuration.
 pub(crate) fn replay_from<R: Register>(
     alloc: Global,
     entry: Config<R>,
@@ -45,7 +44,6 @@ pub(crate) fn replay_from<R: Register>(
     requires { AllFit (R.is entry.register) steps.now }
     ensures config { IfOk result (λ r. r.config ≡ replayed (R.is entry.register) entry steps.now) }
     ensures events { IfOk result (λ r. r.events ≡ history (R.is entry.register) entry steps.now) }
-    ensures leads { IfOk result (λ r. LeadsIn (R.is entry.register) (length steps.now) entry r.config) }
 {
     let mut config = entry;
     let mut events = Events::new(alloc);

@@ -11,8 +11,9 @@ use frames::types::Step;
 use std::alloc::{AllocError, Global};
 use std::marker::Model;
 
-/// A stored run of a segment: the configuration that it begins from, its steps, the configuration
-/// that it comes to, and the events of each step by its offset.
+/// A run of a segment: the configuration that it begins from, its steps, the configuration that it
+/// comes to, and the events of each step by its offset. It is true by its type: its steps fit, and
+/// made from its entry they give its exit and its events.
 #[derive(Drop)]
 pub struct Run<R: Register> {
     entry: Config<R>,
@@ -34,14 +35,16 @@ impl<R: Register> Model for Run<R> {
 impl<R: Register> Run<R> {
     /// The configuration that it begins from.
     pub fn entry(&self) -> &Config<R>
-        ensures { result.now ≡ self.now.entry }
+        ensures entry { result.now ≡ self.now.entry }
+        ensures kept { IsRun (R.is self.now.entry.register) self.now }
     {
         &self.entry
     }
 
     /// Its steps.
     pub fn steps(&self) -> &[Step]
-        ensures { result.now ≡ self.now.steps }
+        ensures steps { result.now ≡ self.now.steps }
+        ensures kept { IsRun (R.is self.now.entry.register) self.now }
     {
         &self.steps
     }
@@ -73,8 +76,7 @@ pub fn run_segment<R: Register>(
     ensures entry { IfOk result (λ run. run.entry ≡ entry.now) }
     ensures steps { IfOk result (λ run. run.steps ≡ steps.now) }
 {
-    let mut list = Vec::new(alloc);
-    list.extend_from_slice(steps)?;
+    let list = Vec::from_slice(alloc, steps)?;
     let replayed = replay_from(alloc, entry.copy(alloc)?, &list)?;
     Ok(Run {
         entry: entry.copy(alloc)?,
