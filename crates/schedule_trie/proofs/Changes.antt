@@ -1,0 +1,178 @@
+-- What a change of one segment does to each line.
+use Rattle.std.proofs.Common.{◌≡◌, ℕ, zero, suc, ◌<◌, Bool, true, false, ◌||◌, nat_eq, cond, List, [], ◌∷◌, ◌++◌, length, map, slice_get, slice_index_or, Option, Some, None, IsSome, refl, sym, ap, subst, ◌∙◌, true≢false, arith, eq-eqb}
+use Rattle.std.specs.Option.{IfSome}
+use Rattle.std.specs.List.{slice_set}
+use Rattle.std.proofs.lemmas.Bool.{eqb-true}
+use Rattle.std.proofs.lemmas.List.{length-map, map-append, get_or-set_same, get_or-set_other}
+use Rattle.std.proofs.Math.ListN.{get_or-map}
+use Rattle.frames.specs.declared.types.Step.{Step}
+use Rattle.schedule_trie.specs.declared.slot.Slot.{Slot}
+use Rattle.schedule_trie.specs.declared.segment.Segment.{Segment}
+use Rattle.schedule_trie.specs.Forest.{slot, cell_of, with_step, replaced, everywhere}
+use Rattle.schedule_trie.specs.Slots.{set_step}
+use Rattle.schedule_trie.specs.Cut.{Piece, Strand, piece, piece_at, slots_of, line, branches_on, has, has_cell, Once, IsSegment, IsSound}
+use Rattle.schedule_trie.specs.Held.{piece_of, pieces_of}
+use Rattle.schedule_trie.proofs.Once.{has_not_from, has-head, has-tail}
+
+-- one key has a segment, and each other what it had
+pub record Changes {T : Type 0} (old new : ℕ → Option (Piece T)) (key : ℕ) (p : Piece T) : Type 0 where
+  pub here : new key ≡ Some p
+  pub others : (j : ℕ) → (j ≡ key → ⊥) → new j ≡ old j
+
+module _ {T : Type 0} where
+  -- a list function that goes through `++`, done to each segment, is done to each line
+  pub line_through : (old new : ℕ → Option (Piece T)) (g : List Slot → List Slot) → g [] ≡ [] → ((xs ys : List Slot) → g (xs ++ ys) ≡ g xs ++ g ys)
+      → ((j : ℕ) → slots_of (new j) ≡ g (slots_of (old j))) → (ks : List ℕ) → line new ks ≡ g (line old ks)
+  line_through old new g empty through each [] = sym empty
+  line_through old new g empty through each (k ∷ ks) =
+      ap (λ l. l ++ line new ks) (each k) ∙ ap (λ l. g (slots_of (old k)) ++ l) (line_through old new g empty through each ks)
+      ∙ sym (through (slots_of (old k)) (line old ks))
+
+  pub everywhere_on : (old new : ℕ → Option (Piece T)) (g : List Slot → List Slot) → ((ks : List ℕ) → line new ks ≡ g (line old ks))
+      → (strands : List Strand) → branches_on new strands ≡ everywhere g (branches_on old strands)
+  everywhere_on old new g each [] = refl
+  everywhere_on old new g each (s ∷ ss) =
+      λ i. record { name = s.name; slots = each s.keys i } ∷ everywhere_on old new g each ss i
+
+  -- a segment in the slab is written
+  pub piece_at_set : (slots : List (Option (Segment T))) (key : ℕ) (v : Segment T) → key < length slots
+      → Changes (piece_at (pieces_of slots)) (piece_at (pieces_of (slice_set slots key (Some v)))) key (piece v.slots.items v.note)
+  piece_at_set slots key v h = record {
+    here = get_or-map piece_of (slice_set slots key (Some v)) key None ∙ ap piece_of (get_or-set_same slots key (Some v) None h);
+    others = λ j ne. get_or-map piece_of (slice_set slots key (Some v)) j None ∙ ap piece_of (get_or-set_other slots key j (Some v) None ne)
+        ∙ sym (get_or-map piece_of slots j None);
+  }
+
+pub nat_eq-turned : (x y : ℕ) → nat_eq x y ≡ false → nat_eq y x ≡ false
+nat_eq-turned x y e = by (nat_eq y x) refl
+  where
+    by : (b : Bool) → nat_eq y x ≡ b → nat_eq y x ≡ false
+    by true f = absurd (true≢false (sym (eq-eqb x y (sym (eqb-true y x f))) ∙ e))
+    by false f = f
+
+-- a cell that isn't there isn't replaced
+pub replaced-absent : (x : ℕ) (step : Step) (slots : List Slot) → has_cell x slots ≡ false → replaced x step slots ≡ slots
+replaced-absent x step [] h = refl
+replaced-absent x step (s ∷ ss) h = by (nat_eq x s.cell) refl (replaced-absent x step ss)
+  where
+    by : (b : Bool) → nat_eq x s.cell ≡ b → (has_cell x ss ≡ false → replaced x step ss ≡ ss) → replaced x step (s ∷ ss) ≡ s ∷ ss
+    by true e rest = absurd (true≢false (sym (ap (λ c. c || has_cell x ss) e) ∙ h))
+    by false e rest =
+        let turned : nat_eq s.cell x ≡ false = nat_eq-turned x s.cell e in
+        ap (λ b. cond b (slot s.cell step) s ∷ replaced x step ss) turned ∙ ap (λ l. s ∷ l) (rest (sym (ap (λ c. c || has_cell x ss) e) ∙ h))
+
+pub has_cell_get : (slots : List Slot) (i : ℕ) (s : Slot) → slice_get slots i ≡ Some s → has_cell s.cell slots ≡ true
+has_cell_get [] i s e = absurd (cc)
+has_cell_get (z ∷ zs) zero s e = let same : z ≡ s = cc in subst (λ y. has_cell y.cell (z ∷ zs) ≡ true) same (has-head z.cell (map cell_of zs))
+has_cell_get (z ∷ zs) (suc i) s e = has-tail s.cell z.cell (map cell_of zs) (has_cell_get zs i s e)
+
+-- a cell that stands once isn't the one before it
+pub cell_apart : (z : Slot) (zs : List Slot) (i : ℕ) (s : Slot) → has_cell z.cell zs ≡ false → slice_get zs i ≡ Some s → nat_eq z.cell s.cell ≡ false
+cell_apart z zs i s once e = apart (nat_eq z.cell s.cell) refl
+  where
+    apart : (b : Bool) → nat_eq z.cell s.cell ≡ b → nat_eq z.cell s.cell ≡ false
+    apart true f = absurd (true≢false (sym (subst (λ x. has_cell x zs ≡ true) (sym (eqb-true z.cell s.cell f)) (has_cell_get zs i s e)) ∙ once))
+    apart false f = f
+
+-- a step that is set at a place is the replacement of the cell there
+pub replaced-at : (slots : List Slot) (i : ℕ) (s : Slot) (step : Step) → Once (map cell_of slots) → slice_get slots i ≡ Some s
+    → set_step slots i step ≡ replaced s.cell step slots
+replaced-at [] i s step once e = absurd (cc)
+replaced-at (z ∷ zs) zero s step once e =
+    let same : z ≡ s = cc in
+    let cells : z.cell ≡ s.cell = ap cell_of same in
+    sym (ap (λ b. cond b (slot z.cell step) z ∷ replaced s.cell step zs) (eq-eqb z.cell s.cell cells)
+    ∙ ap (λ l. slot z.cell step ∷ l) (replaced-absent s.cell step zs (subst (λ x. has_cell x zs ≡ false) cells once.0)))
+replaced-at (z ∷ zs) (suc i) s step once e =
+    sym (ap (λ b. cond b (slot z.cell step) z ∷ replaced s.cell step zs) (cell_apart z zs i s once.0 e) ∙ ap (λ l. z ∷ l) (sym (replaced-at zs i s step once.1 e)))
+
+-- it keeps the cells
+pub set_step-cells : (slots : List Slot) (i : ℕ) (step : Step) → map cell_of (set_step slots i step) ≡ map cell_of slots
+set_step-cells [] i step = refl
+set_step-cells (z ∷ zs) zero step = refl
+set_step-cells (z ∷ zs) (suc i) step = ap (λ l. z.cell ∷ l) (set_step-cells zs i step)
+
+-- and is a write at the place
+pub set_step-write : (slots : List Slot) (i : ℕ) (d : Slot) (step : Step) → i < length slots → slice_set slots i (slot (slice_index_or slots i d).cell step) ≡ set_step slots i step
+set_step-write [] i d step h = absurd (omega arith)
+set_step-write (z ∷ zs) zero d step h = refl
+set_step-write (z ∷ zs) (suc i) d step h = ap (λ l. z ∷ l) (set_step-write zs i d step (omega arith))
+
+-- the same cells, wherever there is a segment
+pub record SameCells {T : Type 0} (old new : ℕ → Option (Piece T)) : Type 0 where
+  pub cells : (k : ℕ) → map cell_of (slots_of (new k)) ≡ map cell_of (slots_of (old k))
+  pub there : (k : ℕ) → IsSome (old k) → IsSome (new k)
+  pub was_there : (k : ℕ) → IsSome (new k) → IsSome (old k)
+
+module _ {T : Type 0} (old new : ℕ → Option (Piece T)) (same : SameCells old new) (strands : List Strand) (made : ℕ) where
+  segment_same : (a b : Option (Piece T)) → (IsSome b → IsSome a) → map cell_of (slots_of b) ≡ map cell_of (slots_of a) → IfSome a (IsSegment made) → IfSome b (IsSegment made)
+  segment_same None None was e h = tt
+  segment_same (Some p) None was e h = tt
+  segment_same None (Some q) was e h = absurd (true≢false (sym (was refl)))
+  segment_same (Some p) (Some q) was e h =
+      let len : length q.slots ≡ length p.slots = sym (length-map q.slots cell_of) ∙ ap length e ∙ length-map p.slots cell_of in
+      record {
+        some = omega (arith, h.some);
+        few = omega (arith, h.few);
+        once = subst Once (sym e) h.once;
+        given = λ x g. h.given x (subst (λ l. has x l ≡ true) e g);
+      }
+
+  pub sound_same : IsSound old strands made → IsSound new strands made
+  sound_same s = record {
+    held = λ i k h. same.there k (s.held i k h);
+    segments = λ k. segment_same (old k) (new k) (same.was_there k) (same.cells k) (s.segments k);
+    apart = λ j k x a b. s.apart j k x (subst (λ l. has x l ≡ true) (same.cells j) a) (subst (λ l. has x l ≡ true) (same.cells k) b);
+    live = λ k h. s.live k (same.was_there k h);
+    shares = s.shares;
+  }
+
+-- a replaced step, in every line
+module _ {T : Type 0} (old new : ℕ → Option (Piece T)) (strands : List Strand) (made key offset : ℕ) (step : Step) (s : Slot)
+    (sound : IsSound old strands made) (here : new key ≡ Some (piece (set_step (slots_of (old key)) offset step) None))
+    (others : (j : ℕ) → (j ≡ key → ⊥) → new j ≡ old j) (at_cell : slice_get (slots_of (old key)) offset ≡ Some s) where
+  once_in : (o : Option (Piece T)) → IfSome o (IsSegment made) → Once (map cell_of (slots_of o))
+  once_in None h = tt
+  once_in (Some p) h = h.once
+
+  each_replaced : (j : ℕ) → slots_of (new j) ≡ replaced s.cell step (slots_of (old j))
+  each_replaced j = by (nat_eq j key) refl
+    where
+      by : (b : Bool) → nat_eq j key ≡ b → slots_of (new j) ≡ replaced s.cell step (slots_of (old j))
+      by true e =
+          let same : j ≡ key = eqb-true j key e in
+          subst (λ k. slots_of (new k) ≡ replaced s.cell step (slots_of (old k))) (sym same)
+          (ap slots_of here ∙ replaced-at (slots_of (old key)) offset s step (once_in (old key) (sound.segments key)) at_cell)
+      by false e =
+          let ne : j ≡ key → ⊥ = λ f. true≢false (sym (eq-eqb j key f) ∙ e) in
+          ap slots_of (others j ne) ∙ sym (replaced-absent s.cell step (slots_of (old j)) (has_not_from s.cell (map cell_of (slots_of (old j)))
+          (λ h. ne (sound.apart j key s.cell h (has_cell_get (slots_of (old key)) offset s at_cell)))))
+
+  pub replaced_everywhere : branches_on new strands ≡ everywhere (replaced s.cell step) (branches_on old strands)
+  replaced_everywhere =
+      everywhere_on old new (replaced s.cell step)
+      (line_through old new (replaced s.cell step) refl (map-append (with_step s.cell step)) each_replaced) strands
+
+  some_old : (o : Option (Piece T)) → slice_get (slots_of o) offset ≡ Some s → IsSome o
+  some_old None e = let f : None ≡ Some s = e in absurd (cc)
+  some_old (Some p) e = refl
+
+  pub replaced_same : SameCells old new
+  replaced_same = record {
+    cells = λ k. by_cells k (nat_eq k key) refl;
+    there = λ k h. by_there k (nat_eq k key) refl h;
+    was_there = λ k h. by_was k (nat_eq k key) refl h;
+  }
+    where
+      by_cells : (k : ℕ) (b : Bool) → nat_eq k key ≡ b → map cell_of (slots_of (new k)) ≡ map cell_of (slots_of (old k))
+      by_cells k true e = subst (λ j. map cell_of (slots_of (new j)) ≡ map cell_of (slots_of (old j))) (sym (eqb-true k key e))
+          (ap (λ o. map cell_of (slots_of o)) here ∙ set_step-cells (slots_of (old key)) offset step)
+      by_cells k false e = ap (λ o. map cell_of (slots_of o)) (others k (λ f. true≢false (sym (eq-eqb k key f) ∙ e)))
+
+      by_there : (k : ℕ) (b : Bool) → nat_eq k key ≡ b → IsSome (old k) → IsSome (new k)
+      by_there k true e h = subst (λ j. IsSome (new j)) (sym (eqb-true k key e)) (subst IsSome (sym here) refl)
+      by_there k false e h = subst IsSome (sym (others k (λ f. true≢false (sym (eq-eqb k key f) ∙ e)))) h
+
+      by_was : (k : ℕ) (b : Bool) → nat_eq k key ≡ b → IsSome (new k) → IsSome (old k)
+      by_was k true e h = subst (λ j. IsSome (old j)) (sym (eqb-true k key e)) (some_old (old key) at_cell)
+      by_was k false e h = subst IsSome (others k (λ f. true≢false (sym (eq-eqb k key f) ∙ e))) h

@@ -1,0 +1,226 @@
+-- An insert, by what the fields become.
+use Rattle.std.proofs.Common.{◌≡◌, ℕ, ◌+◌, ◌<◌, ◌≤◌, Bool, true, false, nat_eq, cond, List, ◌++◌, length, map, slice_get, Option, Some, None, IsSome, ◌⊎◌, inl, inr, refl, sym, ap, subst, ◌∙◌, arith}
+use Rattle.std.specs.List.{insert}
+use Rattle.std.proofs.lemmas.Bool.{eqb-true}
+use Rattle.std.proofs.lemmas.Option.{slice_get_within}
+use Rattle.std.specs.Option.{IfSome}
+use Rattle.std.proofs.lemmas.List.{length-append, length-map}
+use Rattle.std.proofs.lemmas.List.Edits.{length-insert}
+use Rattle.std.specs.Global.{Vec}
+use Rattle.slab.specs.Slab.{Slab, get, with_value}
+use Rattle.frames.specs.declared.types.Step.{Step}
+use Rattle.schedule_trie.specs.declared.slot.Slot.{Slot}
+use Rattle.schedule_trie.specs.declared.segment.Segment.{Segment}
+use Rattle.schedule_trie.specs.declared.trie.Trie.TheInside.{Inside}
+use Rattle.schedule_trie.specs.Forest.{slot, cell_of, slots_in, cell_in, only_in, put_last, put_before, everywhere, inserted}
+use Rattle.schedule_trie.specs.Cut.{Cut, Piece, piece, piece_at, slots_of, forest, branches_on, keys_in, has, has_cell, Once, StandsAt, IsSegment, IsSound, IsWithin, IsWhole, IsPutBefore, IsInserted, divided_strand}
+use Rattle.schedule_trie.specs.declared.limits.Limits.{Limits}
+use Rattle.schedule_trie.specs.Held.{piece_of, strand_of, cut_of, IsHeld}
+use Rattle.schedule_trie.proofs.Lines.{slots_in_on}
+use Rattle.schedule_trie.proofs.Changes.{Changes, piece_at_set}
+use Rattle.schedule_trie.proofs.StepSet.{slice_get_some, cell_in_at, piece_seen, key_within, cut_from_sound}
+use Rattle.schedule_trie.proofs.Insertion.{put, grown_put, put_through, put_elsewhere, grown_once, grown_cells, sound_grown, branches_changed, notes_changed}
+use Rattle.schedule_trie.proofs.Division.{Divides, lacked-divided, sound-divided, branches-divided, notes-divided}
+use Rattle.schedule_trie.proofs.DivisionSteps.{divides_from}
+
+pub within_more : (l : Limits) (made branches : ℕ) → IsWithin l made branches → made < l.cells → IsWithin l (made + 1) branches
+within_more l made branches h room = record {
+  cells = omega arith;
+  branches_fit = h.branches_fit;
+  some = h.some;
+  most_cells = h.most_cells;
+  most_branches = h.most_branches;
+}
+
+pub slots_seen : {T : Type 0} (t : Inside T) (key : ℕ) (v : Segment T) (c : Cut T) → cut_of t ≡ c → get t.segments key ≡ Some v → slots_of (piece_at c.pieces key) ≡ v.slots.items
+slots_seen t key v c seen there = ap (λ b. slots_of (piece_at b.pieces key)) (sym seen) ∙ ap slots_of (piece_seen t key ∙ ap piece_of there)
+
+-- in a segment with room
+module _ {T : Type 0} (t : Inside T) (key offset : ℕ) (step : Step) (v w : Segment T) (held : IsHeld t) (there : get t.segments key ≡ Some v)
+    (inside : offset < length v.slots.items) (few : length v.slots.items < 128) (room : t.made < t.limits.cells)
+    (slots : w.slots.items ≡ insert v.slots.items offset (slot t.made step)) (note : w.note ≡ None) where
+  abbrev after : Inside T
+  after = record t { segments = with_value t.segments key w; made = t.made + 1 }
+
+  abbrev old : ℕ → Option (Piece T)
+  old = piece_at (cut_of t).pieces
+
+  abbrev new : ℕ → Option (Piece T)
+  new = piece_at (cut_of after).pieces
+
+  abbrev now : Piece T
+  now = piece w.slots.items w.note
+
+  change : Changes old new key now
+  change = piece_at_set t.segments.slots key w (key_within t.segments.slots key v there)
+
+  was : old key ≡ Some (piece v.slots.items v.note)
+  was = piece_seen t key ∙ ap piece_of there
+
+  first : (s : Slot) × (slice_get (slots_of (old key)) offset ≡ Some s)
+  first = let p = slice_get_some v.slots.items offset inside in (p.0, ap (λ o. slice_get (slots_of o) offset) was ∙ p.1)
+
+  grows : w.slots.items ≡ insert (slots_of (old key)) offset (slot t.made step)
+  grows = slots ∙ sym (ap (λ o. insert (slots_of o) offset (slot t.made step)) was)
+
+  len : length w.slots.items ≡ length v.slots.items + 1
+  len = ap length slots ∙ length-insert v.slots.items offset (slot t.made step) (omega arith)
+
+  sound : IsSound new (cut_of t).strands (t.made + 1)
+  sound = sound_grown old new key now change (cut_of t).strands t.made held.sound (subst IsSome (sym was) refl) (omega (arith, len)) (omega (arith, len))
+      (subst (λ l. Once (map cell_of l)) (sym grows) (grown_once old (cut_of t).strands t.made key offset step first.0 held.sound first.1))
+      (λ x h. grown_cells old (cut_of t).strands t.made key offset step first.0 held.sound first.1 x (subst (λ l. has_cell x l ≡ true) grows h))
+
+  pub put_held : IsHeld after
+  put_held = record { sound = sound; within = within_more t.limits t.made (length (cut_of t).strands) held.within room }
+
+  pub put_told : IsPutBefore (cut_of t) (cut_of after) key offset step
+  put_told = record {
+    everywhere_put = λ s at_cell. branches_changed old new key now change (put old (cut_of t).strands t.made key offset step s held.sound at_cell) refl
+        (put_through old (cut_of t).strands t.made key offset step s held.sound at_cell)
+        (grows ∙ grown_put old (cut_of t).strands t.made key offset step s held.sound at_cell)
+        (put_elsewhere old (cut_of t).strands t.made key offset step s held.sound at_cell) (cut_of t).strands;
+    made = refl;
+    limits = refl;
+    notes = notes_changed (cut_of t) (cut_of after) key now change note;
+    cut = cut_from_sound (cut_of after) (t.made + 1) sound;
+  }
+
+-- what `insert_at` gives
+module _ {T : Type 0} (old new : Cut T) (index place key offset : ℕ) (step : Step) (stands : StandsAt (piece_at old.pieces) (keys_in old.strands index) place (key, offset))
+    (put : IsPutBefore old new key offset step) where
+  the_cell : (s : Slot) × (slice_get (slots_of (piece_at old.pieces key)) offset ≡ Some s)
+  the_cell = slice_get_some (slots_of (piece_at old.pieces key)) offset stands.within
+
+  at_place : slice_get (slots_in (forest old).branches index) place ≡ Some the_cell.0
+  at_place = ap (λ l. slice_get l place) (slots_in_on (piece_at old.pieces) old.strands index) ∙ sym stands.same ∙ the_cell.1
+
+  inner : nat_eq place (length (slots_in (forest old).branches index)) ≡ false
+  inner = by (nat_eq place (length (slots_in (forest old).branches index))) refl
+    where
+      by : (b : Bool) → nat_eq place (length (slots_in (forest old).branches index)) ≡ b → nat_eq place (length (slots_in (forest old).branches index)) ≡ false
+      by true e =
+          let same : place ≡ length (slots_in (forest old).branches index) = eqb-true place (length (slots_in (forest old).branches index)) e in
+          let h : place < length (slots_in (forest old).branches index) = slice_get_within (slots_in (forest old).branches index) place the_cell.0 at_place in
+          absurd (omega arith)
+      by false e = e
+
+  branches : (forest new).branches ≡ (inserted (forest old) index place step).branches
+  branches = put.everywhere_put the_cell.0 the_cell.1
+      ∙ ap (λ x. everywhere (put_before x (slot old.made step)) (forest old).branches) (sym (cell_in_at (slots_in (forest old).branches index) place the_cell.0 at_place))
+      ∙ ap (λ b. cond b (only_in index (put_last (slot old.made step)) (forest old).branches)
+      (everywhere (put_before (cell_in (slots_in (forest old).branches index) place) (slot old.made step)) (forest old).branches)) (sym inner)
+
+  pub inserted_before : IsInserted old new index place step
+  inserted_before = record {
+    forest_is = λ i. record { branches = branches i; made = put.made i };
+    limits = put.limits;
+    notes = put.notes;
+    cut = put.cut;
+  }
+
+some_full : {T : Type 0} (o : Option (Piece T)) → 128 ≤ length (slots_of o) → IsSome o
+some_full None h = absurd (omega arith)
+some_full (Some p) h = refl
+
+-- in a full segment, which is cut in two
+module _ {T : Type 0} (c d : Cut T) (key fresh offset : ℕ) (step : Step) (above below : Piece T) (whole : IsWhole c)
+    (divides : Divides (piece_at c.pieces) (piece_at d.pieces) key fresh above below) (strands : d.strands ≡ map (divided_strand key fresh) c.strands)
+    (made : d.made ≡ c.made + 1) (limits : d.limits ≡ c.limits) (room : c.made < c.limits.cells)
+    (inside : offset < length (slots_of (piece_at c.pieces key))) (full : 128 ≤ length (slots_of (piece_at c.pieces key)))
+    (parts : above.slots ++ below.slots ≡ insert (slots_of (piece_at c.pieces key)) offset (slot c.made step))
+    (least : 64 ≤ length above.slots) (most : length above.slots ≤ 65) (none_above : above.note ≡ None) (none_below : below.note ≡ None) where
+  cut_cell : (s : Slot) × (slice_get (slots_of (piece_at c.pieces key)) offset ≡ Some s)
+  cut_cell = slice_get_some (slots_of (piece_at c.pieces key)) offset inside
+
+  sum : length above.slots + length below.slots ≡ length (slots_of (piece_at c.pieces key)) + 1
+  sum = sym (length-append above.slots below.slots) ∙ ap length parts ∙ length-insert (slots_of (piece_at c.pieces key)) offset (slot c.made step) (omega arith)
+
+  few_before : (o : Option (Piece T)) → IfSome o (IsSegment c.made) → length (slots_of o) ≤ 128
+  few_before None h = omega arith
+  few_before (Some p) h = h.few
+
+  few : length (slots_of (piece_at c.pieces key)) ≤ 128
+  few = few_before (piece_at c.pieces key) (whole.sound.segments key)
+
+  cells : (x : ℕ) → has_cell x (above.slots ++ below.slots) ≡ true → (has_cell x (slots_of (piece_at c.pieces key)) ≡ true) ⊎ ((c.made ≤ x) × (x < c.made + 1))
+  cells x h =
+      elim (grown_cells (piece_at c.pieces) c.strands c.made key offset step cut_cell.0 whole.sound cut_cell.1 x (subst (λ l. has_cell x l ≡ true) parts h)) [
+        | inl g ↦ inl g
+        | inr e ↦ inr (omega arith, omega arith)
+      ]
+
+  once : Once (map cell_of (above.slots ++ below.slots))
+  once = subst (λ l. Once (map cell_of l)) (sym parts) (grown_once (piece_at c.pieces) c.strands c.made key offset step cut_cell.0 whole.sound cut_cell.1)
+
+  sound_cut : IsSound (piece_at d.pieces) (map (divided_strand key fresh) c.strands) (c.made + 1)
+  sound_cut = sound-divided (piece_at c.pieces) (piece_at d.pieces) key fresh above below divides c.strands c.made (c.made + 1) whole.sound (omega arith)
+      (omega (arith, least)) (omega (arith, most)) (omega (arith, sum, full, most)) (omega (arith, sum, few, least)) once cells
+
+  sound_after : IsSound (piece_at d.pieces) d.strands d.made
+  sound_after = subst (λ l. IsSound (piece_at d.pieces) l d.made) (sym strands) (subst (IsSound (piece_at d.pieces) (map (divided_strand key fresh) c.strands)) (sym made) sound_cut)
+
+  count : length d.strands ≡ length c.strands
+  count = ap length strands ∙ length-map c.strands (divided_strand key fresh)
+
+  cut_held : IsWhole d
+  cut_held = record {
+    sound = sound_after;
+    within = subst (λ l. IsWithin l d.made (length d.strands)) (sym limits) (subst (λ n. IsWithin c.limits n (length d.strands)) (sym made)
+        (subst (IsWithin c.limits (c.made + 1)) (sym count) (within_more c.limits c.made (length c.strands) whole.within room)));
+  }
+
+  lacked : (i : ℕ) → has fresh (keys_in c.strands i) ≡ false
+  lacked = lacked-divided (piece_at c.pieces) (piece_at d.pieces) key fresh above below divides c.strands c.made (c.made + 1) whole.sound (omega arith)
+      (omega (arith, least)) (omega (arith, most)) (omega (arith, sum, full, most)) (omega (arith, sum, few, least)) once cells
+
+  cut_told : IsPutBefore c d key offset step
+  cut_told = record {
+    everywhere_put = λ s at_cell. ap (branches_on (piece_at d.pieces)) strands
+        ∙ branches-divided (piece_at c.pieces) (piece_at d.pieces) key fresh above below divides
+        (put (piece_at c.pieces) c.strands c.made key offset step s whole.sound at_cell) refl
+        (put_through (piece_at c.pieces) c.strands c.made key offset step s whole.sound at_cell)
+        (parts ∙ grown_put (piece_at c.pieces) c.strands c.made key offset step s whole.sound at_cell)
+        (put_elsewhere (piece_at c.pieces) c.strands c.made key offset step s whole.sound at_cell) c.strands lacked;
+    made = made;
+    limits = limits;
+    notes = notes-divided c d key fresh above below divides none_above none_below;
+    cut = cut_from_sound d d.made sound_after;
+  }
+
+abbrev unnoted : {T : Type 0} → Vec Slot → Segment T
+unnoted slots = record { slots = slots; note = None }
+
+-- by what the fields become
+module _ {T : Type 0} (t d : Inside T) (view : Cut T) (view_is : cut_of t ≡ view) (slab : Slab (Segment T)) (key fresh offset : ℕ) (step : Step)
+    (above below : Vec Slot) (cells : List Slot) (held : IsHeld t) (same : slab.slots ≡ t.segments.slots) (cells_are : cells ≡ slots_of (piece_at view.pieces key))
+    (vacant : get slab fresh ≡ None) (lower : piece_of (get d.segments key) ≡ Some (piece below.items None)) (upper : get d.segments fresh ≡ Some (unnoted above))
+    (others : (j : ℕ) → (j ≡ key → ⊥) → (j ≡ fresh → ⊥) → get d.segments j ≡ get slab j)
+    (strands : map strand_of d.branches.entries ≡ map (divided_strand key fresh) (map strand_of t.branches.entries)) (made : d.made ≡ t.made + 1) (limits : d.limits ≡ t.limits)
+    (room : view.made < view.limits.cells) (inside : offset < length (slots_of (piece_at view.pieces key))) (full : 128 ≤ length (slots_of (piece_at view.pieces key)))
+    (parts : above.items ++ below.items ≡ insert cells offset (slot t.made step)) (least : 64 ≤ length above.items) (most : length above.items ≤ 65) where
+  seen : slots_of (piece_at view.pieces key) ≡ slots_of (piece_at (cut_of t).pieces key)
+  seen = ap (λ z. slots_of (piece_at z.pieces key)) (sym view_is)
+
+  full_before : 128 ≤ length (slots_of (piece_at (cut_of t).pieces key))
+  full_before = subst (λ l. 128 ≤ length l) seen full
+
+  divides : Divides (piece_at (cut_of t).pieces) (piece_at (cut_of d).pieces) key fresh (piece above.items None) (piece below.items None)
+  divides = divides_from t d slab key fresh (unnoted above) below.items same (some_full (piece_at (cut_of t).pieces key) full_before) vacant lower upper others
+
+  room_before : (cut_of t).made < (cut_of t).limits.cells
+  room_before = subst (λ z. z.made < z.limits.cells) (sym view_is) room
+
+  inside_before : offset < length (slots_of (piece_at (cut_of t).pieces key))
+  inside_before = subst (λ l. offset < length l) seen inside
+
+  parts_before : above.items ++ below.items ≡ insert (slots_of (piece_at (cut_of t).pieces key)) offset (slot t.made step)
+  parts_before = parts ∙ ap (λ l. insert l offset (slot t.made step)) (cells_are ∙ seen)
+
+  pub divided_held : IsHeld d
+  divided_held = cut_held (cut_of t) (cut_of d) key fresh offset step (piece above.items None) (piece below.items None) held divides strands made limits
+      room_before inside_before full_before parts_before least most refl refl
+
+  pub divided_told : IsPutBefore (cut_of t) (cut_of d) key offset step
+  divided_told = cut_told (cut_of t) (cut_of d) key fresh offset step (piece above.items None) (piece below.items None) held divides strands made limits
+      room_before inside_before full_before parts_before least most refl refl

@@ -1,0 +1,190 @@
+-- The lines of a cut.
+use Rattle.frames.specs.declared.types.Step.{Step}
+use Rattle.std.proofs.Common.{append_assoc, append-nil, ◌≡◌, ℕ, zero, suc, ◌+◌, ◌<◌, ◌≤◌, nat_eq, Bool, true, false, ◌||◌, List, [], ◌∷◌, ◌++◌, length, map, drop, get_or, slice_get, Option, Some, None, refl, sym, ap, subst, ◌∙◌, true≢false, arith}
+use Rattle.std.specs.Option.{option_map_or, option_map, IfSome}
+use Rattle.std.specs.Global.{Vec}
+use Rattle.std.specs.Map.{keys_of}
+use Rattle.std.proofs.lemmas.List.{map-append, length-map, length-append}
+use Rattle.std.proofs.Math.Seq.{drop-cons}
+use Rattle.std.specs.List.{position}
+use Rattle.schedule_trie.specs.declared.trie.Trie.TheInside.{Inside}
+use Rattle.schedule_trie.specs.Forest.{step_of, cell_of, name_of, slots_in, index_of, name_in}
+use Rattle.std.specs.Cmp.Lexicographic.{pointwise}
+use Rattle.std.proofs.lemmas.Option.{slice_get-map}
+use Rattle.schedule_trie.specs.Cut.{forest, piece_at, Piece, Strand, line, slots_of, branches_on, keys_in, has, has_cell, Once, IsSegment, IsSound, StandsAt}
+use Rattle.schedule_trie.specs.Held.{strand_of, cut_of, IsHeld}
+use Rattle.schedule_trie.proofs.Once.{has-append, has-head, has-tail, Once-append, Once-bounded, has_not_from, Once-from_linked}
+
+module _ {T : Type 0} (at : ℕ → Option (Piece T)) where
+  pub names_on : (es : List (List ℕ × Vec ℕ)) → map name_of (branches_on at (map strand_of es)) ≡ keys_of es
+  names_on [] = refl
+  names_on (e ∷ es) = ap (λ l. e.0 ∷ l) (names_on es)
+
+  pub slots_in_on : (strands : List Strand) (i : ℕ) → slots_in (branches_on at strands) i ≡ line at (keys_in strands i)
+  slots_in_on [] i = refl
+  slots_in_on (s ∷ ss) zero = refl
+  slots_in_on (s ∷ ss) (suc i) = slots_in_on ss i
+
+  pub line-drop : (ks : List ℕ) (i : ℕ) → i < length ks → line at (drop i ks) ≡ slots_of (at (get_or ks i 0)) ++ line at (drop (suc i) ks)
+  line-drop ks i h = ap (line at) (drop-cons ks i 0 h)
+
+  pub in_line : (x : ℕ) (ks : List ℕ) → has_cell x (line at ks) ≡ true → (k : ℕ) × (has k ks ≡ true) × (has_cell x (slots_of (at k)) ≡ true)
+  in_line x [] h = absurd (true≢false (sym h))
+  in_line x (k ∷ ks) h = by (has_cell x (slots_of (at k))) refl (in_line x ks)
+    where
+      split : (has_cell x (slots_of (at k)) || has_cell x (line at ks)) ≡ true
+      split = sym (has-append x (map cell_of (slots_of (at k))) (map cell_of (line at ks))) ∙ sym (ap (has x) (map-append cell_of (slots_of (at k)) (line at ks))) ∙ h
+
+      by : (b : Bool) → has_cell x (slots_of (at k)) ≡ b
+          → (has_cell x (line at ks) ≡ true → (j : ℕ) × (has j ks ≡ true) × (has_cell x (slots_of (at j)) ≡ true))
+          → (j : ℕ) × (has j (k ∷ ks) ≡ true) × (has_cell x (slots_of (at j)) ≡ true)
+      by true e rest = (k, has-head k ks, e)
+      by false e rest = let p = rest (sym (ap (λ c. c || has_cell x (line at ks)) e) ∙ split) in (p.0, has-tail p.0 k ks p.1, p.2)
+
+  module _ (made : ℕ) (segments : (k : ℕ) → IfSome (at k) (IsSegment made))
+      (apart : (j k x : ℕ) → has_cell x (slots_of (at j)) ≡ true → has_cell x (slots_of (at k)) ≡ true → j ≡ k) where
+    pub once_at : (k : ℕ) → Once (map cell_of (slots_of (at k)))
+    once_at k = by (at k) (segments k)
+      where
+        by : (o : Option (Piece T)) → IfSome o (IsSegment made) → Once (map cell_of (slots_of o))
+        by None h = tt
+        by (Some p) h = h.once
+
+    pub given_at : (k x : ℕ) → has_cell x (slots_of (at k)) ≡ true → x < made
+    given_at k x = by (at k) (segments k)
+      where
+        by : (o : Option (Piece T)) → IfSome o (IsSegment made) → has_cell x (slots_of o) ≡ true → x < made
+        by None h e = absurd (true≢false (sym e))
+        by (Some p) h e = h.given x e
+
+    pub line_once : (ks : List ℕ) → Once ks → Once (map cell_of (line at ks))
+    line_once [] h = tt
+    line_once (k ∷ ks) h =
+        subst Once (sym (map-append cell_of (slots_of (at k)) (line at ks)))
+        (Once-append (map cell_of (slots_of (at k))) (map cell_of (line at ks)) (once_at k) (line_once ks h.1)
+        (λ x e. has_not_from x (map cell_of (line at ks)) (λ g.
+        let p = in_line x ks g in
+        let same : k ≡ p.0 = apart k p.0 x e p.2 in
+        true≢false (sym (subst (λ j. has j ks ≡ true) (sym same) p.1) ∙ h.0))))
+
+    pub line_short : (ks : List ℕ) → Once ks → length (line at ks) ≤ made
+    line_short ks h =
+        let b : length (map cell_of (line at ks)) ≤ made = Once-bounded (map cell_of (line at ks)) made (line_once ks h) (λ x e. let p = in_line x ks e in given_at p.0 x p.2) in
+        subst (λ n. n ≤ made) (length-map (line at ks) cell_of) b
+
+pub keys_in_entries : (es : List (List ℕ × Vec ℕ)) (i : ℕ) → keys_in (map strand_of es) i ≡ option_map_or (λ e. e.1.items) (slice_get es i) []
+keys_in_entries [] i = refl
+keys_in_entries (e ∷ es) zero = refl
+keys_in_entries (e ∷ es) (suc i) = keys_in_entries es i
+
+pub sound_short : {T : Type 0} (at : ℕ → Option (Piece T)) (strands : List Strand) (made : ℕ) → IsSound at strands made → (i : ℕ) → length (line at (keys_in strands i)) ≤ made
+sound_short at strands made s i =
+    line_short at made s.segments s.apart (keys_in strands i)
+    (Once-from_linked s.shares.above (keys_in strands i) (s.shares.linked i))
+
+-- what the fields tell of the forest
+module _ {T : Type 0} (t : Inside T) where
+  pub index_is : (name : List ℕ) → index_of (forest (cut_of t)).branches name ≡ position (pointwise nat_eq name) (keys_of t.branches.entries)
+  index_is name = ap (position (pointwise nat_eq name)) (names_on (piece_at (cut_of t).pieces) t.branches.entries)
+
+  pub name_is : (i : ℕ) → name_in (forest (cut_of t)).branches i ≡ option_map (λ e. e.0) (slice_get t.branches.entries i)
+  name_is i = ap (λ l. slice_get l i) (names_on (piece_at (cut_of t).pieces) t.branches.entries) ∙ slice_get-map (λ e. e.0) t.branches.entries i
+
+  pub keys_are : (i : ℕ) → keys_in (cut_of t).strands i ≡ option_map_or (λ e. e.1.items) (slice_get t.branches.entries i) []
+  keys_are i = keys_in_entries t.branches.entries i
+
+  pub line_fits : IsHeld t → (i : ℕ) → length (line (piece_at (cut_of t).pieces) (keys_in (cut_of t).strands i)) ≤ t.made
+  line_fits h i = sound_short (piece_at (cut_of t).pieces) (cut_of t).strands t.made h.sound i
+
+  -- what the keys of a branch promise
+  pub keys_told : IsHeld t → (i : ℕ) (keys : List ℕ) → option_map_or (λ e. e.1.items) (slice_get t.branches.entries i) [] ≡ keys
+      → (keys ≡ keys_in (cut_of t).strands i) × (length (line (piece_at (cut_of t).pieces) keys) ≤ (cut_of t).made) × ((cut_of t).made ≤ 16777216)
+  keys_told h i keys e =
+      let same : keys_in (cut_of t).strands i ≡ keys = keys_are i ∙ e in
+      (sym same, subst (λ l. length (line (piece_at (cut_of t).pieces) l) ≤ t.made) same (line_fits h i), omega (arith, h.within.cells, h.within.most_cells))
+
+pub drop_past : (n : ℕ) (xs : List ℕ) → length xs ≤ n → drop n xs ≡ []
+drop_past zero [] h = refl
+drop_past zero (x ∷ xs) h = absurd (omega arith)
+drop_past (suc n) [] h = refl
+drop_past (suc n) (x ∷ xs) h = drop_past n xs (omega arith)
+
+pub len_told : {T : Type 0} (at : ℕ → Option (Piece T)) (strands : List Strand) (i n : ℕ) (keys : List ℕ) (len : ℕ) → length keys ≤ n
+    → len + length (line at (drop n keys)) ≡ length (line at keys) → keys ≡ keys_in strands i → len ≡ length (slots_in (branches_on at strands) i)
+len_told at strands i n keys len past sum same =
+    let none : length (line at (drop n keys)) ≡ 0 = ap (λ l. length (line at l)) (drop_past n keys past) in
+    let all : len ≡ length (line at keys) = omega arith in
+    all ∙ ap (λ l. length (line at l)) same ∙ ap length (sym (slots_in_on at strands i))
+
+-- an element of the first of two lists, and of the second
+pub slice_get_left : {X : Type 0} (xs ys : List X) (i : ℕ) → i < length xs → slice_get (xs ++ ys) i ≡ slice_get xs i
+slice_get_left [] ys i h = absurd (omega arith)
+slice_get_left (x ∷ xs) ys zero h = refl
+slice_get_left (x ∷ xs) ys (suc i) h = slice_get_left xs ys i (omega arith)
+
+pub slice_get_right : {X : Type 0} (xs ys : List X) (i j : ℕ) → length xs + j ≡ i → slice_get (xs ++ ys) i ≡ slice_get ys j
+slice_get_right [] ys i j e = ap (slice_get ys) (omega arith)
+slice_get_right (x ∷ xs) ys zero j e = absurd (omega arith)
+slice_get_right (x ∷ xs) ys (suc i) j e = slice_get_right xs ys i j (omega arith)
+
+pub has-get_or : (ks : List ℕ) (i : ℕ) → i < length ks → has (get_or ks i 0) ks ≡ true
+has-get_or [] i h = absurd (omega arith)
+has-get_or (k ∷ ks) zero h = has-head k ks
+has-get_or (k ∷ ks) (suc i) h = has-tail (get_or ks i 0) k ks (has-get_or ks i (omega arith))
+
+module _ {T : Type 0} (at : ℕ → Option (Piece T)) (keys : List ℕ) (place i rest : ℕ) (inside : i < length keys)
+    (same : slice_get (line at (drop i keys)) rest ≡ slice_get (line at keys) place)
+    (sum : length (line at (drop i keys)) + place ≡ length (line at keys) + rest) where
+  -- the place lies in this segment
+  pub found_here : rest < length (slots_of (at (get_or keys i 0))) → StandsAt at keys place (get_or keys i 0, rest)
+  found_here h = record {
+    member = has-get_or keys i inside;
+    within = h;
+    same = sym (slice_get_left (slots_of (at (get_or keys i 0))) (line at (drop (suc i) keys)) rest h) ∙ sym (ap (λ l. slice_get l rest) (line-drop at keys i inside)) ∙ same;
+  }
+
+  -- or behind it
+  pub found_below : (next : ℕ) → length (slots_of (at (get_or keys i 0))) + next ≡ rest
+      → (slice_get (line at (drop (i + 1) keys)) next ≡ slice_get (line at keys) place)
+      × (length (line at (drop (i + 1) keys)) + place ≡ length (line at keys) + next)
+  found_below next e =
+      let step : i + 1 ≡ suc i = omega arith in
+      let parts : length (line at (drop i keys)) ≡ length (slots_of (at (get_or keys i 0))) + length (line at (drop (suc i) keys)) =
+      ap length (line-drop at keys i inside) ∙ length-append (slots_of (at (get_or keys i 0))) (line at (drop (suc i) keys)) in (
+        subst (λ n. slice_get (line at (drop n keys)) next ≡ slice_get (line at keys) place) (sym step)
+            (sym (slice_get_right (slots_of (at (get_or keys i 0))) (line at (drop (suc i) keys)) rest next e) ∙ sym (ap (λ l. slice_get l rest) (line-drop at keys i inside)) ∙ same),
+        subst (λ n. length (line at (drop n keys)) + place ≡ length (line at keys) + next) (sym step) (omega arith),
+      )
+
+pub none_found : {T : Type 0} (at : ℕ → Option (Piece T)) (strands : List Strand) (index place i rest : ℕ) (keys : List ℕ) → length keys ≤ i
+    → length (line at (drop i keys)) + place ≡ length (line at keys) + rest → keys ≡ keys_in strands index
+    → length (slots_in (branches_on at strands) index) ≤ place
+none_found at strands index place i rest keys past sum same =
+    let none : length (line at (drop i keys)) ≡ 0 = ap (λ l. length (line at l)) (drop_past i keys past) in
+    let all : length (line at keys) ≡ length (slots_in (branches_on at strands) index) = ap (λ l. length (line at l)) same ∙ ap length (sym (slots_in_on at strands index)) in
+    omega arith
+
+pub keys_in_past : (strands : List Strand) (j : ℕ) → length strands ≤ j → keys_in strands j ≡ []
+keys_in_past [] j h = refl
+keys_in_past (s ∷ ss) zero h = absurd (omega arith)
+keys_in_past (s ∷ ss) (suc j) h = keys_in_past ss j (omega arith)
+
+-- the steps of keys so far
+module _ {T : Type 0} (at : ℕ → Option (Piece T)) where
+  pub steps_more : (keys : List ℕ) (i : ℕ) (done more : List Step) → i < length keys
+      → done ++ map step_of (line at (drop i keys)) ≡ map step_of (line at keys) → more ≡ done ++ map step_of (slots_of (at (get_or keys i 0)))
+      → more ++ map step_of (line at (drop (i + 1) keys)) ≡ map step_of (line at keys)
+  steps_more keys i done more h sum new =
+      let step : i + 1 ≡ suc i = omega arith in
+      ap (λ l. l ++ map step_of (line at (drop (i + 1) keys))) new
+      ∙ ap (λ n. (done ++ map step_of (slots_of (at (get_or keys i 0)))) ++ map step_of (line at (drop n keys))) step
+      ∙ append_assoc done (map step_of (slots_of (at (get_or keys i 0)))) (map step_of (line at (drop (suc i) keys)))
+      ∙ ap (λ l. done ++ l) (sym (map-append step_of (slots_of (at (get_or keys i 0))) (line at (drop (suc i) keys))) ∙ ap (map step_of) (sym (line-drop at keys i h)))
+      ∙ sum
+
+  pub steps_all : (strands : List Strand) (index i : ℕ) (keys : List ℕ) (done : List Step) → length keys ≤ i
+      → done ++ map step_of (line at (drop i keys)) ≡ map step_of (line at keys) → keys ≡ keys_in strands index
+      → done ≡ map step_of (slots_in (branches_on at strands) index)
+  steps_all strands index i keys done past sum same =
+      sym (append-nil done) ∙ sym (ap (λ l. done ++ map step_of (line at l)) (drop_past i keys past)) ∙ sum
+      ∙ ap (λ l. map step_of (line at l)) same ∙ ap (map step_of) (sym (slots_in_on at strands index))

@@ -1,0 +1,109 @@
+-- Numbers that stand once, and keys in a path.
+use Rattle.std.proofs.Common.{◌≡◌, ℕ, suc, ◌<◌, ◌≤◌, Bool, true, false, ◌||◌, nat_eq, eqb, List, [], ◌∷◌, ◌++◌, length, Option, Some, None, refl, sym, ap, subst, ◌∙◌, true≢false, arith, eq-eqb}
+use Rattle.std.proofs.lemmas.Bool.{eqb-true}
+use Rattle.std.proofs.lemmas.Map.Keys.{IsDistinct-cons}
+use Rattle.std.proofs.lemmas.Map.Steps.{length-le_from_distinct_below}
+use Rattle.std.specs.List.{IsDistinct, AllByRecursion, list_any}
+use Rattle.schedule_trie.specs.Cut.{has, Once, Linked}
+
+-- a number that is among others is the first of them, or among the rest
+pub has_cases : (x y : ℕ) (ys : List ℕ) (P : Type 0) → has x (y ∷ ys) ≡ true → (x ≡ y → P) → (has x ys ≡ true → P) → P
+has_cases x y ys P h same rest = by (nat_eq x y) refl
+  where
+    by : (b : Bool) → nat_eq x y ≡ b → P
+    by true e = same (eqb-true x y e)
+    by false e = rest (sym (ap (λ c. c || has x ys) e) ∙ h)
+
+pub has-head : (x : ℕ) (ys : List ℕ) → has x (x ∷ ys) ≡ true
+has-head x ys = ap (λ c. c || has x ys) (eq-eqb x x refl)
+
+pub has-tail : (x y : ℕ) (ys : List ℕ) → has x ys ≡ true → has x (y ∷ ys) ≡ true
+has-tail x y ys h = by (nat_eq x y) refl
+  where
+    by : (b : Bool) → nat_eq x y ≡ b → has x (y ∷ ys) ≡ true
+    by true e = ap (λ c. c || has x ys) e
+    by false e = ap (λ c. c || has x ys) e ∙ h
+
+-- among the one or the other
+pub has-append : (x : ℕ) (ys zs : List ℕ) → has x (ys ++ zs) ≡ (has x ys || has x zs)
+has-append x [] zs = refl
+has-append x (y ∷ ys) zs = by (nat_eq x y) (has-append x ys zs)
+  where
+    by : (b : Bool) → has x (ys ++ zs) ≡ (has x ys || has x zs) → (b || has x (ys ++ zs)) ≡ ((b || has x ys) || has x zs)
+    by true rest = refl
+    by false rest = rest
+
+pub has_not_from : (x : ℕ) (ys : List ℕ) → (has x ys ≡ true → ⊥) → has x ys ≡ false
+has_not_from x ys h = by (has x ys) refl
+  where
+    by : (b : Bool) → has x ys ≡ b → has x ys ≡ false
+    by true e = absurd (h e)
+    by false e = e
+
+-- lists with nothing in common
+pub Once-append : (xs ys : List ℕ) → Once xs → Once ys → ((x : ℕ) → has x xs ≡ true → has x ys ≡ false) → Once (xs ++ ys)
+Once-append [] ys a b h = b
+Once-append (x ∷ xs) ys a b h =
+    (has-append x xs ys ∙ ap (λ c. c || has x ys) a.0 ∙ h x (has-head x xs), Once-append xs ys a.1 b (λ z e. h z (has-tail z x xs e)))
+
+AllByRecursion-from_has : (x : ℕ) (ys : List ℕ) → has x ys ≡ false → AllByRecursion (λ y. eqb x y ≡ false) ys
+AllByRecursion-from_has x [] h = tt
+AllByRecursion-from_has x (y ∷ ys) h = by (eqb x y) refl (AllByRecursion-from_has x ys)
+  where
+    by : (b : Bool) → eqb x y ≡ b → (has x ys ≡ false → AllByRecursion (λ z. eqb x z ≡ false) ys) → AllByRecursion (λ z. eqb x z ≡ false) (y ∷ ys)
+    by true e rest = absurd (true≢false (sym (ap (λ c. c || has x ys) e) ∙ h))
+    by false e rest = (e, rest (sym (ap (λ c. c || has x ys) e) ∙ h))
+
+IsDistinct-from_once : (xs : List ℕ) → Once xs → IsDistinct eqb xs
+unfolding IsDistinct
+IsDistinct-from_once [] h = tt
+IsDistinct-from_once (x ∷ xs) h = IsDistinct-cons eqb x xs (AllByRecursion-from_has x xs h.0) (IsDistinct-from_once xs h.1)
+
+has-list_any : (x : ℕ) (xs : List ℕ) → list_any (eqb x) xs ≡ has x xs
+has-list_any x [] = refl
+has-list_any x (y ∷ ys) = ap (λ c. eqb x y || c) (has-list_any x ys)
+
+-- numbers below n that stand once are at most n
+pub Once-bounded : (xs : List ℕ) (n : ℕ) → Once xs → ((x : ℕ) → has x xs ≡ true → x < n) → length xs ≤ n
+Once-bounded xs n once below =
+    length-le_from_distinct_below xs n (IsDistinct-from_once xs once) (λ q h. below q (sym (has-list_any q xs) ∙ h))
+
+-- the way up from a key, the nearest first
+abbrev pub Ups : (ℕ → Option ℕ) → Option ℕ → List ℕ → Type 0
+Ups above up [] = up ≡ None
+Ups above up (k ∷ ks) = (up ≡ Some k) × Ups above (above k) ks
+
+pub Ups-one : (above : ℕ → Option ℕ) (up : Option ℕ) (xs ys : List ℕ) → Ups above up xs → Ups above up ys → length xs ≡ length ys
+Ups-one above up [] [] a b = refl
+Ups-one above up [] (y ∷ ys) a b = let e : None ≡ Some y = sym a ∙ b.0 in absurd (cc)
+Ups-one above up (x ∷ xs) [] a b = let e : None ≡ Some x = sym b ∙ a.0 in absurd (cc)
+Ups-one above up (x ∷ xs) (y ∷ ys) a b =
+    let e : Some x ≡ Some y = sym a.0 ∙ b.0 in
+    let same : x ≡ y = cc in
+    ap suc (Ups-one above (above x) xs ys a.1 (subst (λ z. Ups above (above z) ys) (sym same) b.1))
+
+Ups-from : (above : ℕ → Option ℕ) (up : Option ℕ) (k : ℕ) (xs : List ℕ) → Ups above up xs → has k xs ≡ true
+    → (ys : List ℕ) × Ups above (above k) ys × (length ys < length xs)
+Ups-from above up k [] a h = absurd (true≢false (sym h))
+Ups-from above up k (x ∷ xs) a h =
+    has_cases k x xs ((ys : List ℕ) × Ups above (above k) ys × (length ys < suc (length xs))) h
+    (λ e. (xs, subst (λ z. Ups above (above z) xs) (sym e) a.1, omega arith))
+    (λ r. let p = Ups-from above (above x) k xs a.1 r in (p.0, p.1, omega arith))
+
+Once-from_linked_below : (above : ℕ → Option ℕ) (up : Option ℕ) (seen ks : List ℕ) → Ups above up seen → Linked above up ks
+    → Once ks × ((j : ℕ) → has j seen ≡ true → has j ks ≡ false)
+Once-from_linked_below above up seen [] u l = (tt, λ j h. refl)
+Once-from_linked_below above up seen (k ∷ ks) u l =
+    let at_k : Ups above (above k) seen = subst (λ o. Ups above o seen) (sym l.0) u in
+    let rest = Once-from_linked_below above (Some k) (k ∷ seen) ks (refl, at_k) l.1 in
+    let fresh : has k seen ≡ true → ⊥ = λ h. let p = Ups-from above up k seen u h in
+    let e : length p.0 ≡ length seen = Ups-one above (above k) p.0 seen p.1 at_k in omega arith in (
+      (rest.1 k (has-head k seen), rest.0),
+      λ j h. has_not_from j (k ∷ ks) (λ g. has_cases j k ks ⊥ g
+          (λ e. fresh (subst (λ z. has z seen ≡ true) e h))
+          (λ r. true≢false (sym r ∙ rest.1 j (has-tail j k seen h)))),
+    )
+
+-- a path has each key once
+pub Once-from_linked : (above : ℕ → Option ℕ) (ks : List ℕ) → Linked above None ks → Once ks
+Once-from_linked above ks l = (Once-from_linked_below above None [] ks refl l).0

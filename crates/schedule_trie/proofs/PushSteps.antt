@@ -1,0 +1,82 @@
+-- A push, by what the fields become.
+use Rattle.std.proofs.Common.{◌≡◌, ℕ, ◌+◌, ◌<◌, true, false, ◌||◌, List, [], ◌∷◌, ◌++◌, length, Option, Some, None, IsSome, Result, Ok, Err, refl, sym, ap, subst, ◌∙◌, append-nil}
+use Rattle.std.specs.Result.{OnErr}
+use Rattle.std.proofs.Math.Seq.{map-set_same}
+use Rattle.slab.specs.Slab.{get, with_value}
+use Rattle.frames.specs.declared.types.Step.{Step}
+use Rattle.schedule_trie.specs.declared.segment.Segment.{Segment}
+use Rattle.schedule_trie.specs.declared.trie.Trie.TheInside.{Inside}
+use Rattle.schedule_trie.specs.Forest.{slot}
+use Rattle.schedule_trie.specs.Cut.{piece, piece_at, slots_of, line, keys_in, set_keys, has, Once, IsOwnEnd, IsPushed}
+use Rattle.schedule_trie.specs.Held.{piece_of, cut_of, IsHeld}
+use Rattle.schedule_trie.proofs.Once.{has-append, Once-from_linked}
+use Rattle.schedule_trie.proofs.Changes.{Changes, piece_at_set}
+use Rattle.schedule_trie.proofs.StepSet.{piece_seen, key_within}
+use Rattle.schedule_trie.proofs.Pushes.{line-append}
+use Rattle.schedule_trie.proofs.Whole.{whole_pushed, is_pushed, set_keys-same, has-last, once_front}
+
+pub on_err : {A E : Type 0} (r : Result A E) (P : Type 0) → P → OnErr r P
+on_err (Ok x) P p = tt
+on_err (Err e) P p = p
+
+pub has_front : (k key : ℕ) (front : List ℕ) → has k front ≡ true → has k (front ++ key ∷ []) ≡ true
+has_front k key front h = has-append k front (key ∷ []) ∙ ap (λ b. b || has k (key ∷ [])) h
+
+-- a segment that is written as it was
+pub cut_written : {T : Type 0} (t : Inside T) (key : ℕ) (v w : Segment T) → get t.segments key ≡ Some v → w.slots.items ≡ v.slots.items → w.note ≡ v.note
+    → cut_of (record t { segments = with_value t.segments key w }) ≡ cut_of t
+cut_written t key v w there items note =
+    let same : piece_of (Some w) ≡ piece_of (get t.segments key) = (λ i. Some (piece (items i) (note i))) ∙ ap piece_of (sym there) in
+    ap (λ p. record (cut_of t) { pieces = p }) (map-set_same piece_of t.segments.slots key (Some w) None same)
+
+-- in the last segment of a branch
+module _ {T : Type 0} (t : Inside T) (index key : ℕ) (held : IsHeld t) (end : IsOwnEnd (cut_of t) index key) where
+  some_slab : (o : Option (Segment T)) → IsSome (piece_of o) → IsSome o
+  some_slab None h = h
+  some_slab (Some v) h = refl
+
+  pub own_there : IsSome (get t.segments key)
+  own_there =
+      some_slab (get t.segments key) (subst IsSome (piece_seen t key)
+      (held.sound.held index key (subst (λ l. has key l ≡ true) (sym end.last) (has-last key end.front))))
+
+  module _ (v w : Segment T) (there : get t.segments key ≡ Some v) where
+    seen : piece_at (cut_of t).pieces key ≡ Some (piece v.slots.items v.note)
+    seen = piece_seen t key ∙ ap piece_of there
+
+    -- refused
+    pub cut_kept : w.slots.items ≡ v.slots.items → w.note ≡ v.note → cut_of (record t { segments = with_value t.segments key w }) ≡ cut_of t
+    cut_kept items note = cut_written t key v w there items note
+
+    module _ (step : Step) (index_in : index < length (cut_of t).strands) (room : t.made < t.limits.cells)
+        (items : w.slots.items ≡ v.slots.items ++ slot t.made step ∷ []) (note : w.note ≡ None) where
+      abbrev after : Inside T
+      after = record t { segments = with_value t.segments key w; made = t.made + 1 }
+
+      change : Changes (piece_at (cut_of t).pieces) (piece_at (cut_of after).pieces) key (piece w.slots.items w.note)
+      change = piece_at_set t.segments.slots key w (key_within t.segments.slots key v there)
+
+      slots : w.slots.items ≡ slots_of (piece_at (cut_of t).pieces key) ++ slot t.made step ∷ []
+      slots = items ∙ sym (ap (λ o. slots_of o ++ slot t.made step ∷ []) seen)
+
+      strands : (cut_of after).strands ≡ set_keys (cut_of t).strands index (end.front ++ key ∷ [])
+      strands = sym (set_keys-same (cut_of t).strands index) ∙ ap (set_keys (cut_of t).strands index) end.last
+
+      was : line (piece_at (cut_of t).pieces) (keys_in (cut_of t).strands index) ≡ line (piece_at (cut_of t).pieces) end.front ++ slots_of (piece_at (cut_of t).pieces key)
+      was = ap (line (piece_at (cut_of t).pieces)) end.last ∙ line-append (piece_at (cut_of t).pieces) end.front (key ∷ [])
+          ∙ ap (λ l. line (piece_at (cut_of t).pieces) end.front ++ l) (append-nil (slots_of (piece_at (cut_of t).pieces key)))
+
+      fresh : has key end.front ≡ false
+      fresh = once_front end.front key (subst Once end.last (Once-from_linked held.sound.shares.above (keys_in (cut_of t).strands index) (held.sound.shares.linked index)))
+
+      kept : (k : ℕ) → has k (keys_in (cut_of t).strands index) ≡ true → has k (end.front ++ key ∷ []) ≡ true
+      kept k h = subst (λ l. has k l ≡ true) end.last h
+
+      in_front : (k : ℕ) → has k end.front ≡ true → has k (keys_in (cut_of t).strands index) ≡ true
+      in_front k h = subst (λ l. has k l ≡ true) (sym end.last) (has_front k key end.front h)
+
+      pub in_held : IsHeld after
+      in_held = whole_pushed (cut_of t) (cut_of after) index key step end.front (piece w.slots.items w.note) held room change note slots end.room refl refl strands index_in was kept in_front fresh end.own held.sound.shares
+
+      pub in_pushed : IsPushed (cut_of t) (cut_of after) index step
+      in_pushed = is_pushed (cut_of t) (cut_of after) index key step end.front (piece w.slots.items w.note) held room change note slots end.room refl refl strands index_in was kept in_front fresh end.own held.sound.shares

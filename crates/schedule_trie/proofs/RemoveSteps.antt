@@ -1,0 +1,126 @@
+-- A removal, by what the fields become.
+use Rattle.std.proofs.Common.{◌≡◌, ℕ, ◌<◌, ◌≤◌, Bool, true, false, nat_eq, List, [], ◌∷◌, length, map, slice_get, Some, None, Ok, refl, sym, ap, subst, ◌∙◌, arith, inl}
+use Rattle.std.specs.List.{remove}
+use Rattle.std.proofs.lemmas.Bool.{eqb-true}
+use Rattle.std.proofs.lemmas.List.{length-map}
+use Rattle.slab.specs.Slab.{get, with_value, Updates}
+use Rattle.schedule_trie.specs.declared.slot.Slot.{Slot}
+use Rattle.schedule_trie.specs.declared.segment.Segment.{Segment}
+use Rattle.schedule_trie.specs.declared.trie.Trie.TheInside.{Inside}
+use Rattle.schedule_trie.specs.Forest.{without, remove_cell, index_of}
+use Rattle.schedule_trie.specs.Cut.{Cut, piece, piece_at, slots_of, note_of, forest, branches_on, keys_in, strand_without, StandsAt, IsSound, KeepsNotes, IsRemoved}
+use Rattle.schedule_trie.specs.Held.{piece_of, cut_of, IsHeld}
+use Rattle.schedule_trie.proofs.Changes.{Changes, piece_at_set}
+use Rattle.schedule_trie.proofs.Pushes.{not_equal}
+use Rattle.schedule_trie.proofs.StepSet.{slice_get_some, piece_seen, key_within, cut_from_sound, command_at, the_cell}
+use Rattle.schedule_trie.proofs.Removals.{gone_everywhere, sound_within, gone_with_segment, sound_gone}
+
+-- one segment has no note, and each other one is as it was
+pub notes_kept : {T : Type 0} (c d : Cut T) (key : ℕ) → ((j : ℕ) → (j ≡ key → ⊥) → piece_at d.pieces j ≡ piece_at c.pieces j)
+    → note_of (piece_at d.pieces key) ≡ None → KeepsNotes c d
+notes_kept c d key others clear = record {
+  touched = Some key;
+  kept = λ k ne h. inl (others k (λ e. ne (ap Some (sym e))));
+  cleared = λ k e. let same : k ≡ key = cc in subst (λ j. note_of (piece_at d.pieces j) ≡ None) (sym same) clear;
+  fresh = λ k h. fresh_at k h (nat_eq k key) refl;
+}
+  where
+    fresh_at : (k : ℕ) → piece_at c.pieces k ≡ None → (b : Bool) → nat_eq k key ≡ b → note_of (piece_at d.pieces k) ≡ None
+    fresh_at k h true e = subst (λ j. note_of (piece_at d.pieces j) ≡ None) (sym (eqb-true k key e)) clear
+    fresh_at k h false e = ap note_of (others k (not_equal k key e) ∙ h)
+
+-- a cell of a segment that has another one
+module _ {T : Type 0} (t : Inside T) (key offset : ℕ) (v w : Segment T) (held : IsHeld t) (there : get t.segments key ≡ Some v)
+    (inside : offset < length (slots_of (piece_at (cut_of t).pieces key))) (more : 1 < length (slots_of (piece_at (cut_of t).pieces key)))
+    (slots : w.slots.items ≡ remove v.slots.items offset) (note : w.note ≡ None) where
+  abbrev after : Inside T
+  after = record t { segments = with_value t.segments key w }
+
+  change : Changes (piece_at (cut_of t).pieces) (piece_at (cut_of after).pieces) key (piece w.slots.items w.note)
+  change = piece_at_set t.segments.slots key w (key_within t.segments.slots key v there)
+
+  was : piece_at (cut_of t).pieces key ≡ Some (piece v.slots.items v.note)
+  was = piece_seen t key ∙ ap piece_of there
+
+  here : slots_of (piece_at (cut_of after).pieces key) ≡ remove (slots_of (piece_at (cut_of t).pieces key)) offset
+  here = ap slots_of change.here ∙ slots ∙ sym (ap (λ o. remove (slots_of o) offset) was)
+
+  first : (s : Slot) × (slice_get (slots_of (piece_at (cut_of t).pieces key)) offset ≡ Some s)
+  first = slice_get_some (slots_of (piece_at (cut_of t).pieces key)) offset inside
+
+  sound : IsSound (piece_at (cut_of after).pieces) (cut_of t).strands t.made
+  sound = sound_within (piece_at (cut_of t).pieces) (piece_at (cut_of after).pieces) key offset first.0 (cut_of t).strands t.made held.sound here change.others first.1
+      (piece v.slots.items v.note) (piece w.slots.items w.note) was change.here more
+
+  pub within_held : IsHeld after
+  within_held = record { sound = sound; within = held.within }
+
+  pub within_told : IsRemoved (cut_of t) (cut_of after) key offset
+  within_told = record {
+    everywhere_gone = λ s at_cell. gone_everywhere (piece_at (cut_of t).pieces) (piece_at (cut_of after).pieces) key offset s (cut_of t).strands t.made held.sound here change.others at_cell;
+    made = refl;
+    limits = refl;
+    notes = notes_kept (cut_of t) (cut_of after) key change.others (ap note_of change.here ∙ note);
+    cut = cut_from_sound (cut_of after) t.made sound;
+  }
+
+removed_all : (slots : List Slot) → length slots ≡ 1 → [] ≡ remove slots 0
+removed_all [] h = absurd (omega arith)
+removed_all (s ∷ []) h = refl
+removed_all (s ∷ z ∷ zs) h = absurd (omega arith)
+
+-- a segment with its only cell
+module _ {T : Type 0} (t u : Inside T) (key : ℕ) (held : IsHeld t) (one : length (slots_of (piece_at (cut_of t).pieces key)) ≡ 1)
+    (updates : Updates t.segments u.segments key None) (strands : (cut_of u).strands ≡ map (strand_without key) (cut_of t).strands)
+    (made : u.made ≡ t.made) (limits : u.limits ≡ t.limits) where
+  gone : piece_at (cut_of u).pieces key ≡ None
+  gone = piece_seen u key ∙ ap piece_of updates.changed
+
+  others : (j : ℕ) → (j ≡ key → ⊥) → piece_at (cut_of u).pieces j ≡ piece_at (cut_of t).pieces j
+  others j ne = piece_seen u j ∙ ap piece_of (updates.others j ne) ∙ sym (piece_seen t j)
+
+  all_gone : slots_of (piece_at (cut_of u).pieces key) ≡ remove (slots_of (piece_at (cut_of t).pieces key)) 0
+  all_gone = ap slots_of gone ∙ removed_all (slots_of (piece_at (cut_of t).pieces key)) one
+
+  only : (s : Slot) × (slice_get (slots_of (piece_at (cut_of t).pieces key)) 0 ≡ Some s)
+  only = slice_get_some (slots_of (piece_at (cut_of t).pieces key)) 0 (omega (arith, one))
+
+  sound_rest : IsSound (piece_at (cut_of u).pieces) (cut_of u).strands u.made
+  sound_rest =
+      subst (λ n. IsSound (piece_at (cut_of u).pieces) (cut_of u).strands n) (sym made)
+      (subst (λ ss. IsSound (piece_at (cut_of u).pieces) ss t.made) (sym strands)
+      (sound_gone (piece_at (cut_of t).pieces) (piece_at (cut_of u).pieces) key 0 only.0 (cut_of t).strands t.made held.sound all_gone others only.1 gone))
+
+  count : length (cut_of u).strands ≡ length (cut_of t).strands
+  count = ap length strands ∙ length-map (cut_of t).strands (strand_without key)
+
+  pub gone_held : IsHeld u
+  gone_held = record {
+    sound = sound_rest;
+    within = record {
+      cells = subst (λ l. u.made ≤ l.cells) (sym limits) (subst (λ n. n ≤ t.limits.cells) (sym made) held.within.cells);
+      branches_fit = subst (λ l. length (cut_of u).strands ≤ l.branches) (sym limits) (subst (λ n. n ≤ t.limits.branches) (sym count) held.within.branches_fit);
+      some = subst (λ n. 0 < n) (sym count) held.within.some;
+      most_cells = subst (λ l. l.cells ≤ 16777216) (sym limits) held.within.most_cells;
+      most_branches = subst (λ l. l.branches ≤ 1024) (sym limits) held.within.most_branches;
+    };
+  }
+
+  pub gone_told : IsRemoved (cut_of t) (cut_of u) key 0
+  gone_told = record {
+    everywhere_gone = λ s at_cell. ap (branches_on (piece_at (cut_of u).pieces)) strands
+        ∙ gone_with_segment (piece_at (cut_of t).pieces) (piece_at (cut_of u).pieces) key 0 s (cut_of t).strands t.made held.sound all_gone others at_cell gone;
+    made = made;
+    limits = limits;
+    notes = notes_kept (cut_of t) (cut_of u) key others (ap note_of gone);
+    cut = cut_from_sound (cut_of u) u.made sound_rest;
+  }
+
+-- what `remove` gives
+pub remove_ok : {T : Type 0} (old new : Cut T) (name : List ℕ) (place index key offset : ℕ) → index_of (forest old).branches name ≡ Some index
+    → StandsAt (piece_at old.pieces) (keys_in old.strands index) place (key, offset) → IsRemoved old new key offset
+    → remove_cell (forest old) name place ≡ Ok (forest new)
+remove_ok old new name place index key offset found stands removed =
+    let cell = the_cell old new name place index key offset found stands in
+    command_at old new name place index key offset found stands without
+    ∙ sym (λ i. Ok (record { branches = removed.everywhere_gone cell.0 cell.1 i; made = removed.made i }))

@@ -1,0 +1,207 @@
+-- A step is set in a segment of a trie.
+use Rattle.std.proofs.Common.{map, ◌++◌, ◌≡◌, ℕ, ◌<◌, Bool, true, false, nat_eq, nat_le, zero, suc, ◌≤◌, List, [], ◌∷◌, length, slice_get, slice_index_or, Option, Some, None, IsSome, Ok, Err, refl, sym, ap, subst, ◌∙◌, true≢false, arith, cond, eq-eqb, inl}
+use Rattle.std.proofs.lemmas.Bool.{eqb-true}
+use Rattle.std.proofs.lemmas.Bool.Decides.{nat_tests}
+use Rattle.std.proofs.lemmas.Option.{slice_get_within}
+use Rattle.std.specs.Option.{IfSome, option_map}
+use Rattle.std.proofs.Math.ListN.{get_or-map}
+use Rattle.slab.specs.Slab.{get, with_value}
+use Rattle.frames.specs.declared.types.Step.{Step}
+use Rattle.schedule_trie.specs.declared.slot.Slot.{Slot}
+use Rattle.schedule_trie.specs.declared.segment.Segment.{Segment}
+use Rattle.schedule_trie.specs.declared.trie.Trie.TheInside.{Inside}
+use Rattle.schedule_trie.specs.declared.refusal.Refusal.TheVariants.{NoPlace}
+use Rattle.schedule_trie.specs.Forest.{branch, cell_at, cell_by, replace_step, at_cell, on_found, replaced_by, index_of, slots_in, cell_in, cell_of, everywhere}
+use Rattle.schedule_trie.specs.Slots.{set_step}
+use Rattle.schedule_trie.specs.Cut.{line, Strand, IsNoted, with_note, branches_on, Cut, Piece, piece, piece_at, slots_of, forest, keys_in, StandsAt, note_of, IsSound, IsCut, IsSegment, KeepsNotes, IsStepSet}
+use Rattle.schedule_trie.specs.Held.{piece_of, cut_of, IsHeld}
+use Rattle.schedule_trie.proofs.Changes.{SameCells, piece_at_set, Changes, sound_same, replaced_everywhere, replaced_same}
+use Rattle.schedule_trie.proofs.Lines.{slots_in_on}
+
+pub slice_get_some : {X : Type 0} (xs : List X) (i : ℕ) → i < length xs → (x : X) × (slice_get xs i ≡ Some x)
+slice_get_some [] i h = absurd (omega arith)
+slice_get_some (x ∷ xs) zero h = (x, refl)
+slice_get_some (x ∷ xs) (suc i) h = slice_get_some xs i (omega arith)
+
+get_or_within : {X : Type 0} (xs : List (Option X)) (i : ℕ) (x : X) → slice_index_or xs i None ≡ Some x → i < length xs
+get_or_within [] i x e = absurd (cc)
+get_or_within (o ∷ xs) zero x e = omega arith
+get_or_within (o ∷ xs) (suc i) x e = let h : i < length xs = get_or_within xs i x e in omega arith
+
+pub cell_in_at : (slots : List Slot) (k : ℕ) (s : Slot) → slice_get slots k ≡ Some s → cell_in slots k ≡ s.cell
+cell_in_at [] k s e = absurd (cc)
+cell_in_at (z ∷ zs) zero s e = let same : z ≡ s = cc in ap cell_of same
+cell_in_at (z ∷ zs) (suc k) s e = cell_in_at zs k s e
+
+nat_le_false : (a b : ℕ) → b < a → nat_le a b ≡ false
+nat_le_false a b h = grind (arith, nat_tests)
+
+module _ {T : Type 0} where
+  pub piece_seen : (t : Inside T) (key : ℕ) → piece_at (cut_of t).pieces key ≡ piece_of (get t.segments key)
+  piece_seen t key = get_or-map piece_of t.segments.slots key None
+
+  pub inside_from : (t : Inside T) (key offset : ℕ) (v : Segment T) (c : Cut T) → cut_of t ≡ c → get t.segments key ≡ Some v
+      → offset < length (slots_of (piece_at c.pieces key)) → offset < length v.slots.items
+  inside_from t key offset v c seen there h =
+      subst (λ o. offset < length (slots_of o)) (ap (λ b. piece_at b.pieces key) (sym seen) ∙ piece_seen t key ∙ ap piece_of there) h
+
+  -- a segment that is seen is in the slab
+  pub there_from_slots : (o : Option (Segment T)) (offset : ℕ) → offset < length (slots_of (piece_of o)) → IsSome o
+  there_from_slots None offset h = absurd (omega arith)
+  there_from_slots (Some v) offset h = refl
+
+  pub held_there : (t : Inside T) (key offset : ℕ) → offset < length (slots_of (piece_at (cut_of t).pieces key)) → IsSome (get t.segments key)
+  held_there t key offset h = there_from_slots (get t.segments key) offset (subst (λ o. offset < length (slots_of o)) (piece_seen t key) h)
+
+  sizes_from : (made : ℕ) (o : Option (Piece T)) → IfSome o (IsSegment made) → IfSome o (λ p. (0 < length p.slots) × (length p.slots ≤ 128))
+  sizes_from made None h = tt
+  sizes_from made (Some p) h = (h.some, h.few)
+
+  pub cut_from_sound : (c : Cut T) (made : ℕ) → IsSound (piece_at c.pieces) c.strands made → IsCut c
+  cut_from_sound c made s =
+      record { held = s.held; sizes = λ k. sizes_from made (piece_at c.pieces k) (s.segments k); live = s.live; shares = s.shares }
+
+  pub key_within : (xs : List (Option (Segment T))) (key : ℕ) (v : Segment T) → slice_index_or xs key None ≡ Some v → key < length xs
+  key_within xs key v e = get_or_within xs key v e
+
+module _ {T : Type 0} (t : Inside T) (key offset : ℕ) (step : Step) (v w : Segment T) (held : IsHeld t) (there : get t.segments key ≡ Some v)
+    (inside : offset < length v.slots.items) (slots : w.slots.items ≡ set_step v.slots.items offset step) (note : w.note ≡ None) where
+  abbrev after : Inside T
+  after = record t { segments = with_value t.segments key w }
+
+  change : Changes (piece_at (cut_of t).pieces) (piece_at (cut_of after).pieces) key (piece w.slots.items w.note)
+  change = piece_at_set t.segments.slots key w (key_within t.segments.slots key v there)
+
+  was : piece_at (cut_of t).pieces key ≡ Some (piece v.slots.items v.note)
+  was = piece_seen t key ∙ ap piece_of there
+
+  here : piece_at (cut_of after).pieces key ≡ Some (piece (set_step (slots_of (piece_at (cut_of t).pieces key)) offset step) None)
+  here = change.here ∙ (λ i. Some (piece (slots i) (note i))) ∙ sym (ap (λ o. Some (piece (set_step (slots_of o) offset step) None)) was)
+
+  first : (s : Slot) × (slice_get (slots_of (piece_at (cut_of t).pieces key)) offset ≡ Some s)
+  first = let p = slice_get_some v.slots.items offset inside in (p.0, ap (λ o. slice_get (slots_of o) offset) was ∙ p.1)
+
+  pub set_held : IsHeld after
+  set_held = record {
+    sound = sound_same (piece_at (cut_of t).pieces) (piece_at (cut_of after).pieces)
+        (replaced_same (piece_at (cut_of t).pieces) (piece_at (cut_of after).pieces) (cut_of t).strands t.made key offset step first.0 held.sound here change.others first.1)
+        (cut_of t).strands t.made held.sound;
+    within = held.within;
+  }
+
+  notes : KeepsNotes (cut_of t) (cut_of after)
+  notes = record {
+    touched = Some key;
+    kept = λ k ne h. inl (change.others k (λ e. ne (ap Some (sym e))));
+    cleared = λ k e. let same : k ≡ key = cc in subst (λ j. note_of (piece_at (cut_of after).pieces j) ≡ None) (sym same) (ap note_of here);
+    fresh = λ k h. fresh_at k h (nat_eq k key) refl;
+  }
+    where
+      fresh_at : (k : ℕ) → piece_at (cut_of t).pieces k ≡ None → (b : Bool) → nat_eq k key ≡ b → note_of (piece_at (cut_of after).pieces k) ≡ None
+      fresh_at k h true e = subst (λ j. note_of (piece_at (cut_of after).pieces j) ≡ None) (sym (eqb-true k key e)) (ap note_of here)
+      fresh_at k h false e = ap note_of (change.others k (λ f. true≢false (sym (eq-eqb k key f) ∙ e)) ∙ h)
+
+  pub set_told : IsStepSet (cut_of t) (cut_of after) key offset step
+  set_told = record {
+    everywhere_set = λ s at_cell. replaced_everywhere (piece_at (cut_of t).pieces) (piece_at (cut_of after).pieces) (cut_of t).strands t.made key offset step s held.sound here change.others at_cell;
+    made = refl;
+    limits = refl;
+    notes = notes;
+    cut = cut_from_sound (cut_of after) t.made set_held.sound;
+  }
+
+-- what a command at a cell gives
+module _ {T : Type 0} (old new : Cut T) (name : List ℕ) (place index key offset : ℕ)
+    (found : index_of (forest old).branches name ≡ Some index)
+    (stands : StandsAt (piece_at old.pieces) (keys_in old.strands index) place (key, offset)) where
+  abbrev pub the_cell : (s : Slot) × (slice_get (slots_of (piece_at old.pieces key)) offset ≡ Some s)
+  the_cell = slice_get_some (slots_of (piece_at old.pieces key)) offset stands.within
+
+  at_place : slice_get (slots_in (forest old).branches index) place ≡ Some the_cell.0
+  at_place = ap (λ l. slice_get l place) (slots_in_on (piece_at old.pieces) old.strands index) ∙ sym stands.same ∙ the_cell.1
+
+  pub command_at : (change : ℕ → List Slot → List Slot) → on_found (index_of (forest old).branches name) (at_cell (forest old) place change)
+      ≡ Ok (record { branches = everywhere (change the_cell.0.cell) (forest old).branches; made = old.made })
+  command_at change =
+      ap (λ o. on_found o (at_cell (forest old) place change)) found
+      ∙ ap (λ b. cond b (Err NoPlace) (Ok (record { branches = everywhere (change (cell_in (slots_in (forest old).branches index) place)) (forest old).branches; made = old.made })))
+      (nat_le_false (length (slots_in (forest old).branches index)) place (slice_get_within (slots_in (forest old).branches index) place the_cell.0 at_place))
+      ∙ ap (λ x. Ok (record { branches = everywhere (change x) (forest old).branches; made = old.made })) (cell_in_at (slots_in (forest old).branches index) place the_cell.0 at_place)
+
+  pub replace_ok : (step : Step) → IsStepSet old new key offset step → replace_step (forest old) name place step ≡ Ok (forest new)
+  replace_ok step set = command_at (replaced_by step)
+      ∙ sym (λ i. Ok (record { branches = set.everywhere_set the_cell.0 the_cell.1 i; made = set.made i }))
+
+-- what `cell_at` gives
+pub cell_found : {T : Type 0} (c : Cut T) (name : List ℕ) (place index key offset : ℕ) (s : Slot) → index_of (forest c).branches name ≡ Some index
+    → StandsAt (piece_at c.pieces) (keys_in c.strands index) place (key, offset) → slice_get (slots_of (piece_at c.pieces key)) offset ≡ Some s
+    → cell_at (forest c) name place ≡ Some s.cell
+cell_found c name place index key offset s found stands here =
+    ap (λ o. cell_by o (forest c) place) found
+    ∙ ap (λ l. option_map cell_of (slice_get l place)) (slots_in_on (piece_at c.pieces) c.strands index)
+    ∙ ap (option_map cell_of) (sym stands.same ∙ here)
+
+-- a note is set
+module _ {T : Type 0} (t : Inside T) (key : ℕ) (v w : Segment T) (held : IsHeld t) (there : get t.segments key ≡ Some v) (same : w.slots ≡ v.slots) where
+  abbrev noted : Inside T
+  noted = record t { segments = with_value t.segments key w }
+
+  note_change : Changes (piece_at (cut_of t).pieces) (piece_at (cut_of noted).pieces) key (piece w.slots.items w.note)
+  note_change = piece_at_set t.segments.slots key w (key_within t.segments.slots key v there)
+
+  note_was : piece_at (cut_of t).pieces key ≡ Some (piece v.slots.items v.note)
+  note_was = piece_seen t key ∙ ap piece_of there
+
+  slots_kept : (k : ℕ) → slots_of (piece_at (cut_of noted).pieces k) ≡ slots_of (piece_at (cut_of t).pieces k)
+  slots_kept k = by (nat_eq k key) refl
+    where
+      by : (b : Bool) → nat_eq k key ≡ b → slots_of (piece_at (cut_of noted).pieces k) ≡ slots_of (piece_at (cut_of t).pieces k)
+      by true e = subst (λ j. slots_of (piece_at (cut_of noted).pieces j) ≡ slots_of (piece_at (cut_of t).pieces j)) (sym (eqb-true k key e))
+          (ap slots_of note_change.here ∙ ap (λ z. z.items) same ∙ sym (ap slots_of note_was))
+      by false e = ap slots_of (note_change.others k (λ f. true≢false (sym (eq-eqb k key f) ∙ e)))
+
+  note_same : SameCells (piece_at (cut_of t).pieces) (piece_at (cut_of noted).pieces)
+  note_same = record { cells = λ k. ap (map cell_of) (slots_kept k); there = λ k h. by_there k (nat_eq k key) refl h; was_there = λ k h. by_was k (nat_eq k key) refl h }
+    where
+      by_there : (k : ℕ) (b : Bool) → nat_eq k key ≡ b → IsSome (piece_at (cut_of t).pieces k) → IsSome (piece_at (cut_of noted).pieces k)
+      by_there k true e h = subst (λ j. IsSome (piece_at (cut_of noted).pieces j)) (sym (eqb-true k key e)) (subst IsSome (sym note_change.here) refl)
+      by_there k false e h = subst IsSome (sym (note_change.others k (λ f. true≢false (sym (eq-eqb k key f) ∙ e)))) h
+
+      by_was : (k : ℕ) (b : Bool) → nat_eq k key ≡ b → IsSome (piece_at (cut_of noted).pieces k) → IsSome (piece_at (cut_of t).pieces k)
+      by_was k true e h = subst (λ j. IsSome (piece_at (cut_of t).pieces j)) (sym (eqb-true k key e)) (subst IsSome (sym note_was) refl)
+      by_was k false e h = subst IsSome (note_change.others k (λ f. true≢false (sym (eq-eqb k key f) ∙ e))) h
+
+  pub note_held : IsHeld noted
+  note_held = record {
+    sound = sound_same (piece_at (cut_of t).pieces) (piece_at (cut_of noted).pieces) note_same (cut_of t).strands t.made held.sound;
+    within = held.within;
+  }
+
+  line_same : (ks : List ℕ) → line (piece_at (cut_of noted).pieces) ks ≡ line (piece_at (cut_of t).pieces) ks
+  line_same [] = refl
+  line_same (k ∷ ks) = λ i. slots_kept k i ++ line_same ks i
+
+  branches_same : (strands : List Strand) → branches_on (piece_at (cut_of noted).pieces) strands ≡ branches_on (piece_at (cut_of t).pieces) strands
+  branches_same [] = refl
+  branches_same (s ∷ ss) = λ i. branch s.name (line_same s.keys i) ∷ branches_same ss i
+
+  pub note_told : IsNoted (cut_of t) (cut_of noted) key w.note
+  note_told = record {
+    here = note_change.here ∙ (λ i. Some (piece (same i).items w.note)) ∙ sym (ap (option_map (with_note w.note)) note_was);
+    others = note_change.others;
+    strands = refl;
+    limits = refl;
+    unchanged = λ i. record { branches = branches_same (cut_of t).strands i; made = t.made };
+  }
+
+  pub note_told_as : (note : Option T) → w.note ≡ note → IsNoted (cut_of t) (cut_of noted) key note
+  note_told_as other e = subst (IsNoted (cut_of t) (cut_of noted) key) e note_told
+
+pub not_there : {T : Type 0} (t : Inside T) (key : ℕ) (note : Option T) → (IsSome (get t.segments key) → ⊥) → IsNoted (cut_of t) (cut_of t) key note
+not_there {T} t key note none =
+    let absent : piece_at (cut_of t).pieces key ≡ None = piece_seen t key ∙ gone (get t.segments key) none in
+    record { here = absent ∙ sym (ap (option_map (with_note note)) absent); others = λ j ne. refl; strands = refl; limits = refl; unchanged = refl }
+  where
+    gone : (o : Option (Segment T)) → (IsSome o → ⊥) → piece_of o ≡ None
+    gone None h = refl
+    gone (Some v) h = absurd (h refl)

@@ -1,0 +1,177 @@
+-- A push keeps a cut whole.
+use Rattle.std.proofs.Common.{◌≡◌, ℕ, zero, suc, ◌+◌, ◌<◌, ◌≤◌, Bool, true, false, ◌||◌, nat_eq, List, [], ◌∷◌, ◌++◌, length, map, Option, Some, None, IsSome, ◌⊎◌, refl, sym, ap, subst, ◌∙◌, true≢false, arith, inl, inr}
+use Rattle.std.specs.Option.{IfSome}
+use Rattle.std.proofs.lemmas.Bool.{eqb-true}
+use Rattle.std.proofs.lemmas.List.{map-append, length-append}
+use Rattle.frames.specs.declared.types.Step.{Step}
+use Rattle.schedule_trie.specs.Forest.{slot, cell_of, only_in, put_last}
+use Rattle.schedule_trie.specs.Cut.{Cut, Piece, Strand, piece_at, slots_of, note_of, line, forest, branches_on, keys_in, set_keys, has, has_cell, Once, SharesAbove, IsSegment, IsSound, IsWhole, KeepsNotes, IsPushed, LackedByOthers}
+use Rattle.schedule_trie.proofs.Once.{has-append, has-head, has-tail, has_not_from, has_cases, Once-append}
+use Rattle.schedule_trie.proofs.Changes.{Changes}
+use Rattle.schedule_trie.proofs.StepSet.{cut_from_sound}
+use Rattle.schedule_trie.proofs.Pushes.{not_equal, line_pushed, only_pushed, segments_more, apart_more}
+
+-- the keys of branches, where one of them has others
+pub keys_in-set_same : (strands : List Strand) (i : ℕ) (keys : List ℕ) → i < length strands → keys_in (set_keys strands i keys) i ≡ keys
+keys_in-set_same [] i keys h = absurd (omega arith)
+keys_in-set_same (s ∷ ss) zero keys h = refl
+keys_in-set_same (s ∷ ss) (suc i) keys h = keys_in-set_same ss i keys (omega arith)
+
+pub keys_in-set_other : (strands : List Strand) (i j : ℕ) (keys : List ℕ) → (j ≡ i → ⊥) → keys_in (set_keys strands i keys) j ≡ keys_in strands j
+keys_in-set_other [] i j keys ne = refl
+keys_in-set_other (s ∷ ss) zero zero keys ne = absurd (ne refl)
+keys_in-set_other (s ∷ ss) zero (suc j) keys ne = refl
+keys_in-set_other (s ∷ ss) (suc i) zero keys ne = refl
+keys_in-set_other (s ∷ ss) (suc i) (suc j) keys ne = keys_in-set_other ss i j keys (λ e. ne (ap suc e))
+
+pub set_keys-same : (strands : List Strand) (i : ℕ) → set_keys strands i (keys_in strands i) ≡ strands
+set_keys-same [] i = refl
+set_keys-same (s ∷ ss) zero = refl
+set_keys-same (s ∷ ss) (suc i) = ap (λ l. s ∷ l) (set_keys-same ss i)
+
+pub length-set_keys : (strands : List Strand) (i : ℕ) (keys : List ℕ) → length (set_keys strands i keys) ≡ length strands
+length-set_keys [] i keys = refl
+length-set_keys (s ∷ ss) zero keys = refl
+length-set_keys (s ∷ ss) (suc i) keys = ap suc (length-set_keys ss i keys)
+
+pub has-last : (key : ℕ) (front : List ℕ) → has key (front ++ key ∷ []) ≡ true
+has-last key [] = has-head key []
+has-last key (k ∷ front) = has-tail key k (front ++ key ∷ []) (has-last key front)
+
+pub once_front : (front : List ℕ) (key : ℕ) → Once (front ++ key ∷ []) → has key front ≡ false
+once_front [] key h = refl
+once_front (k ∷ front) key h = has_not_from key (k ∷ front) (λ g. has_cases key k front ⊥ g
+    (λ e. true≢false (sym (subst (λ z. has z (front ++ key ∷ []) ≡ true) e (has-last key front)) ∙ h.0))
+    (λ r. true≢false (sym r ∙ once_front front key h.1)))
+
+-- a push, where the branch's keys become `front` and then the segment's key
+module _ {T : Type 0} (c d : Cut T) (index key : ℕ) (step : Step) (front : List ℕ) (q : Piece T) (whole : IsWhole c) (room : c.made < c.limits.cells)
+    (change : Changes (piece_at c.pieces) (piece_at d.pieces) key q) (note : q.note ≡ None)
+    (slots : q.slots ≡ slots_of (piece_at c.pieces key) ++ slot c.made step ∷ []) (few : length (slots_of (piece_at c.pieces key)) < 128)
+    (made : d.made ≡ c.made + 1) (limits : d.limits ≡ c.limits) (strands : d.strands ≡ set_keys c.strands index (front ++ key ∷ []))
+    (inside : index < length c.strands)
+    (was : line (piece_at c.pieces) (keys_in c.strands index) ≡ line (piece_at c.pieces) front ++ slots_of (piece_at c.pieces key))
+    (kept : (k : ℕ) → has k (keys_in c.strands index) ≡ true → has k (front ++ key ∷ []) ≡ true)
+    (in_front : (k : ℕ) → has k front ≡ true → has k (keys_in c.strands index) ≡ true)
+    (fresh : has key front ≡ false) (lacked : LackedByOthers c.strands index key) (shares : SharesAbove d.strands) where
+  len : length q.slots ≡ length (slots_of (piece_at c.pieces key)) + 1
+  len = ap length slots ∙ length-append (slots_of (piece_at c.pieces key)) (slot c.made step ∷ [])
+
+  cells_are : map cell_of q.slots ≡ map cell_of (slots_of (piece_at c.pieces key)) ++ c.made ∷ []
+  cells_are = ap (map cell_of) slots ∙ map-append cell_of (slots_of (piece_at c.pieces key)) (slot c.made step ∷ [])
+
+  old_once : (o : Option (Piece T)) → IfSome o (IsSegment c.made) → Once (map cell_of (slots_of o))
+  old_once None h = tt
+  old_once (Some p) h = h.once
+
+  old_given : (o : Option (Piece T)) → IfSome o (IsSegment c.made) → (x : ℕ) → has_cell x (slots_of o) ≡ true → x < c.made
+  old_given None h x e = absurd (true≢false (sym e))
+  old_given (Some p) h x e = h.given x e
+
+  once : Once (map cell_of q.slots)
+  once = subst Once (sym cells_are)
+      (Once-append (map cell_of (slots_of (piece_at c.pieces key))) (c.made ∷ []) (old_once (piece_at c.pieces key) (whole.sound.segments key)) (refl, tt)
+      (λ x e. has_not_from x (c.made ∷ []) (λ g. has_cases x c.made [] ⊥ g
+      (λ f. let l : x < c.made = old_given (piece_at c.pieces key) (whole.sound.segments key) x e in omega arith)
+      (λ r. true≢false (sym r)))))
+
+  cells : (x : ℕ) → has_cell x q.slots ≡ true → (has_cell x (slots_of (piece_at c.pieces key)) ≡ true) ⊎ (x ≡ c.made)
+  cells x h = by (has_cell x (slots_of (piece_at c.pieces key))) refl
+    where
+      split : (has_cell x (slots_of (piece_at c.pieces key)) || has x (c.made ∷ [])) ≡ true
+      split = sym (has-append x (map cell_of (slots_of (piece_at c.pieces key))) (c.made ∷ [])) ∙ sym (ap (has x) cells_are) ∙ h
+
+      by : (b : Bool) → has_cell x (slots_of (piece_at c.pieces key)) ≡ b → (has_cell x (slots_of (piece_at c.pieces key)) ≡ true) ⊎ (x ≡ c.made)
+      by true e = inl e
+      by false e = inr (has_cases x c.made [] (x ≡ c.made) (sym (ap (λ b. b || has x (c.made ∷ [])) e) ∙ split) (λ f. f) (λ r. absurd (true≢false (sym r))))
+
+  there : (k : ℕ) → IsSome (piece_at c.pieces k) → IsSome (piece_at d.pieces k)
+  there k h = by (nat_eq k key) refl
+    where
+      by : (b : Bool) → nat_eq k key ≡ b → IsSome (piece_at d.pieces k)
+      by true e = subst (λ j. IsSome (piece_at d.pieces j)) (sym (eqb-true k key e)) (subst IsSome (sym change.here) refl)
+      by false e = subst IsSome (sym (change.others k (not_equal k key e))) h
+
+  keys_here : keys_in d.strands index ≡ front ++ key ∷ []
+  keys_here = ap (λ l. keys_in l index) strands ∙ keys_in-set_same c.strands index (front ++ key ∷ []) inside
+
+  keys_there : (j : ℕ) → (j ≡ index → ⊥) → keys_in d.strands j ≡ keys_in c.strands j
+  keys_there j ne = ap (λ l. keys_in l j) strands ∙ keys_in-set_other c.strands index j (front ++ key ∷ []) ne
+
+  held : (i k : ℕ) → has k (keys_in d.strands i) ≡ true → IsSome (piece_at d.pieces k)
+  held i k h = by (nat_eq i index) refl
+    where
+      at_index : has k (front ++ key ∷ []) ≡ true → IsSome (piece_at d.pieces k)
+      at_index g = by_front (has k front) refl
+        where
+          split : (has k front || has k (key ∷ [])) ≡ true
+          split = sym (has-append k front (key ∷ [])) ∙ g
+
+          by_front : (b : Bool) → has k front ≡ b → IsSome (piece_at d.pieces k)
+          by_front true e = there k (whole.sound.held index k (in_front k e))
+          by_front false e = has_cases k key [] (IsSome (piece_at d.pieces k)) (sym (ap (λ b. b || has k (key ∷ [])) e) ∙ split)
+              (λ f. subst (λ j. IsSome (piece_at d.pieces j)) (sym f) (subst IsSome (sym change.here) refl))
+              (λ r. absurd (true≢false (sym r)))
+
+      by : (b : Bool) → nat_eq i index ≡ b → IsSome (piece_at d.pieces k)
+      by true e = at_index (subst (λ l. has k l ≡ true) (ap (keys_in d.strands) (eqb-true i index e) ∙ keys_here) h)
+      by false e = there k (whole.sound.held i k (subst (λ l. has k l ≡ true) (keys_there i (not_equal i index e)) h))
+
+  live : (k : ℕ) → IsSome (piece_at d.pieces k) → (i : ℕ) × (has k (keys_in d.strands i) ≡ true)
+  live k h = by (nat_eq k key) refl
+    where
+      from_old : (p : (i : ℕ) × (has k (keys_in c.strands i) ≡ true)) → (b : Bool) → nat_eq p.0 index ≡ b → (j : ℕ) × (has k (keys_in d.strands j) ≡ true)
+      from_old p true e = (index, subst (λ l. has k l ≡ true) (sym keys_here) (kept k (subst (λ n. has k (keys_in c.strands n) ≡ true) (eqb-true p.0 index e) p.1)))
+      from_old p false e = (p.0, subst (λ l. has k l ≡ true) (sym (keys_there p.0 (not_equal p.0 index e))) p.1)
+
+      by : (b : Bool) → nat_eq k key ≡ b → (i : ℕ) × (has k (keys_in d.strands i) ≡ true)
+      by true e = (index, subst (λ l. has k l ≡ true) (sym keys_here) (subst (λ z. has z (front ++ key ∷ []) ≡ true) (sym (eqb-true k key e)) (has-last key front)))
+      by false e = let o = whole.sound.live k (subst IsSome (change.others k (not_equal k key e)) h) in from_old o (nat_eq o.0 index) refl
+
+  sound : IsSound (piece_at d.pieces) d.strands d.made
+  sound = record {
+    held = held;
+    segments = subst (λ n. (k : ℕ) → IfSome (piece_at d.pieces k) (IsSegment n)) (sym made)
+        (segments_more (piece_at c.pieces) (piece_at d.pieces) key q change c.strands c.made whole.sound (omega (arith, len)) (omega (arith, len)) once cells);
+    apart = apart_more (piece_at c.pieces) (piece_at d.pieces) key q change c.strands c.made whole.sound (omega (arith, len)) (omega (arith, len)) once cells;
+    live = live;
+    shares = shares;
+  }
+
+  count : length d.strands ≡ length c.strands
+  count = ap length strands ∙ length-set_keys c.strands index (front ++ key ∷ [])
+
+  pub whole_pushed : IsWhole d
+  whole_pushed = record {
+    sound = sound;
+    within = record {
+      cells = subst (λ l. d.made ≤ l.cells) (sym limits) (omega arith);
+      branches_fit = subst (λ l. length d.strands ≤ l.branches) (sym limits) (subst (λ n. n ≤ c.limits.branches) (sym count) whole.within.branches_fit);
+      some = subst (λ n. 0 < n) (sym count) whole.within.some;
+      most_cells = subst (λ l. l.cells ≤ 16777216) (sym limits) whole.within.most_cells;
+      most_branches = subst (λ l. l.branches ≤ 1024) (sym limits) whole.within.most_branches;
+    };
+  }
+
+  branches : (forest d).branches ≡ only_in index (put_last (slot c.made step)) (forest c).branches
+  branches = ap (branches_on (piece_at d.pieces)) strands
+      ∙ only_pushed (piece_at c.pieces) (piece_at d.pieces) key q change c.strands index (front ++ key ∷ []) (slot c.made step) inside lacked
+      (line_pushed (piece_at c.pieces) (piece_at d.pieces) key q change front (slot c.made step) fresh slots ∙ ap (put_last (slot c.made step)) (sym was))
+
+  cleared : note_of (piece_at d.pieces key) ≡ None
+  cleared = ap note_of change.here ∙ note
+
+  notes : KeepsNotes c d
+  notes = record {
+    touched = Some key;
+    kept = λ k ne h. inl (change.others k (λ e. ne (ap Some (sym e))));
+    cleared = λ k e. let same : k ≡ key = cc in subst (λ j. note_of (piece_at d.pieces j) ≡ None) (sym same) cleared;
+    fresh = λ k h. fresh_at k h (nat_eq k key) refl;
+  }
+    where
+      fresh_at : (k : ℕ) → piece_at c.pieces k ≡ None → (b : Bool) → nat_eq k key ≡ b → note_of (piece_at d.pieces k) ≡ None
+      fresh_at k h true e = subst (λ j. note_of (piece_at d.pieces j) ≡ None) (sym (eqb-true k key e)) cleared
+      fresh_at k h false e = ap note_of (change.others k (not_equal k key e) ∙ h)
+
+  pub is_pushed : IsPushed c d index step
+  is_pushed = record { branches = branches; made = made; count = count; limits = limits; notes = notes; cut = cut_from_sound d d.made sound }

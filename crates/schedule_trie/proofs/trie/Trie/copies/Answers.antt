@@ -1,0 +1,39 @@
+use Rattle.std.proofs.Common.{◌≡◌, ◌+◌, ◌≤◌, length, ap, sym, ◌∙◌, [], subst, slice_index_or, arith}
+use Rattle.schedule_trie.specs.Forest.{renumbered}
+use Rattle.schedule_trie.specs.Cut.{piece_at, line, slots_of}
+use Rattle.schedule_trie.specs.Copies.{AreCopies}
+use Rattle.schedule_trie.proofs.Lines.{slots_in_on}
+use Rattle.schedule_trie.proofs.Renumbered.{copies_more, cell_after, cell_below}
+use Rattle.schedule_trie.proofs.trie.Trie.copies.Goals as goal
+
+pub loop-key-init : goal.loop-key-init
+loop-key-init g c =
+    let now = c.args.self.now in
+    let at = piece_at now.pieces in
+    let made : c.self.inside.made ≡ now.made = ap (λ z. z.made) c.self.view_is in
+    let most : now.limits.cells ≤ 16777216 = subst (λ z. z.limits.cells ≤ 16777216) c.self.view_is c.self.invariant.within.most_cells in
+    let len = ap length (slots_in_on at now.strands c.args.index ∙ ap (line at) (sym c.keys_at-key-items.ensures.keys)) in
+    record {
+      copies = subst (AreCopies at now.made []) (sym c.new-copies.ensures.items) tt;
+      cell = omega arith;
+      rest = ap (λ n. n + length (line at c.keys_at-key-items.result.now)) made;
+      fits = omega (arith, c.requires);
+      keys = c.keys_at-key-items.ensures.keys;
+    }
+
+pub loop-key-preserved : goal.loop-key-preserved
+loop-key-preserved g c =
+    let now = c.args.self.now in
+    let at = piece_at now.pieces in
+    let keys = c.keys_at-key-items.result.now in
+    let i = c.loop-key.key-index in
+    let was = c.loop-key.invariant in
+    let len : length (slots_of (at (slice_index_or keys i 0))) ≡ length c.slots_at-slots.result.now = sym (ap length c.slots_at-slots.ensures) in
+    record {
+      copies = copies_more at now.made keys i c.loop-key.cell (omega arith) c.loop-key.copies.items c.push.new.self.items c.in_ok-renumbered.field-0 was.copies was.cell
+          (c.in_ok-renumbered.ensures.slots ∙ ap (renumbered c.loop-key.cell) c.slots_at-slots.ensures) c.in_ok-renumbered.ensures.note c.in_ok-push.ensures.items;
+      cell = let next = cell_after at now.made keys i c.loop-key.cell (omega arith) was.cell in omega arith;
+      rest = let next = cell_below at now.made keys i c.loop-key.cell (omega arith) was.rest in omega arith;
+      fits = was.fits;
+      keys = was.keys;
+    }

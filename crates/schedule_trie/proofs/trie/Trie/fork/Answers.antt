@@ -1,0 +1,42 @@
+use Rattle.std.proofs.Common.{sym, ap, ◌∙◌, Ok, is_some, inl, arith}
+use Rattle.schedule_trie.specs.Cut.{forest}
+use Rattle.schedule_trie.proofs.ForkAnswers.{name_taken, bad_name, no_place, too_many, is_forked, memory_alone}
+use Rattle.schedule_trie.proofs.trie.Trie.fork.Goals as goal
+
+pub returns-then-is_some-clause-err : goal.returns-then-is_some-clause-err
+returns-then-is_some-clause-err g c =
+    inl (name_taken c.args.self.now.limits (forest c.args.self.now) c.args.branch.now c.args.name c.args.place c.in-Some.index (sym c.in-Some.ensures.index)
+    (ap is_some (sym c.index-2.ensures.index) ∙ sym c.is_some.ensures ∙ c.if-is_some.true))
+
+pub returns-then-not-is_well_formed-clause-err : goal.returns-then-not-is_well_formed-clause-err
+returns-then-not-is_well_formed-clause-err g c =
+    inl (bad_name c.args.self.now.limits (forest c.args.self.now) c.args.branch.now c.args.name c.args.place c.in-Some.index (sym c.in-Some.ensures.index)
+    (ap is_some (sym c.index-2.ensures.index) ∙ sym c.is_some.ensures ∙ c.if-is_some.false) (sym c.is_well_formed.ensures ∙ c.if-not-is_well_formed.true))
+
+pub returns-then-len_at-place-clause-err : goal.returns-then-len_at-place-clause-err
+returns-then-len_at-place-clause-err g c =
+    inl (no_place c.args.self.now.limits (forest c.args.self.now) c.args.branch.now c.args.name c.args.place c.in-Some.index (sym c.in-Some.ensures.index)
+    (ap is_some (sym c.index-2.ensures.index) ∙ sym c.is_some.ensures ∙ c.if-is_some.false) (sym c.is_well_formed.ensures ∙ c.if-not-is_well_formed.false)
+    (omega (arith, c.len_at.ensures, c.if-len_at-place.true)))
+
+pub returns-then-branches-self-clause-err : goal.returns-then-branches-self-clause-err
+returns-then-branches-self-clause-err g c =
+    let most = ap (λ z. z.limits.branches) c.self.view_is in
+    inl (too_many c.args.self.now.limits (forest c.args.self.now) c.args.branch.now c.args.name c.args.place c.in-Some.index (sym c.in-Some.ensures.index)
+    (ap is_some (sym c.index-2.ensures.index) ∙ sym c.is_some.ensures ∙ c.if-is_some.false) (sym c.is_well_formed.ensures ∙ c.if-not-is_well_formed.false)
+    (omega (arith, c.len_at.ensures, c.if-len_at-place.false)) (omega (arith, most, c.branches.ensures, c.if-branches-self.true)))
+
+pub returns-in-Ok-clause-ok : goal.returns-in-Ok-clause-ok
+returns-in-Ok-clause-ok g c =
+    let most = ap (λ z. z.limits.branches) c.self.view_is in
+    is_forked c.args.self.now.limits (forest c.args.self.now) c.args.branch.now c.args.name c.args.place c.in-Some.index (sym c.in-Some.ensures.index)
+    (ap is_some (sym c.index-2.ensures.index) ∙ sym c.is_some.ensures ∙ c.if-is_some.false) (sym c.is_well_formed.ensures ∙ c.if-not-is_well_formed.false)
+    (omega (arith, c.len_at.ensures, c.if-len_at-place.false)) (omega (arith, most, c.branches.ensures, c.if-branches-self.false))
+    ∙ sym (λ i. Ok (record { branches = c.in-Ok.ensures.ok.branches i; made = c.in-Ok.ensures.ok.made i }))
+
+pub returns-in-Err-clause-err : goal.returns-in-Err-clause-err
+returns-in-Err-clause-err g c =
+    let most = ap (λ z. z.limits.branches) c.self.view_is in
+    memory_alone c.args.self.now.limits (forest c.args.self.now) c.args.branch.now c.args.name c.args.place c.in-Some.index (sym c.in-Some.ensures.index)
+    (ap is_some (sym c.index-2.ensures.index) ∙ sym c.is_some.ensures ∙ c.if-is_some.false) (sym c.is_well_formed.ensures ∙ c.if-not-is_well_formed.false)
+    (omega (arith, c.len_at.ensures, c.if-len_at-place.false)) (omega (arith, most, c.branches.ensures, c.if-branches-self.false))

@@ -1,0 +1,14 @@
+use Rattle.std.specs.Result.{OnOk}
+use Rattle.std.proofs.Common.{Result, Ok, Err}
+use Rattle.schedule_trie.proofs.InsertSteps.{inserted_before}
+use Rattle.schedule_trie.proofs.trie.Trie.insert_at.Goals as goal
+
+on_ok : {A E : Type 0} (r : Result A E) (P Q : Type 0) → (P → Q) → OnOk r P → OnOk r Q
+on_ok (Ok x) P Q f p = f p
+on_ok (Err e) P Q f p = tt
+
+pub returns-in-Some-clause-ok : goal.returns-in-Some-clause-ok
+returns-in-Some-clause-ok g c =
+    on_ok c.put_before.result _ _
+    (inserted_before c.args.self.now c.put_before.new.self c.args.index c.args.place c.in-Some.key c.in-Some.offset c.args.step c.in-Some.ensures.found)
+    c.put_before.ensures.ok

@@ -1,0 +1,7 @@
+use Rattle.std.proofs.Common.{ap, sym, ◌∙◌}
+use Rattle.std.specs.Option.{option_map}
+use Rattle.schedule_trie.proofs.Lines.{name_is}
+use Rattle.schedule_trie.proofs.trie.Trie.name_at.Goals as goal
+
+pub returns : goal.returns
+returns g c = rw (← c.self.view_is) (ap (option_map (λ e. e.0)) c.in_ok-name.ensures.entry ∙ sym (name_is c.self.inside c.args.index))

@@ -1,0 +1,268 @@
+-- A forest cut into segments that branches share.
+use Rattle.std.specs.Prelude.{ℕ, zero, suc, ◌≡◌, ◌<◌, ◌≤◌, ◌+◌, ◌⊎◌, Bool, true, false, not, ◌||◌, nat_eq, List, [], ◌∷◌, ◌++◌, Option, Some, None, IsSome, IfSome, length, map, filter, slice_get, slice_index_or, if◌then◌else◌}
+use Rattle.std.specs.List.{flat_map}
+use Rattle.std.specs.Option.{option_map}
+use Rattle.frames.specs.declared.types.Step.{Step}
+use Rattle.schedule_trie.specs.declared.slot.Slot.{Slot}
+use Rattle.schedule_trie.specs.declared.refusal.Refusal.{Refusal}
+use Rattle.schedule_trie.specs.declared.refusal.Refusal.TheVariants.{NoBranch, Memory}
+use Rattle.schedule_trie.specs.declared.limits.Limits.{Limits}
+use Rattle.schedule_trie.specs.Forest.{Forest, Branch, branch, cell_of, slot, slots_in, replaced, without, everywhere, only_in, put_last, put_before, inserted}
+
+-- a segment: its cells, and what is noted at it
+pub record Piece (T : Type 0) : Type 0 where
+  pub slots : List Slot
+  pub note : Option T
+
+-- a branch: its name, and the keys of its segments in order
+pub record Strand : Type 0 where
+  pub name : List ℕ
+  pub keys : List ℕ
+
+-- the branches in order of making, the segment at each key if there is one, how many cells were ever made, and the limits
+pub record Cut (T : Type 0) : Type 0 where
+  pub strands : List Strand
+  pub pieces : List (Option (Piece T))
+  pub made : ℕ
+  pub limits : Limits
+
+abbrev pub strand : List ℕ → List ℕ → Strand
+strand name keys = record { name = name; keys = keys }
+
+-- the keys of the branch at an index; none where there is no branch
+abbrev pub keys_in : List Strand → ℕ → List ℕ
+keys_in [] i = []
+keys_in (s ∷ ss) zero = s.keys
+keys_in (s ∷ ss) (suc i) = keys_in ss i
+
+-- the branch at an index has other keys
+abbrev pub set_keys : List Strand → ℕ → List ℕ → List Strand
+set_keys [] i keys = []
+set_keys (s ∷ ss) zero keys = strand s.name keys ∷ ss
+set_keys (s ∷ ss) (suc i) keys = s ∷ set_keys ss i keys
+
+module _ {T : Type 0} where
+  abbrev pub piece : List Slot → Option T → Piece T
+  piece slots note = record { slots = slots; note = note }
+
+  -- the segment at a key
+  abbrev pub piece_at : List (Option (Piece T)) → ℕ → Option (Piece T)
+  piece_at pieces k = slice_index_or pieces k None
+
+  abbrev pub slots_of : Option (Piece T) → List Slot
+  slots_of None = []
+  slots_of (Some p) = p.slots
+
+  -- the cells of segments one after the other
+  abbrev pub line : (ℕ → Option (Piece T)) → List ℕ → List Slot
+  line at [] = []
+  line at (k ∷ ks) = slots_of (at k) ++ line at ks
+
+  abbrev pub branch_on : (ℕ → Option (Piece T)) → Strand → Branch
+  branch_on at s = branch s.name (line at s.keys)
+
+  abbrev pub branches_on : (ℕ → Option (Piece T)) → List Strand → List Branch
+  branches_on at strands = map (branch_on at) strands
+
+  -- the forest that is cut
+  abbrev pub forest : Cut T → Forest
+  forest c = record { branches = branches_on (piece_at c.pieces) c.strands; made = c.made }
+
+-- whether a number is among others
+abbrev pub has : ℕ → List ℕ → Bool
+has x [] = false
+has x (y ∷ ys) = nat_eq x y || has x ys
+
+-- no number stands twice
+abbrev pub Once : List ℕ → Type 0
+Once [] = Unit {0}
+Once (x ∷ xs) = (has x xs ≡ false) × Once xs
+
+-- whether one of the cells has a number
+abbrev pub has_cell : ℕ → List Slot → Bool
+has_cell x slots = has x (map cell_of slots)
+
+-- each key comes right after the one that is above it, and the first after `up`
+abbrev pub Linked : (ℕ → Option ℕ) → Option ℕ → List ℕ → Type 0
+Linked above up [] = Unit {0}
+Linked above up (k ∷ ks) = (above k ≡ up) × Linked above (Some k) ks
+
+-- branches that share a segment share all segments above it
+pub record SharesAbove (strands : List Strand) : Type 0 where
+  pub above : ℕ → Option ℕ
+  pub linked : (i : ℕ) → Linked above None (keys_in strands i)
+
+-- a segment has 1 to 128 cells, each once, and each with a number that was given out
+pub record IsSegment {T : Type 0} (made : ℕ) (p : Piece T) : Type 0 where
+  pub some : 0 < length p.slots
+  pub few : length p.slots ≤ 128
+  pub once : Once (map cell_of p.slots)
+  pub given : (x : ℕ) → has_cell x p.slots ≡ true → x < made
+
+-- the cut of a forest
+pub record IsSound {T : Type 0} (at : ℕ → Option (Piece T)) (strands : List Strand) (made : ℕ) : Type 0 where
+  pub held : (i k : ℕ) → has k (keys_in strands i) ≡ true → IsSome (at k)
+  pub segments : (k : ℕ) → IfSome (at k) (IsSegment made)
+  pub apart : (j k x : ℕ) → has_cell x (slots_of (at j)) ≡ true → has_cell x (slots_of (at k)) ≡ true → j ≡ k
+  pub live : (k : ℕ) → IsSome (at k) → (i : ℕ) × (has k (keys_in strands i) ≡ true)
+  pub shares : SharesAbove strands
+
+pub record IsWithin (l : Limits) (made branches : ℕ) : Type 0 where
+  pub cells : made ≤ l.cells
+  pub branches_fit : branches ≤ l.branches
+  pub some : 0 < branches
+  pub most_cells : l.cells ≤ 16777216
+  pub most_branches : l.branches ≤ 1024
+
+-- a cut within its limits
+pub record IsWhole {T : Type 0} (c : Cut T) : Type 0 where
+  pub sound : IsSound (piece_at c.pieces) c.strands c.made
+  pub within : IsWithin c.limits c.made (length c.strands)
+
+-- the limits lie in their ranges
+pub record AreLimits (l : Limits) : Type 0 where
+  pub some_cells : 0 < l.cells
+  pub most_cells : l.cells ≤ 16777216
+  pub some_branches : 0 < l.branches
+  pub most_branches : l.branches ≤ 1024
+  pub some_log : 0 < l.log
+  pub most_log : l.log ≤ 1048576
+
+-- a place in a path: the key of a segment, and where in it the cell lies
+pub record StandsAt {T : Type 0} (at : ℕ → Option (Piece T)) (keys : List ℕ) (place : ℕ) (spot : ℕ × ℕ) : Type 0 where
+  pub member : has spot.0 keys ≡ true
+  pub within : spot.1 < length (slots_of (at spot.0))
+  pub same : slice_get (slots_of (at spot.0)) spot.1 ≡ slice_get (line at keys) place
+
+-- how segments are cut: each has 1 to 128 cells, is in a branch, and branches that share one share all above it
+pub record IsCut {T : Type 0} (c : Cut T) : Type 0 where
+  pub held : (i k : ℕ) → has k (keys_in c.strands i) ≡ true → IsSome (piece_at c.pieces k)
+  pub sizes : (k : ℕ) → IfSome (piece_at c.pieces k) (λ p. (0 < length p.slots) × (length p.slots ≤ 128))
+  pub live : (k : ℕ) → IsSome (piece_at c.pieces k) → (i : ℕ) × (has k (keys_in c.strands i) ≡ true)
+  pub shares : SharesAbove c.strands
+
+abbrev pub note_of : {T : Type 0} → Option (Piece T) → Option T
+note_of None = None
+note_of (Some p) = p.note
+
+-- no branch has a cell of these any more
+abbrev pub AreGone : {T : Type 0} → Cut T → List Slot → Type 0
+AreGone new slots = (i x : ℕ) → has_cell x slots ≡ true → has_cell x (slots_in (forest new).branches i) ≡ false
+
+-- an edit touches at most one segment that was there, and clears its note. Each other one stays as it is with its note, or is
+-- gone with its cells; and a new one has no note
+pub record KeepsNotes {T : Type 0} (old new : Cut T) : Type 0 where
+  pub touched : Option ℕ
+  pub kept : (k : ℕ) → (touched ≡ Some k → ⊥) → IsSome (piece_at old.pieces k)
+      → (piece_at new.pieces k ≡ piece_at old.pieces k) ⊎ ((piece_at new.pieces k ≡ None) × AreGone new (slots_of (piece_at old.pieces k)))
+  pub cleared : (k : ℕ) → touched ≡ Some k → note_of (piece_at new.pieces k) ≡ None
+  pub fresh : (k : ℕ) → piece_at old.pieces k ≡ None → note_of (piece_at new.pieces k) ≡ None
+
+-- an edit touches no segment that was there
+abbrev pub KeepsAllNotes : {T : Type 0} → Cut T → Cut T → Type 0
+KeepsAllNotes old new = (notes : KeepsNotes old new) × (notes.touched ≡ None)
+
+-- a cell of a segment has another step: so it has in each branch
+pub record IsStepSet {T : Type 0} (old new : Cut T) (key offset : ℕ) (step : Step) : Type 0 where
+  pub everywhere_set : (s : Slot) → slice_get (slots_of (piece_at old.pieces key)) offset ≡ Some s
+      → (forest new).branches ≡ everywhere (replaced s.cell step) (forest old).branches
+  pub made : new.made ≡ old.made
+  pub limits : new.limits ≡ old.limits
+  pub notes : KeepsNotes old new
+  pub cut : IsCut new
+
+-- a cell of a segment goes: it goes from each branch
+pub record IsRemoved {T : Type 0} (old new : Cut T) (key offset : ℕ) : Type 0 where
+  pub everywhere_gone : (s : Slot) → slice_get (slots_of (piece_at old.pieces key)) offset ≡ Some s
+      → (forest new).branches ≡ everywhere (without s.cell) (forest old).branches
+  pub made : new.made ≡ old.made
+  pub limits : new.limits ≡ old.limits
+  pub notes : KeepsNotes old new
+  pub cut : IsCut new
+
+-- no branch but that at an index has a segment
+abbrev pub LackedByOthers : List Strand → ℕ → ℕ → Type 0
+LackedByOthers strands index key = (j : ℕ) → (j ≡ index → ⊥) → has key (keys_in strands j) ≡ false
+
+-- the last segment of a branch, which no other has, and which has room
+pub record IsOwnEnd {T : Type 0} (c : Cut T) (index key : ℕ) : Type 0 where
+  pub front : List ℕ
+  pub last : keys_in c.strands index ≡ front ++ key ∷ []
+  pub own : LackedByOthers c.strands index key
+  pub room : length (slots_of (piece_at c.pieces key)) < 128
+
+-- a step is put last in the branch at an index, as a new cell
+pub record IsPushed {T : Type 0} (old new : Cut T) (index : ℕ) (step : Step) : Type 0 where
+  pub branches : (forest new).branches ≡ only_in index (put_last (slot old.made step)) (forest old).branches
+  pub made : new.made ≡ old.made + 1
+  pub count : length new.strands ≡ length old.strands
+  pub limits : new.limits ≡ old.limits
+  pub notes : KeepsNotes old new
+  pub cut : IsCut new
+
+-- a new cell is put before a cell of a segment: so it is in each branch that holds that one
+pub record IsPutBefore {T : Type 0} (old new : Cut T) (key offset : ℕ) (step : Step) : Type 0 where
+  pub everywhere_put : (s : Slot) → slice_get (slots_of (piece_at old.pieces key)) offset ≡ Some s
+      → (forest new).branches ≡ everywhere (put_before s.cell (slot old.made step)) (forest old).branches
+  pub made : new.made ≡ old.made + 1
+  pub limits : new.limits ≡ old.limits
+  pub notes : KeepsNotes old new
+  pub cut : IsCut new
+
+-- a new cell is put at a place of the branch at an index
+pub record IsInserted {T : Type 0} (old new : Cut T) (index place : ℕ) (step : Step) : Type 0 where
+  pub forest_is : forest new ≡ inserted (forest old) index place step
+  pub limits : new.limits ≡ old.limits
+  pub notes : KeepsNotes old new
+  pub cut : IsCut new
+
+-- the keys of the branch at an index, if there is one
+abbrev pub keys_by : Option ℕ → List Strand → Option (List ℕ)
+keys_by None strands = None
+keys_by (Some i) strands = Some (keys_in strands i)
+
+-- NoBranch where there is none, and else want of memory
+abbrev pub if_lacks : {X : Type 0} → Option X → Refusal
+if_lacks None = NoBranch
+if_lacks (Some x) = Memory
+
+abbrev pub with_note : {T : Type 0} → Option T → Piece T → Piece T
+with_note note p = piece p.slots note
+
+-- a segment has this note, if there is such a segment; nothing else is changed
+pub record IsNoted {T : Type 0} (old new : Cut T) (key : ℕ) (note : Option T) : Type 0 where
+  pub here : piece_at new.pieces key ≡ option_map (with_note note) (piece_at old.pieces key)
+  pub others : (j : ℕ) → (j ≡ key → ⊥) → piece_at new.pieces j ≡ piece_at old.pieces j
+  pub strands : new.strands ≡ old.strands
+  pub limits : new.limits ≡ old.limits
+  pub unchanged : forest new ≡ forest old
+
+-- what comes right before a key in a path; `up` before the first
+abbrev pub before_key : ℕ → Option ℕ → List ℕ → Option ℕ
+before_key key up [] = None
+before_key key up (k ∷ ks) = if nat_eq key k then up else before_key key (Some k) ks
+
+-- the segment above a segment, on the first branch that has it; none for a branch's first, and where no branch has it
+abbrev pub above_of : List Strand → ℕ → Option ℕ
+above_of [] key = None
+above_of (s ∷ ss) key = if has key s.keys then before_key key None s.keys else above_of ss key
+
+-- a path in which a new key comes right above a key
+abbrev pub above_key : ℕ → ℕ → ℕ → List ℕ
+above_key key new k = if nat_eq key k then new ∷ k ∷ [] else k ∷ []
+
+abbrev pub divided_keys : ℕ → ℕ → List ℕ → List ℕ
+divided_keys key new keys = flat_map (above_key key new) keys
+
+abbrev pub divided_strand : ℕ → ℕ → Strand → Strand
+divided_strand key new s = strand s.name (divided_keys key new s.keys)
+
+-- a path without a key
+abbrev pub other_key : ℕ → ℕ → Bool
+other_key key k = not (nat_eq key k)
+
+abbrev pub keys_without : ℕ → List ℕ → List ℕ
+keys_without key keys = filter (other_key key) keys
+
+abbrev pub strand_without : ℕ → Strand → Strand
+strand_without key s = strand s.name (keys_without key s.keys)

@@ -1,0 +1,212 @@
+-- The forest of branches, and what each command leaves of it.
+use Rattle.std.specs.Prelude.{◌≡◌, ◌⊎◌, IsOk, ℕ, zero, suc, ◌+◌, Bool, not, nat_eq, nat_le, nat_lt, List, [], ◌∷◌, ◌++◌, Option, Some, None, Result, Ok, Err, length, map, filter, take, position, slice_index, slice_get, codes, if◌then◌else◌}
+use Rattle.std.specs.List.{flat_map, remove, list_any}
+use Rattle.std.specs.Option.{option_map}
+use Rattle.std.specs.Cmp.Lexicographic.{pointwise}
+use Rattle.frames.specs.declared.types.Step.{Step}
+use Rattle.schedule_trie.specs.declared.slot.Slot.{Slot}
+use Rattle.schedule_trie.specs.declared.limits.Limits.{Limits}
+use Rattle.schedule_trie.specs.declared.refusal.Refusal.{Refusal}
+use Rattle.schedule_trie.specs.declared.refusal.Refusal.TheVariants.{NoBranch, NameTaken, BadName, NoPlace, Full, LastBranch, TooManyBranches, Memory}
+use Rattle.schedule_trie.specs.Names.{is_well_formed}
+
+-- a branch: its name, and its cells in order, each with its step. A cell has the same step in each branch that holds it
+pub record Branch : Type 0 where
+  pub name : List ℕ
+  pub slots : List Slot
+
+-- the branches in order of making, and how many cells were ever made
+pub record Forest : Type 0 where
+  pub branches : List Branch
+  pub made : ℕ
+
+abbrev pub branch : List ℕ → List Slot → Branch
+branch name slots = record { name = name; slots = slots }
+
+abbrev pub slot : ℕ → Step → Slot
+slot cell step = record { cell = cell; step = step }
+
+abbrev pub cell_of : Slot → ℕ
+cell_of s = s.cell
+
+abbrev pub step_of : Slot → Step
+step_of s = s.step
+
+abbrev pub name_of : Branch → List ℕ
+name_of b = b.name
+
+-- so many steps, as cells with numbers from this one on
+abbrev pub numbered : ℕ → List Step → List Slot
+numbered n [] = []
+numbered n (s ∷ ss) = slot n s ∷ numbered (suc n) ss
+
+-- the forest at first: `main` alone
+abbrev pub opening : List Step → Forest
+opening steps = record { branches = branch (codes "main") (numbered 0 steps) ∷ []; made = length steps }
+
+-- opening within limits
+abbrev pub opened : Limits → List Step → Result Forest Refusal
+opened limits steps = if nat_lt limits.cells (length steps) then Err Full else Ok (opening steps)
+
+-- where the branch of a name stands
+abbrev pub index_of : List Branch → List ℕ → Option ℕ
+index_of branches name = position (pointwise nat_eq name) (map name_of branches)
+
+abbrev pub slots_in : List Branch → ℕ → List Slot
+slots_in [] i = []
+slots_in (b ∷ bs) zero = b.slots
+slots_in (b ∷ bs) (suc i) = slots_in bs i
+
+-- the name of a branch by where it stands
+abbrev pub name_in : List Branch → ℕ → Option (List ℕ)
+name_in branches i = slice_get (map name_of branches) i
+
+-- how many cells the branch of a name has
+abbrev pub len_of : Forest → List ℕ → Option ℕ
+len_of f name = option_map (λ i. length (slots_in f.branches i)) (index_of f.branches name)
+
+-- the number of the cell at a place
+abbrev pub cell_in : List Slot → ℕ → ℕ
+cell_in slots k = slice_index (map cell_of slots) k
+
+-- the number of the cell at a place of the branch of a name, if there are both
+abbrev pub cell_by : Option ℕ → Forest → ℕ → Option ℕ
+cell_by None f place = None
+cell_by (Some i) f place = option_map cell_of (slice_get (slots_in f.branches i) place)
+
+abbrev pub cell_at : Forest → List ℕ → ℕ → Option ℕ
+cell_at f name place = cell_by (index_of f.branches name) f place
+
+-- the place of a cell on the branch of a name, if it is there
+abbrev pub is_cell : ℕ → Slot → Bool
+is_cell x s = nat_eq s.cell x
+
+abbrev pub place_by : Option ℕ → Forest → ℕ → Option ℕ
+place_by None f cell = None
+place_by (Some i) f cell = position (is_cell cell) (slots_in f.branches i)
+
+abbrev pub place_of : Forest → List ℕ → ℕ → Option ℕ
+place_of f name cell = place_by (index_of f.branches name) f cell
+
+-- the steps of the branch of a name, if there is one
+abbrev pub path_by : Option ℕ → Forest → Option (List Step)
+path_by None f = None
+path_by (Some i) f = Some (map step_of (slots_in f.branches i))
+
+abbrev pub path_of : Forest → List ℕ → Option (List Step)
+path_of f name = path_by (index_of f.branches name) f
+
+-- each branch, or one of them, with its cells changed
+abbrev pub changed : (List Slot → List Slot) → Branch → Branch
+changed g b = branch b.name (g b.slots)
+
+abbrev pub everywhere : (List Slot → List Slot) → List Branch → List Branch
+everywhere g branches = map (changed g) branches
+
+abbrev pub only_in : ℕ → (List Slot → List Slot) → List Branch → List Branch
+only_in i g [] = []
+only_in zero g (b ∷ bs) = changed g b ∷ bs
+only_in (suc i) g (b ∷ bs) = b ∷ only_in i g bs
+
+-- a new cell right before cell x, where that is
+abbrev pub before_cell : ℕ → Slot → Slot → List Slot
+before_cell x new s = if nat_eq s.cell x then new ∷ s ∷ [] else s ∷ []
+
+abbrev pub put_before : ℕ → Slot → List Slot → List Slot
+put_before x new slots = flat_map (before_cell x new) slots
+
+abbrev pub put_last : Slot → List Slot → List Slot
+put_last new slots = slots ++ new ∷ []
+
+-- cell x is gone
+abbrev pub is_other : ℕ → Slot → Bool
+is_other x s = not (nat_eq s.cell x)
+
+abbrev pub without : ℕ → List Slot → List Slot
+without x slots = filter (is_other x) slots
+
+-- cell x has another step
+abbrev pub with_step : ℕ → Step → Slot → Slot
+with_step x step s = if nat_eq s.cell x then slot s.cell step else s
+
+abbrev pub replaced : ℕ → Step → List Slot → List Slot
+replaced x step slots = map (with_step x step) slots
+
+-- what a command on the branch of a name gives: NoBranch where there is none
+abbrev pub on_found : Option ℕ → (ℕ → Result Forest Refusal) → Result Forest Refusal
+on_found None command = Err NoBranch
+on_found (Some i) command = command i
+
+abbrev pub on_branch : Forest → List ℕ → (ℕ → Result Forest Refusal) → Result Forest Refusal
+on_branch f name command = on_found (index_of f.branches name) command
+
+-- insert at a place: before the cell there, in each branch that holds it; at the length, in that branch alone
+abbrev pub inserted : Forest → ℕ → ℕ → Step → Forest
+inserted f i place step =
+    record {
+      branches =
+          if nat_eq place (length (slots_in f.branches i))
+          then only_in i (put_last (slot f.made step)) f.branches
+          else everywhere (put_before (cell_in (slots_in f.branches i) place) (slot f.made step)) f.branches;
+      made = f.made + 1;
+    }
+
+abbrev pub insert_at : Limits → Forest → ℕ → Step → ℕ → Result Forest Refusal
+insert_at limits f place step i =
+    if nat_lt (length (slots_in f.branches i)) place then Err NoPlace
+    else (if nat_le limits.cells f.made then Err Full else Ok (inserted f i place step))
+
+abbrev pub insert : Limits → Forest → List ℕ → ℕ → Step → Result Forest Refusal
+insert limits f name place step = on_branch f name (insert_at limits f place step)
+
+-- remove and replace: the cell at a place, in each branch that holds it
+abbrev pub at_cell : Forest → ℕ → (ℕ → List Slot → List Slot) → ℕ → Result Forest Refusal
+at_cell f place change i =
+    if nat_le (length (slots_in f.branches i)) place then Err NoPlace
+    else Ok (record { branches = everywhere (change (cell_in (slots_in f.branches i) place)) f.branches; made = f.made })
+
+abbrev pub remove_cell : Forest → List ℕ → ℕ → Result Forest Refusal
+remove_cell f name place = on_branch f name (at_cell f place without)
+
+abbrev pub replaced_by : Step → ℕ → List Slot → List Slot
+replaced_by step x slots = replaced x step slots
+
+abbrev pub replace_step : Forest → List ℕ → ℕ → Step → Result Forest Refusal
+replace_step f name place step = on_branch f name (at_cell f place (replaced_by step))
+
+-- fork: a new last branch of the first cells, shared
+abbrev pub fork_at : Limits → Forest → ℕ → List ℕ → ℕ → Result Forest Refusal
+fork_at limits f place name i =
+    if list_any (pointwise nat_eq name) (map name_of f.branches) then Err NameTaken
+    else (if not (is_well_formed name) then Err BadName
+    else (if nat_lt (length (slots_in f.branches i)) place then Err NoPlace
+    else (if nat_le limits.branches (length f.branches) then Err TooManyBranches
+    else Ok (record { branches = f.branches ++ branch name (take place (slots_in f.branches i)) ∷ []; made = f.made }))))
+
+abbrev pub fork : Limits → Forest → List ℕ → ℕ → List ℕ → Result Forest Refusal
+fork limits f name place new = on_branch f name (fork_at limits f place new)
+
+-- detach: the branch's cells become new ones with the same steps
+abbrev pub renumbered : ℕ → List Slot → List Slot
+renumbered n slots = numbered n (map step_of slots)
+
+abbrev pub detach_at : Limits → Forest → ℕ → Result Forest Refusal
+detach_at limits f i =
+    if nat_lt limits.cells (f.made + length (slots_in f.branches i)) then Err Full
+    else Ok (record { branches = only_in i (renumbered f.made) f.branches; made = f.made + length (slots_in f.branches i) })
+
+abbrev pub detach : Limits → Forest → List ℕ → Result Forest Refusal
+detach limits f name = on_branch f name (detach_at limits f)
+
+-- drop: the branch goes, unless it is the only one
+abbrev pub drop_at : Forest → ℕ → Result Forest Refusal
+drop_at f i =
+    if nat_le (length f.branches) 1 then Err LastBranch
+    else Ok (record { branches = remove f.branches i; made = f.made })
+
+abbrev pub drop_branch : Forest → List ℕ → Result Forest Refusal
+drop_branch f name = on_branch f name (drop_at f)
+
+-- why a call that may want memory is refused: for the first reason that holds, or for want of memory where none does
+abbrev pub IsRefused : Result Forest Refusal → Refusal → Type 0
+IsRefused model e = (model ≡ Err e) ⊎ ((e ≡ Memory) × IsOk model)

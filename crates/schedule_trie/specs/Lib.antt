@@ -1,0 +1,10 @@
+pub mod Refusals
+pub mod Names
+pub mod Forest
+pub mod Rows
+pub mod Slots
+pub mod Cut
+pub mod Held
+pub mod Forks
+pub mod Releases
+pub mod Copies

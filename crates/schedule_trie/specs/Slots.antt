@@ -1,0 +1,11 @@
+-- Lists of cells.
+use Rattle.std.specs.Prelude.{ℕ, zero, suc, List, [], ◌∷◌}
+use Rattle.frames.specs.declared.types.Step.{Step}
+use Rattle.schedule_trie.specs.declared.slot.Slot.{Slot}
+use Rattle.schedule_trie.specs.Forest.{slot}
+
+-- the cells, with another step at a place
+abbrev pub set_step : List Slot → ℕ → Step → List Slot
+set_step [] i step = []
+set_step (s ∷ ss) zero step = slot s.cell step ∷ ss
+set_step (s ∷ ss) (suc i) step = s ∷ set_step ss i step

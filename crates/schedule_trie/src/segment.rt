@@ -1,0 +1,130 @@
+//! Segments of cells that branches share.
+
+ghost use Rattle.std.specs.Prelude.{◌≡◌, ◌<◌, ◌≤◌, ◌+◌, ◌^◌, ◌++◌, ◌∷◌, [], length, None, IfOk, OnOk, OnErr, insert};
+ghost use Rattle.std.specs.List.{remove};
+ghost use Rattle.schedule_trie.specs.Slots.{set_step};
+ghost use Rattle.schedule_trie.specs.Forest.{renumbered};
+
+use crate::slot::Slot;
+use frames::types::Step;
+use std::alloc::{AllocError, Global};
+
+/// The most cells of a segment.
+pub(crate) const MOST_SLOTS: usize = 128;
+
+/// The key of a segment.
+pub type SegKey = usize;
+
+/// Cells one after the other, and what is noted at them.
+#[derive(Debug, Drop)]
+pub(crate) struct Segment<T> {
+    pub(crate) slots: Vec<Slot>,
+    pub(crate) note: Option<T>,
+}
+
+impl<T: Drop> Segment<T> {
+    /// One cell, with no note.
+    pub(crate) fn new(alloc: Global, slot: Slot) -> Result<Segment<T>, AllocError>
+        ensures slots { IfOk result (λ s. s.slots.items ≡ slot ∷ []) }
+        ensures note { IfOk result (λ s. s.note ≡ None) }
+    {
+        let mut slots = Vec::new(alloc);
+        slots.push(slot)?;
+        Ok(Segment { slots, note: None })
+    }
+
+    /// As many cells with the same steps and numbers from `first` on, with no note.
+    pub(crate) fn renumbered(
+        alloc: Global,
+        slots: &[Slot],
+        first: u32,
+    ) -> Result<Segment<T>, AllocError>
+        requires { first + length slots.now < 2 ^ 32 }
+        ensures slots { IfOk result (λ s. s.slots.items ≡ renumbered first slots.now) }
+        ensures note { IfOk result (λ s. s.note ≡ None) }
+    {
+        let mut renumbered = Vec::with_capacity(alloc, slots.len())?;
+        let mut cell = first;
+        for slot in slots {
+            renumbered.push(Slot {
+                cell,
+                step: slot.step,
+            })?;
+            cell += 1;
+        }
+        Ok(Segment {
+            slots: renumbered,
+            note: None,
+        })
+    }
+
+    /// Puts a cell last, and clears the note.
+    pub(crate) fn push(&mut self, slot: Slot) -> Result<(), AllocError>
+        ensures slots { OnOk result (self.new.slots.items ≡ self.old.slots.items ++ slot ∷ []) }
+        ensures note { OnOk result (self.new.note ≡ None) }
+        ensures err_slots { OnErr result (self.new.slots.items ≡ self.old.slots.items) }
+        ensures err_note { OnErr result (self.new.note ≡ self.old.note) }
+    {
+        self.slots.push(slot)?;
+        self.clear_note();
+        Ok(())
+    }
+
+    /// Puts a cell at an offset, before those from there on, and clears the note.
+    pub(crate) fn insert(&mut self, offset: usize, slot: Slot) -> Result<(), AllocError>
+        requires { offset ≤ length self.old.slots.items }
+        ensures slots { OnOk result (self.new.slots.items ≡ insert self.old.slots.items offset slot) }
+        ensures note { OnOk result (self.new.note ≡ None) }
+        ensures err_slots { OnErr result (self.new.slots.items ≡ self.old.slots.items) }
+        ensures err_note { OnErr result (self.new.note ≡ self.old.note) }
+    {
+        self.slots.insert(offset, slot)?;
+        self.clear_note();
+        Ok(())
+    }
+
+    /// Has other cells instead, and clears the note.
+    pub(crate) fn set_slots(&mut self, slots: Vec<Slot>)
+        ensures slots { self.new.slots ≡ slots }
+        ensures note { self.new.note ≡ None }
+    {
+        self.slots = slots;
+        self.clear_note();
+    }
+
+    /// Gives a cell another step, and clears the note.
+    pub(crate) fn set_step(&mut self, offset: usize, step: Step)
+        requires { offset < length self.old.slots.items }
+        ensures slots { self.new.slots.items ≡ set_step self.old.slots.items offset step }
+        ensures note { self.new.note ≡ None }
+    {
+        self.slots[offset].step = step;
+        self.clear_note();
+    }
+
+    /// Takes a cell out, and clears the note.
+    pub(crate) fn remove(&mut self, offset: usize)
+        requires { offset < length self.old.slots.items }
+        ensures slots { self.new.slots.items ≡ remove self.old.slots.items offset }
+        ensures note { self.new.note ≡ None }
+    {
+        self.slots.remove(offset);
+        self.clear_note();
+    }
+
+    /// Notes something else, or nothing.
+    pub(crate) fn set_note(&mut self, note: Option<T>)
+        ensures slots { self.new.slots ≡ self.old.slots }
+        ensures note { self.new.note ≡ note }
+    {
+        self.note = note;
+    }
+
+    /// Clears the note.
+    fn clear_note(&mut self)
+        ensures slots { self.new.slots ≡ self.old.slots }
+        ensures note { self.new.note ≡ None }
+    {
+        self.note = None;
+    }
+}

@@ -1,0 +1,47 @@
+//! Branches that are dropped.
+
+ghost use Rattle.std.specs.Prelude.{◌≡◌, ◌<◌, length, Ok, Err, OnOk, IfErr, OnErr};
+ghost use Rattle.schedule_trie.specs.Forest.{drop_branch};
+ghost use Rattle.schedule_trie.specs.Cut.{forest, IsCut, KeepsAllNotes};
+ghost use Rattle.schedule_trie.specs.Releases.{IsDropped};
+
+use super::Trie;
+use super::release::release;
+use crate::name::Name;
+use crate::refusal::Refusal;
+
+impl<T: Drop> Trie<T> {
+    /// Drops a branch; segments that no other branch has go with it. It takes no memory.
+    ///
+    /// # Errors
+    ///
+    /// NoBranch; LastBranch where it is the only one. Then nothing is changed.
+    pub fn drop_branch(&mut self, branch: &Name) -> Result<(), Refusal>
+        ensures ok { OnOk result (drop_branch (forest self.old) branch.now ≡ Ok (forest self.new)) }
+        ensures err { IfErr result (λ e. drop_branch (forest self.old) branch.now ≡ Err e) }
+        ensures unchanged { OnErr result (self.new ≡ self.old) }
+        ensures notes { OnOk result (KeepsAllNotes self.old self.new) }
+        ensures cut { OnOk result (IsCut self.new) }
+        ensures limits { self.new.limits ≡ self.old.limits }
+    {
+        let Some(index) = self.index(branch) else {
+            return Err(Refusal::NoBranch);
+        };
+        if self.branches.len() < 2 {
+            return Err(Refusal::LastBranch);
+        }
+        self.drop_at(index);
+        Ok(())
+    }
+
+    /// Drops the branch at an index, which is not the only one.
+    fn drop_at(&mut self, index: usize)
+        requires index { index < length self.old.strands }
+        requires several { 1 < length self.old.strands }
+        ensures { IsDropped self.old self.new index }
+    {
+        if let Some((_, path)) = self.branches.shift_remove_index(index) {
+            release(&mut self.segments, &self.branches, path.as_slice());
+        }
+    }
+}

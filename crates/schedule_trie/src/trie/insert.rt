@@ -1,0 +1,165 @@
+//! A new cell at a place of a branch.
+
+ghost use Rattle.std.specs.Prelude.{◌≡◌, ◌<◌, ◌≤◌, ◌++◌, length, Ok, OnOk, IfOk, IfErr, OnErr};
+ghost use Rattle.std.specs.List.{insert as inserted_at};
+ghost use Rattle.schedule_trie.specs.Forest.{insert, slots_in, IsRefused};
+ghost use Rattle.schedule_trie.specs.Cut.{forest, piece_at, slots_of, IsCut, KeepsNotes, IsPutBefore, IsInserted};
+
+use super::Trie;
+use super::division::{divide, reserve_division};
+use crate::name::Name;
+use crate::refusal::Refusal;
+use crate::segment::{MOST_SLOTS, SegKey, Segment};
+use crate::slot::Slot;
+use frames::types::Step;
+use std::alloc::{AllocError, Global};
+
+/// How many cells of a full segment stay above a cut.
+const UPPER_SLOTS: usize = 64;
+
+impl<T: Drop> Trie<T> {
+    /// Puts a new cell before the one at a place of a branch, in each branch that holds that one; at the branch's length,
+    /// last in that branch alone.
+    ///
+    /// # Errors
+    ///
+    /// NoBranch; NoPlace where the place is behind the branch's length; Full where no more cells may be made; Memory. Then
+    /// nothing is changed.
+    pub fn insert(
+        &mut self,
+        alloc: Global,
+        branch: &Name,
+        place: u32,
+        step: Step,
+    ) -> Result<(), Refusal>
+        ensures ok { OnOk result (insert self.old.limits (forest self.old) branch.now place step ≡ Ok (forest self.new)) }
+        ensures err { IfErr result (IsRefused (insert self.old.limits (forest self.old) branch.now place step)) }
+        ensures unchanged { OnErr result (self.new ≡ self.old) }
+        ensures notes { OnOk result (KeepsNotes self.old self.new) }
+        ensures cut { OnOk result (IsCut self.new) }
+        ensures limits { self.new.limits ≡ self.old.limits }
+    {
+        let Some(index) = self.index(branch) else {
+            return Err(Refusal::NoBranch);
+        };
+        if self.len_at(index) < place {
+            return Err(Refusal::NoPlace);
+        }
+        if self.limits.cells <= self.made {
+            return Err(Refusal::Full);
+        }
+        match self.insert_at(alloc, index, place, step) {
+            Ok(()) => Ok(()),
+            Err(_) => Err(Refusal::Memory),
+        }
+    }
+
+    /// Puts a new cell at a place of the branch at an index.
+    fn insert_at(
+        &mut self,
+        alloc: Global,
+        index: usize,
+        place: u32,
+        step: Step,
+    ) -> Result<(), AllocError>
+        requires index { index < length self.old.strands }
+        requires place { place ≤ length (slots_in (forest self.old).branches index) }
+        requires room { self.old.made < self.old.limits.cells }
+        ensures ok { OnOk result (IsInserted self.old self.new index place step) }
+        ensures err { OnErr result (self.new ≡ self.old) }
+    {
+        match self.find_cell(index, place) {
+            Some((key, offset)) => self.put_before(alloc, key, offset, step),
+            None => self.push_last(alloc, index, step),
+        }
+    }
+
+    /// Puts a new cell before one of a segment.
+    fn put_before(
+        &mut self,
+        alloc: Global,
+        key: SegKey,
+        offset: usize,
+        step: Step,
+    ) -> Result<(), AllocError>
+        requires offset { offset < length (slots_of (piece_at self.old.pieces key)) }
+        requires room { self.old.made < self.old.limits.cells }
+        ensures ok { OnOk result (IsPutBefore self.old self.new key offset step) }
+        ensures err { OnErr result (self.new ≡ self.old) }
+    {
+        if self.slots_at(key).len() < MOST_SLOTS {
+            return self.put_in(key, offset, step);
+        }
+        self.put_divided(alloc, key, offset, step)
+    }
+
+    /// Puts a new cell before one of a segment that has room for it.
+    fn put_in(&mut self, key: SegKey, offset: usize, step: Step) -> Result<(), AllocError>
+        requires offset { offset < length (slots_of (piece_at self.old.pieces key)) }
+        requires few { length (slots_of (piece_at self.old.pieces key)) < 128 }
+        requires room { self.old.made < self.old.limits.cells }
+        ensures ok { OnOk result (IsPutBefore self.old self.new key offset step) }
+        ensures err { OnErr result (self.new ≡ self.old) }
+    {
+        let slot = Slot {
+            cell: self.made,
+            step,
+        };
+        self.segments[key].insert(offset, slot)?;
+        self.made += 1;
+        Ok(())
+    }
+
+    /// Puts a new cell before one of a full segment, which is cut in two.
+    fn put_divided(
+        &mut self,
+        alloc: Global,
+        key: SegKey,
+        offset: usize,
+        step: Step,
+    ) -> Result<(), AllocError>
+        requires offset { offset < length (slots_of (piece_at self.old.pieces key)) }
+        requires full { 128 ≤ length (slots_of (piece_at self.old.pieces key)) }
+        requires room { self.old.made < self.old.limits.cells }
+        ensures ok { OnOk result (IsPutBefore self.old self.new key offset step) }
+        ensures err { OnErr result (self.new ≡ self.old) }
+    {
+        let slot = Slot {
+            cell: self.made,
+            step,
+        };
+        let (above, below) = parts_with(alloc, self.slots_at(key), offset, slot)?;
+        let above = Segment {
+            slots: above,
+            note: None,
+        };
+        reserve_division(&mut self.segments, &mut self.branches)?;
+        divide(&mut self.segments, &mut self.branches, key, above, below);
+        self.made += 1;
+        Ok(())
+    }
+}
+
+/// The cells of a full segment in two parts, cut after its first 64, with a new cell at an offset.
+fn parts_with(
+    alloc: Global,
+    slots: &[Slot],
+    offset: usize,
+    slot: Slot,
+) -> Result<(Vec<Slot>, Vec<Slot>), AllocError>
+    requires offset { offset < length slots.now }
+    requires full { 128 ≤ length slots.now }
+    ensures parts { IfOk result (λ r. r.0.items ++ r.1.items ≡ inserted_at slots.now offset slot) }
+    ensures least { IfOk result (λ r. 64 ≤ length r.0.items) }
+    ensures most { IfOk result (λ r. length r.0.items ≤ 65) }
+{
+    let mut above = Vec::from_slice(alloc, slots)?;
+    above.insert(offset, slot)?;
+    let cut = if offset < UPPER_SLOTS {
+        UPPER_SLOTS + 1
+    } else {
+        UPPER_SLOTS
+    };
+    let below = above.split_off(cut)?;
+    Ok((above, below))
+}

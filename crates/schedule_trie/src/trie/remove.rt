@@ -1,0 +1,83 @@
+//! Cells that go.
+
+ghost use Rattle.std.specs.Prelude.{◌≡◌, ◌<◌, length, map, Ok, Err, OnOk, IfErr, OnErr};
+ghost use Rattle.schedule_trie.specs.Forest.{remove_cell};
+ghost use Rattle.schedule_trie.specs.Cut.{forest, piece_at, slots_of, keys_without, strand_without, IsCut, IsRemoved, KeepsNotes};
+ghost use Rattle.schedule_trie.specs.Held.{strand_of};
+
+use crate::name::Name;
+use crate::refusal::Refusal;
+use crate::segment::SegKey;
+use crate::trie::Trie;
+use indexmap::IndexMap;
+
+impl<T: Drop> Trie<T> {
+    /// Takes the cell at a place of a branch out of each branch that holds it. It takes no memory.
+    ///
+    /// # Errors
+    ///
+    /// NoBranch; NoPlace where the branch has no cell there. Then nothing is changed.
+    pub fn remove(&mut self, branch: &Name, place: u32) -> Result<(), Refusal>
+        ensures ok { OnOk result (remove_cell (forest self.old) branch.now place ≡ Ok (forest self.new)) }
+        ensures err { IfErr result (λ e. remove_cell (forest self.old) branch.now place ≡ Err e) }
+        ensures unchanged { OnErr result (self.new ≡ self.old) }
+        ensures notes { OnOk result (KeepsNotes self.old self.new) }
+        ensures cut { OnOk result (IsCut self.new) }
+        ensures limits { self.new.limits ≡ self.old.limits }
+    {
+        let Some(index) = self.index(branch) else {
+            return Err(Refusal::NoBranch);
+        };
+        let Some((key, offset)) = self.find_cell(index, place) else {
+            return Err(Refusal::NoPlace);
+        };
+        self.remove_slot(key, offset);
+        Ok(())
+    }
+
+    /// Takes a cell out of a segment, and the segment out of each branch where that was its last cell.
+    fn remove_slot(&mut self, key: SegKey, offset: usize)
+        requires { offset < length (slots_of (piece_at self.old.pieces key)) }
+        ensures { IsRemoved self.old self.new key offset }
+    {
+        if self.slots_at(key).len() > 1 {
+            self.remove_within(key, offset);
+        } else {
+            self.remove_segment(key);
+        }
+    }
+
+    /// Takes a cell out of a segment that has another one, and clears the segment's note.
+    fn remove_within(&mut self, key: SegKey, offset: usize)
+        requires offset { offset < length (slots_of (piece_at self.old.pieces key)) }
+        requires more { 1 < length (slots_of (piece_at self.old.pieces key)) }
+        ensures { IsRemoved self.old self.new key offset }
+    {
+        self.segments[key].remove(offset);
+    }
+
+    /// Takes a segment of one cell out of each branch.
+    fn remove_segment(&mut self, key: SegKey)
+        requires { length (slots_of (piece_at self.old.pieces key)) ≡ 1 }
+        ensures { IsRemoved self.old self.new key 0 }
+    {
+        self.segments.remove(key);
+        remove_key(&mut self.branches, key);
+    }
+}
+
+/// Takes a key out of each branch's path.
+fn remove_key(branches: &mut IndexMap<Name, Vec<SegKey>>, key: SegKey)
+    ensures strands { map strand_of branches.new.entries ≡ map (strand_without key) (map strand_of branches.old.entries) }
+{
+    for index in 0..branches.len() {
+        remove_from(&mut branches[index], key);
+    }
+}
+
+/// Takes a key out of a path.
+fn remove_from(path: &mut Vec<SegKey>, key: SegKey)
+    ensures { path.new.items ≡ keys_without key path.old.items }
+{
+    path.retain(|other| key != *other);
+}
