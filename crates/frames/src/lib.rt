@@ -3,6 +3,7 @@
 
 pub mod config;
 pub mod laws;
+pub mod limits;
 mod own;
 pub mod register;
 pub mod roles;

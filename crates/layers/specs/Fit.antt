@@ -5,7 +5,7 @@ use Rattle.layers.specs.declared.fit.LayerError.TheVariants.{BadSize, TooManyBit
 use Rattle.frames.specs.Behaviour.{Behaviour}
 use Rattle.frames.specs.declared.types.TheConstants.{STACK_FRAMES}
 use Rattle.frames.specs.declared.register.TheConstants.{MOST_CELLS, MOST_WORDS}
-use Rattle.layers.specs.declared.fit.TheConstants.{LEAST_VALUES, LEAST_PROCESSES, MOST_PROCESSES}
+use Rattle.frames.specs.declared.limits.TheConstants.{LEAST_VALUES, LEAST_PROCESSES, MOST_PROCESSES}
 use Rattle.layers.specs.Nested.{Table}
 
 -- every layer has at least 2 values, and 2 to 5 processes

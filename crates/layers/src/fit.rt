@@ -5,24 +5,10 @@ ghost use Rattle.layers.specs.Sound.{FitsBelow};
 ghost use Rattle.layers.specs.Fit.{refusal_below, number_of};
 
 use crate::construction::Construction;
+use frames::limits::{LEAST_PROCESSES, LEAST_VALUES, MOST_PROCESSES};
 use frames::register::{MOST_CELLS, MOST_WORDS, Register};
 use frames::types::STACK_FRAMES;
 use thiserror::Error;
-
-/// The least number of values of a layer.
-pub const LEAST_VALUES: u32 = 2;
-
-/// The most values of a unary number, and the most codes below a stamped register and a matrix.
-pub const MOST_VALUES: u32 = 512;
-
-/// The most readers beside one writer.
-pub const MOST_READERS: u32 = 4;
-
-/// The least number of processes of a layer.
-pub const LEAST_PROCESSES: u32 = 2;
-
-/// The most processes of a layer: a writer and the most readers.
-pub const MOST_PROCESSES: u32 = 5;
 
 /// Why a layer can't be built.
 #[derive(Clone, Copy, Debug, PartialEq, Eq, Error)]

@@ -1,7 +1,6 @@
 -- The limits of a matrix's own numbers, and what refuses it.
 use Rattle.std.specs.Prelude.{ℕ, Bool, ◌&&◌, nat_le, nat_lt, Option, Some, if◌then◌else◌}
-use Rattle.layers.specs.declared.fit.TheConstants.{LEAST_PROCESSES, LEAST_VALUES, MOST_VALUES}
-use Rattle.matrix.specs.declared.rules.TheConstants.{MOST_WRITERS}
+use Rattle.frames.specs.declared.limits.TheConstants.{LEAST_PROCESSES, LEAST_VALUES, MOST_VALUES, MOST_WRITERS}
 use Rattle.layers.specs.declared.fit.LayerError.{LayerError}
 use Rattle.layers.specs.declared.fit.LayerError.TheVariants.{BadSize}
 use Rattle.frames.specs.Behaviour.{Behaviour}

@@ -13,7 +13,7 @@ use Rattle.frames.specs.declared.types.Outcome.TheVariants.{Value, Written, Spen
 use Rattle.frames.specs.Behaviour.{Answers}
 use Rattle.frames.specs.Equality.{op_eq, op_decides}
 use Rattle.layers.specs.Nested.{Program, Ends}
-use Rattle.layers.specs.declared.fit.TheConstants.{LEAST_PROCESSES, LEAST_VALUES}
+use Rattle.frames.specs.declared.limits.TheConstants.{LEAST_PROCESSES, LEAST_VALUES}
 use Rattle.layers.specs.Sound.{IsSound, IsSoundTable, IsNotSpent, Falls, FitsPart}
 use Rattle.layers.specs.laws.Equality.{both_true, decides_like}
 use Rattle.matrix.specs.declared.task.MatrixTask.{MatrixTask}

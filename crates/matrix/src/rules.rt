@@ -1,23 +1,20 @@
 //! The rules of a matrix, whatever register stands below.
 
 ghost use Rattle.std.specs.Prelude.{◌≡◌, ℕ, ◌+◌, ◌-◌, ◌*◌, ◌<◌, ◌≤◌, ◌^◌, MatchResult, IfOk, Some, None};
-ghost use Rattle.layers.specs.declared.fit.TheConstants.{LEAST_PROCESSES, LEAST_VALUES, MOST_VALUES};
-ghost use Rattle.matrix.specs.declared.rules.TheConstants.{MOST_WRITERS};
+ghost use Rattle.frames.specs.declared.limits.TheConstants.{LEAST_PROCESSES, LEAST_VALUES, MOST_VALUES, MOST_WRITERS};
 ghost use Rattle.layers.specs.Nested.{layered};
 ghost use Rattle.matrix.specs.Program.{matrix_table};
 ghost use Rattle.matrix.specs.Limits.{matrix_refusal};
 
 use crate::task::MatrixTask;
+use frames::limits::{LEAST_PROCESSES, LEAST_VALUES, MOST_VALUES, MOST_WRITERS};
 use frames::register::{Behaves, Register};
 use frames::types::{Frame, FrameLayer, Layer, Op, Outcome};
 use layers::construction::{Construction, Rules, Shape};
-use layers::fit::{LEAST_PROCESSES, LEAST_VALUES, LayerError, MOST_VALUES};
+use layers::fit::LayerError;
 use layers::layered::Layered;
 use layers::nested::{Ask, Continuation};
 use safe_bit::Store;
-
-/// The most processes of a matrix, each of which writes.
-pub const MOST_WRITERS: u32 = 4;
 
 /// A register that each of n processes writes and reads, over n * n registers of tagged codes: an
 /// operation reads its column, and then writes the greatest code, or a write its own with a greater

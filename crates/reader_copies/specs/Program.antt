@@ -8,7 +8,7 @@ use Rattle.frames.specs.declared.types.Outcome.TheVariants.{Written}
 use Rattle.frames.specs.declared.types.FrameLayer.TheVariants as layer
 use Rattle.frames.specs.declared.types.Frame.{Frame}
 use Rattle.layers.specs.declared.nested.Ask.{Ask}
-use Rattle.layers.specs.declared.fit.TheConstants.{MOST_READERS}
+use Rattle.frames.specs.declared.limits.TheConstants.{MOST_READERS}
 use Rattle.layers.specs.declared.fit.LayerError.{LayerError}
 use Rattle.layers.specs.declared.fit.LayerError.TheVariants.{BadSize}
 use Rattle.frames.specs.Behaviour.{Behaviour}

@@ -11,7 +11,7 @@ use Rattle.frames.specs.declared.types.Outcome.TheVariants.{Value, Written, Spen
 use Rattle.layers.specs.declared.nested.Continuation.TheVariants as continuation
 use Rattle.frames.specs.Behaviour.{Answers}
 use Rattle.layers.specs.Settled.{settled}
-use Rattle.layers.specs.declared.fit.TheConstants.{MOST_READERS}
+use Rattle.frames.specs.declared.limits.TheConstants.{MOST_READERS}
 use Rattle.layers.specs.Sound.{IsSound, IsSoundTable, IsNotSpent, Falls, FitsPart}
 use Rattle.layers.specs.OneWriter.{one_writer}
 use Rattle.layers.specs.laws.OneWriter as writer

@@ -1,16 +1,17 @@
 //! The rules of copies, whatever register stands below.
 
 ghost use Rattle.std.specs.Prelude.{◌≡◌, ℕ, ◌<◌, ◌≤◌, ◌^◌, MatchResult, IfOk, Some, None};
-ghost use Rattle.layers.specs.declared.fit.TheConstants.{MOST_READERS};
+ghost use Rattle.frames.specs.declared.limits.TheConstants.{MOST_READERS};
 ghost use Rattle.layers.specs.OneWriter.{one_writer};
 ghost use Rattle.layers.specs.Nested.{layered};
 ghost use Rattle.reader_copies.specs.Program.{copies_table, copies_refusal};
 
 use crate::task::CopiesTask;
+use frames::limits::MOST_READERS;
 use frames::register::{Behaves, Register};
 use frames::types::{Frame, FrameLayer, Op, Outcome};
 use layers::construction::{Construction, Rules, Shape, one_writer};
-use layers::fit::{LayerError, MOST_READERS};
+use layers::fit::LayerError;
 use layers::layered::Layered;
 use layers::nested::{Ask, Continuation};
 use safe_bit::Store;

@@ -1,6 +1,6 @@
 -- The limits of a stamped register's own numbers, and what refuses it.
 use Rattle.std.specs.Prelude.{ℕ, Bool, ◌&&◌, nat_le, nat_lt, Option, Some, if◌then◌else◌}
-use Rattle.layers.specs.declared.fit.TheConstants.{LEAST_VALUES, MOST_VALUES}
+use Rattle.frames.specs.declared.limits.TheConstants.{LEAST_VALUES, MOST_VALUES}
 use Rattle.layers.specs.declared.fit.LayerError.{LayerError}
 use Rattle.layers.specs.declared.fit.LayerError.TheVariants.{BadSize}
 use Rattle.frames.specs.Behaviour.{Behaviour}

@@ -13,7 +13,7 @@ use Rattle.frames.specs.declared.types.Outcome.{Outcome}
 use Rattle.frames.specs.declared.types.Outcome.TheVariants.{Value, Written, Spent}
 use Rattle.frames.specs.Behaviour.{Answers}
 use Rattle.layers.specs.Nested.{Ends, Asks, Sets}
-use Rattle.layers.specs.declared.fit.TheConstants.{LEAST_VALUES}
+use Rattle.frames.specs.declared.limits.TheConstants.{LEAST_VALUES}
 use Rattle.layers.specs.Sound.{IsSound, IsSoundTable, IsNotSpent, Falls, FitsPart}
 use Rattle.layers.specs.OneWriter.{one_writer}
 use Rattle.layers.specs.laws.OneWriter as writer

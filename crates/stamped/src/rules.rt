@@ -1,16 +1,17 @@
 //! The rules of a stamped register, whatever register stands below.
 
 ghost use Rattle.std.specs.Prelude.{◌≡◌, ℕ, ◌+◌, ◌*◌, ◌<◌, ◌≤◌, ◌^◌, MatchResult, IfOk, Some, None};
-ghost use Rattle.layers.specs.declared.fit.TheConstants.{LEAST_VALUES, MOST_VALUES};
+ghost use Rattle.frames.specs.declared.limits.TheConstants.{LEAST_VALUES, MOST_VALUES};
 ghost use Rattle.layers.specs.Nested.{layered};
 ghost use Rattle.stamped.specs.Program.{stamped_table};
 ghost use Rattle.stamped.specs.Limits.{stamped_refusal};
 
 use crate::task::StampedTask;
+use frames::limits::{LEAST_VALUES, MOST_VALUES};
 use frames::register::{Behaves, Register};
 use frames::types::{Frame, FrameLayer, Layer, Op, Outcome};
 use layers::construction::{Construction, Rules, Shape, one_writer};
-use layers::fit::{LEAST_VALUES, LayerError, MOST_VALUES};
+use layers::fit::LayerError;
 use layers::layered::Layered;
 use layers::nested::{Ask, Continuation};
 use safe_bit::Store;

@@ -18,6 +18,7 @@ use Rattle.tower_file.specs.Faults.{fault}
 use Rattle.tower_file.specs.Towers.{values_of, processes_of, is_lawful_tower, suits, fits}
 use Rattle.tower_file.specs.declared.version.Version.{Version}
 use Rattle.tower_file.specs.declared.version.Version.TheVariants.{One, Two}
+use Rattle.frames.specs.declared.limits.TheConstants.{MOST_PROCESSES, MOST_VALUES}
 use Rattle.tower_file.specs.Versions.{header, has_step, may_have}
 use Rattle.tower_file.specs.Files.{File, IsLawful, file_of}
 use Rattle.words.specs.Words.{words, lines, is_end}
@@ -33,8 +34,8 @@ use Rattle.tower_file.proofs.Texts.{print_is_plain, lines-line}
 -- ---- the numbers of lawful files have at most 9 digits
 
 pub record IsFew (t : TowerSpec) : Type 0 where
-  pub values : values_of t ≤ 512
-  pub processes : processes_of t ≤ 5
+  pub values : values_of t ≤ MOST_VALUES
+  pub processes : processes_of t ≤ MOST_PROCESSES
 
 few : (t : TowerSpec) → is_lawful_tower t ≡ true → IsFew t
 few (Safe init) h = record { values = omega arith; processes = omega arith }

@@ -3,6 +3,8 @@ use Rattle.std.specs.Prelude.{ℕ, ◌+◌, ◌*◌, Bool, ◌&&◌, nat_lt, nat
 use Rattle.frames.specs.declared.types.Op.{Op}
 use Rattle.frames.specs.declared.types.Op.TheVariants as op
 use Rattle.frames.specs.declared.types.Step.{Step}
+use Rattle.frames.specs.declared.limits.TheConstants.{LEAST_PROCESSES, LEAST_VALUES, MOST_READERS, MOST_VALUES, MOST_WRITERS}
+use Rattle.frames.specs.declared.register.TheConstants.{MOST_CELLS}
 use Rattle.frames.specs.Fitting.{Roles, step_fits}
 use Rattle.frames.specs.OneWriter.{one_writer}
 use Rattle.tower_file.specs.declared.tower.TowerSpec.{TowerSpec}
@@ -33,17 +35,17 @@ is_in least most n = nat_le least n && nat_le n most
 abbrev pub is_small_matrix : ℕ → ℕ → ℕ → ℕ → Bool
 is_small_matrix processes values last_tag last_stamp =
     let codes = (last_stamp + 1) * (last_tag + 1) * processes * values in
-    nat_le codes 512 && nat_le (processes * processes * codes) 4096
+    nat_le codes MOST_VALUES && nat_le (processes * processes * codes) MOST_CELLS
 
 -- each number lies in its range, and the tower isn't too large
 abbrev pub is_lawful_tower : TowerSpec → Bool
 is_lawful_tower (Safe init) = nat_lt init 2
-is_lawful_tower (Copies readers init) = is_in 1 4 readers && nat_lt init 2
-is_lawful_tower (Regular readers init) = is_in 1 4 readers && nat_lt init 2
-is_lawful_tower (Unary values readers init) = (is_in 2 512 values && is_in 1 4 readers) && nat_lt init values
-is_lawful_tower (Stamped values last) = (is_in 2 512 values && nat_lt last 512) && nat_le ((last + 1) * values) 512
+is_lawful_tower (Copies readers init) = is_in 1 MOST_READERS readers && nat_lt init 2
+is_lawful_tower (Regular readers init) = is_in 1 MOST_READERS readers && nat_lt init 2
+is_lawful_tower (Unary values readers init) = (is_in LEAST_VALUES MOST_VALUES values && is_in 1 MOST_READERS readers) && nat_lt init values
+is_lawful_tower (Stamped values last) = (is_in LEAST_VALUES MOST_VALUES values && nat_lt last MOST_VALUES) && nat_le ((last + 1) * values) MOST_VALUES
 is_lawful_tower (Matrix processes values last_tag last_stamp) =
-    ((is_in 2 4 processes && is_in 2 512 values) && nat_lt last_tag 512 && nat_lt last_stamp 512)
+    ((is_in LEAST_PROCESSES MOST_WRITERS processes && is_in LEAST_VALUES MOST_VALUES values) && nat_lt last_tag MOST_VALUES && nat_lt last_stamp MOST_VALUES)
     && is_small_matrix processes values last_tag last_stamp
 
 -- which operations fit a process: in the matrix each process reads and writes each value; every other tower has one writer

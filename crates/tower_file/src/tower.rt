@@ -1,8 +1,11 @@
 //! The six towers: their values and processes, which are lawful, and which steps fit them.
 
 ghost use Rattle.std.specs.Prelude.{◌≡◌, ◌<◌, ◌≤◌};
+ghost use Rattle.frames.specs.declared.limits.TheConstants.{LEAST_VALUES, MOST_READERS, MOST_VALUES, MOST_WRITERS};
 ghost use Rattle.tower_file.specs.Towers as spec;
 
+use frames::limits::{LEAST_PROCESSES, LEAST_VALUES, MOST_READERS, MOST_VALUES, MOST_WRITERS};
+use frames::register::MOST_CELLS;
 use frames::roles::{HasRoles, step_fits};
 use frames::types::{Op, Step};
 
@@ -71,7 +74,7 @@ impl TowerSpec {
                 init,
             } => is_value_count(values) && is_reader_count(readers) && init < values,
             TowerSpec::Stamped { values, last } => {
-                is_value_count(values) && last < 512 && (last + 1) * values <= 512
+                is_value_count(values) && last < MOST_VALUES && (last + 1) * values <= MOST_VALUES
             }
             TowerSpec::Matrix {
                 processes,
@@ -79,10 +82,10 @@ impl TowerSpec {
                 last_tag,
                 last_stamp,
             } => {
-                is_in(2, 4, processes)
+                is_in(LEAST_PROCESSES, MOST_WRITERS, processes)
                     && is_value_count(values)
-                    && last_tag < 512
-                    && last_stamp < 512
+                    && last_tag < MOST_VALUES
+                    && last_stamp < MOST_VALUES
                     && is_small_matrix(processes, values, last_tag, last_stamp)
             }
         }
@@ -134,26 +137,26 @@ fn is_in(least: u32, most: u32, n: u32) -> bool
 
 /// Whether a tower may have this many readers.
 fn is_reader_count(readers: u32) -> bool
-    ensures { result ≡ spec.is_in 1 4 readers }
+    ensures { result ≡ spec.is_in 1 MOST_READERS readers }
 {
-    is_in(1, 4, readers)
+    is_in(1, MOST_READERS, readers)
 }
 
 /// Whether a tower may have this many values.
 fn is_value_count(values: u32) -> bool
-    ensures { result ≡ spec.is_in 2 512 values }
+    ensures { result ≡ spec.is_in LEAST_VALUES MOST_VALUES values }
 {
-    is_in(2, 512, values)
+    is_in(LEAST_VALUES, MOST_VALUES, values)
 }
 
 /// Whether a matrix has few enough codes and bits, its numbers being in their ranges.
 fn is_small_matrix(processes: u32, values: u32, last_tag: u32, last_stamp: u32) -> bool
-    requires processes { processes ≤ 4 }
-    requires values { values ≤ 512 }
-    requires last_tag { last_tag < 512 }
-    requires last_stamp { last_stamp < 512 }
+    requires processes { processes ≤ MOST_WRITERS }
+    requires values { values ≤ MOST_VALUES }
+    requires last_tag { last_tag < MOST_VALUES }
+    requires last_stamp { last_stamp < MOST_VALUES }
     ensures { result ≡ spec.is_small_matrix processes values last_tag last_stamp }
 {
     let codes = (last_stamp + 1) * (last_tag + 1) * processes * values;
-    codes <= 512 && processes * processes * codes <= 4096
+    codes <= MOST_VALUES && processes * processes * codes <= MOST_CELLS
 }

@@ -1,8 +1,10 @@
 -- Within the limits of a tower, each of its layers can stand on the one below.
-use Rattle.std.proofs.Common.{◌≡◌, ℕ, ◌+◌, ◌*◌, ◌≤◌, Option, None, Some, Result, Ok, Err, arith, rules}
+use Rattle.std.proofs.Common.{◌≡◌, ℕ, ◌+◌, ◌*◌, ◌<◌, ◌≤◌, Option, None, Some, Result, Ok, Err, arith, rules}
 use Rattle.std.proofs.lemmas.Bool.Decides.{nat_tests}
 use Rattle.std.proofs.Math.Nat.{mul-le-mul, mul-le-mul_right}
 use Rattle.std.specs.Prelude.{MatchResult, IsOk}
+use Rattle.frames.specs.declared.limits.TheConstants.{LEAST_PROCESSES, LEAST_VALUES, MOST_READERS, MOST_VALUES, MOST_WRITERS}
+use Rattle.frames.specs.declared.register.TheConstants.{MOST_CELLS}
 use Rattle.layers.specs.Fit.{refusal_below}
 use Rattle.frames.specs.SafeBit.{safe_behaviour}
 use Rattle.reader_copies.specs.Program.{copies_refusal}
@@ -12,26 +14,26 @@ use Rattle.stamped.specs.Limits.{stamped_refusal}
 use Rattle.matrix.specs.Limits.{matrix_refusal}
 use Rattle.towers.specs.Towers.{copies_tower, regular_tower, unary_tower, stamped_tower}
 
-pub copies_stand : (readers : ℕ) → 1 ≤ readers → readers ≤ 4 → copies_refusal readers safe_behaviour ≡ None
+pub copies_stand : (readers : ℕ) → 1 ≤ readers → readers ≤ MOST_READERS → copies_refusal readers safe_behaviour ≡ None
 copies_stand readers some few = grind (arith, nat_tests)
 
-pub regular_stands : (readers : ℕ) → 1 ≤ readers → readers ≤ 4 → refusal_below (regular_table (readers + 1)) (copies_tower readers) ≡ None
+pub regular_stands : (readers : ℕ) → 1 ≤ readers → readers ≤ MOST_READERS → refusal_below (regular_table (readers + 1)) (copies_tower readers) ≡ None
 regular_stands readers some few = grind (arith, nat_tests)
 
-pub unary_stands : (values readers : ℕ) → 2 ≤ values → values ≤ 512 → 1 ≤ readers → readers ≤ 4 → unary_refusal values (regular_tower readers) ≡ None
+pub unary_stands : (values readers : ℕ) → LEAST_VALUES ≤ values → values ≤ MOST_VALUES → 1 ≤ readers → readers ≤ MOST_READERS → unary_refusal values (regular_tower readers) ≡ None
 unary_stands values readers two most some few =
-    let product : values * readers ≤ 512 * 4 = mul-le-mul most few in
+    let product : values * readers ≤ MOST_VALUES * MOST_READERS = mul-le-mul most few in
     grind (arith, nat_tests)
 
-pub stamped_stands : (values last : ℕ) → 2 ≤ values → values ≤ 512 → last ≤ 511 → (last + 1) * values ≤ 512 → stamped_refusal values last (unary_tower ((last + 1) * values) 1) ≡ None
+pub stamped_stands : (values last : ℕ) → LEAST_VALUES ≤ values → values ≤ MOST_VALUES → last < MOST_VALUES → (last + 1) * values ≤ MOST_VALUES → stamped_refusal values last (unary_tower ((last + 1) * values) 1) ≡ None
 stamped_stands values last two few stamps most = grind (arith, nat_tests)
 
-pub matrix_stands : (n values tag stamp : ℕ) → 2 ≤ n → n ≤ 4 → 2 ≤ values → values ≤ 512 → tag ≤ 511 → (stamp + 1) * ((tag + 1) * n * values) ≤ 512
-    → n * n * ((stamp + 1) * ((tag + 1) * n * values)) ≤ 4096
+pub matrix_stands : (n values tag stamp : ℕ) → LEAST_PROCESSES ≤ n → n ≤ MOST_WRITERS → LEAST_VALUES ≤ values → values ≤ MOST_VALUES → tag < MOST_VALUES → (stamp + 1) * ((tag + 1) * n * values) ≤ MOST_VALUES
+    → n * n * ((stamp + 1) * ((tag + 1) * n * values)) ≤ MOST_CELLS
     → matrix_refusal n values tag (stamped_tower ((tag + 1) * n * values) stamp) ≡ None
 matrix_stands n values tag stamp two four some few tags most cells =
-    let square : n * n ≤ 4 * 4 = mul-le-mul four four in
-    let inner : (tag + 1) * n * values ≤ 512 = omega (arith, mul-le-mul_right ((tag + 1) * n * values) (one_le stamp)) in
+    let square : n * n ≤ MOST_WRITERS * MOST_WRITERS = mul-le-mul four four in
+    let inner : (tag + 1) * n * values ≤ MOST_VALUES = omega (arith, mul-le-mul_right ((tag + 1) * n * values) (one_le stamp)) in
     grind (arith, nat_tests)
   where
     one_le : (k : ℕ) → 1 ≤ k + 1

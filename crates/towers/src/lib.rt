@@ -5,7 +5,9 @@
 #[cfg(test)]
 mod tests;
 
-ghost use Rattle.std.specs.Prelude.{◌≡◌, ◌≤◌, ◌+◌, ◌*◌};
+ghost use Rattle.std.specs.Prelude.{◌≡◌, ◌<◌, ◌≤◌, ◌+◌, ◌*◌};
+ghost use Rattle.frames.specs.declared.limits.TheConstants.{LEAST_PROCESSES, LEAST_VALUES, MOST_READERS, MOST_VALUES, MOST_WRITERS};
+ghost use Rattle.frames.specs.declared.register.TheConstants.{MOST_CELLS};
 ghost use Rattle.towers.specs.Towers.{copies_tower, regular_tower, unary_tower, stamped_tower, matrix_tower};
 
 use frames::register::Behaves;
@@ -35,7 +37,7 @@ pub type MatrixTower = Layered<Matrix, StampedTower>;
 /// Copies of a safe bit for 1 to 4 readers.
 pub fn copies(readers: u32) -> CopiesTower
     requires some { 1 ≤ readers }
-    requires few { readers ≤ 4 }
+    requires few { readers ≤ MOST_READERS }
     ensures { ⟦<CopiesTower as Behaves>⟧.is result ≡ copies_tower readers }
 {
     Copies::new(Safe, readers).unwrap()
@@ -44,7 +46,7 @@ pub fn copies(readers: u32) -> CopiesTower
 /// A regular bit for 1 to 4 readers.
 pub fn regular(readers: u32) -> RegularTower
     requires some { 1 ≤ readers }
-    requires few { readers ≤ 4 }
+    requires few { readers ≤ MOST_READERS }
     ensures { ⟦<RegularTower as Behaves>⟧.is result ≡ regular_tower readers }
 {
     RegularBit::new(copies(readers)).unwrap()
@@ -52,10 +54,10 @@ pub fn regular(readers: u32) -> RegularTower
 
 /// A unary number of 2 to 512 values for 1 to 4 readers.
 pub fn unary(values: u32, readers: u32) -> UnaryTower
-    requires two { 2 ≤ values }
-    requires most { values ≤ 512 }
+    requires two { LEAST_VALUES ≤ values }
+    requires most { values ≤ MOST_VALUES }
     requires some { 1 ≤ readers }
-    requires few { readers ≤ 4 }
+    requires few { readers ≤ MOST_READERS }
     ensures { ⟦<UnaryTower as Behaves>⟧.is result ≡ unary_tower values readers }
 {
     Unary::new(regular(readers), values).unwrap()
@@ -63,10 +65,10 @@ pub fn unary(values: u32, readers: u32) -> UnaryTower
 
 /// A stamped register of 2 to 512 values and a last stamp of at most 511, with at most 512 codes.
 pub fn stamped(values: u32, last: u32) -> StampedTower
-    requires two { 2 ≤ values }
-    requires few { values ≤ 512 }
-    requires stamps { last ≤ 511 }
-    requires most { (last + 1) * values ≤ 512 }
+    requires two { LEAST_VALUES ≤ values }
+    requires few { values ≤ MOST_VALUES }
+    requires stamps { last < MOST_VALUES }
+    requires most { (last + 1) * values ≤ MOST_VALUES }
     ensures { ⟦<StampedTower as Behaves>⟧.is result ≡ stamped_tower values last }
 {
     let codes = unary((last + 1) * values, 1);
@@ -76,14 +78,14 @@ pub fn stamped(values: u32, last: u32) -> StampedTower
 /// A matrix of 2 to 4 processes, 2 to 512 values and a last tag of at most 511, over stamped registers
 /// with a last stamp: at most 512 codes below and 4,096 bits in all.
 pub fn matrix(processes: u32, values: u32, tag: u32, stamp: u32) -> MatrixTower
-    requires two { 2 ≤ processes }
-    requires four { processes ≤ 4 }
-    requires some { 2 ≤ values }
-    requires few { values ≤ 512 }
-    requires tags { tag ≤ 511 }
-    requires stamps { stamp ≤ 511 }
-    requires most { (stamp + 1) * ((tag + 1) * processes * values) ≤ 512 }
-    requires cells { processes * processes * ((stamp + 1) * ((tag + 1) * processes * values)) ≤ 4096 }
+    requires two { LEAST_PROCESSES ≤ processes }
+    requires four { processes ≤ MOST_WRITERS }
+    requires some { LEAST_VALUES ≤ values }
+    requires few { values ≤ MOST_VALUES }
+    requires tags { tag < MOST_VALUES }
+    requires stamps { stamp < MOST_VALUES }
+    requires most { (stamp + 1) * ((tag + 1) * processes * values) ≤ MOST_VALUES }
+    requires cells { processes * processes * ((stamp + 1) * ((tag + 1) * processes * values)) ≤ MOST_CELLS }
     ensures { ⟦<MatrixTower as Behaves>⟧.is result ≡ matrix_tower processes values tag stamp }
 {
     let part = stamped((tag + 1) * processes * values, stamp);

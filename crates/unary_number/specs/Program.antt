@@ -9,7 +9,7 @@ use Rattle.frames.specs.declared.types.Outcome.TheVariants.{Value, Written, Spen
 use Rattle.frames.specs.declared.types.FrameLayer.TheVariants.{Unary}
 use Rattle.frames.specs.declared.types.Frame.{Frame}
 use Rattle.layers.specs.declared.nested.Ask.{Ask}
-use Rattle.layers.specs.declared.fit.TheConstants.{LEAST_VALUES, MOST_VALUES}
+use Rattle.frames.specs.declared.limits.TheConstants.{LEAST_VALUES, MOST_VALUES}
 use Rattle.layers.specs.declared.fit.LayerError.{LayerError}
 use Rattle.layers.specs.declared.fit.LayerError.TheVariants.{BadSize}
 use Rattle.frames.specs.Behaviour.{Behaviour}

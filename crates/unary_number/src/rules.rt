@@ -3,16 +3,17 @@
 ghost use Rattle.std.specs.Prelude.{◌≡◌, ℕ, ◌<◌, ◌≤◌, ◌+◌, ◌-◌, ◌^◌, MatchResult, IfOk, Some, None};
 ghost use Rattle.safe_bit.specs.Memory.{Memory};
 ghost use Rattle.frames.specs.declared.types.Outcome.TheVariants.{Value};
-ghost use Rattle.layers.specs.declared.fit.TheConstants.{LEAST_VALUES, MOST_VALUES};
+ghost use Rattle.frames.specs.declared.limits.TheConstants.{LEAST_VALUES, MOST_VALUES};
 ghost use Rattle.layers.specs.Settled.{settled};
 ghost use Rattle.unary_number.specs.Program.{clears_below, looks_above, unary_table, unary_refusal};
 ghost use Rattle.layers.specs.Nested.{layered};
 
 use crate::task::UnaryTask;
+use frames::limits::{LEAST_VALUES, MOST_VALUES};
 use frames::register::{Behaves, Register};
 use frames::types::{Frame, FrameLayer, Op, Outcome};
 use layers::construction::{Construction, Rules, Shape, one_writer};
-use layers::fit::{LEAST_VALUES, LayerError, MOST_VALUES};
+use layers::fit::LayerError;
 use layers::layered::Layered;
 use layers::nested::{Ask, Continuation};
 use safe_bit::Store;
