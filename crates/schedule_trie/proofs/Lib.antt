@@ -30,3 +30,4 @@ pub mod Copies
 pub mod Renumbered
 pub mod Beside
 pub mod Detaches
+pub mod Notes

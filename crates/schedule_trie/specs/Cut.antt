@@ -145,6 +145,10 @@ abbrev pub note_of : {T : Type 0} → Option (Piece T) → Option T
 note_of None = None
 note_of (Some p) = p.note
 
+-- nothing is noted at any segment
+abbrev pub IsBlank : {T : Type 0} → Cut T → Type 0
+IsBlank c = (k : ℕ) → note_of (piece_at c.pieces k) ≡ None
+
 -- no branch has a cell of these any more
 abbrev pub AreGone : {T : Type 0} → Cut T → List Slot → Type 0
 AreGone new slots = (i x : ℕ) → has_cell x slots ≡ true → has_cell x (slots_in (forest new).branches i) ≡ false

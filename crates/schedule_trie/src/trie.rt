@@ -4,7 +4,7 @@ ghost use Rattle.std.specs.Prelude.{◌<◌, ◌≤◌, length, IfSome, IfNone, 
 ghost use Rattle.std.specs.Option.{option_map, option_copied};
 ghost use Rattle.std.specs.List.{position};
 ghost use Rattle.schedule_trie.specs.Forest.{path_of, step_of, cell_at, place_of, is_cell, opened, opening, IsRefused, replace_step, index_of, slots_in, name_in, len_of};
-ghost use Rattle.schedule_trie.specs.Cut.{IsNoted, above_of, before_key, keys_by, if_lacks, note_of, AreLimits, has, IsOwnEnd, IsPushed, LackedByOthers, forest, IsCut, KeepsNotes, IsStepSet, piece_at, slots_of, keys_in, line, StandsAt};
+ghost use Rattle.schedule_trie.specs.Cut.{IsBlank, IsNoted, above_of, before_key, keys_by, if_lacks, note_of, AreLimits, has, IsOwnEnd, IsPushed, LackedByOthers, forest, IsCut, KeepsNotes, IsStepSet, piece_at, slots_of, keys_in, line, StandsAt};
 
 mod detach;
 mod division;
@@ -17,7 +17,8 @@ mod remove;
 use crate::limits::Limits;
 use crate::name::Name;
 use crate::refusal::Refusal;
-use crate::segment::{MOST_SLOTS, SegKey, Segment};
+pub use crate::segment::SegKey;
+use crate::segment::{MOST_SLOTS, Segment};
 use crate::slot::Slot;
 use crate::trie::release::has_at;
 use frames::types::Step;
@@ -58,6 +59,7 @@ impl<T: Drop> Trie<T> {
         ensures ok { IfOk result (λ t. opened limits steps.now ≡ Ok (forest t)) }
         ensures limits { IfOk result (λ t. t.limits ≡ limits) }
         ensures cut { IfOk result IsCut }
+        ensures blank { IfOk result IsBlank }
         ensures err { IfErr result (IsRefused (opened limits steps.now)) }
     {
         if steps.len() > limits.cells as usize {
@@ -76,6 +78,7 @@ impl<T: Drop> Trie<T> {
         ensures forest { IfOk result (λ t. forest t ≡ opening steps.now) }
         ensures limits { IfOk result (λ t. t.limits ≡ limits) }
         ensures cut { IfOk result IsCut }
+        ensures blank { IfOk result IsBlank }
     {
         let mut trie = Trie::empty(alloc, limits)?;
         for step in steps {
@@ -91,6 +94,7 @@ impl<T: Drop> Trie<T> {
         ensures limits { IfOk result (λ t. t.limits ≡ limits) }
         ensures count { IfOk result (λ t. length t.strands ≡ 1) }
         ensures cut { IfOk result IsCut }
+        ensures blank { IfOk result IsBlank }
     {
         let mut branches = IndexMap::new(alloc);
         branches.insert(Name::main(), Vec::new(alloc))?;
@@ -283,8 +287,8 @@ impl<T: Drop> Trie<T> {
         self.branches.get_index_of(branch)
     }
 
-    /// The keys of a branch's segments, in order.
-    fn keys_at(&self, index: usize) -> &[SegKey]
+    /// The keys of the segments of the branch at an index, in order; none where there is no such branch.
+    pub fn keys_at(&self, index: usize) -> &[SegKey]
         ensures keys { result.now ≡ keys_in self.now.strands index }
         ensures short { length (line (piece_at self.now.pieces) result.now) ≤ self.now.made }
         ensures made { self.now.made ≤ 16777216 }

@@ -1,5 +1,6 @@
 use Rattle.std.proofs.Common.{ap, ◌∙◌, ◌+◌, arith}
 use Rattle.schedule_trie.proofs.Openings.{get_or_own, pushed_next}
+use Rattle.schedule_trie.proofs.Notes.{blank_kept}
 use Rattle.schedule_trie.proofs.trie.Trie.with_steps.Goals as goal
 
 pub loop-step-preserved : goal.loop-step-preserved
@@ -12,5 +13,6 @@ loop-step-preserved g c =
       count = p.count ∙ c.loop-step.invariant.count;
       made = p.made ∙ ap (λ n. n + 1) c.loop-step.invariant.made;
       cut = p.cut;
+      blank = blank_kept c.loop-step.trie c.push_last.new.self p.notes c.loop-step.invariant.blank;
       few = c.loop-step.invariant.few;
     }

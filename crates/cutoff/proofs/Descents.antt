@@ -1,0 +1,176 @@
+-- Walks down a branch that only look.
+use Rattle.std.proofs.Common.{◌≡◌, ℕ, zero, suc, ◌+◌, ◌<◌, ◌≤◌, Bool, true, false, nat_eq, cond, List, [], ◌∷◌, length, map, drop, get_or, Option, Some, None, inl, inr, refl, sym, ap, subst, ◌∙◌, arith, true≢false, eq-eqb}
+use Rattle.std.specs.Cmp.{IsPartialEquivalence, IsEquivalence}
+use Rattle.std.proofs.lemmas.Bool.{eqb-true}
+use Rattle.std.proofs.Math.Seq.{drop-cons}
+use Rattle.std.proofs.lemmas.List.{map-append}
+use Rattle.frames.specs.Behaviour.{Behaviour}
+use Rattle.frames.specs.Configuration.{Configuration, replayed, fits_step}
+use Rattle.frames.specs.Equality.{SameConfiguration}
+use Rattle.checkpoints.specs.Segment.{SegmentRun, IsRun, AllFit}
+use Rattle.schedule_trie.specs.Forest.{step_of}
+use Rattle.schedule_trie.specs.Cut.{Cut, piece_at, slots_of, note_of, line, has}
+use Rattle.schedule_trie.proofs.Once.{has_cases}
+use Rattle.cutoff.specs.Fitting.{StoredRun, RunFits, Fits, steps_at}
+use Rattle.cutoff.specs.Links.{alone, IsStored, IsLinked}
+use Rattle.cutoff.specs.Plans.{Descends, FitsDown, keys_before}
+use Rattle.cutoff.proofs.Edits.{all_left, all_right}
+use Rattle.cutoff.proofs.Fits.{register_kept, same_symm, run_fits_alike, fits_alike, fits_to_note, exit_same, stored_at}
+use Rattle.cutoff.proofs.Walks.{linked_home, by_key}
+
+-- a walk has come to a configuration, with the segments `left` still to go
+pub record IsDescending {R P : Type 0} (E : R → R → Bool) (b : Behaviour P) (cut : Cut (StoredRun R P)) (start : Configuration R P) (above : Option ℕ) (config : Configuration R P)
+    (keys left : List ℕ) : Type 0 where
+  pub at : Configuration R P
+  pub home : at.register ≡ start.register
+  pub same : SameConfiguration E config at
+  pub linked : (next : ℕ) × IsLinked E start.register next above (alone config) cut
+  pub ends : (missed : Option ℕ) (end : Configuration R P) → Descends E b cut at left missed end → Descends E b cut start keys missed end
+
+module _ {R P : Type 0} (E : R → R → Bool) (equal : IsEquivalence E) (per : IsPartialEquivalence E) (is : R → Behaviour P) (alike : (x y : R) → E x y ≡ true → is x ≡ is y) where
+  pub descent_starts : (cut : Cut (StoredRun R P)) (start : Configuration R P) (keys : List ℕ) → (next : ℕ) × IsLinked E start.register next None (alone start) cut
+      → IsDescending E (is start.register) cut start None start keys keys
+  descent_starts cut start keys linked = record {
+    at = start;
+    home = refl;
+    same = record { register = equal.refl start.register; memory = refl; running = refl; stopped = refl };
+    linked = linked;
+    ends = λ missed end d. d;
+  }
+
+  module _ {cut : Cut (StoredRun R P)} {start : Configuration R P} {above : Option ℕ} {config : Configuration R P} {keys : List ℕ} where
+    pub own_register : {left : List ℕ} → IsDescending E (is start.register) cut start above config keys left → E config.register start.register ≡ true
+    own_register w = subst (λ r. E config.register r ≡ true) w.home w.same.register
+
+    pub linked_there : {left : List ℕ} → IsDescending E (is start.register) cut start above config keys left → (next : ℕ) × IsLinked E config.register next above (alone config) cut
+    linked_there w =
+        (w.linked.0, linked_home E per start.register config.register w.linked.0 above (alone config) cut (per.symm start.register config.register ∙ own_register w) w.linked.1)
+
+    pub descent_done : IsDescending E (is start.register) cut start above config keys [] → Descends E (is start.register) cut start keys None config
+    descent_done w = w.ends None config (refl, w.same)
+
+    pub descent_misses : (k : ℕ) (ks : List ℕ) → IsDescending E (is start.register) cut start above config keys (k ∷ ks) → (Fits E cut config k → ⊥)
+        → Descends E (is start.register) cut start keys (Some k) config
+    descent_misses k ks w misses =
+        w.ends (Some k) config (inr ((λ f. misses (fits_alike E per cut w.at config k (same_symm E per config w.at w.same) f)), refl, w.same))
+
+    pub descent_on : (k : ℕ) (ks : List ℕ) → IsDescending E (is start.register) cut start above config keys (k ∷ ks) → (s : StoredRun R P) → note_of (piece_at cut.pieces k) ≡ Some s
+        → RunFits E config (steps_at cut k) s.run → IsRun (is s.run.entry.register) s.run → (exit : Configuration R P) → exit ≡ s.run.exit
+        → IsDescending E (is start.register) cut start s.id exit keys ks
+    descent_on k ks w s noted fits true_run exit came =
+        let fits_at : RunFits E w.at (steps_at cut k) s.run = run_fits_alike E per config w.at (steps_at cut k) s.run w.same fits in
+        let told : IsStored E start.register w.linked.1.exits (steps_at cut k) s = stored_at E start.register w.linked.1.exits cut k s (w.linked.1.each k) noted in
+        subst (λ e. IsDescending E (is start.register) cut start s.id e keys ks) (sym came) (record {
+          at = replayed (is start.register) w.at (steps_at cut k);
+          home = register_kept (is start.register) w.at (steps_at cut k) ∙ w.home;
+          same = exit_same E is alike (is start.register) w.at (steps_at cut k) s.run (ap is w.home) true_run fits_at;
+          linked = (w.linked.0, record { exits = w.linked.1.exits; as_many = w.linked.1.as_many; each = w.linked.1.each; came = told.id });
+          ends = λ missed end d. w.ends missed end (inl (fits_to_note E cut w.at k s noted fits_at, d));
+        })
+
+    -- by the index of the next key
+    module _ (i : ℕ) (w : IsDescending E (is start.register) cut start above config keys (drop i keys)) where
+      descent_at : i < length keys → IsDescending E (is start.register) cut start above config keys (get_or keys i 0 ∷ drop (i + 1) keys)
+      descent_at h =
+          let step : suc i ≡ i + 1 = omega arith in
+          subst (λ l. IsDescending E (is start.register) cut start above config keys l) (drop-cons keys i 0 h ∙ ap (λ j. get_or keys i 0 ∷ drop j keys) step) w
+
+      pub misses_at : i < length keys → (Fits E cut config (get_or keys i 0) → ⊥) → Descends E (is start.register) cut start keys (Some (get_or keys i 0)) config
+      misses_at h misses = descent_misses (get_or keys i 0) (drop (i + 1) keys) (descent_at h) misses
+
+      pub goes_at : i < length keys → (s : StoredRun R P) → note_of (piece_at cut.pieces (get_or keys i 0)) ≡ Some s → RunFits E config (steps_at cut (get_or keys i 0)) s.run
+          → IsRun (is s.run.entry.register) s.run → (exit : Configuration R P) → exit ≡ s.run.exit → (id : Option ℕ) → id ≡ s.id
+          → IsDescending E (is start.register) cut start id exit keys (drop (i + 1) keys)
+      goes_at h s noted fits true_run exit came id same =
+          subst (λ n. IsDescending E (is start.register) cut start n exit keys (drop (i + 1) keys)) (sym same)
+          (descent_on (get_or keys i 0) (drop (i + 1) keys) (descent_at h) s noted fits true_run exit came)
+
+      pub done_at : length keys ≤ i → Descends E (is start.register) cut start keys None config
+      done_at past = descent_done (subst (λ l. IsDescending E (is start.register) cut start above config keys l) (drop_past i keys past) w)
+        where
+          drop_past : (n : ℕ) (xs : List ℕ) → length xs ≤ n → drop n xs ≡ []
+          drop_past zero [] h = refl
+          drop_past zero (x ∷ xs) h = absurd (omega arith)
+          drop_past (suc n) [] h = refl
+          drop_past (suc n) (x ∷ xs) h = drop_past n xs (omega arith)
+
+-- what a walk down to a key tells of a run there
+module _ {R P : Type 0} (E : R → R → Bool) (per : IsPartialEquivalence E) (b : Behaviour P) (cut : Cut (StoredRun R P)) (key : ℕ) (run : SegmentRun R P) where
+  -- the first key is the one, or another
+  first_is : (k : ℕ) (ks : List ℕ) → key ≡ k → keys_before key (k ∷ ks) ≡ []
+  first_is k ks e = ap (λ x. cond x [] (k ∷ keys_before key ks)) (eq-eqb key k e)
+
+  first_other : (k : ℕ) (ks : List ℕ) → (key ≡ k → ⊥) → keys_before key (k ∷ ks) ≡ k ∷ keys_before key ks
+  first_other k ks ne = by (nat_eq key k) refl
+    where
+      by : (e : Bool) → nat_eq key k ≡ e → keys_before key (k ∷ ks) ≡ k ∷ keys_before key ks
+      by true e = absurd (ne (eqb-true key k e))
+      by false e = ap (λ x. cond x [] (k ∷ keys_before key ks)) e
+
+  from_cases : (c end : Configuration R P) (k : ℕ) (ks : List ℕ) → has key (k ∷ ks) ≡ true → Descends E b cut c (keys_before key (k ∷ ks)) None end → RunFits E end (steps_at cut key) run
+      → (has key ks ≡ true → Descends E b cut (replayed b c (steps_at cut k)) (keys_before key ks) None end → FitsDown E b cut key run (replayed b c (steps_at cut k)) ks)
+      → FitsDown E b cut key run c (k ∷ ks)
+  from_cases c end k ks h d f rest = by_key key k (FitsDown E b cut key run c (k ∷ ks)) same other
+    where
+      same : key ≡ k → FitsDown E b cut key run c (k ∷ ks)
+      same e =
+          let here : SameConfiguration E end c = (subst (λ l. Descends E b cut c l None end) (first_is k ks e) d).1 in
+          inl (e, run_fits_alike E per end c (steps_at cut k) run here (subst (λ j. RunFits E end (steps_at cut j) run) e f))
+
+      down : (key ≡ k → ⊥) → Descends E b cut c (k ∷ keys_before key ks) None end → has key ks ≡ true → FitsDown E b cut key run c (k ∷ ks)
+      down ne (inl p) more = inr (ne, p.0, rest more p.1)
+      down ne (inr p) more = absurd (let e : ◌≡◌ {A = Option ℕ} None (Some k) = p.1 in cc)
+
+      other : (key ≡ k → ⊥) → FitsDown E b cut key run c (k ∷ ks)
+      other ne = down ne (subst (λ l. Descends E b cut c l None end) (first_other k ks ne) d) (has_cases key k ks (has key ks ≡ true) h (λ e. absurd (ne e)) (λ r. r))
+
+  pub fits_down_from : (c end : Configuration R P) (keys : List ℕ) → has key keys ≡ true → Descends E b cut c (keys_before key keys) None end
+      → RunFits E end (steps_at cut key) run → FitsDown E b cut key run c keys
+  fits_down_from c end [] h d f = absurd (true≢false (sym h))
+  fits_down_from c end (k ∷ ks) h d f = from_cases c end k ks h d f (λ more down. fits_down_from (replayed b c (steps_at cut k)) end ks more down f)
+
+  end_cases : (c end : Configuration R P) (k : ℕ) (ks : List ℕ) → Descends E b cut c (keys_before key (k ∷ ks)) None end → FitsDown E b cut key run c (k ∷ ks)
+      → (Descends E b cut (replayed b c (steps_at cut k)) (keys_before key ks) None end → FitsDown E b cut key run (replayed b c (steps_at cut k)) ks → RunFits E end (steps_at cut key) run)
+      → RunFits E end (steps_at cut key) run
+  end_cases c end k ks d (inl p) rest =
+      let here : SameConfiguration E end c = (subst (λ l. Descends E b cut c l None end) (first_is k ks p.0) d).1 in
+      run_fits_alike E per c end (steps_at cut key) run (same_symm E per end c here) (subst (λ j. RunFits E c (steps_at cut j) run) (sym p.0) p.1)
+  end_cases c end k ks d (inr q) rest = down (subst (λ l. Descends E b cut c l None end) (first_other k ks q.0) d)
+    where
+      down : Descends E b cut c (k ∷ keys_before key ks) None end → RunFits E end (steps_at cut key) run
+      down (inl p) = rest p.1 q.2
+      down (inr p) = absurd (let e : ◌≡◌ {A = Option ℕ} None (Some k) = p.1 in cc)
+
+  pub fits_down_end : (c end : Configuration R P) (keys : List ℕ) → Descends E b cut c (keys_before key keys) None end → FitsDown E b cut key run c keys
+      → RunFits E end (steps_at cut key) run
+  fits_down_end c end [] d f = absurd f
+  fits_down_end c end (k ∷ ks) d f = end_cases c end k ks d f (λ down fits. fits_down_end (replayed b c (steps_at cut k)) end ks down fits)
+
+  stale_cases : (c end : Configuration R P) (j k : ℕ) (ks : List ℕ) → Descends E b cut c (keys_before key (k ∷ ks)) (Some j) end → FitsDown E b cut key run c (k ∷ ks)
+      → (Descends E b cut (replayed b c (steps_at cut k)) (keys_before key ks) (Some j) end → FitsDown E b cut key run (replayed b c (steps_at cut k)) ks → ⊥) → ⊥
+  stale_cases c end j k ks d (inl p) rest =
+      let e : ◌≡◌ {A = Option ℕ} (Some j) None = (subst (λ l. Descends E b cut c l (Some j) end) (first_is k ks p.0) d).0 in cc
+  stale_cases c end j k ks d (inr q) rest = down (subst (λ l. Descends E b cut c l (Some j) end) (first_other k ks q.0) d)
+    where
+      down : Descends E b cut c (k ∷ keys_before key ks) (Some j) end → ⊥
+      down (inl p) = rest p.1 q.2
+      down (inr p) = p.0 q.1
+
+  pub missed_is_stale : (c end : Configuration R P) (j : ℕ) (keys : List ℕ) → Descends E b cut c (keys_before key keys) (Some j) end → FitsDown E b cut key run c keys → ⊥
+  missed_is_stale c end j [] d f = f
+  missed_is_stale c end j (k ∷ ks) d f = stale_cases c end j k ks d f (λ down fits. missed_is_stale (replayed b c (steps_at cut k)) end j ks down fits)
+
+-- a missed key is one of the path's
+pub missed_there : {R P : Type 0} (E : R → R → Bool) (b : Behaviour P) (cut : Cut (StoredRun R P)) (c end : Configuration R P) (keys : List ℕ) (j : ℕ)
+    → Descends E b cut c keys (Some j) end → AllFit b (map step_of (line (piece_at cut.pieces) keys)) → AllFit b (steps_at cut j)
+missed_there E b cut c end [] j d fit = absurd (let e : ◌≡◌ {A = Option ℕ} (Some j) None = d.0 in cc)
+missed_there E b cut c end (k ∷ ks) j (inl p) fit =
+    missed_there E b cut (replayed b c (steps_at cut k)) end ks j p.1
+    (all_right (λ s. fits_step b s ≡ true) (steps_at cut k) (map step_of (line (piece_at cut.pieces) ks))
+    (subst (AllFit b) (map-append step_of (slots_of (piece_at cut.pieces k)) (line (piece_at cut.pieces) ks)) fit))
+missed_there E b cut c end (k ∷ ks) j (inr p) fit =
+    let e : ◌≡◌ {A = Option ℕ} (Some j) (Some k) = p.1 in
+    let same : j ≡ k = cc in
+    subst (λ i. AllFit b (steps_at cut i)) (sym same)
+    (all_left (λ s. fits_step b s ≡ true) (steps_at cut k) (map step_of (line (piece_at cut.pieces) ks))
+    (subst (AllFit b) (map-append step_of (slots_of (piece_at cut.pieces k)) (line (piece_at cut.pieces) ks)) fit))

@@ -1,0 +1,84 @@
+-- A chart whose stored runs changed, and whose forest didn't.
+use Rattle.std.proofs.Common.{◌≡◌, ℕ, ◌<◌, ◌≤◌, Bool, true, false, nat_lt, cond, List, length, map, Option, Some, None, IsSome, Ok, Err, refl, sym, ap, subst, ◌∙◌, arith}
+use Rattle.std.specs.Option.{option_map, IfSome}
+use Rattle.std.proofs.lemmas.Bool.Decides.{nat_tests}
+use Rattle.frames.specs.Behaviour.{Behaviour}
+use Rattle.checkpoints.specs.Segment.{AllFit}
+use Rattle.schedule_trie.specs.declared.slot.Slot.{Slot}
+use Rattle.schedule_trie.specs.declared.refusal.Refusal.TheVariants.{NoPlace}
+use Rattle.schedule_trie.specs.Forest.{slots_in, step_of, index_of, on_found}
+use Rattle.schedule_trie.specs.Cut.{Cut, Piece, piece_at, line, forest, has, keys_in, keys_by, SharesAbove, IsCut}
+use Rattle.schedule_trie.proofs.Lines.{slots_in_on}
+use Rattle.cutoff.specs.Fitting.{StoredRun, KeepsRuns}
+use Rattle.cutoff.specs.Links.{alone, IsLinked}
+use Rattle.cutoff.specs.Held.{Charted, IsCharted, StepsFit, keys_or, keys_named, looked_at, look}
+
+-- the same cells at each key
+module _ {T : Type 0} (Q : List Slot → Type 0) where
+  there_too : (o p : Option (Piece T)) → option_map (λ x. x.slots) p ≡ option_map (λ x. x.slots) o → IsSome o → IsSome p
+  there_too o None e h = cc_there o e h
+    where
+      cc_there : (o : Option (Piece T)) → ◌≡◌ {A = Option (List Slot)} None (option_map (λ x. x.slots) o) → IsSome o → IsSome {T = Piece T} None
+      cc_there None e h = h
+      cc_there (Some q) e h = cc
+  there_too o (Some q) e h = refl
+
+  slots_too : (o p : Option (Piece T)) → option_map (λ x. x.slots) p ≡ option_map (λ x. x.slots) o → IfSome o (λ x. Q x.slots) → IfSome p (λ x. Q x.slots)
+  slots_too o None e h = tt
+  slots_too None (Some q) e h = cc
+  slots_too (Some r) (Some q) e h = let same : q.slots ≡ r.slots = cc in subst Q (sym same) h
+
+pub cut_kept : {R P : Type 0} (old new : Cut (StoredRun R P)) (Missed : ℕ → Type 0) → KeepsRuns old new Missed → IsCut old → IsCut new
+cut_kept old new Missed kept cut = record {
+  held = λ i k h. there_too (λ s. Unit {0}) (piece_at old.pieces k) (piece_at new.pieces k) (kept.slots k) (cut.held i k (subst (λ s. has k (keys_in s i) ≡ true) kept.strands h));
+  sizes = λ k. slots_too (λ s. (0 < length s) × (length s ≤ 128)) (piece_at old.pieces k) (piece_at new.pieces k) (kept.slots k) (cut.sizes k);
+  live = λ k h. let was = cut.live k (there_too (λ s. Unit {0}) (piece_at new.pieces k) (piece_at old.pieces k) (sym (kept.slots k)) h) in
+      (was.0, subst (λ s. has k (keys_in s was.0) ≡ true) (sym kept.strands) was.1);
+  shares = subst SharesAbove (sym kept.strands) cut.shares;
+}
+
+pub charted_kept : {R P : Type 0} (E : R → R → Bool) (b : Behaviour P) (next after : ℕ) (c : Charted R P) (new : Cut (StoredRun R P)) (Missed : ℕ → Type 0)
+    → KeepsRuns c.cut new Missed → IsLinked E c.start.register after None (alone c.start) new → IsCharted E b next c
+    → IsCharted E b after (record { cut = new; start = c.start; value = c.value })
+charted_kept E b next after c new Missed kept linked was = record {
+  within = was.within;
+  begins = was.begins;
+  fits = subst (StepsFit b) (sym kept.forest_kept) was.fits;
+  whole = cut_kept c.cut new Missed kept was.whole;
+  linked = linked;
+}
+
+-- the branch of a name, where it is there
+module _ {R P : Type 0} (b : Behaviour P) (cut : Cut (StoredRun R P)) (name keys : List ℕ) (len : ℕ)
+    (found : Some len ≡ option_map (λ i. length (slots_in (forest cut).branches i)) (index_of (forest cut).branches name))
+    (are : keys_by (index_of (forest cut).branches name) cut.strands ≡ Some keys) where
+  pub index_there : (i : ℕ) × (index_of (forest cut).branches name ≡ Some i) × (keys ≡ keys_in cut.strands i) × (length (slots_in (forest cut).branches i) ≡ len)
+  index_there = by (index_of (forest cut).branches name) refl found are
+    where
+      by : (o : Option ℕ) → index_of (forest cut).branches name ≡ o → Some len ≡ option_map (λ i. length (slots_in (forest cut).branches i)) o → keys_by o cut.strands ≡ Some keys
+          → (i : ℕ) × (index_of (forest cut).branches name ≡ Some i) × (keys ≡ keys_in cut.strands i) × (length (slots_in (forest cut).branches i) ≡ len)
+      by None e f k = cc
+      by (Some i) e f k = (i, e, cc, cc)
+
+  pub branch_there : (i : ℕ) × (keys ≡ keys_in cut.strands i)
+  branch_there = (index_there.0, index_there.2)
+
+  pub line_there : slots_in (forest cut).branches index_there.0 ≡ line (piece_at cut.pieces) keys
+  line_there = slots_in_on (piece_at cut.pieces) cut.strands index_there.0 ∙ ap (line (piece_at cut.pieces)) (sym index_there.2)
+
+  pub len_there : length (line (piece_at cut.pieces) keys) ≡ len
+  len_there = ap length (sym line_there) ∙ index_there.3
+
+  pub fits_there : StepsFit b (forest cut) → AllFit b (map step_of (line (piece_at cut.pieces) keys))
+  fits_there fits = subst (λ l. AllFit b (map step_of l)) line_there (fits index_there.0)
+
+  pub keys_there : keys_named cut name ≡ keys
+  keys_there = ap (λ o. keys_or o cut.strands) index_there.1 ∙ sym index_there.2
+
+  pub look_there : (place : ℕ) → place ≤ len → look (forest cut) name place ≡ Ok (forest cut)
+  look_there place within =
+      ap (λ o. on_found o (looked_at (forest cut) place)) index_there.1
+      ∙ ap (λ t. cond t (Err NoPlace) (Ok (forest cut))) (not_behind (length (slots_in (forest cut).branches index_there.0)) index_there.3)
+    where
+      not_behind : (n : ℕ) → n ≡ len → nat_lt n place ≡ false
+      not_behind n e = grind (arith, nat_tests)

@@ -1,0 +1,11 @@
+pub mod Edits
+pub mod Fits
+pub mod Links
+pub mod Segments
+pub mod Walks
+pub mod Kept
+pub mod Descents
+pub mod Paths
+pub mod Installed
+pub mod Plannings
+pub mod Commands

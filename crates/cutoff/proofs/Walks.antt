@@ -1,0 +1,361 @@
+-- A walk down a branch that settles one segment after the other.
+use Rattle.std.proofs.Common.{◌≡◌, ℕ, zero, suc, ◌+◌, ◌-◌, ◌<◌, ◌≤◌, Bool, true, false, nat_eq, cond, List, [], ◌∷◌, ◌++◌, length, map, drop, get_or, slice_get, Option, Some, None, IsSome, MatchOption, ◌⊎◌, inl, inr, refl, sym, ap, subst, ◌∙◌, arith, append_assoc, append-nil, true≢false, eq-eqb}
+use Rattle.std.specs.Prelude.{⊤, min}
+use Rattle.std.specs.Cmp.{IsPartialEquivalence, IsEquivalence}
+use Rattle.std.specs.Option.{option_map, IfSome}
+use Rattle.std.specs.Arc.{arc_value}
+use Rattle.std.specs.declared.sync.Arc.{Arc}
+use Rattle.std.proofs.lemmas.Bool.{eqb-true}
+use Rattle.std.proofs.Math.Seq.{drop-cons}
+use Rattle.std.proofs.lemmas.List.{length-append, length-map, map-append}
+use Rattle.frames.specs.declared.types.Step.{Step}
+use Rattle.frames.specs.Behaviour.{Behaviour}
+use Rattle.frames.specs.Configuration.{Configuration, replayed, fits_step}
+use Rattle.frames.specs.Equality.{SameConfiguration}
+use Rattle.checkpoints.specs.Segment.{SegmentRun, IsRun, AllFit}
+use Rattle.schedule_trie.specs.Forest.{step_of}
+use Rattle.schedule_trie.specs.Cut.{Cut, Piece, piece_at, slots_of, note_of, with_note, line, has, Once, keys_in, IsNoted, IsCut}
+use Rattle.schedule_trie.proofs.Once.{has-head, has-tail, Once-from_linked}
+use Rattle.cutoff.specs.Fitting.{StoredRun, RunPart, run_of, RunFits, Fits, IsWork, IsSettledAt, IsSegmentSettled, Settles, IsMissed, KeepsRuns, steps_at, slots_at, run_at, reached, exit_of, counted, part_of}
+use Rattle.cutoff.specs.Links.{alone, IsStored, IsTold, IsLinked}
+use Rattle.cutoff.proofs.Edits.{all_left, all_right}
+use Rattle.cutoff.proofs.Fits.{register_kept, same_symm, run_fits_alike, fits_alike, exit_same}
+
+module _ {R P : Type 0} where
+  abbrev pub part : SegmentRun R P → ℕ → RunPart R P
+  part run count = record { run = run; count = count }
+
+  pub exit_of-last : (c : Configuration R P) (parts : List (RunPart R P)) (p : RunPart R P) → exit_of c (parts ++ p ∷ []) ≡ p.run.exit
+  exit_of-last c [] p = refl
+  exit_of-last c (q ∷ parts) p = exit_of-last q.run.exit parts p
+
+  counted-last : (parts : List (RunPart R P)) (p : RunPart R P) → counted (parts ++ p ∷ []) ≡ counted parts + p.count
+  counted-last [] p = omega arith
+  counted-last (q ∷ parts) p = let e : counted (parts ++ p ∷ []) ≡ counted parts + p.count = counted-last parts p in omega arith
+
+-- whether two keys are one
+pub by_key : (j k : ℕ) (Q : Type 0) → (j ≡ k → Q) → ((j ≡ k → ⊥) → Q) → Q
+by_key j k Q same other = by (nat_eq j k) refl
+  where
+    by : (b : Bool) → nat_eq j k ≡ b → Q
+    by true e = same (eqb-true j k e)
+    by false e = other (λ s. true≢false (sym (eq-eqb j k s) ∙ e))
+
+lacks_cons : (j k : ℕ) (ks : List ℕ) → has j (k ∷ ks) ≡ false → (j ≡ k → ⊥) × (has j ks ≡ false)
+lacks_cons j k ks h = (λ e. true≢false (sym (subst (λ i. has i (k ∷ ks) ≡ true) (sym e) (has-head k ks)) ∙ h), by (has j ks) refl)
+  where
+    by : (b : Bool) → has j ks ≡ b → has j ks ≡ false
+    by true e = absurd (true≢false (sym (has-tail j k ks e) ∙ h))
+    by false e = e
+
+-- what a note changes
+module _ {R P : Type 0} where
+  noted_run : (s : StoredRun R P) (o : Option (Piece (StoredRun R P))) → IsSome o → option_map run_of (note_of (option_map (with_note (Some s)) o)) ≡ Some s.run
+  noted_run s None h = absurd (true≢false (sym h))
+  noted_run s (Some p) h = refl
+
+  pub noted_slots : (s : StoredRun R P) (o : Option (Piece (StoredRun R P)))
+      → option_map (λ p. p.slots) (option_map (with_note (Some s)) o) ≡ option_map (λ p. p.slots) o
+  noted_slots s None = refl
+  noted_slots s (Some p) = refl
+
+-- numbers and links, for an equal register
+pub linked_home : {R P : Type 0} (E : R → R → Bool) → IsPartialEquivalence E → (h g : R) (next : ℕ) (above : Option ℕ) (c : Configuration ⊤ P) (cut : Cut (StoredRun R P))
+    → E h g ≡ true → IsLinked E h next above c cut → IsLinked E g next above c cut
+linked_home {R} {P} E per h g next above c cut e l = record { exits = l.exits; as_many = l.as_many; each = λ k. told (piece_at cut.pieces k) (l.each k); came = l.came }
+  where
+    stored : (segment : List Step) (n : Option (StoredRun R P)) → MatchOption n ⊤ (IsStored E h l.exits segment) → MatchOption n ⊤ (IsStored E g l.exits segment)
+    stored segment None t = tt
+    stored segment (Some s) t = record { own = per.trans s.run.entry.register h g t.own e; covers = t.covers; id = t.id; link = t.link }
+
+    told : (o : Option (Piece (StoredRun R P))) → IsTold E h l.exits o → IsTold E g l.exits o
+    told None t = tt
+    told (Some p) t = stored (map step_of p.slots) p.note t
+
+-- a walk has come behind runs `parts`, with the segments `left` and `rest` cells still to go, and n steps were replayed
+pub record IsWalking {R P : Type 0} (E : R → R → Bool) (b : Behaviour P) (old cut : Cut (StoredRun R P)) (start : Configuration R P) (next : ℕ) (above : Option ℕ)
+    (keys left : List ℕ) (place rest n : ℕ) (parts : List (RunPart R P)) : Type 0 where
+  pub at : Configuration R P
+  pub home : at.register ≡ start.register
+  pub same : SameConfiguration E (exit_of start parts) at
+  pub linked : IsLinked E start.register next above (alone (exit_of start parts)) cut
+  pub keeps : KeepsRuns old cut (IsMissed E b old start (reached old place keys))
+  pub ahead : (k : ℕ) → has k left ≡ true → piece_at cut.pieces k ≡ piece_at old.pieces k
+  pub there : (k : ℕ) → has k left ≡ true → IsSome (piece_at old.pieces k)
+  pub small : (k : ℕ) → length (steps_at old k) ≤ 128
+  pub missed : (k : ℕ) → IsMissed E b old at (reached old rest left) k → IsMissed E b old start (reached old place keys) k
+  pub settles : (new : Cut (StoredRun R P)) (more : List (RunPart R P)) (m : ℕ) → ((k : ℕ) → has k left ≡ false → run_at new k ≡ run_at cut k)
+      → Settles E b old new at rest (reached old rest left) more m → Settles E b old new start place (reached old place keys) (parts ++ more) (n + m)
+  pub count : counted parts + rest ≡ place
+  pub enough : rest ≤ length (line (piece_at old.pieces) left)
+  pub short : n + length (line (piece_at old.pieces) left) ≤ length (line (piece_at old.pieces) keys)
+  pub once : Once left
+  pub fit : AllFit b (map step_of (line (piece_at old.pieces) left))
+
+-- it begins
+module _ {R P : Type 0} (E : R → R → Bool) (equal : IsEquivalence E) (b : Behaviour P) (old : Cut (StoredRun R P)) (start : Configuration R P) where
+  small_steps : IsCut old → (k : ℕ) → length (steps_at old k) ≤ 128
+  small_steps whole k = by (piece_at old.pieces k) (whole.sizes k)
+    where
+      by : (o : Option (Piece (StoredRun R P))) → IfSome o (λ p. (0 < length p.slots) × (length p.slots ≤ 128)) → length (map step_of (slots_of o)) ≤ 128
+      by None h = omega arith
+      by (Some p) h = let e : length (map step_of p.slots) ≡ length p.slots = length-map p.slots step_of in omega arith
+
+  pub walk_starts : (next : ℕ) (keys : List ℕ) (place : ℕ) → IsCut old → (branch : (i : ℕ) × (keys ≡ keys_in old.strands i)) → IsLinked E start.register next None (alone start) old
+      → AllFit b (map step_of (line (piece_at old.pieces) keys)) → place ≤ length (line (piece_at old.pieces) keys)
+      → IsWalking E b old old start next None keys keys place place 0 []
+  walk_starts next keys place whole branch linked fit within = record {
+    at = start;
+    home = refl;
+    same = record { register = equal.refl start.register; memory = refl; running = refl; stopped = refl };
+    linked = linked;
+    keeps = record { strands = refl; limits = refl; forest_kept = refl; slots = λ k. refl; runs = λ k. inl refl };
+    ahead = λ k h. refl;
+    there = λ k h. whole.held branch.0 k (subst (λ l. has k l ≡ true) branch.1 h);
+    small = small_steps whole;
+    missed = λ k m. m;
+    settles = λ new more m same s. let e : m ≡ 0 + m = omega arith in subst (Settles E b old new start place (reached old place keys) more) e s;
+    count = omega arith;
+    enough = within;
+    short = omega arith;
+    once = subst Once (sym branch.1) (Once-from_linked whole.shares.above (keys_in old.strands branch.0) (whole.shares.linked branch.0));
+    fit = fit;
+  }
+
+-- it goes on behind one more settled segment
+module _ {R P : Type 0} (E : R → R → Bool) (equal : IsEquivalence E) (per : IsPartialEquivalence E) (is : R → Behaviour P) (alike : (x y : R) → E x y ≡ true → is x ≡ is y)
+    (old cut : Cut (StoredRun R P)) (start : Configuration R P) (next : ℕ) (above : Option ℕ) (keys ks : List ℕ) (k place rest n : ℕ) (parts : List (RunPart R P))
+    (w : IsWalking E (is start.register) old cut start next above keys (k ∷ ks) place rest n parts) (wanted : rest ≡ 0 → ⊥) (cfg : Configuration R P) (came : cfg ≡ exit_of start parts) where
+  -- what holds as the segment is settled
+  pub home_same : E (exit_of start parts).register start.register ≡ true
+  home_same = subst (λ r. E (exit_of start parts).register r ≡ true) w.home w.same.register
+
+  pub linked_here : IsLinked E cfg.register next above (alone cfg) cut
+  linked_here =
+      subst (λ d. IsLinked E d.register next above (alone d) cut) (sym came)
+      (linked_home E per start.register (exit_of start parts).register next above (alone (exit_of start parts)) cut
+      (per.symm start.register (exit_of start parts).register ∙ home_same) w.linked)
+
+  here_same : piece_at cut.pieces k ≡ piece_at old.pieces k
+  here_same = w.ahead k (has-head k ks)
+
+  pub steps_here : steps_at cut k ≡ steps_at old k
+  steps_here = ap (λ o. map step_of (slots_of o)) here_same
+
+  line_here : map step_of (line (piece_at old.pieces) (k ∷ ks)) ≡ steps_at old k ++ map step_of (line (piece_at old.pieces) ks)
+  line_here = map-append step_of (slots_of (piece_at old.pieces k)) (line (piece_at old.pieces) ks)
+
+  fits_old : AllFit (is start.register) (steps_at old k)
+  fits_old = all_left (λ s. fits_step (is start.register) s ≡ true) (steps_at old k) (map step_of (line (piece_at old.pieces) ks)) (subst (AllFit (is start.register)) line_here w.fit)
+
+  pub fits_here : AllFit (is cfg.register) (steps_at cut k)
+  fits_here =
+      subst (λ d. AllFit (is d.register) (steps_at cut k)) (sym came)
+      (subst (AllFit (is (exit_of start parts).register)) (sym steps_here)
+      (subst (λ b. AllFit b (steps_at old k)) (sym (alike (exit_of start parts).register start.register home_same)) fits_old))
+
+  pub small_here : length (steps_at cut k) ≤ 128
+  small_here = let e : length (steps_at cut k) ≡ length (steps_at old k) = ap length steps_here in let s : length (steps_at old k) ≤ 128 = w.small k in omega arith
+
+  len_here : length (line (piece_at old.pieces) (k ∷ ks)) ≡ length (steps_at old k) + length (line (piece_at old.pieces) ks)
+  len_here =
+      length-append (slots_of (piece_at old.pieces k)) (line (piece_at old.pieces) ks)
+      ∙ ap (λ x. x + length (line (piece_at old.pieces) ks)) (sym (length-map (slots_of (piece_at old.pieces k)) step_of))
+
+  reached_here : (c : Bool) → nat_eq rest 0 ≡ c → c ≡ false → reached old rest (k ∷ ks) ≡ k ∷ reached old (rest - length (steps_at old k)) ks
+  reached_here c e f = ap (λ x. cond x [] (k ∷ reached old (rest - length (steps_at old k)) ks)) (e ∙ f)
+
+  reached_is : reached old rest (k ∷ ks) ≡ k ∷ reached old (rest - length (steps_at old k)) ks
+  reached_is = by (nat_eq rest 0) refl
+    where
+      by : (c : Bool) → nat_eq rest 0 ≡ c → reached old rest (k ∷ ks) ≡ k ∷ reached old (rest - length (steps_at old k)) ks
+      by true e = absurd (wanted (eqb-true rest 0 e))
+      by false e = reached_here false e refl
+
+  module _ (new : Cut (StoredRun R P)) (after : ℕ) (id : Option ℕ) (run : SegmentRun R P) (work count rest_after n_after : ℕ)
+      (settled_cfg : IsSegmentSettled E cut new cfg k run work) (linked_cfg : IsLinked E cfg.register after id (alone run.exit) new)
+      (true_run : IsRun (is run.entry.register) run) (counts : count ≡ min rest (length run.steps)) (less : rest_after ≡ rest - count) (more_work : n_after ≡ n + work) where
+    abbrev settled : IsSegmentSettled E cut new (exit_of start parts) k run work
+    settled = subst (λ d. IsSegmentSettled E cut new d k run work) came settled_cfg
+
+    linked : IsLinked E (exit_of start parts).register after id (alone run.exit) new
+    linked = subst (λ d. IsLinked E d.register after id (alone run.exit) new) came linked_cfg
+
+    noted : IsNoted cut new k (Some settled.noted.0)
+    noted = settled.noted.1
+
+    abbrev goes_to : Configuration R P
+    goes_to = replayed (is start.register) w.at (steps_at old k)
+
+    fits_at : RunFits E w.at (steps_at old k) run
+    fits_at = subst (λ l. RunFits E w.at l run) steps_here (run_fits_alike E per (exit_of start parts) w.at (steps_at cut k) run w.same settled.fits)
+
+    run_len : length run.steps ≡ length (steps_at old k)
+    run_len = ap length fits_at.steps
+
+    stored_here : run_at new k ≡ Some run
+    stored_here =
+        ap (λ o. option_map run_of (note_of o)) noted.here
+        ∙ noted_run settled.noted.0 (piece_at cut.pieces k) (subst IsSome (sym here_same) (w.there k (has-head k ks)))
+        ∙ ap Some settled.noted.2
+
+    other_piece : (j : ℕ) → (j ≡ k → ⊥) → piece_at new.pieces j ≡ piece_at cut.pieces j
+    other_piece j ne = noted.others j ne
+
+    other_run : (j : ℕ) → (j ≡ k → ⊥) → run_at new j ≡ run_at cut j
+    other_run j ne = ap (λ o. option_map run_of (note_of o)) (other_piece j ne)
+
+    run_here : run_at cut k ≡ run_at old k
+    run_here = ap (λ o. option_map run_of (note_of o)) here_same
+
+    -- the same fits in the tree as it was
+    fits_cut : Fits E old w.at k → Fits E cut (exit_of start parts) k
+    fits_cut f = subst (λ o. MatchOption (option_map run_of (note_of o)) ⊥ (RunFits E (exit_of start parts) (map step_of (slots_of o)))) (sym here_same)
+        (fits_alike E per old w.at (exit_of start parts) k (same_symm E per (exit_of start parts) w.at w.same) f)
+
+    fits_was : Fits E cut (exit_of start parts) k → Fits E old w.at k
+    fits_was f = fits_alike E per old (exit_of start parts) w.at k w.same
+        (subst (λ o. MatchOption (option_map run_of (note_of o)) ⊥ (RunFits E (exit_of start parts) (map step_of (slots_of o)))) here_same f)
+
+    work_was : IsWork E old w.at k run work
+    work_was = by settled.work
+      where
+        by : IsWork E cut (exit_of start parts) k run work → IsWork E old w.at k run work
+        by (inl f) = inl (fits_was f.0, sym run_here ∙ f.1, f.2)
+        by (inr m) = inr ((λ f. m.0 (fits_cut f)), m.1 ∙ ap length steps_here)
+
+    settled_at : (last : Cut (StoredRun R P)) → run_at last k ≡ run_at new k → IsSettledAt E old last w.at rest k (part run count) work
+    settled_at last e = record { stored = e ∙ stored_here; fits = fits_at; count = counts ∙ ap (min rest) run_len; work = work_was }
+
+    rest_is : rest_after ≡ rest - length (steps_at old k)
+    rest_is = let e : length run.steps ≡ length (steps_at old k) = run_len in omega arith
+
+    missed_here : (j : ℕ) → IsMissed E (is start.register) old w.at (k ∷ reached old (rest - length (steps_at old k)) ks) j → IsMissed E (is start.register) old start (reached old place keys) j
+    missed_here j m = w.missed j (subst (λ l. IsMissed E (is start.register) old w.at l j) (sym reached_is) m)
+
+    runs_kept : (j : ℕ) → (run_at new j ≡ run_at old j) ⊎ IsMissed E (is start.register) old start (reached old place keys) j
+    runs_kept j = by_key j k _ here (λ ne. other ne (w.keeps.runs j))
+      where
+        other : (j ≡ k → ⊥) → (run_at cut j ≡ run_at old j) ⊎ IsMissed E (is start.register) old start (reached old place keys) j
+            → (run_at new j ≡ run_at old j) ⊎ IsMissed E (is start.register) old start (reached old place keys) j
+        other ne (inl e) = inl (other_run j ne ∙ e)
+        other ne (inr m) = inr m
+
+        by : j ≡ k → IsWork E old w.at k run work → (run_at new j ≡ run_at old j) ⊎ IsMissed E (is start.register) old start (reached old place keys) j
+        by e (inl f) = inl (ap (run_at new) e ∙ stored_here ∙ sym f.1 ∙ ap (run_at old) (sym e))
+        by e (inr m) = inr (missed_here j (inl (e, m.0)))
+
+        here : j ≡ k → (run_at new j ≡ run_at old j) ⊎ IsMissed E (is start.register) old start (reached old place keys) j
+        here e = by e work_was
+
+    slots_kept : (j : ℕ) → slots_at new j ≡ slots_at old j
+    slots_kept j = by_key j k _
+        (λ e. ap (slots_at new) e ∙ ap (option_map (λ p. p.slots)) noted.here ∙ noted_slots settled.noted.0 (piece_at cut.pieces k) ∙ w.keeps.slots k ∙ ap (slots_at old) (sym e))
+        (λ ne. ap (option_map (λ p. p.slots)) (other_piece j ne) ∙ w.keeps.slots j)
+
+    exit_is : exit_of start (parts ++ part run count ∷ []) ≡ run.exit
+    exit_is = exit_of-last start parts (part run count)
+
+    settles_on : (last : Cut (StoredRun R P)) (more : List (RunPart R P)) (m : ℕ) → ((j : ℕ) → has j ks ≡ false → run_at last j ≡ run_at new j)
+        → Settles E (is start.register) old last goes_to rest_after (reached old rest_after ks) more m
+        → Settles E (is start.register) old last start place (reached old place keys) ((parts ++ part run count ∷ []) ++ more) (n_after + m)
+    settles_on last more m same s =
+        let sum : n + (work + m) ≡ n_after + m = omega arith in
+        subst (λ l. Settles E (is start.register) old last start place (reached old place keys) l (n_after + m)) (sym (append_assoc parts (part run count ∷ []) more))
+        (subst (Settles E (is start.register) old last start place (reached old place keys) (parts ++ part run count ∷ more)) sum
+        (w.settles last (part run count ∷ more) (work + m)
+        (λ j h. let lacks = lacks_cons j k ks h in same j lacks.1 ∙ other_run j lacks.0)
+        (subst (λ l. Settles E (is start.register) old last w.at rest l (part run count ∷ more) (work + m)) (sym reached_is)
+        (work, m, refl, settled_at last (same k w.once.0), subst (λ r. Settles E (is start.register) old last goes_to r (reached old r ks) more m) rest_is s))))
+
+    pub walk_on : IsWalking E (is start.register) old new start after id keys ks place rest_after n_after (parts ++ part run count ∷ [])
+    walk_on = record {
+      at = goes_to;
+      home = register_kept (is start.register) w.at (steps_at old k) ∙ w.home;
+      same = subst (λ c. SameConfiguration E c goes_to) (sym exit_is) (exit_same E is alike (is start.register) w.at (steps_at old k) run (ap is w.home) true_run fits_at);
+      linked = subst (λ c. IsLinked E start.register after id (alone c) new) (sym exit_is)
+          (linked_home E per (exit_of start parts).register start.register after id (alone run.exit) new home_same linked);
+      keeps = record {
+        strands = noted.strands ∙ w.keeps.strands;
+        limits = noted.limits ∙ w.keeps.limits;
+        forest_kept = noted.unchanged ∙ w.keeps.forest_kept;
+        slots = slots_kept;
+        runs = runs_kept;
+      };
+      ahead = λ j h. noted.others j (λ e. true≢false (sym (subst (λ i. has i ks ≡ true) e h) ∙ w.once.0)) ∙ w.ahead j (has-tail j k ks h);
+      there = λ j h. w.there j (has-tail j k ks h);
+      small = w.small;
+      missed = λ j m. missed_here j (inr (subst (λ r. IsMissed E (is start.register) old goes_to (reached old r ks) j) rest_is m));
+      settles = settles_on;
+      count = let e : counted (parts ++ part run count ∷ []) ≡ counted parts + count = counted-last parts (part run count) in let c = w.count in omega arith;
+      enough = let e = w.enough in let l = len_here in let r = rest_is in omega arith;
+      short = let f = w.short in let l = len_here in let wk = work_short work_was in omega arith;
+      once = w.once.1;
+      fit = all_right (λ s. fits_step (is start.register) s ≡ true) (steps_at old k) (map step_of (line (piece_at old.pieces) ks)) (subst (AllFit (is start.register)) line_here w.fit);
+    }
+      where
+        work_short : IsWork E old w.at k run work → work ≤ length (steps_at old k)
+        work_short (inl f) = let z = f.2 in omega arith
+        work_short (inr m) = let z = m.1 in omega arith
+
+drop_past : (n : ℕ) (xs : List ℕ) → length xs ≤ n → drop n xs ≡ []
+drop_past zero [] h = refl
+drop_past zero (x ∷ xs) h = absurd (omega arith)
+drop_past (suc n) [] h = refl
+drop_past (suc n) (x ∷ xs) h = drop_past n xs (omega arith)
+
+-- where it stands, by the index of the next key
+module _ {R P : Type 0} (E : R → R → Bool) (b : Behaviour P) (old cut : Cut (StoredRun R P)) (start : Configuration R P) (next : ℕ) (above : Option ℕ)
+    (keys : List ℕ) (i place rest n : ℕ) (parts : List (RunPart R P)) (w : IsWalking E b old cut start next above keys (drop i keys) place rest n parts) where
+  pub walk_at : i < length keys → IsWalking E b old cut start next above keys (get_or keys i 0 ∷ drop (i + 1) keys) place rest n parts
+  walk_at h =
+      let step : suc i ≡ i + 1 = omega arith in
+      subst (λ l. IsWalking E b old cut start next above keys l place rest n parts) (drop-cons keys i 0 h ∙ ap (λ j. get_or keys i 0 ∷ drop j keys) step) w
+
+  pub walk_ends : (length keys ≤ i) ⊎ (rest ≡ 0) → Settles E b old cut start place (reached old place keys) parts n
+  walk_ends end =
+      let none : n + 0 ≡ n = omega arith in
+      subst (Settles E b old cut start place (reached old place keys) parts) none
+      (subst (λ l. Settles E b old cut start place (reached old place keys) l (n + 0)) (append-nil parts)
+      (w.settles cut [] 0 (λ k h. refl) (subst (λ l. Settles E b old cut w.at rest l [] 0) (sym (done end)) (refl, refl))))
+    where
+      reached_none : (ks : List ℕ) → reached old 0 ks ≡ []
+      reached_none [] = refl
+      reached_none (k ∷ ks) = refl
+
+      done : (length keys ≤ i) ⊎ (rest ≡ 0) → reached old rest (drop i keys) ≡ []
+      done (inl past) = ap (reached old rest) (drop_past i keys past)
+      done (inr e) = ap (λ r. reached old r (drop i keys)) e ∙ reached_none (drop i keys)
+
+  pub walk_counts : (length keys ≤ i) ⊎ (rest ≡ 0) → counted parts ≡ place
+  walk_counts end = let none = gone end in let c = w.count in omega arith
+    where
+      gone : (length keys ≤ i) ⊎ (rest ≡ 0) → rest ≡ 0
+      gone (inl past) = let e : length (line (piece_at old.pieces) (drop i keys)) ≡ 0 = ap (λ l. length (line (piece_at old.pieces) l)) (drop_past i keys past) in let m = w.enough in omega arith
+      gone (inr e) = e
+
+-- it goes on, by the index of the next key
+pub walk_step : {R P : Type 0} (E : R → R → Bool) (equal : IsEquivalence E) (per : IsPartialEquivalence E) (is : R → Behaviour P) (alike : (x y : R) → E x y ≡ true → is x ≡ is y)
+    {old cut : Cut (StoredRun R P)} {start : Configuration R P} {next : ℕ} {above : Option ℕ} {keys : List ℕ} {i place rest n : ℕ} {parts : List (RunPart R P)}
+    (w : IsWalking E (is start.register) old cut start next above keys (drop i keys) place rest n parts) (h : i < length keys) (wanted : rest ≡ 0 → ⊥)
+    (cfg : Configuration R P) (came : cfg ≡ exit_of start parts) (new : Cut (StoredRun R P)) (after : ℕ) (id : Option ℕ) (run seen : SegmentRun R P) (work count : ℕ)
+    → IsSegmentSettled E cut new cfg (get_or keys i 0) run work → IsLinked E cfg.register after id (alone run.exit) new → seen ≡ run → IsRun (is seen.entry.register) seen
+    → (steps : List Step) → steps ≡ seen.steps → count ≡ min rest (length steps)
+    → IsWalking E (is start.register) old new start after id keys (drop (i + 1) keys) place (rest - count) (n + work) (parts ++ part run count ∷ [])
+walk_step E equal per is alike {old} {cut} {start} {next} {above} {keys} {i} {place} {rest} {n} {parts} w h wanted cfg came new after id run seen work count settled linked same true_run steps are counts =
+    walk_on E equal per is alike old cut start next above keys (drop (i + 1) keys) (get_or keys i 0) place rest n parts
+    (walk_at E (is start.register) old cut start next above keys i place rest n parts w h) wanted cfg came new after id run work count (rest - count) (n + work) settled linked
+    (subst (λ r. IsRun (is r.entry.register) r) same true_run) (counts ∙ ap (λ l. min rest (length l)) are ∙ ap (λ r. min rest (length r.steps)) same) refl refl
+
+-- what the last run came to
+pub exit_last : {R P Z : Type 0} (c : Configuration R P) (runs : List (Arc (SegmentRun R P) Z × ℕ)) (x : Arc (SegmentRun R P) Z × ℕ) → Some x ≡ slice_get runs (length runs - 1)
+    → exit_of c (map part_of runs) ≡ (arc_value x.0).exit
+exit_last c [] x e = cc
+exit_last {R} {P} {Z} c (y ∷ []) x e = let same : y ≡ x = cc in ap (λ (z : Arc (SegmentRun R P) Z × ℕ). (arc_value z.0).exit) same
+exit_last c (y ∷ z ∷ rs) x e =
+    let less : length (y ∷ z ∷ rs) - 1 ≡ suc (length (z ∷ rs) - 1) = omega arith in
+    exit_last (arc_value y.0).exit (z ∷ rs) x (e ∙ ap (slice_get (y ∷ z ∷ rs)) less)
+
+pub part_last : {R P Z : Type 0} (runs : List (Arc (SegmentRun R P) Z × ℕ)) (x : Arc (SegmentRun R P) Z × ℕ)
+    → map part_of (runs ++ x ∷ []) ≡ map part_of runs ++ part (arc_value x.0) x.1 ∷ []
+part_last runs x = map-append part_of runs (x ∷ [])

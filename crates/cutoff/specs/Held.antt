@@ -1,0 +1,53 @@
+-- What a chart keeps.
+use Rattle.std.specs.Prelude.{ℕ, ◌≡◌, ◌<◌, Bool, nat_lt, List, [], Option, None, Some, Result, Ok, Err, length, map, if◌then◌else◌}
+use Rattle.frames.specs.Behaviour.{Behaviour}
+use Rattle.frames.specs.Configuration.{Configuration, initial_configuration}
+use Rattle.checkpoints.specs.Segment.{AllFit}
+use Rattle.schedule_trie.specs.declared.refusal.Refusal.{Refusal}
+use Rattle.schedule_trie.specs.declared.refusal.Refusal.TheVariants.{NoPlace}
+use Rattle.schedule_trie.specs.Forest.{Forest, slots_in, step_of, index_of, on_branch}
+use Rattle.schedule_trie.specs.Cut.{Cut, Strand, IsCut, forest, keys_in}
+use Rattle.cutoff.specs.Fitting.{StoredRun, RunPart, reached, Settles, counted}
+use Rattle.cutoff.specs.Links.{alone, IsLinked}
+
+-- a forest cut into segments with their stored runs, the initial configuration, and its value
+pub record Charted (R P : Type 0) : Type 0 where
+  pub cut : Cut (StoredRun R P)
+  pub start : Configuration R P
+  pub value : ℕ
+
+-- each step of each branch fits
+abbrev pub StepsFit : {P : Type 0} → Behaviour P → Forest → Type 0
+StepsFit b f = (i : ℕ) → AllFit b (map step_of (slots_in f.branches i))
+
+pub record IsCharted {R P : Type 0} (E : R → R → Bool) (b : Behaviour P) (next : ℕ) (c : Charted R P) : Type 0 where
+  pub within : c.value < b.values
+  pub begins : c.start ≡ initial_configuration b c.start.register c.value
+  pub fits : StepsFit b (forest c.cut)
+  pub whole : IsCut c.cut
+  pub linked : IsLinked E c.start.register next None (alone c.start) c.cut
+
+-- the keys of the segments of the branch of a name
+abbrev pub keys_or : Option ℕ → List Strand → List ℕ
+keys_or None strands = []
+keys_or (Some i) strands = keys_in strands i
+
+abbrev pub keys_named : {R P : Type 0} → Cut (StoredRun R P) → List ℕ → List ℕ
+keys_named cut name = keys_or (index_of (forest cut).branches name) cut.strands
+
+-- a look at a place of a branch leaves the forest: it is refused where there is no such branch or place
+abbrev pub looked_at : Forest → ℕ → ℕ → Result Forest Refusal
+looked_at f place i = if nat_lt (length (slots_in f.branches i)) place then Err NoPlace else Ok f
+
+abbrev pub look : Forest → List ℕ → ℕ → Result Forest Refusal
+look f name place = on_branch f name (looked_at f place)
+
+-- the keys of the segments that hold one of the first `place` cells of the branch of a name
+abbrev pub reached_by : {R P : Type 0} → Cut (StoredRun R P) → List ℕ → ℕ → List ℕ
+reached_by cut name place = reached cut place (keys_named cut name)
+
+-- what a settle of the first `place` cells of a branch answers: runs that are stored at their segments and fit there, `place`
+-- steps of them in all, and how many steps were replayed
+pub record IsSettled {R P : Type 0} (E : R → R → Bool) (b : Behaviour P) (old new : Charted R P) (name : List ℕ) (place : ℕ) (parts : List (RunPart R P)) (n : ℕ) : Type 0 where
+  pub settles : Settles E b old.cut new.cut old.start place (reached_by old.cut name place) parts n
+  pub sum : counted parts ≡ place

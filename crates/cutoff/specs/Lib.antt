@@ -1,0 +1,5 @@
+pub mod Fitting
+pub mod Links
+pub mod Held
+pub mod Plans
+pub mod Installs

@@ -1,0 +1,76 @@
+-- What is planned, and what an installed run has to meet.
+use Rattle.std.specs.Prelude.{ℕ, ◌≡◌, ◌⊎◌, Bool, true, nat_eq, List, [], ◌∷◌, ◌++◌, Option, None, Some, map, if◌then◌else◌}
+use Rattle.frames.specs.declared.types.Step.{Step}
+use Rattle.frames.specs.Behaviour.{Behaviour}
+use Rattle.frames.specs.Configuration.{Configuration, replayed}
+use Rattle.frames.specs.Equality.{SameConfiguration}
+use Rattle.checkpoints.specs.Segment.{SegmentRun}
+use Rattle.schedule_trie.specs.Cut.{Cut, Strand, keys_in, has, IsNoted}
+use Rattle.cutoff.specs.Fitting.{StoredRun, RunFits, Fits, steps_at}
+use Rattle.cutoff.specs.Held.{Charted, keys_named}
+
+-- a job: the key of a segment, what replay comes to at its start, and its steps
+pub record Planned (R P : Type 0) : Type 0 where
+  pub key : ℕ
+  pub entry : Configuration R P
+  pub steps : List Step
+
+abbrev pub key_of : {R P : Type 0} → Planned R P → ℕ
+key_of job = job.key
+
+abbrev pub keys_of : Strand → List ℕ
+keys_of s = s.keys
+
+-- the keys before a key
+abbrev pub keys_before : ℕ → List ℕ → List ℕ
+keys_before key [] = []
+keys_before key (k ∷ ks) = if nat_eq key k then [] else k ∷ keys_before key ks
+
+-- the job of a segment that was missed
+abbrev pub job_of : {R P : Type 0} → Cut (StoredRun R P) → Option ℕ → Configuration R P → Option (Planned R P)
+job_of cut None end = None
+job_of cut (Some k) end = Some (record { key = k; entry = end; steps = steps_at cut k })
+
+-- a job joins the others, unless its segment is among theirs
+abbrev pub with_job : {R P : Type 0} → List (Planned R P) → Option (Planned R P) → List (Planned R P)
+with_job jobs None = jobs
+with_job jobs (Some job) = if has job.key (map key_of jobs) then jobs else jobs ++ job ∷ []
+
+module _ {R P : Type 0} (E : R → R → Bool) (b : Behaviour P) (cut : Cut (StoredRun R P)) where
+  -- down these segments, from where replay has come to c: the first that no stored run fits, if there is one, and what replay
+  -- comes to there
+  abbrev pub Descends : Configuration R P → List ℕ → Option ℕ → Configuration R P → Type 0
+  Descends c [] missed end = (missed ≡ None) × SameConfiguration E end c
+  Descends c (k ∷ ks) missed end =
+      (Fits E cut c k × Descends (replayed b c (steps_at cut k)) ks missed end)
+      ⊎ ((Fits E cut c k → ⊥) × (missed ≡ Some k) × SameConfiguration E end c)
+
+  -- down these segments to that of a key stored runs fit, and there this run does
+  abbrev pub FitsDown : ℕ → SegmentRun R P → Configuration R P → List ℕ → Type 0
+  FitsDown key run c [] = ⊥
+  FitsDown key run c (k ∷ ks) =
+      ((key ≡ k) × RunFits E c (steps_at cut k) run)
+      ⊎ ((key ≡ k → ⊥) × Fits E cut c k × FitsDown key run (replayed b c (steps_at cut k)) ks)
+
+  -- behind the jobs `done`, those of these paths from c: of each its first segment that no stored run fits
+  abbrev pub Plans : Configuration R P → List (Planned R P) → List (List ℕ) → List (Planned R P) → Type 0
+  Plans c done [] jobs = jobs ≡ done
+  Plans c done (keys ∷ paths) jobs =
+      (missed : Option ℕ) × (end : Configuration R P) × Descends c keys missed end × Plans c (with_job done (job_of cut missed end)) paths jobs
+
+-- the jobs of a chart: the named branch's, and then each other's in order of making
+abbrev pub IsPlan : {R P : Type 0} → (R → R → Bool) → Behaviour P → Charted R P → List ℕ → List (Planned R P) → Type 0
+IsPlan E b c name jobs = Plans E b c.cut c.start [] (keys_named c.cut name ∷ map keys_of c.cut.strands) jobs
+
+-- on each branch that has a segment a run fits it, and stored runs fit all segments above; on each it doesn't, or they don't
+abbrev pub CanInstall : {R P : Type 0} → (R → R → Bool) → Behaviour P → Charted R P → ℕ → SegmentRun R P → Type 0
+CanInstall E b c key run = (i : ℕ) → has key (keys_in c.cut.strands i) ≡ true → FitsDown E b c.cut key run c.start (keys_in c.cut.strands i)
+
+abbrev pub CannotInstall : {R P : Type 0} → (R → R → Bool) → Behaviour P → Charted R P → ℕ → SegmentRun R P → Type 0
+CannotInstall E b c key run = (i : ℕ) → has key (keys_in c.cut.strands i) ≡ true → FitsDown E b c.cut key run c.start (keys_in c.cut.strands i) → ⊥
+
+-- a run is stored at a segment, and nothing else is changed
+pub record IsInstalled {R P : Type 0} (old new : Charted R P) (key : ℕ) (run : SegmentRun R P) : Type 0 where
+  pub noted : (s : StoredRun R P) × (s.run ≡ run) × IsNoted old.cut new.cut key (Some s)
+  pub start : new.start ≡ old.start
+  pub value : new.value ≡ old.value

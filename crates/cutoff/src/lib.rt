@@ -1,0 +1,14 @@
+//! Charts: a schedule's branches with stored runs of their segments, so that a place of a branch is found by replaying only
+//! what an edit changed.
+//!
+//! A stored run is trusted only where it is looked at: an edit throws no run away but that of the segment that it touches.
+#![tactic(auto)]
+
+pub mod chart;
+mod descent;
+pub mod install;
+pub mod plan;
+pub mod settle;
+mod stored;
+#[cfg(test)]
+mod tests;

@@ -1,0 +1,186 @@
+//! Settling: the stored runs of a branch's first cells, with new ones where none fits.
+
+ghost use Rattle.std.specs.Prelude.{◌≡◌, ◌≤◌, ◌⊎◌, ℕ, None, Some, IfOk, OnErr, MatchOption, length, map, ◌+◌};
+ghost use Rattle.std.specs.Arc.{arc_value};
+ghost use Rattle.checkpoints.specs.Segment.{AllFit};
+ghost use Rattle.schedule_trie.specs.Forest.{step_of};
+ghost use Rattle.schedule_trie.specs.Cut.{piece_at, note_of, keys_in, line, IsCut};
+ghost use Rattle.cutoff.specs.Fitting.{RunFits, Fits, IsSegmentSettled, steps_at, exit_of, part_of, reached, Settles, IsMissed, KeepsRuns, counted};
+ghost use Rattle.cutoff.specs.Links.{IsLinked, alone};
+
+use crate::stored::Stored;
+use checkpoints::run::{Run, run_segment};
+use frames::config::Config;
+use frames::register::Register;
+use frames::types::Step;
+use schedule_trie::trie::{SegKey, Trie};
+use std::alloc::{AllocError, Global};
+use std::sync::Arc;
+
+/// Stored runs one after the other, each with how many of its steps count, and how many steps were replayed to have them.
+#[derive(Drop)]
+pub struct Spot<R: Register> {
+    pub runs: Vec<(Arc<Run<R>>, u32)>,
+    pub replayed: u32,
+}
+
+/// The run of a settled segment, its number if it has one, and how many steps were replayed.
+#[derive(Drop)]
+pub(crate) struct Settled<R: Register> {
+    run: Arc<Run<R>>,
+    id: Option<u64>,
+    replayed: u32,
+}
+
+/// The stored run of a segment, if it fits where a walk has come to a configuration; `above` is the number of the run that
+/// came to it, if it has one.
+pub(crate) fn fitting<'a, R: Register>(
+    trie: &'a Trie<Stored<R>>,
+    key: SegKey,
+    config: &Config<R>,
+    above: Option<u64>,
+) -> Option<&'a Stored<R>>
+    requires linked { (next : ℕ) × IsLinked R.PartialEq.eq config.now.register next above (alone config.now) trie.now }
+    ensures { MatchOption result (Fits R.PartialEq.eq trie.now config.now key → ⊥) (λ s. (note_of (piece_at trie.now.pieces key) ≡ Some s.now) × RunFits R.PartialEq.eq config.now (steps_at trie.now key) s.now.run) }
+{
+    let stored = trie.note(key)?;
+    if stored.begins(config, above) {
+        Some(stored)
+    } else {
+        None
+    }
+}
+
+/// The steps of a segment, in order; none where no segment has the key.
+pub(crate) fn segment_steps<R: Register>(
+    alloc: Global,
+    trie: &Trie<Stored<R>>,
+    key: SegKey,
+) -> Result<Vec<Step>, AllocError>
+    ensures { IfOk result (λ steps. steps.items ≡ steps_at trie.now key) }
+{
+    match trie.cells_of(key) {
+        Some(slots) => slots.iter().map(|slot| slot.step).collect(alloc),
+        None => Ok(Vec::new(alloc)),
+    }
+}
+
+/// The next number, if there is one left.
+pub(crate) fn take_number(next: &mut u64) -> Option<u64>
+    ensures { ((result ≡ None) × (next.new ≡ next.old)) ⊎ ((result ≡ Some next.old) × (next.new ≡ next.old + 1)) }
+{
+    if *next == u64::MAX {
+        return None;
+    }
+    let number = *next;
+    *next += 1;
+    Some(number)
+}
+
+/// Replays a segment whose stored run doesn't fit where a walk has come to, and stores the run.
+fn replay_segment<R: Register>(
+    alloc: Global,
+    trie: &mut Trie<Stored<R>>,
+    next: &mut u64,
+    key: SegKey,
+    config: &Config<R>,
+    above: Option<u64>,
+) -> Result<Settled<R>, AllocError>
+    requires linked { IsLinked R.PartialEq.eq config.now.register next.old above (alone config.now) trie.old }
+    requires short { length (steps_at trie.old key) ≤ 128 }
+    requires fits { AllFit (R.is config.now.register) (steps_at trie.old key) }
+    requires misses { Fits R.PartialEq.eq trie.old config.now key → ⊥ }
+    ensures settled { IfOk result (λ s. IsSegmentSettled R.PartialEq.eq trie.old trie.new config.now key (arc_value s.run) s.replayed) }
+    ensures linked { IfOk result (λ s. IsLinked R.PartialEq.eq config.now.register next.new s.id (alone (arc_value s.run).exit) trie.new) }
+    ensures unchanged { OnErr result ((trie.new ≡ trie.old) × (next.new ≡ next.old)) }
+{
+    let steps = segment_steps(alloc, trie, key)?;
+    let run = Arc::new(alloc, run_segment(alloc, config, &steps)?)?;
+    let kept = Arc::try_clone(&run)?;
+    let id = take_number(next);
+    trie.set_note(key, Some(Stored::new(kept, id, above)));
+    Ok(Settled {
+        run,
+        id,
+        replayed: steps.len() as u32,
+    })
+}
+
+/// Settles a segment where a walk has come to a configuration; `above` is the number of the run that came to it, if it has
+/// one.
+pub(crate) fn settle_segment<R: Register>(
+    alloc: Global,
+    trie: &mut Trie<Stored<R>>,
+    next: &mut u64,
+    key: SegKey,
+    config: &Config<R>,
+    above: Option<u64>,
+) -> Result<Settled<R>, AllocError>
+    requires linked { IsLinked R.PartialEq.eq config.now.register next.old above (alone config.now) trie.old }
+    requires short { length (steps_at trie.old key) ≤ 128 }
+    requires fits { AllFit (R.is config.now.register) (steps_at trie.old key) }
+    ensures settled { IfOk result (λ s. IsSegmentSettled R.PartialEq.eq trie.old trie.new config.now key (arc_value s.run) s.replayed) }
+    ensures linked { IfOk result (λ s. IsLinked R.PartialEq.eq config.now.register next.new s.id (alone (arc_value s.run).exit) trie.new) }
+    ensures unchanged { OnErr result ((trie.new ≡ trie.old) × (next.new ≡ next.old)) }
+{
+    let Some(stored) = fitting(trie, key, config, above) else {
+        return replay_segment(alloc, trie, next, key, config, above);
+    };
+    let run = Arc::try_clone(stored.run())?;
+    let id = stored.id();
+    let again = stored.behind(above)?;
+    trie.set_note(key, Some(again));
+    Ok(Settled {
+        run,
+        id,
+        replayed: 0,
+    })
+}
+
+/// The configuration that runs one after the other come to, from a first one on.
+fn come_to<'a, R: Register>(start: &'a Config<R>, runs: &'a [(Arc<Run<R>>, u32)]) -> &'a Config<R>
+    ensures { result.now ≡ exit_of start.now (map part_of runs.now) }
+{
+    match runs.last() {
+        Some((run, _)) => run.exit(),
+        None => start,
+    }
+}
+
+/// Settles the segments with these keys, as far as they hold one of the first `place` cells.
+pub(crate) fn settle_along<R: Register>(
+    alloc: Global,
+    trie: &mut Trie<Stored<R>>,
+    next: &mut u64,
+    start: &Config<R>,
+    keys: &[SegKey],
+    place: u32,
+) -> Result<Spot<R>, AllocError>
+    requires linked { IsLinked R.PartialEq.eq start.now.register next.old None (alone start.now) trie.old }
+    requires cut { IsCut trie.old }
+    requires branch { (i : ℕ) × (keys.now ≡ keys_in trie.old.strands i) }
+    requires fits { AllFit (R.is start.now.register) (map step_of (line (piece_at trie.old.pieces) keys.now)) }
+    requires within { place ≤ length (line (piece_at trie.old.pieces) keys.now) }
+    requires few { length (line (piece_at trie.old.pieces) keys.now) ≤ 4294967295 }
+    ensures settles { IfOk result (λ spot. Settles R.PartialEq.eq (R.is start.now.register) trie.old trie.new start.now place (reached trie.old place keys.now) (map part_of spot.runs.items) spot.replayed) }
+    ensures counted { IfOk result (λ spot. counted (map part_of spot.runs.items) ≡ place) }
+    ensures keeps { KeepsRuns trie.old trie.new (IsMissed R.PartialEq.eq (R.is start.now.register) trie.old start.now (reached trie.old place keys.now)) }
+    ensures linked { IsLinked R.PartialEq.eq start.now.register next.new None (alone start.now) trie.new }
+{
+    let mut runs = Vec::new(alloc);
+    let mut replayed = 0;
+    let mut above = None;
+    let mut rest = place;
+    for key in keys {
+        if rest == 0 {
+            break;
+        }
+        let settled = settle_segment(alloc, trie, next, *key, come_to(start, &runs), above)?;
+        let count = rest.min(settled.run.steps().len() as u32);
+        replayed += settled.replayed;
+        rest -= count;
+        above = settled.id;
+        runs.push((settled.run, count))?;
+    }
+    Ok(Spot { runs, replayed })
+}
