@@ -1,8 +1,7 @@
 -- What an edit leaves of notes.
-use Rattle.std.proofs.Common.{◌≡◌, ℕ, Bool, true, false, nat_eq, Option, Some, None, IsSome, ◌⊎◌, inl, inr, refl, sym, ap, subst, ◌∙◌, eq-eqb}
+use Rattle.std.proofs.Common.{◌≡◌, ℕ, Bool, true, false, nat_eq, Option, Some, None, IsSome, ◌⊎◌, inl, inr, refl, sym, ap, subst, ◌∙◌, true≢false, eq-eqb}
 use Rattle.std.proofs.lemmas.Bool.{eqb-true}
-use Rattle.std.proofs.Common.{true≢false}
-use Rattle.schedule_trie.specs.Cut.{Cut, Piece, piece_at, slots_of, note_of, KeepsNotes, AreGone, IsBlank}
+use Rattle.schedule_trie.specs.Cut.{Cut, Piece, piece_at, note_of, KeepsNotes, IsBlank}
 
 -- whether a number is the touched one
 is_touched : (t : Option ℕ) (k : ℕ) → (t ≡ Some k) ⊎ (t ≡ Some k → ⊥)
