@@ -1,5 +1,5 @@
 -- A run made from a copy of its entry is true.
-use Rattle.std.proofs.Common.{◌≡◌, List, true, sym, subst, ◌∙◌}
+use Rattle.std.proofs.Common.{◌≡◌, List, sym, subst, ◌∙◌}
 use Rattle.frames.specs.declared.types.Step.{Step}
 use Rattle.frames.specs.declared.types.StepEvents.{StepEvents}
 use Rattle.frames.specs.Behaviour.{Behaviour}

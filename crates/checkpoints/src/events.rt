@@ -25,7 +25,7 @@ impl Model for Events {
 
 impl Events {
     /// The events of no step.
-    pub(crate) fn new(alloc: Global) -> Events
+    pub fn new(alloc: Global) -> Events
         ensures { result ≡ [] }
     {
         Events {
@@ -39,6 +39,15 @@ impl Events {
         ensures err { OnErr result (self.new ≡ self.old) }
     {
         self.steps.push(events)?;
+        Ok(())
+    }
+
+    /// Adds the events of the steps that follow.
+    pub fn extend(&mut self, later: &[StepEvents]) -> Result<(), AllocError>
+        ensures ok { OnOk result (self.new ≡ self.old ++ later.now) }
+        ensures err { OnErr result (self.new ≡ self.old) }
+    {
+        self.steps.extend_from_slice(later)?;
         Ok(())
     }
 

@@ -3,7 +3,7 @@
 ghost use Rattle.std.specs.Prelude.{◌≡◌, ◌<◌, Some, IsSome, length, map, IfOk, IfErr, OnOk, Ok, Err};
 ghost use Rattle.frames.specs.Configuration.{initial_configuration};
 ghost use Rattle.checkpoints.specs.Segment.{AllFit};
-ghost use Rattle.schedule_trie.specs.Forest.{index_of, opened, IsRefused, len_of, name_in, cell_at, place_of, path_of};
+ghost use Rattle.schedule_trie.specs.Forest.{index_of, opened, IsRefused, len_of, name_in, cell_at, place_of, path_of, AreNamedApart};
 ghost use Rattle.std.specs.Arc.{arc_value};
 ghost use Rattle.cutoff.specs.Plans.{IsPlan};
 ghost use Rattle.cutoff.specs.Installs.{Installs};
@@ -108,9 +108,10 @@ impl<R: Register> Chart<R> {
         self.trie.made()
     }
 
-    /// How many branches there are.
+    /// How many branches there are. No two have the same name.
     pub fn branches(&self) -> u32
-        ensures { result ≡ length (forest self.now.cut).branches }
+        ensures count { result ≡ length (forest self.now.cut).branches }
+        ensures apart { AreNamedApart (forest self.now.cut).branches }
     {
         self.trie.branches()
     }
@@ -166,6 +167,7 @@ impl<R: Register> Chart<R> {
         ensures found { OnOk result (look (forest self.old.cut) branch.now place ≡ Ok (forest self.new.cut)) }
         ensures err { IfErr result (IsRefused (look (forest self.old.cut) branch.now place)) }
         ensures keeps { KeepsRuns self.old.cut self.new.cut (IsMissed R.PartialEq.eq (R.is self.old.start.register) self.old.cut self.old.start (reached_by self.old.cut branch.now place)) }
+        ensures begins { self.old.start ≡ initial_configuration (R.is self.old.start.register) self.old.start.register self.old.value }
         ensures start { self.new.start ≡ self.old.start }
         ensures value { self.new.value ≡ self.old.value }
     {

@@ -31,3 +31,4 @@ pub mod Renumbered
 pub mod Beside
 pub mod Detaches
 pub mod Notes
+pub mod Apart

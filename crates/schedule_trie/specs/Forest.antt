@@ -1,5 +1,5 @@
 -- The forest of branches, and what each command leaves of it.
-use Rattle.std.specs.Prelude.{◌≡◌, ◌⊎◌, IsOk, ℕ, zero, suc, ◌+◌, Bool, not, nat_eq, nat_le, nat_lt, List, [], ◌∷◌, ◌++◌, Option, Some, None, Result, Ok, Err, length, map, filter, take, position, slice_index, slice_get, codes, if◌then◌else◌}
+use Rattle.std.specs.Prelude.{◌≡◌, ◌⊎◌, IsOk, ℕ, zero, suc, ◌+◌, Bool, not, nat_eq, nat_le, nat_lt, List, [], ◌∷◌, ◌++◌, Option, Some, None, Result, Ok, Err, length, map, filter, take, position, IfSome, slice_index, slice_get, codes, if◌then◌else◌}
 use Rattle.std.specs.List.{flat_map, remove, list_any}
 use Rattle.std.specs.Option.{option_map}
 use Rattle.std.specs.Cmp.Lexicographic.{pointwise}
@@ -60,6 +60,10 @@ slots_in (b ∷ bs) (suc i) = slots_in bs i
 -- the name of a branch by where it stands
 abbrev pub name_in : List Branch → ℕ → Option (List ℕ)
 name_in branches i = slice_get (map name_of branches) i
+
+-- no two branches have the same name: each is found by its own
+abbrev pub AreNamedApart : List Branch → Type 0
+AreNamedApart branches = (i : ℕ) → IfSome (name_in branches i) (λ name. index_of branches name ≡ Some i)
 
 -- how many cells the branch of a name has
 abbrev pub len_of : Forest → List ℕ → Option ℕ

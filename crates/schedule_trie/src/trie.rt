@@ -3,7 +3,7 @@
 ghost use Rattle.std.specs.Prelude.{◌<◌, ◌≤◌, length, IfSome, IfNone, Ok, Err, OnOk, IfErr, OnErr, IfOk, false, [], Some, None, map, slice_get, ◌++◌, ◌≡◌};
 ghost use Rattle.std.specs.Option.{option_map, option_copied};
 ghost use Rattle.std.specs.List.{position};
-ghost use Rattle.schedule_trie.specs.Forest.{path_of, step_of, cell_at, place_of, is_cell, opened, opening, IsRefused, replace_step, index_of, slots_in, name_in, len_of};
+ghost use Rattle.schedule_trie.specs.Forest.{path_of, step_of, cell_at, place_of, is_cell, opened, opening, IsRefused, replace_step, index_of, slots_in, name_in, len_of, AreNamedApart};
 ghost use Rattle.schedule_trie.specs.Cut.{IsBlank, IsNoted, above_of, before_key, keys_by, if_lacks, note_of, AreLimits, has, IsOwnEnd, IsPushed, LackedByOthers, forest, IsCut, KeepsNotes, IsStepSet, piece_at, slots_of, keys_in, line, StandsAt};
 
 mod detach;
@@ -113,9 +113,10 @@ impl<T: Drop> Trie<T> {
         self.made
     }
 
-    /// How many branches there are.
+    /// How many branches there are. No two have the same name.
     pub fn branches(&self) -> u32
-        ensures { result ≡ length (forest self.now).branches }
+        ensures count { result ≡ length (forest self.now).branches }
+        ensures apart { AreNamedApart (forest self.now).branches }
     {
         self.branches.len() as u32
     }

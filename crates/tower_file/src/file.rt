@@ -82,4 +82,12 @@ impl TowerFile {
     {
         self.steps.as_slice()
     }
+
+    /// The steps, by value.
+    pub fn into_steps(self) -> Vec<Step>
+        ensures steps { result.items ≡ self.steps }
+        ensures fit { list_all (fits self.spec) result.items ≡ true }
+    {
+        self.steps
+    }
 }

@@ -1,9 +1,3 @@
-pub mod Splits
-pub mod PageLines
-pub mod Fronts
-pub mod Tellings
-pub mod Known
-pub mod Turns
 pub mod Opened
 pub mod CommandLines
 pub mod Endings

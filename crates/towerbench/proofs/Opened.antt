@@ -1,54 +1,67 @@
 -- What a run over a file comes to, from what one over its register and steps comes to.
-use Rattle.std.proofs.Common.{◌≡◌, ◌≤◌, ℕ, List, length, Option, Result, Ok, Err, OnOk, subst, sym, ap, ◌∙◌}
+use Rattle.std.proofs.Common.{◌≡◌, ◌≤◌, ℕ, Bool, true, false, cond, nat_lt, arith, refl, List, length, Option, Result, Ok, Err, OnOk, subst, sym, ap, ◌∙◌}
 use Rattle.std.specs.Prelude.{⊤, IfErr}
 use Rattle.std.specs.Result.{IsErrAnd}
 use Rattle.frames.specs.declared.types.Step.{Step}
 use Rattle.frames.specs.Behaviour.{Behaviour}
+use Rattle.schedule_trie.specs.declared.limits.Limits.{Limits}
+use Rattle.schedule_trie.specs.declared.refusal.Refusal.TheVariants.{Full}
+use Rattle.schedule_trie.specs.Forest as forests
+use Rattle.schedule_trie.specs.Forest.{Forest}
+use Rattle.std.proofs.lemmas.Bool.Decides.{nat_tests}
 use Rattle.tower_file.specs.declared.tower.TowerSpec.{TowerSpec}
 use Rattle.tower_file.specs.Files.{File}
-use Rattle.towerbench.specs.declared.fault.StreamFault.{StreamFault}
-use Rattle.towerbench.specs.declared.fault.StreamFault.TheVariants as streams
+use Rattle.conversation.specs.declared.fault.StreamFault.{StreamFault}
+use Rattle.conversation.specs.declared.fault.StreamFault.TheVariants as streams
 use Rattle.towerbench.specs.declared.fault.Fault.{Fault}
 use Rattle.towerbench.specs.declared.fault.Fault.TheVariants as fault
 use Rattle.towerbench.specs.World.{opening}
 use Rattle.towerbench.specs.Answers.{answer_line}
-use Rattle.towerbench.specs.Scripts.{answers_to}
-use Rattle.towerbench.specs.Conversations.{Answering, Breaks}
+use Rattle.conversation.specs.Scripts.{answers_to}
+use Rattle.conversation.specs.Conversations.{Answering, Breaks}
 use Rattle.towerbench.specs.Faults.{of_streams}
 use Rattle.towerbench.specs.Opening.{opened, answers_of, answers_on, FailsOver, EndsOver, Ran, RanInto}
 
+-- steps that were opened are within the cells
+pub opened_within : (limits : Limits) (steps : List Step) (f : Forest) → forests.opened limits steps ≡ Ok f → length steps ≤ limits.cells
+opened_within limits steps f e = by (nat_lt limits.cells (length steps)) refl e
+  where
+    by : (b : Bool) → nat_lt limits.cells (length steps) ≡ b → cond b (Err Full) (Ok (forests.opening steps)) ≡ Ok f → length steps ≤ limits.cells
+    by true more e = absurd (cc)
+    by false few e = grind (arith, nat_tests)
+
 module _ (old now before after : Option (List ℕ)) where
   -- what a run over a register comes to is what it comes to over the file of its tower
-  pub on_file : {P : Type 0} (r : Result ⊤ Fault) (cells value : ℕ) (b d : Behaviour P) (steps : List Step) (tower given : TowerSpec) (f : File)
-      → b ≡ d → steps ≡ f.steps → given ≡ f.spec → given ≡ tower → ((ss : List Step) → answers_of tower cells ss ≡ answers_to answer_line (opening d value cells ss))
-      → EndsOver cells steps (answers_to answer_line (opening b value cells steps)) old now before after r
-      → EndsOver cells f.steps (answers_on f cells) old now before after r
-  on_file {P} r cells value b d steps tower given f same_tower same_steps spec is written h =
-      subst (λ (a : Answering). EndsOver cells f.steps a old now before after r)
-      (sym (written f.steps) ∙ ap (λ t. answers_of t cells f.steps) (sym is ∙ spec))
-      (subst (λ (ss : List Step). EndsOver cells ss (answers_to answer_line (opening d value cells ss)) old now before after r) same_steps
-      (subst (λ (x : Behaviour P). EndsOver cells steps (answers_to answer_line (opening x value cells steps)) old now before after r) same_tower h))
+  pub on_file : {P : Type 0} (r : Result ⊤ Fault) (limits : Limits) (value : ℕ) (b d : Behaviour P) (steps : List Step) (tower given : TowerSpec) (f : File)
+      → b ≡ d → steps ≡ f.steps → given ≡ f.spec → given ≡ tower → ((ss : List Step) → answers_of tower limits ss ≡ answers_to answer_line (opening d value limits ss))
+      → EndsOver limits steps (answers_to answer_line (opening b value limits steps)) old now before after r
+      → EndsOver limits f.steps (answers_on f limits) old now before after r
+  on_file {P} r limits value b d steps tower given f same_tower same_steps spec is written h =
+      subst (λ (a : Answering). EndsOver limits f.steps a old now before after r)
+      (sym (written f.steps) ∙ ap (λ t. answers_of t limits f.steps) (sym is ∙ spec))
+      (subst (λ (ss : List Step). EndsOver limits ss (answers_to answer_line (opening d value limits ss)) old now before after r) same_steps
+      (subst (λ (x : Behaviour P). EndsOver limits steps (answers_to answer_line (opening x value limits steps)) old now before after r) same_tower h))
 
-  module _ (cells : ℕ) (steps : List Step) (answering : Answering) where
-    by_fault : (e : StreamFault) → length steps ≤ cells → Breaks answering e old now before after → FailsOver cells steps answering old now before after (of_streams e)
+  module _ (limits : Limits) (steps : List Step) (answering : Answering) where
+    by_fault : (e : StreamFault) → length steps ≤ limits.cells → Breaks answering e old now before after → FailsOver limits steps answering old now before after (of_streams e)
     by_fault streams.Read room b = record { room = room; broke = b }
     by_fault streams.Write room b = record { room = room; broke = b }
     by_fault streams.TooLong room b = record { room = room; broke = b }
     by_fault streams.Memory room b = record { room = room; broke = b }
 
     -- a fault of the streams, handed on
-    pub handed : (r : Result ⊤ Fault) (e : StreamFault) (Is : Fault → Type 0) → IsErrAnd r Is → ((x : Fault) → Is x → x ≡ of_streams e) → length steps ≤ cells
-        → Breaks answering e old now before after → EndsOver cells steps answering old now before after r
+    pub handed : (r : Result ⊤ Fault) (e : StreamFault) (Is : Fault → Type 0) → IsErrAnd r Is → ((x : Fault) → Is x → x ≡ of_streams e) → length steps ≤ limits.cells
+        → Breaks answering e old now before after → EndsOver limits steps answering old now before after r
     handed (Ok done) e Is k same room b = absurd k
-    handed (Err x) e Is k same room b = subst (λ (y : Fault). FailsOver cells steps answering old now before after y) (sym (same x k)) (by_fault e room b)
+    handed (Err x) e Is k same room b = subst (λ (y : Fault). FailsOver limits steps answering old now before after y) (sym (same x k)) (by_fault e room b)
 
   -- what a run comes to, clause by clause, told of the file that the bytes spell
-  module _ (file : Option (List ℕ)) (cells : ℕ) where
+  module _ (file : Option (List ℕ)) (limits : Limits) where
     abbrev Runs : Result ⊤ Fault → Type 0
-    Runs r = record { done : OnOk r (Ran file cells old now before after); fault : IfErr r (RanInto file cells old now before after) }
+    Runs r = record { done : OnOk r (Ran file limits old now before after); fault : IfErr r (RanInto file limits old now before after) }
 
     module _ (f : File) (is : opened file ≡ Ok f) where
-      over_open : (x : Fault) → FailsOver cells f.steps (answers_on f cells) old now before after x → RanInto file cells old now before after x
+      over_open : (x : Fault) → FailsOver limits f.steps (answers_on f limits) old now before after x → RanInto file limits old now before after x
       over_open (fault.File e) h = absurd h
       over_open (fault.Refused e) h = (f, (is, h))
       over_open fault.Read h = (f, (is, h))
@@ -56,6 +69,6 @@ module _ (old now before after : Option (List ℕ)) where
       over_open fault.TooLong h = (f, (is, h))
       over_open fault.Memory h = (f, (is, h))
 
-      pub with_file : (r : Result ⊤ Fault) → EndsOver cells f.steps (answers_on f cells) old now before after r → Runs r
+      pub with_file : (r : Result ⊤ Fault) → EndsOver limits f.steps (answers_on f limits) old now before after r → Runs r
       with_file (Ok done) h = record { done = (f, (is, h)); fault = tt }
       with_file (Err x) h = record { done = tt; fault = over_open x h }

@@ -1,64 +1,34 @@
 -- What a line of a script answers, and what it leaves.
-use Rattle.std.specs.Prelude.{ℕ, ⊤, ◌++◌, Bool, true, false, List, [], Option, Some, None, take, length, codes}
-use Rattle.frames.specs.declared.types.Event.{Event}
-use Rattle.frames.specs.declared.types.Step.{Step}
-use Rattle.frames.specs.Configuration.{Configuration, initial_configuration, replayed, history}
-use Rattle.checkpoints.specs.Events.{indexed}
+use Rattle.std.specs.Prelude.{ℕ, Bool, true, false, List, [], Result, Ok, Err}
+use Rattle.schedule_trie.specs.declared.refusal.Refusal.{Refusal}
+use Rattle.schedule_trie.specs.declared.refusal.Refusal.TheVariants.{Memory}
+use Rattle.schedule_trie.specs.Forest.{Forest}
+use Rattle.conversation.specs.Scripts.{Answered}
+use Rattle.views.specs.declared.query.Query.{Query}
+use Rattle.views.specs.Looks.{looked, page}
 use Rattle.towerbench.specs.declared.command.Command.{Command}
 use Rattle.towerbench.specs.declared.command.Command.TheVariants.{Edit, Look}
-use Rattle.towerbench.specs.declared.command.Query.{Query}
-use Rattle.towerbench.specs.declared.command.Query.TheVariants.{State, Process, Pending, Bits, History, Steps}
 use Rattle.towerbench.specs.declared.command.Call.{Call}
 use Rattle.towerbench.specs.declared.command.Line.{Line}
 use Rattle.towerbench.specs.declared.command.Line.TheVariants as line
-use Rattle.towerbench.specs.declared.refusal.Refusal.{Refusal}
-use Rattle.towerbench.specs.declared.refusal.Refusal.TheVariants.{Memory}
 use Rattle.towerbench.specs.declared.reply.Reply.TheVariants.{Refused}
-use Rattle.towerbench.specs.Refusals.{first_refusal}
 use Rattle.towerbench.specs.Lines.{read_line}
-use Rattle.towerbench.specs.World.{World, Acted, edit_by, look_refusals}
-use Rattle.towerbench.specs.Scripts.{Answered}
+use Rattle.towerbench.specs.World.{World, Acted, edit_by}
 use Rattle.towerbench.specs.Texts.{answer_text, bad_line_text}
-use Rattle.towerbench.specs.Frames.{pending_lines}
-use Rattle.towerbench.specs.Pages.{page_head, steps_head, state_lines, one_process, memory_lines, history_lines, step_lines}
 
--- a register alone: its cells, words and pending operations
-abbrev pub Alone : Type 0 → Type 0
-Alone P = Configuration ⊤ P
-
--- the register at its initial value, with nothing pending
-abbrev pub first_configuration : {P : Type 0} → World P → Alone P
-first_configuration w = initial_configuration w.tower tt w.value
-
--- the configuration after the first k steps, and their events, each with the index of its step
-abbrev pub shown : {P : Type 0} → World P → ℕ → Alone P
-shown w k = replayed w.tower (first_configuration w) (take k w.steps)
-
-abbrev pub recorded : {P : Type 0} → World P → ℕ → List (ℕ × Event)
-recorded w k = indexed 0 (history w.tower (first_configuration w) (take k w.steps))
-
--- the page of the steps of the branch
-abbrev pub steps_page : ℕ → List Step → List ℕ
-steps_page session steps = steps_head session (length steps) ++ step_lines steps
-
--- the page of a look at the branch: a place is after the first so many steps
-abbrev pub page : {P : Type 0} → ℕ → Query → World P → List ℕ
-page session (State place) w = page_head session (codes "state") place (length w.steps) ++ state_lines w.tower (shown w place)
-page session (Process place p) w = page_head session (codes "process") place (length w.steps) ++ one_process w.tower p (shown w place)
-page session (Pending place) w = page_head session (codes "pending") place (length w.steps) ++ pending_lines w.tower (shown w place)
-page session (Bits place) w = page_head session (codes "bits") place (length w.steps) ++ memory_lines (shown w place).memory
-page session (History place) w = page_head session (codes "history") place (length w.steps) ++ history_lines (recorded w place)
-page session Steps w = steps_page session w.steps
+-- the page of a look at a world
+abbrev pub page_of : {P : Type 0} → ℕ → Query → World P → List ℕ
+page_of session query w = page session w.tower w.value w.edits w.forest query
 
 -- a page, or the refusal of the look
-abbrev pub page_unless : Option Refusal → ℕ → List ℕ → List ℕ
-page_unless None session page = page
-page_unless (Some r) session page = answer_text session (Refused r)
+abbrev pub page_unless : Result Forest Refusal → ℕ → List ℕ → List ℕ
+page_unless (Ok f) session page = page
+page_unless (Err r) session page = answer_text session (Refused r)
 
 -- what a look answers: a page or a refusal; refused memory, that
-abbrev pub look_text : Bool → ℕ → Option Refusal → List ℕ → List ℕ
-look_text false session refusal page = page_unless refusal session page
-look_text true session refusal page = answer_text session (Refused Memory)
+abbrev pub look_text : Bool → ℕ → Result Forest Refusal → List ℕ → List ℕ
+look_text false session looked page = page_unless looked session page
+look_text true session looked page = answer_text session (Refused Memory)
 
 -- a command of a session, where there is memory for it
 abbrev pub replied : {P : Type 0} → ℕ → Acted P → Answered (World P)
@@ -66,8 +36,7 @@ replied session acted = record { world = acted.world; text = answer_text session
 
 abbrev pub performed : {P : Type 0} → ℕ → Command → World P → Answered (World P)
 performed session (Edit branch edit) w = replied session (edit_by session branch edit w)
-performed session (Look branch query) w =
-    record { world = w; text = page_unless (first_refusal (look_refusals branch query w)) session (page session query w) }
+performed session (Look query) w = record { world = w; text = page_unless (looked query w.forest) session (page_of session query w) }
 
 -- a call; refused memory, it leaves the world
 abbrev pub answer_call : {P : Type 0} → Bool → Call → World P → Answered (World P)

@@ -1,4 +1,4 @@
--- What the words behind the program's name ask for: `[FILE] [--cells N]`.
+-- What the words behind the program's name ask for: `[FILE] [--cells N] [--branches N]`.
 use Rattle.std.specs.Prelude.{◌≡◌, ◌≢◌, ℕ, List, [], ◌∷◌, Option, Some, true, codes, pos, ⊤, option_map}
 use Rattle.std.specs.Option.{option_map_or}
 use Rattle.std.specs.Str.Parse.{digits_value, without_leading_plus}
@@ -17,20 +17,27 @@ use Rattle.towerbench.specs.declared.command_line.Invocation.TheVariants.{Run, H
 abbrev pub file_rule : Rule
 file_rule = new_rule (codes "FILE")
 
--- --cells takes a number from 1 to 2^24, and stands for 65536 where it isn't used
-abbrev pub cells_rule : Rule
-cells_rule = record (new_rule (codes "cells")) {
-  long = Some (codes "cells");
+-- an option that takes a number from 1 to `most`, and stands for `default` where it isn't used
+abbrev pub number_rule : Text → ℕ → Text → Rule
+number_rule id most default = record (new_rule id) {
+  long = Some id;
   action = Some Set;
   value_names = 1;
-  defaults = codes "65536" ∷ [];
-  parser = Some (value_parser.Signed (pos 1) (pos 16777216));
+  defaults = default ∷ [];
+  parser = Some (value_parser.Signed (pos 1) (pos most));
 }
+
+-- --cells takes a number from 1 to 2^24, else 65536; --branches one from 1 to 1,024, else 64
+abbrev pub cells_rule : Rule
+cells_rule = number_rule (codes "cells") 16777216 (codes "65536")
+
+abbrev pub branches_rule : Rule
+branches_rule = number_rule (codes "branches") 1024 (codes "64")
 
 -- the program's command line, whose first word is no program's name
 abbrev pub program : App
-program = with_rule (with_rule
-    (on_top (λ s. record s { no_binary_name = true }) (new_app (codes "towerbench"))) file_rule) cells_rule
+program = with_rule (with_rule (with_rule
+    (on_top (λ s. record s { no_binary_name = true }) (new_app (codes "towerbench"))) file_rule) cells_rule) branches_rule
 
 -- what is wrong with the words; nothing where they are taken
 abbrev pub faults_of : List Text → Kinds
@@ -40,13 +47,12 @@ faults_of words = fault_of program words
 abbrev pub file_of : List Text → Option Text
 file_of words = first_of (codes "FILE") (matches_of program words)
 
--- the number that stands behind --cells
-abbrev pub cells_of : List Text → ℕ
-cells_of words = option_map_or (λ t. digits_value 10 (without_leading_plus t))
-    (one_of (codes "cells") (matches_of program words)) 0
+-- the number that stands behind an option
+abbrev pub number_of : Text → List Text → ℕ
+number_of id words = option_map_or (λ t. digits_value 10 (without_leading_plus t)) (one_of id (matches_of program words)) 0
 
 abbrev pub options_of : List Text → Options
-options_of words = record { workers = 0; cells = cells_of words; branches = 64 }
+options_of words = record { workers = 0; cells = number_of (codes "cells") words; branches = number_of (codes "branches") words }
 
 -- the words are taken, and say this
 pub record Says (words : List Text) (file : Option Text) (options : Options) : Type 0 where
@@ -77,9 +83,13 @@ IsAskedBy words (Help text) = AsksHelp words
 IsAskedBy words (Refused text) = IsWrong words
 IsAskedBy words Memory = ⊤
 
--- a run of this FILE and this number of cells, or a want of memory
-abbrev pub IsRunOf : Option Text → ℕ → Invocation → Type 0
-IsRunOf file cells (Run f o) = (option_map (λ p. p.now) f ≡ file) × (o ≡ record { workers = 0; cells = cells; branches = 64 })
-IsRunOf file cells (Help text) = ⊥
-IsRunOf file cells (Refused text) = ⊥
-IsRunOf file cells Memory = ⊤
+-- a run of this FILE and these options, or a want of memory
+abbrev pub IsRunOf : Option Text → Options → Invocation → Type 0
+IsRunOf file options (Run f o) = (option_map (λ p. p.now) f ≡ file) × (o ≡ options)
+IsRunOf file options (Help text) = ⊥
+IsRunOf file options (Refused text) = ⊥
+IsRunOf file options Memory = ⊤
+
+-- the options where the words have none
+abbrev pub default_options : Options
+default_options = record { workers = 0; cells = 65536; branches = 64 }

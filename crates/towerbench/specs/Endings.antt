@@ -1,9 +1,12 @@
 -- What the program comes to, by what its words ask for.
-use Rattle.std.specs.Prelude.{◌≡◌, ◌⊎◌, ℕ, Bool, true, List, Option}
+use Rattle.std.specs.Prelude.{◌≡◌, ◌⊎◌, ⊤, ℕ, Bool, true, List, Option, Result, Ok, Err}
 use Rattle.std.specs.Option.{is_some}
 use Rattle.std.specs.Io.KnownBytes.{Appends}
 use Rattle.clap.specs.Words.{Text}
+use Rattle.schedule_trie.specs.declared.limits.Limits.{Limits}
 use Rattle.towerbench.specs.declared.options.Options.{Options}
+use Rattle.towerbench.specs.Ranges.{limits_of}
+use Rattle.towerbench.specs.declared.fault.Fault.{Fault}
 use Rattle.towerbench.specs.declared.fault.ProgramFault.TheVariants.{Source, Run, Help, Memory}
 use Rattle.towerbench.specs.declared.ending.Ending.{Ending}
 use Rattle.towerbench.specs.declared.ending.Ending.TheVariants.{Done, Refused, Faulted}
@@ -14,27 +17,32 @@ use Rattle.towerbench.specs.Opening.{IsUntouched, Ran, RanInto}
 abbrev pub IsRead : Bool → Option (List ℕ) → Type 0
 IsRead named bytes = is_some bytes ≡ named
 
+-- what the program comes to by a run
+abbrev pub ending_of : Result ⊤ Fault → Ending
+ending_of (Ok done) = Done
+ending_of (Err e) = Faulted (Run e)
+
 -- what a run over these bytes, or over none, comes to
-abbrev pub RunsOver : Option (List ℕ) → ℕ → Option (List ℕ) → Option (List ℕ) → Option (List ℕ) → Option (List ℕ) → Ending → Type 0
-RunsOver bytes cells old now before after Done = Ran bytes cells old now before after
-RunsOver bytes cells old now before after (Refused text) = ⊥
-RunsOver bytes cells old now before after (Faulted (Source e)) = ⊥
-RunsOver bytes cells old now before after (Faulted (Run e)) = RanInto bytes cells old now before after e
-RunsOver bytes cells old now before after (Faulted Help) = ⊥
-RunsOver bytes cells old now before after (Faulted Memory) = ⊥
+abbrev pub RunsOver : Option (List ℕ) → Limits → Option (List ℕ) → Option (List ℕ) → Option (List ℕ) → Option (List ℕ) → Ending → Type 0
+RunsOver bytes limits old now before after Done = Ran bytes limits old now before after
+RunsOver bytes limits old now before after (Refused text) = ⊥
+RunsOver bytes limits old now before after (Faulted (Source e)) = ⊥
+RunsOver bytes limits old now before after (Faulted (Run e)) = RanInto bytes limits old now before after e
+RunsOver bytes limits old now before after (Faulted Help) = ⊥
+RunsOver bytes limits old now before after (Faulted Memory) = ⊥
 
 -- what a run comes to over the file that is named, or over none; a file that can't be read ends it before anything is read or written
-abbrev pub WorksOut : Bool → ℕ → Option (List ℕ) → Option (List ℕ) → Option (List ℕ) → Option (List ℕ) → Ending → Type 0
-WorksOut named cells old now before after Done = (bytes : Option (List ℕ)) × IsRead named bytes × Ran bytes cells old now before after
-WorksOut named cells old now before after (Refused text) = ⊥
-WorksOut named cells old now before after (Faulted (Source e)) = (named ≡ true) × IsUntouched old now before after
-WorksOut named cells old now before after (Faulted (Run e)) = (bytes : Option (List ℕ)) × IsRead named bytes × RanInto bytes cells old now before after e
-WorksOut named cells old now before after (Faulted Help) = ⊥
-WorksOut named cells old now before after (Faulted Memory) = ⊥
+abbrev pub WorksOut : Bool → Limits → Option (List ℕ) → Option (List ℕ) → Option (List ℕ) → Option (List ℕ) → Ending → Type 0
+WorksOut named limits old now before after Done = (bytes : Option (List ℕ)) × IsRead named bytes × Ran bytes limits old now before after
+WorksOut named limits old now before after (Refused text) = ⊥
+WorksOut named limits old now before after (Faulted (Source e)) = (named ≡ true) × IsUntouched old now before after
+WorksOut named limits old now before after (Faulted (Run e)) = (bytes : Option (List ℕ)) × IsRead named bytes × RanInto bytes limits old now before after e
+WorksOut named limits old now before after (Faulted Help) = ⊥
+WorksOut named limits old now before after (Faulted Memory) = ⊥
 
 -- the words are taken: they name a file or none, and options, and the run over these comes to this
 abbrev pub RunsBy : List Text → Option (List ℕ) → Option (List ℕ) → Option (List ℕ) → Option (List ℕ) → Ending → Type 0
-RunsBy words old now before after ending = (file : Option Text) × ((options : Options) × (Says words file options × WorksOut (is_some file) options.cells old now before after ending))
+RunsBy words old now before after ending = (file : Option Text) × ((options : Options) × (Says words file options × WorksOut (is_some file) (limits_of options) old now before after ending))
 
 -- the help went out, or a front of it before a write failed
 abbrev pub IsPrinted : Option (List ℕ) → Option (List ℕ) → Ending → Type 0

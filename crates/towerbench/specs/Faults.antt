@@ -1,6 +1,6 @@
 -- The fault of a run that a fault of its streams is.
-use Rattle.towerbench.specs.declared.fault.StreamFault.{StreamFault}
-use Rattle.towerbench.specs.declared.fault.StreamFault.TheVariants as streams
+use Rattle.conversation.specs.declared.fault.StreamFault.{StreamFault}
+use Rattle.conversation.specs.declared.fault.StreamFault.TheVariants as streams
 use Rattle.towerbench.specs.declared.fault.Fault.{Fault}
 use Rattle.towerbench.specs.declared.fault.Fault.TheVariants as fault
 

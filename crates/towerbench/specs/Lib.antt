@@ -1,16 +1,7 @@
-pub mod Names
 pub mod Lines
-pub mod Refusals
 pub mod Texts
 pub mod World
-pub mod Numbered
-pub mod Pages
-pub mod Frames
 pub mod Answers
-pub mod Alone
-pub mod Scripts
-pub mod Conversations
-pub mod Told
 pub mod LineFronts
 pub mod Ranges
 pub mod Faults

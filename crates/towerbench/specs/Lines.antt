@@ -6,13 +6,14 @@ use Rattle.std.specs.Str.{bytes_eq}
 use Rattle.frames.specs.declared.types.Step.{Step}
 use Rattle.towerbench.specs.declared.command.Command.{Command}
 use Rattle.towerbench.specs.declared.command.Command.TheVariants.{Edit, Look}
-use Rattle.towerbench.specs.declared.command.Edit.TheVariants.{Insert, Remove, Replace}
-use Rattle.towerbench.specs.declared.command.Query.{Query}
-use Rattle.towerbench.specs.declared.command.Query.TheVariants.{State, Process, Pending, Bits, History, Steps}
+use Rattle.towerbench.specs.declared.command.Edit.TheVariants.{Insert, Remove, Replace, Fork, Detach, Drop}
 use Rattle.towerbench.specs.declared.command.Call.{Call}
 use Rattle.towerbench.specs.declared.command.Line.{Line}
 use Rattle.towerbench.specs.declared.command.Line.TheVariants as line
-use Rattle.towerbench.specs.Names.{name}
+use Rattle.schedule_trie.specs.Names.{name}
+use Rattle.views.specs.declared.query.Query.{Query}
+use Rattle.views.specs.declared.query.Query.TheVariants.{Config, History, Steps, Branches}
+use Rattle.views.specs.declared.query.PageKind.TheVariants.{State, Process, Pending, Bits}
 use Rattle.words.specs.Words.{◌>>=◌, words, next, after_next, is_end, number}
 use Rattle.words.specs.Steps.{step_of}
 
@@ -49,35 +50,51 @@ step_at ws = do
   s ← step_of (after_next (after_next ws))
   Some (b, k, s)
 
+-- a branch, a place and the name of a branch, and no more words
+abbrev pub fork_of : List (List ℕ) → Option (List ℕ × ℕ × List ℕ)
+fork_of ws = do
+  b ← branch (next ws)
+  k ← number (next (after_next ws))
+  n ← branch (next (after_next (after_next ws)))
+  if is_end (after_next (after_next (after_next ws))) then Some (b, k, n) else None
+
 -- a look at a place, by its word
-abbrev pub query_at : List ℕ → ℕ → Option Query
-query_at word place =
-    if bytes_eq word (codes "state") then Some (State place)
-    else (if bytes_eq word (codes "pending") then Some (Pending place)
-    else (if bytes_eq word (codes "bits") then Some (Bits place)
-    else (if bytes_eq word (codes "history") then Some (History place)
+abbrev pub query_at : List ℕ → List ℕ → ℕ → Option Query
+query_at word b place =
+    if bytes_eq word (codes "state") then Some (Config b place State)
+    else (if bytes_eq word (codes "pending") then Some (Config b place Pending)
+    else (if bytes_eq word (codes "bits") then Some (Config b place Bits)
+    else (if bytes_eq word (codes "history") then Some (History b place)
     else None)))
 
-abbrev pub place_look_of : List ℕ → List (List ℕ) → Option Command
+abbrev pub place_look_of : List ℕ → List (List ℕ) → Option Query
 place_look_of word ws = do
   p ← place_of ws
-  q ← query_at word p.1
-  Some (Look p.0 q)
+  query_at word p.0 p.1
 
--- a look by its word: `steps B`, `process B K P`, or another word with `B K`
-abbrev pub look_of : List ℕ → List (List ℕ) → Option Command
+-- a look by its word: `branches`, `steps B`, `process B K P`, or another word with `B K`
+abbrev pub look_of : List ℕ → List (List ℕ) → Option Query
 look_of word ws =
-    if bytes_eq word (codes "steps") then option_map (λ b. Look b Steps) (branch_of ws)
-    else (if bytes_eq word (codes "process") then option_map (λ p. Look p.0 (Process p.1 p.2)) (process_at ws)
-    else place_look_of word ws)
+    if bytes_eq word (codes "branches") then (if is_end ws then Some Branches else None)
+    else (if bytes_eq word (codes "steps") then option_map Steps (branch_of ws)
+    else (if bytes_eq word (codes "process") then option_map (λ p. Config p.0 p.1 (Process p.2)) (process_at ws)
+    else place_look_of word ws))
 
--- a command: `insert B K STEP`, `remove B K`, `replace B K STEP`, or a look
+-- a command on a branch as a whole, by its word: `fork B K NAME`, `detach B`, `drop B`; or a look
+abbrev pub branch_command_of : List ℕ → List (List ℕ) → Option Command
+branch_command_of word ws =
+    if bytes_eq word (codes "fork") then option_map (λ p. Edit p.0 (Fork p.1 p.2)) (fork_of ws)
+    else (if bytes_eq word (codes "detach") then option_map (λ b. Edit b Detach) (branch_of ws)
+    else (if bytes_eq word (codes "drop") then option_map (λ b. Edit b Drop) (branch_of ws)
+    else option_map Look (look_of word ws)))
+
+-- a command: `insert B K STEP`, `remove B K`, `replace B K STEP`, or another
 abbrev pub command_of : List (List ℕ) → Option Command
 command_of ws =
     if bytes_eq (next ws) (codes "insert") then option_map (λ p. Edit p.0 (Insert p.1 p.2)) (step_at (after_next ws))
     else (if bytes_eq (next ws) (codes "remove") then option_map (λ p. Edit p.0 (Remove p.1)) (place_of (after_next ws))
     else (if bytes_eq (next ws) (codes "replace") then option_map (λ p. Edit p.0 (Replace p.1 p.2)) (step_at (after_next ws))
-    else look_of (next ws) (after_next ws)))
+    else branch_command_of (next ws) (after_next ws)))
 
 -- a call: the number of a session, and a command
 abbrev pub call_of : List (List ℕ) → Option Call

@@ -1,15 +1,12 @@
 -- The bytes of answers: one line each, ended by LF.
-use Rattle.std.specs.Prelude.{ℕ, List, [], ◌∷◌, ◌++◌, codes}
+use Rattle.std.specs.Prelude.{ℕ, List, ◌++◌, codes}
 use Rattle.std.specs.Fmt.{decimal}
-use Rattle.towerbench.specs.declared.refusal.Refusal.{Refusal}
-use Rattle.towerbench.specs.declared.refusal.Refusal.TheVariants.{BadLine}
+use Rattle.schedule_trie.specs.declared.refusal.Refusal.{Refusal}
+use Rattle.schedule_trie.specs.declared.refusal.Refusal.TheVariants.{BadLine}
+use Rattle.schedule_trie.specs.Refusals.{number, name}
 use Rattle.towerbench.specs.declared.reply.Reply.{Reply}
 use Rattle.towerbench.specs.declared.reply.Reply.TheVariants.{Edited, Refused}
-use Rattle.towerbench.specs.Refusals.{number, name}
-
--- the end of a line
-abbrev pub line_end : List ℕ
-line_end = 10 ∷ []
+use Rattle.views.specs.Pages.{line_end}
 
 abbrev pub refusal_text : Refusal → List ℕ
 refusal_text r = codes "refused " ++ decimal (number r) ++ codes " " ++ name r

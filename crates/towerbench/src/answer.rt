@@ -1,23 +1,20 @@
 //! Answers to the lines of a script.
 
-ghost use Rattle.std.specs.Prelude.{◌≡◌, Bool, OnOk, [], is_ok, if◌then◌else◌};
-ghost use Rattle.towerbench.specs.Refusals.{first_refusal};
-ghost use Rattle.towerbench.specs.World.{world_of, look_refusals};
-ghost use Rattle.towerbench.specs.Texts.{answer_text};
+ghost use Rattle.std.specs.Prelude.{◌≡◌, Bool, OnOk, []};
+ghost use Rattle.views.specs.Looks.{looked};
+ghost use Rattle.towerbench.specs.World.{world_of};
 ghost use Rattle.towerbench.specs.Answers as spec;
 
-use crate::answering::Answers;
 use crate::book::Book;
-use crate::command::{Call, Command, Line, Query};
+use crate::command::{Call, Command, Line};
 use crate::line::read_line;
-use crate::look::push_page;
-use crate::name::Name;
-use crate::refusal::Refusal;
 use crate::reply::Reply;
 use crate::text::{push_bad_line, push_reply};
+use conversation::answering::Answers;
 use frames::register::Register;
+use schedule_trie::refusal::Refusal;
 use std::alloc::{AllocError, Global};
-use std::io;
+use views::query::Query;
 
 impl<R: Register> Answers for Book<R> {
     ghost use Rattle.towerbench.specs.World.{World, world_of};
@@ -62,7 +59,7 @@ fn answer_line<R: Register>(
     match read_line(line) {
         Line::Blank => Ok(()),
         Line::Bad => push_bad_line(out, number),
-        Line::Call(call) => answer_call(out, alloc, book, call),
+        Line::Call(call) => answer_call(out, alloc, book, &call),
     }
 }
 
@@ -71,19 +68,19 @@ fn answer_call<R: Register>(
     out: &mut Vec<u8>,
     alloc: Global,
     book: &mut Book<R>,
-    call: Call,
+    call: &Call,
 ) -> Result<(), AllocError>
     requires { out.old.items ≡ [] }
-    ensures { OnOk result ((memory : Bool) × (spec.answer_call memory call (world_of R.is book.old) ≡ record { world = world_of R.is book.new; text = out.new.items })) }
+    ensures { OnOk result ((memory : Bool) × (spec.answer_call memory call.now (world_of R.is book.old) ≡ record { world = world_of R.is book.new; text = out.new.items })) }
 {
     let session = call.session;
-    match call.command {
+    match &call.command {
         Command::Edit { branch, edit } => {
-            let reply = book.act(session, &branch, edit);
+            let reply = book.act(alloc, session, branch, *edit);
             let reply = reply.unwrap_or(Reply::Refused(Refusal::Memory));
             push_reply(out, session, reply)
         }
-        Command::Look { branch, query } => answer_look(out, alloc, book, session, &branch, query),
+        Command::Look(query) => answer_look(out, alloc, book, session, *query),
     }
 }
 
@@ -91,28 +88,17 @@ fn answer_call<R: Register>(
 fn answer_look<R: Register>(
     out: &mut Vec<u8>,
     alloc: Global,
-    book: &Book<R>,
+    book: &mut Book<R>,
     session: u32,
-    branch: &Name,
     query: Query,
 ) -> Result<(), AllocError>
     requires { out.old.items ≡ [] }
-    ensures { OnOk result ((memory : Bool) × (out.new.items ≡ spec.look_text memory session (first_refusal (look_refusals branch.now query (world_of R.is book.now))) (spec.page session query (world_of R.is book.now)))) }
+    ensures text { let w = world_of R.is book.old in OnOk result ((memory : Bool) × (out.new.items ≡ spec.look_text memory session (looked query w.forest) (spec.page_of session query w))) }
+    ensures kept { world_of R.is book.new ≡ world_of R.is book.old }
 {
-    if let Some(refusal) = book.look_refusal(branch, query) {
-        return push_reply(out, session, Reply::Refused(refusal));
-    }
-    let page = push_page(out, alloc, session, query, book);
-    page_or_memory(out, session, page)
-}
-
-/// Leaves a page that was written, and puts the refusal of memory in the place of one that was not.
-fn page_or_memory(out: &mut Vec<u8>, session: u32, page: io::Result<()>) -> Result<(), AllocError>
-    ensures { OnOk result (out.new.items ≡ (if is_ok page then out.old.items else answer_text session (Reply.Refused Refusal.Memory))) }
-{
-    if page.is_ok() {
+    let Err(refusal) = book.look(out, alloc, session, query) else {
         return Ok(());
-    }
+    };
     out.clear();
-    push_reply(out, session, Reply::Refused(Refusal::Memory))
+    push_reply(out, session, Reply::Refused(refusal))
 }

@@ -1,167 +1,134 @@
-//! The book: a register, and the branch `main` with its counts.
+//! The book: a chart, with the counts of edits and of logged commands.
 
-ghost use Rattle.std.specs.Prelude.{◌≡◌, ◌≢◌, ◌≤◌, ◌<◌, ◌+◌, ◌^◌, true, false, None, OnOk, OnErr, IfOk, All, length};
-ghost use Rattle.frames.specs.Configuration.{fits_step};
-ghost use Rattle.towerbench.specs.Refusals.{first_refusal};
-ghost use Rattle.towerbench.specs.World.{world_of, opening, is_main, fits_edit, is_misplaced, overfills, edit_refusals, is_beyond, look_refusals, edit_by, accepted, edited, refused, log_limit};
+ghost use Rattle.std.specs.Prelude.{◌≡◌, ◌≢◌, ◌<◌, ◌+◌, ◌++◌, true, None, Ok, OnOk, OnErr, IfOk, IfErr};
+ghost use Rattle.checkpoints.specs.Segment.{AllFit};
+ghost use Rattle.schedule_trie.specs.Forest.{IsRefused, opened};
+ghost use Rattle.schedule_trie.specs.Cut.{AreLimits, forest};
+ghost use Rattle.views.specs.Looks.{looked, page};
+ghost use Rattle.towerbench.specs.World.{world_of, opening, first_refusal, fits_edit, early_refusals, changed, edit_by, edit_to, accepted, refused, with_branches};
 
-use crate::command::{Edit, Query};
-use crate::name::Name;
-use crate::refusal::Refusal;
+use crate::command::Edit;
 use crate::reply::Reply;
+use cutoff::chart::Chart;
 use frames::register::Register;
 use frames::roles::step_fits;
 use frames::types::Step;
-use std::alloc::AllocError;
+use schedule_trie::limits::Limits;
+use schedule_trie::name::Name;
+use schedule_trie::refusal::Refusal;
+use std::alloc::{AllocError, Global};
 use std::marker::Model;
-
-/// The most commands that are logged.
-const LOG_LIMIT: u32 = 1 << 20;
+use views::look::push_page;
+use views::query::Query;
 
 /// The greatest number of a session.
 const LAST_SESSION: u32 = 15;
 
-/// A register and its initial value, the most cells that may be made, the steps of the branch `main`,
-/// and the counts of edits, of logged commands and of cells made.
+/// The branches of a register's schedules with their stored runs, the limits, and the counts of edits and of logged commands.
 #[derive(Drop)]
 pub struct Book<R: Register> {
-    register: R,
-    value: u32,
-    cells: u32,
-    steps: Vec<Step>,
+    chart: Chart<R>,
+    limits: Limits,
     edits: u32,
     logged: u32,
-    made: u32,
 }
 
 impl<R: Register> Model for Book<R> {
-    ghost use Rattle.towerbench.specs.World.{Held, IsWorld, world_of};
+    ghost use Rattle.towerbench.specs.World.{Held, IsHeld};
 
-    ghost Value = { Held R };
+    ghost Value = { Held R R.Pending };
 
-    ghost view = { λ b. record { register = b.register; value = b.value; cells = b.cells; steps = b.steps.items; edits = b.edits; logged = b.logged; made = b.made } };
+    ghost view = { λ b. record { chart = b.chart; limits = b.limits; edits = b.edits; logged = b.logged } };
 
-    ghost invariant = { λ b. IsWorld (world_of R.is (record { register = b.register; value = b.value; cells = b.cells; steps = b.steps.items; edits = b.edits; logged = b.logged; made = b.made })) };
+    ghost invariant = { λ b. IsHeld (record { chart = b.chart; limits = b.limits; edits = b.edits; logged = b.logged }) };
 }
 
 impl<R: Register> Book<R> {
-    /// The book before the first call: a register at a value, the most cells that may be made, and
-    /// steps that fit the register.
-    pub fn new(register: R, value: u32, cells: u32, steps: Vec<Step>) -> Book<R>
+    /// The book before the first call: a register at a value, the limits, and steps that fit the register.
+    ///
+    /// # Errors
+    ///
+    /// Full where there are more steps than cells may be made; Memory.
+    pub fn new(
+        alloc: Global,
+        register: R,
+        value: u32,
+        limits: Limits,
+        steps: &[Step],
+    ) -> Result<Book<R>, Refusal>
         requires value { value < (R.is register).values }
-        requires fit { All (λ s. fits_step (R.is register) s ≡ true) steps.items }
-        requires few { length steps.items < 2 ^ 32 }
-        ensures { world_of R.is result ≡ opening (R.is register) value cells steps.items }
+        requires limits { AreLimits limits }
+        requires fits { AllFit (R.is register) steps.now }
+        ensures world { IfOk result (λ book. world_of R.is book ≡ opening (R.is register) value limits steps.now) }
+        ensures ok { IfOk result (λ book. opened limits steps.now ≡ Ok (forest book.chart.cut)) }
+        ensures err { IfErr result (IsRefused (opened limits steps.now)) }
     {
-        let made = steps.len() as u32;
-        Book {
-            register,
-            value,
-            cells,
-            steps,
+        let chart = Chart::new(alloc, register, value, limits, steps)?;
+        Ok(Book {
+            chart,
+            limits,
             edits: 0,
             logged: 0,
-            made,
-        }
-    }
-
-    /// The register.
-    pub fn register(&self) -> R
-        ensures { result ≡ self.now.register }
-    {
-        self.register
-    }
-
-    /// The register's initial value.
-    pub fn value(&self) -> u32
-        ensures value { result ≡ self.now.value }
-        ensures is_value { result < (R.is self.now.register).values }
-    {
-        self.value
-    }
-
-    /// The steps, each of which fits.
-    pub fn steps(&self) -> &[Step]
-        ensures steps { result.now ≡ self.now.steps }
-        ensures fit { All (λ s. fits_step (R.is self.now.register) s ≡ true) self.now.steps }
-    {
-        self.steps.as_slice()
+        })
     }
 
     /// Makes an edit, or refuses it. Want of memory changes nothing.
-    pub fn act(&mut self, session: u32, branch: &Name, edit: Edit) -> Result<Reply, AllocError>
+    pub fn act(
+        &mut self,
+        alloc: Global,
+        session: u32,
+        branch: &Name,
+        edit: Edit,
+    ) -> Result<Reply, AllocError>
         ensures ok { IfOk result (λ reply. edit_by session branch.now edit (world_of R.is self.old) ≡ record { world = world_of R.is self.new; reply = reply }) }
-        ensures last { OnErr result (first_refusal (edit_refusals session branch.now edit (world_of R.is self.old)) ≡ None) }
+        ensures last { OnErr result (first_refusal (early_refusals session edit (world_of R.is self.old)) ≡ None) }
+        ensures wanting { OnErr result (IsRefused (changed self.old.limits (forest self.old.chart.cut) branch.now edit) Refusal.Memory) }
         ensures err { OnErr result (self.new ≡ self.old) }
     {
-        match self.edit_refusal(session, branch, edit) {
-            None => self.make(edit),
-            Some(refusal) => {
-                self.count(refusal);
-                Ok(Reply::Refused(refusal))
-            }
+        if let Some(refusal) = self.early_refusal(session, &edit) {
+            return Ok(self.refuse(refusal));
         }
+        self.make(alloc, branch, edit)
     }
 
-    /// Makes an edit that nothing refuses. Want of memory changes nothing.
-    fn make(&mut self, edit: Edit) -> Result<Reply, AllocError>
-        requires fits { fits_edit (R.is self.old.register) edit ≡ true }
-        requires place { is_misplaced edit (length self.old.steps) ≡ false }
-        requires room { overfills self.old.cells edit self.old.made ≡ false }
-        requires logged { self.old.logged < log_limit }
-        ensures world { OnOk result (world_of R.is self.new ≡ edited edit (world_of R.is self.old)) }
-        ensures reply { IfOk result (λ reply. reply ≡ Reply.Edited (self.old.edits + 1)) }
+    /// Makes an edit that nothing refuses before its branch is looked for. Want of memory changes nothing.
+    fn make(&mut self, alloc: Global, branch: &Name, edit: Edit) -> Result<Reply, AllocError>
+        requires fits { fits_edit (R.is self.old.chart.start.register) edit ≡ true }
+        requires logged { self.old.logged < self.old.limits.log }
+        ensures ok { IfOk result (λ reply. edit_to (changed self.old.limits (forest self.old.chart.cut) branch.now edit) (world_of R.is self.old) ≡ record { world = world_of R.is self.new; reply = reply }) }
+        ensures wanting { OnErr result (IsRefused (changed self.old.limits (forest self.old.chart.cut) branch.now edit) Refusal.Memory) }
         ensures err { OnErr result (self.new ≡ self.old) }
+    {
+        let Err(refusal) = self.change(alloc, branch, edit) else {
+            return Ok(self.accept());
+        };
+        if refusal == Refusal::Memory {
+            return Err(AllocError);
+        }
+        Ok(self.refuse(refusal))
+    }
+
+    /// Changes the branches by an edit whose step, if any, fits.
+    fn change(&mut self, alloc: Global, branch: &Name, edit: Edit) -> Result<(), Refusal>
+        requires { fits_edit (R.is self.old.chart.start.register) edit ≡ true }
+        ensures ok { OnOk result (changed self.old.limits (forest self.old.chart.cut) branch.now edit ≡ Ok (forest self.new.chart.cut)) }
+        ensures err { IfErr result (IsRefused (changed self.old.limits (forest self.old.chart.cut) branch.now edit)) }
+        ensures unchanged { OnErr result (self.new ≡ self.old) }
+        ensures world { world_of R.is self.new ≡ with_branches (forest self.new.chart.cut) (world_of R.is self.old) }
     {
         match edit {
-            Edit::Insert { place, step } => self.insert(place, step),
-            Edit::Remove { place } => Ok(self.remove(place)),
-            Edit::Replace { place, step } => Ok(self.replace(place, step)),
+            Edit::Insert { place, step } => self.chart.insert(alloc, branch, place, step),
+            Edit::Remove { place } => self.chart.remove(branch, place),
+            Edit::Replace { place, step } => self.chart.replace(branch, place, step),
+            Edit::Fork { place, name } => self.chart.fork(alloc, branch, place, name),
+            Edit::Detach => self.chart.detach(alloc, branch),
+            Edit::Drop => self.chart.drop_branch(branch),
         }
-    }
-
-    /// Puts a new cell before the cell at a place, or at the end. Want of memory changes nothing.
-    fn insert(&mut self, place: u32, step: Step) -> Result<Reply, AllocError>
-        requires place { place ≤ length self.old.steps }
-        requires room { self.old.made < self.old.cells }
-        requires fits { fits_step (R.is self.old.register) step ≡ true }
-        requires logged { self.old.logged < log_limit }
-        ensures world { OnOk result (world_of R.is self.new ≡ edited (Edit.Insert place step) (world_of R.is self.old)) }
-        ensures reply { IfOk result (λ reply. reply ≡ Reply.Edited (self.old.edits + 1)) }
-        ensures err { OnErr result (self.new ≡ self.old) }
-    {
-        self.steps.insert(place as usize, step)?;
-        let reply = self.accept();
-        self.made += 1;
-        Ok(reply)
-    }
-
-    /// Takes out the cell at a place; no cell is given back.
-    fn remove(&mut self, place: u32) -> Reply
-        requires place { place < length self.old.steps }
-        requires logged { self.old.logged < log_limit }
-        ensures world { world_of R.is self.new ≡ edited (Edit.Remove place) (world_of R.is self.old) }
-        ensures reply { result ≡ Reply.Edited (self.old.edits + 1) }
-    {
-        self.steps.remove(place as usize);
-        self.accept()
-    }
-
-    /// Gives the cell at a place another step; it stays the same cell.
-    fn replace(&mut self, place: u32, step: Step) -> Reply
-        requires place { place < length self.old.steps }
-        requires fits { fits_step (R.is self.old.register) step ≡ true }
-        requires logged { self.old.logged < log_limit }
-        ensures world { world_of R.is self.new ≡ edited (Edit.Replace place step) (world_of R.is self.old) }
-        ensures reply { result ≡ Reply.Edited (self.old.edits + 1) }
-    {
-        self.steps[place as usize] = step;
-        self.accept()
     }
 
     /// Counts an accepted edit.
     fn accept(&mut self) -> Reply
-        requires { self.old.logged < log_limit }
+        requires { self.old.logged < self.old.limits.log }
         ensures world { world_of R.is self.new ≡ accepted (world_of R.is self.old) }
         ensures reply { result ≡ Reply.Edited (self.old.edits + 1) }
     {
@@ -171,103 +138,62 @@ impl<R: Register> Book<R> {
     }
 
     /// Counts a refused command, unless the log is full.
-    fn count(&mut self, refusal: Refusal)
-        requires { refusal ≢ Refusal.LogFull → self.old.logged < log_limit }
-        ensures { world_of R.is self.new ≡ refused refusal (world_of R.is self.old) }
+    fn refuse(&mut self, refusal: Refusal) -> Reply
+        requires { refusal ≢ Refusal.LogFull → self.old.logged < self.old.limits.log }
+        ensures world { world_of R.is self.new ≡ refused refusal (world_of R.is self.old) }
+        ensures reply { result ≡ Reply.Refused refusal }
     {
         if refusal != Refusal::LogFull {
             self.logged += 1;
         }
+        Reply::Refused(refusal)
     }
 
-    /// Why a look is refused, if it is.
-    pub fn look_refusal(&self, branch: &Name, query: Query) -> Option<Refusal>
-        ensures { result ≡ first_refusal (look_refusals branch.now query (world_of R.is self.now)) }
+    /// Why an edit is refused before its branch is looked for, if it is.
+    fn early_refusal(&self, session: u32, edit: &Edit) -> Option<Refusal>
+        ensures { result ≡ first_refusal (early_refusals session edit.now (world_of R.is self.now)) }
     {
-        if !is_main(branch) {
-            return Some(Refusal::NoBranch);
-        }
-        if is_beyond(query, self.steps.len()) {
-            return Some(Refusal::NoPlace);
-        }
-        None
-    }
-
-    /// Why an edit is refused, if it is.
-    fn edit_refusal(&self, session: u32, branch: &Name, edit: Edit) -> Option<Refusal>
-        ensures { result ≡ first_refusal (edit_refusals session branch.now edit (world_of R.is self.now)) }
-    {
-        if self.logged >= LOG_LIMIT {
+        if self.logged >= self.limits.log {
             return Some(Refusal::LogFull);
         }
         if session > LAST_SESSION {
             return Some(Refusal::NoSession);
         }
-        if !fits_edit(&self.register, edit) {
+        let register = self.chart.initial().register();
+        if !fits_edit(&register, edit) {
             return Some(Refusal::BadStep);
         }
-        if !is_main(branch) {
-            return Some(Refusal::NoBranch);
-        }
-        if is_misplaced(edit, self.steps.len()) {
-            return Some(Refusal::NoPlace);
-        }
-        if overfills(self.cells, edit, self.made) {
-            return Some(Refusal::Full);
-        }
         None
+    }
+
+    /// Adds the page of a look.
+    ///
+    /// # Errors
+    ///
+    /// NoBranch; NoPlace where the branch is shorter; Memory, and then a part of the page may have been added. The world is as
+    /// before in any case.
+    pub fn look(
+        &mut self,
+        out: &mut Vec<u8>,
+        alloc: Global,
+        session: u32,
+        query: Query,
+    ) -> Result<(), Refusal>
+        ensures page { let w = world_of R.is self.old in OnOk result (out.new.items ≡ out.old.items ++ page session w.tower w.value w.edits w.forest query) }
+        ensures found { OnOk result (looked query (forest self.old.chart.cut) ≡ Ok (forest self.old.chart.cut)) }
+        ensures err { IfErr result (IsRefused (looked query (forest self.old.chart.cut))) }
+        ensures kept { world_of R.is self.new ≡ world_of R.is self.old }
+    {
+        push_page(out, alloc, session, self.edits, &mut self.chart, query)
     }
 }
 
 /// Whether the step that an edit brings, if any, fits the register.
-fn fits_edit<R: Register>(register: &R, edit: Edit) -> bool
-    ensures { result ≡ fits_edit (R.is register.now) edit }
+fn fits_edit<R: Register>(register: &R, edit: &Edit) -> bool
+    ensures { result ≡ fits_edit (R.is register.now) edit.now }
 {
-    match edit {
+    match *edit {
         Edit::Insert { step, .. } | Edit::Replace { step, .. } => step_fits(register, step),
-        Edit::Remove { .. } => true,
+        Edit::Remove { .. } | Edit::Fork { .. } | Edit::Detach | Edit::Drop => true,
     }
-}
-
-/// Whether an edit is out of place in a branch of this length: an insert beyond its end, any other
-/// where no cell is.
-fn is_misplaced(edit: Edit, len: usize) -> bool
-    ensures { result ≡ is_misplaced edit len }
-{
-    match edit {
-        Edit::Insert { place, .. } => place as usize > len,
-        Edit::Remove { place } | Edit::Replace { place, .. } => place as usize >= len,
-    }
-}
-
-/// Whether an edit makes more cells than there may be: an insert makes one, any other none.
-fn overfills(cells: u32, edit: Edit, made: u32) -> bool
-    ensures { result ≡ overfills cells edit made }
-{
-    match edit {
-        Edit::Insert { .. } => made >= cells,
-        Edit::Remove { .. } | Edit::Replace { .. } => false,
-    }
-}
-
-/// Whether a look is at a place beyond the end of a branch of this length.
-fn is_beyond(query: Query, len: usize) -> bool
-    ensures { result ≡ is_beyond query len }
-{
-    match query {
-        Query::State { place }
-        | Query::Process { place, .. }
-        | Query::Pending { place }
-        | Query::Bits { place }
-        | Query::History { place } => place as usize > len,
-        Query::Steps => false,
-    }
-}
-
-/// Whether a name is that of the one branch.
-fn is_main(branch: &Name) -> bool
-    ensures { result ≡ is_main branch.now }
-{
-    let main = "main";
-    branch.as_bytes() == main.as_bytes()
 }

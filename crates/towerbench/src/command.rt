@@ -1,7 +1,8 @@
 //! What a line of a script calls.
 
-use crate::name::Name;
 use frames::types::Step;
+use schedule_trie::name::Name;
+use views::query::Query;
 
 /// A change of a branch. A place is after so many steps of the branch.
 #[derive(Clone, Copy, Debug, PartialEq, Eq)]
@@ -12,41 +13,30 @@ pub enum Edit {
     Remove { place: u32 },
     /// Gives the cell at a place another step.
     Replace { place: u32, step: Step },
+    /// Makes a new last branch of the first cells, up to a place.
+    Fork { place: u32, name: Name },
+    /// Gives the branch cells of its own.
+    Detach,
+    /// Drops the branch.
+    Drop,
 }
 
-/// A page of a branch.
+/// A command: an edit of a branch, which is logged, or a look, which is not.
 #[derive(Clone, Copy, Debug, PartialEq, Eq)]
-pub enum Query {
-    /// The configuration at a place.
-    State { place: u32 },
-    /// One process at a place.
-    Process { place: u32, process: u32 },
-    /// What each process has pending at a place, in frames.
-    Pending { place: u32 },
-    /// Each cell and each word at a place.
-    Bits { place: u32 },
-    /// The events up to a place.
-    History { place: u32 },
-    /// The steps of the branch.
-    Steps,
-}
-
-/// A command on a branch: an edit, which is logged, or a look, which is not.
-#[derive(Debug, Drop)]
 pub enum Command {
     Edit { branch: Name, edit: Edit },
-    Look { branch: Name, query: Query },
+    Look(Query),
 }
 
 /// A command of a session.
-#[derive(Debug, Drop)]
+#[derive(Clone, Copy, Debug, PartialEq, Eq)]
 pub struct Call {
     pub session: u32,
     pub command: Command,
 }
 
 /// What a line of a script says.
-#[derive(Debug, Drop)]
+#[derive(Clone, Copy, Debug, PartialEq, Eq)]
 pub enum Line {
     /// Nothing: it is empty, or begins with `#`.
     Blank,

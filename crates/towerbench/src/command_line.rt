@@ -1,9 +1,9 @@
 //! The words behind the program's name.
 
-ghost use Rattle.std.specs.Prelude.{◌≡◌, [], None, IfOk, map};
+ghost use Rattle.std.specs.Prelude.{◌≡◌, [], None, IfOk, false, map};
 ghost use Rattle.std.specs.String.{string_bytes};
-ghost use Rattle.clap.specs.Words.{app_of, kind_of};
-ghost use Rattle.towerbench.specs.CommandLine.{IsAskedBy, IsRunOf, Tells, program};
+ghost use Rattle.clap.specs.Words.{app_of, kind_of, rule_of};
+ghost use Rattle.towerbench.specs.CommandLine.{IsAskedBy, IsRunOf, Tells, cells_rule, branches_rule, default_options, program};
 
 use crate::options::Options;
 use clap::error::ErrorKind;
@@ -15,6 +15,9 @@ const FILE: &str = "FILE";
 
 /// The id of the option that limits the cells.
 const CELLS: &str = "cells";
+
+/// The id of the option that limits the branches.
+const BRANCHES: &str = "branches";
 
 /// What the words ask for.
 #[derive(Debug, Drop)]
@@ -35,7 +38,7 @@ pub enum Invocation<'a> {
 /// Reads the words behind the program's name.
 pub fn parse<'a>(alloc: Global, words: &'a [String]) -> Invocation<'a>
     ensures asked { IsAskedBy (map string_bytes words.entry.now) result }
-    ensures bare { words.entry.now ≡ [] → IsRunOf None 65536 result }
+    ensures bare { words.entry.now ≡ [] → IsRunOf None default_options result }
 {
     let Ok(command) = command(alloc) else {
         return Invocation::Memory;
@@ -47,12 +50,15 @@ pub fn parse<'a>(alloc: Global, words: &'a [String]) -> Invocation<'a>
     let Some(cells) = matches.get_one::<u32>(CELLS) else {
         unreachable!();
     };
+    let Some(branches) = matches.get_one::<u32>(BRANCHES) else {
+        unreachable!();
+    };
     Invocation::Run {
         file: matches.get_str(FILE),
         options: Options {
             workers: 0,
             cells,
-            branches: 64,
+            branches,
         },
     }
 }
@@ -62,20 +68,42 @@ fn command<'a>(alloc: Global) -> Result<Command<'a>, AllocError>
     ensures { IfOk result (λ c. app_of c ≡ program) }
 {
     let file = Arg::new(alloc, FILE).help("A tower and its steps; without it a safe bit");
-    let cells = Arg::new(alloc, CELLS)
-        .long(CELLS)
-        .action(ArgAction::Set)
-        .value_name("N")
-        .help("The most cells that are ever made, 1 to 16777216")
-        .value_parser(value_parser!(u32).range(1..=16777216))
-        .default_value("65536");
     Command::new(alloc, "towerbench")
         .about(
             "Answers the script on standard input: edits and looks over the runs of a register tower",
         )
         .no_binary_name(true)
         .arg(file)?
-        .arg(cells)
+        .arg(cells_option(alloc))?
+        .arg(branches_option(alloc))
+}
+
+/// The option that limits the cells.
+fn cells_option<'a>(alloc: Global) -> Arg<'a>
+    ensures rule { rule_of result ≡ cells_rule }
+    ensures own { result.global ≡ false }
+{
+    Arg::new(alloc, CELLS)
+        .long(CELLS)
+        .action(ArgAction::Set)
+        .value_name("N")
+        .help("The most cells that are ever made, 1 to 16777216")
+        .value_parser(value_parser!(u32).range(1..=16777216))
+        .default_value("65536")
+}
+
+/// The option that limits the branches.
+fn branches_option<'a>(alloc: Global) -> Arg<'a>
+    ensures rule { rule_of result ≡ branches_rule }
+    ensures own { result.global ≡ false }
+{
+    Arg::new(alloc, BRANCHES)
+        .long(BRANCHES)
+        .action(ArgAction::Set)
+        .value_name("N")
+        .help("The most branches that there are at a time, 1 to 1024")
+        .value_parser(value_parser!(u32).range(1..=1024))
+        .default_value("64")
 }
 
 /// What is told of words that aren't taken.

@@ -22,12 +22,13 @@ fn check_run(
     line: &str,
     want: Option<&str>,
     cells: u32,
+    branches: u32,
 ) -> Result<(), Fail> {
     let words = split(alloc, line)?;
     let wanted = Options {
         workers: 0,
         cells,
-        branches: 64,
+        branches,
     };
     match parse(alloc, words.as_slice()) {
         Invocation::Run { file, options } => {
@@ -41,21 +42,25 @@ fn check_run(
 
 #[test]
 fn runs(rt: HostRuntime) -> Result<(), Fail> {
-    for (line, file, cells) in [
-        ("", None, 65536),
-        ("tower", Some("tower"), 65536),
-        ("-", Some("-"), 65536),
-        ("--cells 1", None, 1),
-        ("--cells 16777216", None, 16777216),
-        ("--cells=16777216", None, 16777216),
-        ("--cells 65537 tower", Some("tower"), 65537),
-        ("tower --cells 4", Some("tower"), 4),
-        ("--cells=4 tower", Some("tower"), 4),
-        ("-- tower", Some("tower"), 65536),
-        ("-- --cells", Some("--cells"), 65536),
-        ("--cells 4 -- --help", Some("--help"), 4),
+    for (line, file, cells, branches) in [
+        ("", None, 65536, 64),
+        ("tower", Some("tower"), 65536, 64),
+        ("-", Some("-"), 65536, 64),
+        ("--cells 1", None, 1, 64),
+        ("--cells 16777216", None, 16777216, 64),
+        ("--cells=16777216", None, 16777216, 64),
+        ("--cells 65537 tower", Some("tower"), 65537, 64),
+        ("tower --cells 4", Some("tower"), 4, 64),
+        ("--cells=4 tower", Some("tower"), 4, 64),
+        ("-- tower", Some("tower"), 65536, 64),
+        ("-- --cells", Some("--cells"), 65536, 64),
+        ("--cells 4 -- --help", Some("--help"), 4, 64),
+        ("--branches 1", None, 65536, 1),
+        ("--branches=1024 tower", Some("tower"), 65536, 1024),
+        ("--branches 2 --cells 4 tower", Some("tower"), 4, 2),
+        ("--cells 4 tower --branches 2", Some("tower"), 4, 2),
     ] {
-        check_run(&rt, rt.alloc(), line, file, cells)?;
+        check_run(&rt, rt.alloc(), line, file, cells, branches)?;
     }
     Ok(())
 }
@@ -84,8 +89,12 @@ fn refusals(rt: HostRuntime) -> Result<(), Fail> {
         "-c 4",
         "--workers 1",
         "--workers",
-        "--branches 64",
-        "--branches=64",
+        "--branches",
+        "--branches 0",
+        "--branches 1025",
+        "--branches x",
+        "--branches 4 --branches 4",
+        "--branches 4 one two",
         "--version",
         "-V",
         "-x",
@@ -111,8 +120,9 @@ Arguments:
   [FILE]  A tower and its steps; without it a safe bit
 
 Options:
-      --cells <N>  The most cells that are ever made, 1 to 16777216 [default: 65536]
-  -h, --help       Print help
+      --cells <N>     The most cells that are ever made, 1 to 16777216 [default: 65536]
+      --branches <N>  The most branches that there are at a time, 1 to 1024 [default: 64]
+  -h, --help          Print help
 ";
 
 #[test]
@@ -148,9 +158,14 @@ fn what_is_wrong_is_named(rt: HostRuntime) -> Result<(), Fail> {
              For more information, try '--help'.\n",
         ),
         (
-            "--branches 4",
-            "error: unexpected argument '--branches' found\n\n  \
-             tip: to pass '--branches' as a value, use '-- --branches'\n\n\
+            "--branches 1025",
+            "error: invalid value '1025' for '--branches <N>': 1025 is not in 1..=1024\n\n\
+             For more information, try '--help'.\n",
+        ),
+        (
+            "--threads 4",
+            "error: unexpected argument '--threads' found\n\n  \
+             tip: to pass '--threads' as a value, use '-- --threads'\n\n\
              Usage: towerbench [OPTIONS] [FILE]\n\n\
              For more information, try '--help'.\n",
         ),

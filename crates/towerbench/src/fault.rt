@@ -1,26 +1,10 @@
 //! Why a run ends before its script does.
 
-use crate::refusal::Refusal;
 use crate::tower_source::SourceFault;
+use conversation::fault::StreamFault;
+use schedule_trie::refusal::Refusal;
 use thiserror::Error;
 use tower_file::FileFault;
-
-/// A fault of a script's streams.
-#[derive(Clone, Copy, Debug, PartialEq, Eq, Error)]
-pub enum StreamFault {
-    /// A read failed.
-    #[error("read failed")]
-    Read,
-    /// A write failed, or took no bytes.
-    #[error("write failed")]
-    Write,
-    /// The script has no end within its limits.
-    #[error("script too long")]
-    TooLong,
-    /// There was no memory to go on.
-    #[error("memory")]
-    Memory,
-}
 
 /// A fault of a run: of its file, or of its script's streams.
 #[derive(Clone, Copy, Debug, PartialEq, Eq, Error)]

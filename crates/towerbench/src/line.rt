@@ -4,9 +4,10 @@ ghost use Rattle.std.specs.Prelude.{◌≡◌};
 ghost use Rattle.std.specs.List.{list_all};
 ghost use Rattle.towerbench.specs.Lines as spec;
 
-use crate::command::{Call, Command, Edit, Line, Query};
-use crate::name::Name;
+use crate::command::{Call, Command, Edit, Line};
 use frames::types::Step;
+use schedule_trie::name::Name;
+use views::query::{PageKind, Query};
 use words::number::number;
 use words::parts::Parts;
 use words::step::{is, step_of};
@@ -73,52 +74,83 @@ fn command_of(words: &mut Parts<'_>) -> Option<Command>
         let edit = Edit::Replace { place, step };
         return Some(Command::Edit { branch, edit });
     }
-    look_of(word, words)
+    branch_command_of(word, words)
+}
+
+/// Reads a command on a branch as a whole that begins with this word, or a look.
+fn branch_command_of(word: &[u8], words: &mut Parts<'_>) -> Option<Command>
+    ensures { result ≡ spec.branch_command_of word.now words.old }
+{
+    if is(word, "fork") {
+        let (branch, place, name) = fork_of(words)?;
+        let edit = Edit::Fork { place, name };
+        return Some(Command::Edit { branch, edit });
+    }
+    if is(word, "detach") {
+        let branch = branch_of(words)?;
+        let edit = Edit::Detach;
+        return Some(Command::Edit { branch, edit });
+    }
+    if is(word, "drop") {
+        let branch = branch_of(words)?;
+        let edit = Edit::Drop;
+        return Some(Command::Edit { branch, edit });
+    }
+    let query = look_of(word, words)?;
+    Some(Command::Look(query))
 }
 
 /// Reads a look that begins with this word.
-fn look_of(word: &[u8], words: &mut Parts<'_>) -> Option<Command>
+fn look_of(word: &[u8], words: &mut Parts<'_>) -> Option<Query>
     ensures { result ≡ spec.look_of word.now words.old }
 {
+    if is(word, "branches") {
+        return words.is_end().then_some(Query::Branches);
+    }
     if is(word, "steps") {
         let branch = branch_of(words)?;
-        let query = Query::Steps;
-        return Some(Command::Look { branch, query });
+        return Some(Query::Steps { branch });
     }
     if is(word, "process") {
         let (branch, place, process) = process_at(words)?;
-        let query = Query::Process { place, process };
-        return Some(Command::Look { branch, query });
+        let kind = PageKind::Process(process);
+        return Some(Query::Config {
+            branch,
+            place,
+            kind,
+        });
     }
     place_look_of(word, words)
 }
 
 /// Reads a look at a place, by its word.
-fn place_look_of(word: &[u8], words: &mut Parts<'_>) -> Option<Command>
+fn place_look_of(word: &[u8], words: &mut Parts<'_>) -> Option<Query>
     ensures { result ≡ spec.place_look_of word.now words.old }
 {
     let (branch, place) = place_of(words)?;
-    let query = query_at(word, place)?;
-    Some(Command::Look { branch, query })
+    query_at(word, branch, place)
 }
 
 /// The look at a place that a word calls.
-fn query_at(word: &[u8], place: u32) -> Option<Query>
-    ensures { result ≡ spec.query_at word.now place }
+fn query_at(word: &[u8], branch: Name, place: u32) -> Option<Query>
+    ensures { result ≡ spec.query_at word.now branch place }
 {
-    if is(word, "state") {
-        return Some(Query::State { place });
-    }
-    if is(word, "pending") {
-        return Some(Query::Pending { place });
-    }
-    if is(word, "bits") {
-        return Some(Query::Bits { place });
-    }
-    if is(word, "history") {
-        return Some(Query::History { place });
-    }
-    None
+    let kind = if is(word, "state") {
+        PageKind::State
+    } else if is(word, "pending") {
+        PageKind::Pending
+    } else if is(word, "bits") {
+        PageKind::Bits
+    } else if is(word, "history") {
+        return Some(Query::History { branch, place });
+    } else {
+        return None;
+    };
+    Some(Query::Config {
+        branch,
+        place,
+        kind,
+    })
 }
 
 /// Reads a branch, and no more.
@@ -146,6 +178,16 @@ fn process_at(words: &mut Parts<'_>) -> Option<(Name, u32, u32)>
     let place = number(words.next())?;
     let process = number(words.next())?;
     words.is_end().then_some((branch, place, process))
+}
+
+/// Reads a branch, a place and the name of a branch, and no more words.
+fn fork_of(words: &mut Parts<'_>) -> Option<(Name, u32, Name)>
+    ensures { result ≡ spec.fork_of words.old }
+{
+    let from = branch(words.next())?;
+    let place = number(words.next())?;
+    let name = branch(words.next())?;
+    words.is_end().then_some((from, place, name))
 }
 
 /// Reads a branch, a place and a step.

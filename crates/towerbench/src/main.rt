@@ -2,33 +2,23 @@
 #![tactic(auto)]
 
 pub mod answer;
-pub mod answering;
 pub mod book;
 pub mod command;
 pub mod command_line;
 #[cfg(test)]
 mod command_line_tests;
-pub mod conversation;
 #[cfg(test)]
 mod edit_tests;
 pub mod ending;
 pub mod fault;
-pub mod history;
 pub mod line;
-pub mod look;
-pub mod name;
 pub mod options;
-pub mod page;
-pub mod pending;
-pub mod refusal;
 pub mod reply;
 #[cfg(test)]
 mod row_tests;
 pub mod run;
-pub mod schedule;
 #[cfg(test)]
 mod stream_tests;
-pub mod streams;
 #[cfg(test)]
 mod tests;
 pub mod text;

@@ -1,5 +1,13 @@
 //! What a run is given beside its script.
 
+ghost use Rattle.std.specs.Prelude.{◌≡◌};
+ghost use Rattle.towerbench.specs.Ranges.{limits_of};
+
+use schedule_trie::limits::Limits;
+
+/// The most commands that are logged.
+const MOST_LOGGED: u32 = 1 << 20;
+
 /// The limits of a run.
 #[derive(Clone, Copy, Debug, PartialEq, Eq)]
 pub struct Options {
@@ -9,4 +17,17 @@ pub struct Options {
     pub cells: u32,
     /// The most branches, 1 to 1,024.
     pub branches: u32,
+}
+
+impl Options {
+    /// The limits of the branches and of the log.
+    pub fn limits(self) -> Limits
+        ensures { result ≡ limits_of self }
+    {
+        Limits {
+            cells: self.cells,
+            branches: self.branches,
+            log: MOST_LOGGED,
+        }
+    }
 }

@@ -1,6 +1,6 @@
 //! Replies to calls that answer one line.
 
-use crate::refusal::Refusal;
+use schedule_trie::refusal::Refusal;
 
 /// What a call answers that is no page.
 #[derive(Clone, Copy, Debug, PartialEq, Eq)]

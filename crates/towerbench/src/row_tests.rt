@@ -1,8 +1,8 @@
 //! Tower files with scripts and their answers, worked by hand.
 
 use crate::fault::Fault;
-use crate::refusal::Refusal;
 use crate::tests::written;
+use schedule_trie::refusal::Refusal;
 use std::alloc::Global;
 use std::process::Abort;
 use std::test::Fail;
@@ -64,6 +64,54 @@ fn remove_insert(rt: HostRuntime) -> Result<(), Fail> {
         \x20 3 p0 invoke write 0\n  5 p0 return written\n\
         0: state main 6 of 6\n  p0 idle\n  p1 idle\n  bits 0\n  words -\n";
     check(&rt, rt.alloc(), file, script, want)?;
+    Ok(())
+}
+
+/// A read, whose three steps each branch has that is forked from them.
+const READ: &str = "tower 1\nsafe 0\nr 1\ng 1 0\ng 1 0\n";
+
+/// An insert before a shared cell is seen in both branches.
+#[test]
+fn shared_insert(rt: HostRuntime) -> Result<(), Fail> {
+    let script = "0 fork main 3 a\n0 insert main 1 w 0 1\n0 branches\n0 history a 4\n";
+    let want = "0: edit 1\n0: edit 2\n0: branches 2 edits 2 made 4\n  main 4\n  a 4\n\
+        0: history a 4 of 4\n  0 p1 invoke read\n  1 p0 invoke write 1\n  3 p1 return 0\n";
+    check(&rt, rt.alloc(), READ, script, want)?;
+    Ok(())
+}
+
+/// An insert at a branch's end is its own.
+#[test]
+fn parent_end(rt: HostRuntime) -> Result<(), Fail> {
+    let script = "0 fork main 3 a\n0 insert main 3 r 1\n0 branches\n";
+    let want = "0: edit 1\n0: edit 2\n0: branches 2 edits 2 made 4\n  main 4\n  a 3\n";
+    check(&rt, rt.alloc(), READ, script, want)?;
+    Ok(())
+}
+
+/// A detached branch has cells of its own.
+#[test]
+fn detach_replace(rt: HostRuntime) -> Result<(), Fail> {
+    let file = "tower 1\nsafe 0\nr 1\ng 1 0\n";
+    let script = "0 fork main 2 a\n0 detach a\n0 replace main 1 g 1 1\n0 steps a\n0 branches\n";
+    let want = "0: edit 1\n0: edit 2\n0: edit 3\n0: steps a 2\n  0 r 1\n  1 g 1 0\n\
+        0: branches 2 edits 3 made 4\n  main 2\n  a 2\n";
+    check(&rt, rt.alloc(), file, script, want)?;
+    Ok(())
+}
+
+/// Branches are told in order of making, and a dropped one is gone with its name.
+#[test]
+fn branches_dropped(rt: HostRuntime) -> Result<(), Fail> {
+    let script = "0 fork main 0 b\n0 fork main 3 a1\n0 fork a1 2 c\n0 remove c 0\n0 drop a1\n\
+        0 branches\n0 steps a1\n0 steps c\n0 fork b 0 a1\n0 drop main\n0 drop b\n0 drop a1\n\
+        0 drop c\n0 branches\n";
+    let want = "0: edit 1\n0: edit 2\n0: edit 3\n0: edit 4\n0: edit 5\n\
+        0: branches 3 edits 5 made 3\n  main 2\n  b 0\n  c 1\n\
+        0: refused 20 NoBranch\n0: steps c 1\n  0 g 1 0\n\
+        0: edit 6\n0: edit 7\n0: edit 8\n0: edit 9\n0: refused 25 LastBranch\n\
+        0: branches 1 edits 9 made 3\n  c 1\n";
+    check(&rt, rt.alloc(), READ, script, want)?;
     Ok(())
 }
 

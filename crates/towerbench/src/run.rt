@@ -1,22 +1,23 @@
 //! A run: the script comes from a reader, the answers go to a writer.
 
-ghost use Rattle.std.specs.Prelude.{◌≡◌, ◌<◌, true, OnOk, IfErr, All};
+ghost use Rattle.std.specs.Prelude.{◌≡◌, ◌<◌, Some, OnOk, IfErr};
 ghost use Rattle.std.specs.Option.{option_map};
-ghost use Rattle.frames.specs.Configuration.{fits_step};
+ghost use Rattle.checkpoints.specs.Segment.{AllFit};
+ghost use Rattle.schedule_trie.specs.Cut.{AreLimits as AreTrieLimits};
+ghost use Rattle.conversation.specs.Scripts.{answers_to};
 ghost use Rattle.towerbench.specs.World.{opening};
 ghost use Rattle.towerbench.specs.Answers.{answer_line};
-ghost use Rattle.towerbench.specs.Scripts.{answers_to};
-ghost use Rattle.towerbench.specs.Ranges.{AreLimits};
+ghost use Rattle.towerbench.specs.Ranges.{AreLimits, limits_of};
 ghost use Rattle.towerbench.specs.Opening.{answers_on, EndsOver, Ran, RanInto};
 
 use crate::book::Book;
-use crate::conversation::converse;
 use crate::fault::Fault;
 use crate::options::Options;
-use crate::refusal::Refusal;
+use conversation::converse::converse;
 use frames::register::Register;
 use frames::safe::Safe;
 use frames::types::Step;
+use schedule_trie::limits::Limits;
 use std::alloc::Global;
 use std::io::{Read, Write};
 use tower_file::{TowerFile, TowerSpec, parse};
@@ -36,36 +37,59 @@ pub fn run<R: Read, W: Write>(
     writer: &mut W,
 ) -> Result<(), Fault>
     requires limits { AreLimits options }
-    ensures done { OnOk result (Ran (option_map (λ bytes. bytes.now) file.entry) options.cells (R.remaining reader.old) (R.remaining reader.new) (W.contents writer.old) (W.contents writer.new)) }
-    ensures fault { IfErr result (RanInto (option_map (λ bytes. bytes.now) file.entry) options.cells (R.remaining reader.old) (R.remaining reader.new) (W.contents writer.old) (W.contents writer.new)) }
+    ensures done { OnOk result (Ran (option_map (λ bytes. bytes.now) file.entry) (limits_of options) (R.remaining reader.old) (R.remaining reader.new) (W.contents writer.old) (W.contents writer.new)) }
+    ensures fault { IfErr result (RanInto (option_map (λ bytes. bytes.now) file.entry) (limits_of options) (R.remaining reader.old) (R.remaining reader.new) (W.contents writer.old) (W.contents writer.new)) }
 {
     let Some(bytes) = file else {
-        return begin(alloc, Safe, 0, &[], options.cells, reader, writer);
+        let none = Vec::new(alloc);
+        return begin(alloc, Safe, 0, none, options.limits(), reader, writer);
     };
     match parse(alloc, bytes) {
-        Ok(file) => run_file(alloc, &file, options.cells, reader, writer),
+        Ok(file) => run_file(alloc, file, options.limits(), reader, writer),
         Err(fault) => Err(Fault::File(fault)),
     }
 }
 
-/// Answers a script on the tower and the steps of a file.
-fn run_file<R: Read, W: Write>(
+/// Answers a script on the tower and the steps of a file whose bytes are let go before anything is read.
+pub fn run_read<R: Read, W: Write>(
     alloc: Global,
-    file: &TowerFile,
-    cells: u32,
+    bytes: Vec<u8>,
+    options: Options,
     reader: &mut R,
     writer: &mut W,
 ) -> Result<(), Fault>
-    ensures { EndsOver cells file.now.steps (answers_on file.now cells) (R.remaining reader.old) (R.remaining reader.new) (W.contents writer.old) (W.contents writer.new) result }
+    requires limits { AreLimits options }
+    ensures done { OnOk result (Ran (Some bytes.items) (limits_of options) (R.remaining reader.old) (R.remaining reader.new) (W.contents writer.old) (W.contents writer.new)) }
+    ensures fault { IfErr result (RanInto (Some bytes.items) (limits_of options) (R.remaining reader.old) (R.remaining reader.new) (W.contents writer.old) (W.contents writer.new)) }
 {
-    let steps = file.steps();
-    match file.spec() {
-        TowerSpec::Safe { init } => begin(alloc, Safe, init, steps, cells, reader, writer),
+    let file = parse(alloc, bytes.as_slice());
+    drop(bytes);
+    match file {
+        Ok(file) => run_file(alloc, file, options.limits(), reader, writer),
+        Err(fault) => Err(Fault::File(fault)),
+    }
+}
+
+/// Answers a script on the tower and the steps of a file, which is let go before anything is read.
+fn run_file<R: Read, W: Write>(
+    alloc: Global,
+    file: TowerFile,
+    limits: Limits,
+    reader: &mut R,
+    writer: &mut W,
+) -> Result<(), Fault>
+    requires { AreTrieLimits limits }
+    ensures { EndsOver limits file.steps (answers_on file limits) (R.remaining reader.old) (R.remaining reader.new) (W.contents writer.old) (W.contents writer.new) result }
+{
+    let spec = file.spec();
+    let steps = file.into_steps();
+    match spec {
+        TowerSpec::Safe { init } => begin(alloc, Safe, init, steps, limits, reader, writer),
         TowerSpec::Copies { readers, init } => {
-            begin(alloc, copies(readers), init, steps, cells, reader, writer)
+            begin(alloc, copies(readers), init, steps, limits, reader, writer)
         }
         TowerSpec::Regular { readers, init } => {
-            begin(alloc, regular(readers), init, steps, cells, reader, writer)
+            begin(alloc, regular(readers), init, steps, limits, reader, writer)
         }
         TowerSpec::Unary {
             values,
@@ -73,11 +97,11 @@ fn run_file<R: Read, W: Write>(
             init,
         } => {
             let register = unary(values, readers);
-            begin(alloc, register, init, steps, cells, reader, writer)
+            begin(alloc, register, init, steps, limits, reader, writer)
         }
         TowerSpec::Stamped { values, last } => {
             let register = stamped(values, last);
-            begin(alloc, register, 0, steps, cells, reader, writer)
+            begin(alloc, register, 0, steps, limits, reader, writer)
         }
         TowerSpec::Matrix {
             processes,
@@ -86,33 +110,32 @@ fn run_file<R: Read, W: Write>(
             last_stamp,
         } => {
             let register = matrix(processes, values, last_tag, last_stamp);
-            begin(alloc, register, 0, steps, cells, reader, writer)
+            begin(alloc, register, 0, steps, limits, reader, writer)
         }
     }
 }
 
-/// Answers a script on a register at a value, and steps that fit it.
+/// Answers a script on a register at a value, and steps that fit it, which are let go before anything is read.
 fn begin<B: Register, R: Read, W: Write>(
     alloc: Global,
     register: B,
     value: u32,
-    steps: &[Step],
-    cells: u32,
+    steps: Vec<Step>,
+    limits: Limits,
     reader: &mut R,
     writer: &mut W,
 ) -> Result<(), Fault>
     requires value { value < (B.is register).values }
-    requires fit { All (λ s. fits_step (B.is register) s ≡ true) steps.now }
-    ensures { EndsOver cells steps.now (answers_to answer_line (opening (B.is register) value cells steps.now)) (R.remaining reader.old) (R.remaining reader.new) (W.contents writer.old) (W.contents writer.new) result }
+    requires limits { AreTrieLimits limits }
+    requires fit { AllFit (B.is register) steps.items }
+    ensures { EndsOver limits steps.items (answers_to answer_line (opening (B.is register) value limits steps.items)) (R.remaining reader.old) (R.remaining reader.new) (W.contents writer.old) (W.contents writer.new) result }
 {
-    if steps.len() > cells as usize {
-        return Err(Fault::Refused(Refusal::Full));
-    }
-    let mut kept = Vec::new(alloc);
-    let Ok(()) = kept.extend_from_slice(steps) else {
-        return Err(Fault::Refused(Refusal::Memory));
+    let opened = Book::new(alloc, register, value, limits, &steps);
+    drop(steps);
+    let mut book = match opened {
+        Ok(book) => book,
+        Err(refusal) => return Err(Fault::Refused(refusal)),
     };
-    let mut book = Book::new(register, value, cells, kept);
     converse(alloc, &mut book, reader, writer)?;
     Ok(())
 }

@@ -1,10 +1,9 @@
 //! Streams that end early, fail or give their bytes slowly, and the statuses of the program.
 
 use crate::fault::{Fault, ProgramFault};
-use crate::refusal::Refusal;
 use crate::tool::tool;
+use schedule_trie::refusal::Refusal;
 use std::alloc::{AllocError, Global};
-use std::cell::Cell;
 use std::io::{ErrorKind, Read, Write};
 use std::process::Abort;
 use std::rt::Files;
@@ -257,7 +256,7 @@ fn words_of(alloc: Global, texts: &[&str]) -> Result<Vec<String>, AllocError> {
 fn words_refused(rt: HostRuntime) -> Result<(), Fail> {
     for texts in [
         ["--workers", "1"].as_slice(),
-        ["--branches", "64"].as_slice(),
+        ["--branches", "0"].as_slice(),
         ["--cells", "0"].as_slice(),
         ["one", "two"].as_slice(),
     ] {
@@ -353,105 +352,6 @@ fn words_without_memory(rt: HostRuntime) {
     assert_eq!(rt; errors.as_slice(), b"towerbench: memory\n".as_slice());
 }
 
-/// Counts the writes, and the bytes that came by them.
-#[derive(Drop)]
-struct Counted<'a> {
-    writes: &'a Cell<usize>,
-    bytes: &'a Cell<usize>,
-}
-
-impl Write for Counted<'_> {
-    fn write(&mut self, buf: &[u8]) -> io::Result<usize> {
-        self.writes.set(self.writes.get().wrapping_add(1));
-        self.bytes.set(self.bytes.get().wrapping_add(buf.len()));
-        Ok(buf.len())
-    }
-
-    fn flush(&mut self) -> io::Result<()> {
-        Ok(())
-    }
-}
-
-/// Gives a script piece by piece, and looks at each read at what was written before.
-#[derive(Drop)]
-struct Watching<'a> {
-    pieces: &'a [&'a str],
-    next: usize,
-    writes: &'a Cell<usize>,
-    bytes: &'a Cell<usize>,
-    seen: Vec<(usize, usize)>,
-}
-
-impl Read for Watching<'_> {
-    fn read(&mut self, buf: &mut [u8]) -> io::Result<usize> {
-        self.seen.push((self.writes.get(), self.bytes.get()))?;
-        let Some(piece) = self.pieces.get(self.next) else {
-            return Ok(0);
-        };
-        let piece = piece.as_bytes();
-        let count = piece.len().min(buf.len());
-        buf[..count].copy_from_slice(&piece[..count]);
-        self.next = self.next.wrapping_add(1);
-        Ok(count)
-    }
-}
-
-/// The answers to the lines of one read are written at once, before the next read; a line that goes on is
-/// answered where it ends, and where nothing is answered nothing is written.
-#[test]
-fn answers_go_out_together(rt: HostRuntime) {
-    let (writes, bytes) = (Cell::new(0), Cell::new(0));
-    let pieces = [
-        "0 insert main 0 r 1\n0 insert main 0 r 1\n0 sta",
-        "te main 0\n# nothing",
-        " more\n",
-    ];
-    let mut reader = Watching {
-        pieces: pieces.as_slice(),
-        next: 0,
-        writes: &writes,
-        bytes: &bytes,
-        seen: Vec::new(rt.alloc()),
-    };
-    let mut writer = Counted {
-        writes: &writes,
-        bytes: &bytes,
-    };
-    let mut errors = Vec::new(rt.alloc());
-    let words = Ok(Vec::new(rt.alloc()));
-    let status = tool(&rt, words, &mut reader, &mut writer, &mut errors);
-    assert_eq!(rt; status, 0);
-    // two edits of 10 bytes, and a page of 60
-    assert_eq!(rt;
-        reader.seen.as_slice(),
-        [(0, 0), (1, 20), (2, 80), (2, 80)].as_slice()
-    );
-}
-
-/// Short lines by the thousand are answered by one write for each read.
-#[test]
-fn many_short_lines(rt: HostRuntime) -> Result<(), Fail> {
-    let script = vec![in rt.alloc(); b'\n'; 40_000]?;
-    let (writes, bytes) = (Cell::new(0), Cell::new(0));
-    let mut lines = Vec::new(rt.alloc());
-    for _ in 0..20_000 {
-        lines.extend_from_slice(b"x\n".as_slice())?;
-    }
-    for (script, most) in [(script.as_slice(), 0), (lines.as_slice(), 10)] {
-        let mut reader = script;
-        let mut writer = Counted {
-            writes: &writes,
-            bytes: &bytes,
-        };
-        let mut errors = Vec::new(rt.alloc());
-        let words = Ok(Vec::new(rt.alloc()));
-        let status = tool(&rt, words, &mut reader, &mut writer, &mut errors);
-        assert_eq!(rt; status, 0);
-        assert!(rt; writes.get() <= most);
-    }
-    Ok(())
-}
-
 /// A writer that fails is no fault where there is nothing to write.
 #[test]
 fn nothing_to_write(rt: HostRuntime) {
@@ -519,6 +419,16 @@ fn cells_by_the_words(rt: HostRuntime) -> Result<(), Fail> {
     let script = "0 insert main 0 r 1\n0 insert main 0 r 1\n";
     let want = "0: edit 1\n0: refused 24 Full\n";
     check_words(&rt, ["--cells", "1"].as_slice(), script, want, "")
+}
+
+/// The branches that there may be are those that the words tell.
+#[test]
+fn branches_by_the_words(rt: HostRuntime) -> Result<(), Fail> {
+    let script = "0 fork main 0 main\n0 fork main 0 9x\n0 fork zed 1 main\n0 fork main 1 a\n\
+        0 fork main 0 a\n0 fork main 0 b\n0 drop main\n0 fork a 0 b\n";
+    let want = "0: refused 21 NameTaken\n0: refused 22 BadName\n0: refused 20 NoBranch\n\
+        0: refused 23 NoPlace\n0: edit 1\n0: refused 26 TooManyBranches\n0: edit 2\n0: edit 3\n";
+    check_words(&rt, ["--branches", "2"].as_slice(), script, want, "")
 }
 
 /// A file of two steps is opened where so many cells may be made, and they count as made.

@@ -60,8 +60,9 @@ fn first_run(rt: HostRuntime) -> Result<(), Fail> {
 #[test]
 fn cells_full(rt: HostRuntime) -> Result<(), Fail> {
     let script = "0 insert main 0 r 1\n0 insert main 0 r 1\n0 insert main 0 r 1\n\
-        0 insert main 0 r 1\n0 insert main 0 r 1\n";
-    let want = "0: edit 1\n0: edit 2\n0: edit 3\n0: edit 4\n0: refused 24 Full\n";
+        0 insert main 0 r 1\n0 insert main 0 r 1\n0 fork main 2 a\n0 detach a\n0 branches\n";
+    let want = "0: edit 1\n0: edit 2\n0: edit 3\n0: edit 4\n0: refused 24 Full\n\
+        0: edit 5\n0: refused 24 Full\n0: branches 2 edits 5 made 4\n  main 4\n  a 2\n";
     check(&rt, rt.alloc(), 4, script, want)?;
     Ok(())
 }
@@ -160,10 +161,18 @@ fn bad_lines(rt: HostRuntime) -> Result<(), Fail> {
         "0 replace main 0 w 0",
         "0 steps",
         "0 steps main 0",
+        "0 fork main 0",
+        "0 fork main 0 a b",
+        "0 fork main 0 abcdefghijklmnopq",
+        "0 fork main a 0",
+        "0 detach",
+        "0 detach main 0",
+        "0 drop",
+        "0 drop main 0",
+        "0 branches main",
         "0 bits main",
         "0 bits main 0 0",
         "0 join",
-        "0 branches",
         "0 state main 0\r",
         "0 state main\t0",
         "0 state m\u{e9}in 0",

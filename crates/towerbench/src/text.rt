@@ -3,8 +3,8 @@
 ghost use Rattle.std.specs.Prelude.{◌≡◌, ◌++◌, OnOk};
 ghost use Rattle.towerbench.specs.Texts as spec;
 
-use crate::refusal::Refusal;
 use crate::reply::Reply;
+use schedule_trie::refusal::Refusal;
 use std::alloc::AllocError;
 use std::io::Write;
 

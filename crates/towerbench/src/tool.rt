@@ -1,21 +1,20 @@
 //! What the program does with its words and its streams.
 
 ghost use Rattle.std.specs.Prelude.{◌≡◌, ◌≤◌, IfOk, OnErr, map};
-ghost use Rattle.std.specs.Option.{is_some, option_map};
+ghost use Rattle.std.specs.Option.{is_some};
 ghost use Rattle.std.specs.String.{string_bytes};
-ghost use Rattle.towerbench.specs.Ranges.{AreLimits};
+ghost use Rattle.towerbench.specs.Ranges.{AreLimits, limits_of};
 ghost use Rattle.towerbench.specs.declared.ending.Ending.{Ending};
 ghost use Rattle.towerbench.specs.Opening.{IsUntouched};
-ghost use Rattle.towerbench.specs.Endings.{IsPrinted, EndsBy, WorksOut, RunsOver, status_of};
+ghost use Rattle.towerbench.specs.Endings.{IsPrinted, EndsBy, WorksOut, ending_of, status_of};
 
 use crate::command_line::{Invocation, parse};
 use crate::ending::Ending;
-use crate::fault::ProgramFault;
+use crate::fault::{Fault, ProgramFault};
 use crate::options::Options;
-use crate::run::run;
-use crate::streams::write_whole;
+use crate::run::{run, run_read};
 use crate::tower_source::read_file;
-use std::alloc::Global;
+use conversation::streams::write_whole;
 use std::io;
 use std::io::{ErrorKind, Read, Write};
 use std::rt::Files;
@@ -86,35 +85,22 @@ fn work<F: Files + AllocGlobal, R: Read, W: Write>(
     writer: &mut W,
 ) -> Ending
     requires { AreLimits options }
-    ensures { WorksOut (is_some file.entry) options.cells (R.remaining reader.old) (R.remaining reader.new) (W.contents writer.old) (W.contents writer.new) result }
+    ensures { WorksOut (is_some file.entry) (limits_of options) (R.remaining reader.old) (R.remaining reader.new) (W.contents writer.old) (W.contents writer.new) result }
 {
     let Some(path) = file else {
-        return answer_over(files.alloc(), None, options, reader, writer);
+        return ending_of(run(files.alloc(), None, options, reader, writer));
     };
     match read_file(files, path) {
-        Ok(bytes) => answer_over(
-            files.alloc(),
-            Some(bytes.as_slice()),
-            options,
-            reader,
-            writer,
-        ),
+        Ok(bytes) => ending_of(run_read(files.alloc(), bytes, options, reader, writer)),
         Err(fault) => Ending::Faulted(ProgramFault::Source(fault)),
     }
 }
 
-/// Answers the script over the bytes of a tower file, or over none.
-fn answer_over<R: Read, W: Write>(
-    alloc: Global,
-    bytes: Option<&[u8]>,
-    options: Options,
-    reader: &mut R,
-    writer: &mut W,
-) -> Ending
-    requires { AreLimits options }
-    ensures { RunsOver (option_map (λ bytes. bytes.now) bytes.entry) options.cells (R.remaining reader.old) (R.remaining reader.new) (W.contents writer.old) (W.contents writer.new) result }
+/// What the program comes to by a run.
+fn ending_of(ran: Result<(), Fault>) -> Ending
+    ensures { result ≡ ending_of ran }
 {
-    match run(alloc, bytes, options, reader, writer) {
+    match ran {
         Ok(()) => Ending::Done,
         Err(fault) => Ending::Faulted(ProgramFault::Run(fault)),
     }

@@ -19,7 +19,7 @@ plan_branch-requires-in-loop-index-clause-fits g c = fits_on (g.R.Behaves.is c.a
 
 pub loop-index-preserved : goal.loop-index-preserved
 loop-index-preserved g c = λ all p.
-    let count : c.branches-index-end.result ≡ length c.args.trie.now.strands = c.branches-index-end.ensures ∙ length-map c.args.trie.now.strands (branch_on (piece_at c.args.trie.now.pieces)) in
+    let count : c.branches-index-end.result ≡ length c.args.trie.now.strands = c.branches-index-end.ensures.count ∙ length-map c.args.trie.now.strands (branch_on (piece_at c.args.trie.now.pieces)) in
     let inside : c.loop-index.index < length c.args.trie.now.strands = omega arith in
     c.loop-index.invariant all
     (plan_on g.R.PartialEq.eq (g.R.Behaves.is c.args.start.now.register) c.args.trie.now c.args.start.now _ _ all c.loop-index.index _ inside c.keys_at.ensures.keys
@@ -27,7 +27,7 @@ loop-index-preserved g c = λ all p.
 
 pub returns : goal.returns
 returns g c =
-    let count : c.branches-index-end.result ≡ length c.args.trie.now.strands = c.branches-index-end.ensures ∙ length-map c.args.trie.now.strands (branch_on (piece_at c.args.trie.now.pieces)) in
+    let count : c.branches-index-end.result ≡ length c.args.trie.now.strands = c.branches-index-end.ensures.count ∙ length-map c.args.trie.now.strands (branch_on (piece_at c.args.trie.now.pieces)) in
     let past : length c.args.trie.now.strands ≤ c.loop-index.index = omega arith in
     c.loop-index.invariant c.loop-index.jobs.items
     (plan_ends g.R.PartialEq.eq (g.R.Behaves.is c.args.start.now.register) c.args.trie.now c.args.start.now c.loop-index.jobs.items c.loop-index.index past)

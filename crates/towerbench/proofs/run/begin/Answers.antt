@@ -1,32 +1,42 @@
-use Rattle.std.proofs.Common.{◌≡◌, ◌≤◌, ◌∙◌, ap, subst, length, arith, rules}
+use Rattle.std.proofs.Common.{◌≡◌, ◌≤◌, ◌∙◌, ap, subst, refl, length, Ok}
+use Rattle.schedule_trie.specs.Forest as forests
+use Rattle.schedule_trie.specs.Cut.{forest}
 use Rattle.towerbench.specs.World.{opening, world_of}
 use Rattle.towerbench.specs.Answers.{answer_line}
-use Rattle.towerbench.specs.Scripts.{answers_to}
-use Rattle.towerbench.specs.Conversations.{IsAnswered, Breaks}
-use Rattle.towerbench.proofs.Opened.{handed}
+use Rattle.conversation.specs.Scripts.{answers_to}
+use Rattle.conversation.specs.Conversations.{IsAnswered, Breaks}
+use Rattle.towerbench.proofs.Opened.{handed, opened_within}
 use Rattle.towerbench.proofs.run.begin.Goals as goal
+
+pub returns-in-Err : goal.returns-in-Err
+returns-in-Err g c =
+    (subst (λ steps. forests.IsRefused (forests.opened c.args.limits steps) c.in-Err.refusal) c.deref.ensures.value c.in-Err.ensures.err, (refl, refl))
 
 pub returns-in_err-converse : goal.returns-in_err-converse
 returns-in_err-converse g c =
-    let items : c.extend_from_slice.new.self.items ≡ c.args.steps.now = search rules in
-    let world : world_of g.B.Behaves.is c.new-book.result ≡ opening (g.B.Behaves.is c.args.register) c.args.value c.args.cells c.args.steps.now =
-    c.new-book.ensures ∙ ap (λ steps. opening (g.B.Behaves.is c.args.register) c.args.value c.args.cells steps) items in
-    let room : length c.args.steps.now ≤ c.args.cells = omega arith in
+    let items : c.deref.result.now ≡ c.args.steps.items = c.deref.ensures.value in
+    let opened : forests.opened c.args.limits c.args.steps.items ≡ Ok (forest c.in-Ok.book.chart.cut) =
+    subst (λ steps. forests.opened c.args.limits steps ≡ Ok (forest c.in-Ok.book.chart.cut)) items c.in-Ok.ensures.ok in
+    let room : length c.args.steps.items ≤ c.args.limits.cells = opened_within c.args.limits c.args.steps.items (forest c.in-Ok.book.chart.cut) opened in
+    let world : world_of g.B.Behaves.is c.in-Ok.book ≡ opening (g.B.Behaves.is c.args.register) c.args.value c.args.limits c.args.steps.items =
+    c.in-Ok.ensures.world ∙ ap (λ steps. opening (g.B.Behaves.is c.args.register) c.args.value c.args.limits steps) items in
     let old = g.R.Read.remaining c.args.reader.now in
     let now = g.R.Read.remaining c.converse.new.reader in
     let before = g.W.Write.contents c.args.writer.now in
     let after = g.W.Write.contents c.converse.new.writer in
-    handed old now before after c.args.cells c.args.steps.now (answers_to answer_line (opening (g.B.Behaves.is c.args.register) c.args.value c.args.cells c.args.steps.now))
+    handed old now before after c.args.limits c.args.steps.items (answers_to answer_line (opening (g.B.Behaves.is c.args.register) c.args.value c.args.limits c.args.steps.items))
     c.from_residual.result c.in_err-converse.field-0.0 _ c.from_residual.ensures.1 (λ x h. h) room
     (subst (λ w. Breaks (answers_to answer_line w) c.in_err-converse.field-0.0 old now before after) world c.in_err-converse.ensures.fault)
 
 pub returns : goal.returns
 returns g c =
-    let items : c.extend_from_slice.new.self.items ≡ c.args.steps.now = search rules in
-    let world : world_of g.B.Behaves.is c.new-book.result ≡ opening (g.B.Behaves.is c.args.register) c.args.value c.args.cells c.args.steps.now =
-    c.new-book.ensures ∙ ap (λ steps. opening (g.B.Behaves.is c.args.register) c.args.value c.args.cells steps) items in
+    let items : c.deref.result.now ≡ c.args.steps.items = c.deref.ensures.value in
+    let opened : forests.opened c.args.limits c.args.steps.items ≡ Ok (forest c.in-Ok.book.chart.cut) =
+    subst (λ steps. forests.opened c.args.limits steps ≡ Ok (forest c.in-Ok.book.chart.cut)) items c.in-Ok.ensures.ok in
+    let world : world_of g.B.Behaves.is c.in-Ok.book ≡ opening (g.B.Behaves.is c.args.register) c.args.value c.args.limits c.args.steps.items =
+    c.in-Ok.ensures.world ∙ ap (λ steps. opening (g.B.Behaves.is c.args.register) c.args.value c.args.limits steps) items in
     record {
-      room = omega arith;
+      room = opened_within c.args.limits c.args.steps.items (forest c.in-Ok.book.chart.cut) opened;
       answered = subst (λ w. IsAnswered (answers_to answer_line w) (g.R.Read.remaining c.args.reader.now) (g.R.Read.remaining c.converse.new.reader) (g.W.Write.contents c.args.writer.now) (g.W.Write.contents c.converse.new.writer))
           world c.in_ok-converse.ensures.done;
     }

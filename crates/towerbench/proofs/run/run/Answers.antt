@@ -1,23 +1,40 @@
-use Rattle.std.proofs.Common.{refl, [], ap, ◌∙◌}
+use Rattle.std.proofs.Common.{refl, List, [], ap, subst, ◌∙◌}
 use Rattle.std.specs.Option.{option_map}
 use Rattle.tower_file.specs.declared.tower.TowerSpec.TheVariants.{Safe}
 use Rattle.tower_file.specs.declared.version.Version.TheVariants.{One}
 use Rattle.tower_file.specs.Files.{file_of}
-use Rattle.towerbench.specs.Opening.{opened}
+use Rattle.towerbench.specs.Ranges.{limits_of}
+use Rattle.frames.specs.declared.types.Step.{Step}
+use Rattle.frames.specs.SafeBit.{safe_behaviour}
+use Rattle.schedule_trie.specs.declared.limits.Limits.{Limits}
+use Rattle.conversation.specs.Scripts.{answers_to}
+use Rattle.towerbench.specs.World.{opening}
+use Rattle.towerbench.specs.Answers.{answer_line}
+use Rattle.towerbench.specs.Opening.{opened, answers_on, EndsOver}
 use Rattle.towerbench.proofs.Opened.{with_file}
 use Rattle.towerbench.proofs.run.run.Goals as goal
 
 pub returns-in_default : goal.returns-in_default
 returns-in_default g c =
-    with_file (g.R.Read.remaining c.args.reader.now) (g.R.Read.remaining c.begin.new.reader) (g.W.Write.contents c.args.writer.now) (g.W.Write.contents c.begin.new.writer)
-    (option_map (λ bytes. bytes.now) c.args.file) c.args.options.cells (file_of One (Safe 0) [])
-    (ap (λ file. opened (option_map (λ bytes. bytes.now) file)) c.in_default.is) c.begin.result c.begin.ensures
+    let old = g.R.Read.remaining c.args.reader.now in
+    let now = g.R.Read.remaining c.begin.new.reader in
+    let before = g.W.Write.contents c.args.writer.now in
+    let after = g.W.Write.contents c.begin.new.writer in
+    with_file old now before after (option_map (λ bytes. bytes.now) c.args.file) (limits_of c.args.options) (file_of One (Safe 0) [])
+    (ap (λ file. opened (option_map (λ bytes. bytes.now) file)) c.in_default.is) c.begin.result
+    (subst (λ (limits : Limits). EndsOver limits [] (answers_to answer_line (opening safe_behaviour 0 limits [])) old now before after c.begin.result) c.limits.ensures
+    (subst (λ (steps : List Step). EndsOver c.limits.result steps (answers_to answer_line (opening safe_behaviour 0 c.limits.result steps)) old now before after c.begin.result) c.new-none.ensures.items
+    c.begin.ensures))
 
 pub returns-in-Ok : goal.returns-in-Ok
 returns-in-Ok g c =
-    with_file (g.R.Read.remaining c.args.reader.now) (g.R.Read.remaining c.run_file.new.reader) (g.W.Write.contents c.args.writer.now) (g.W.Write.contents c.run_file.new.writer)
-    (option_map (λ bytes. bytes.now) c.args.file) c.args.options.cells c.in-Ok.file
-    (ap (λ file. opened (option_map (λ bytes. bytes.now) file)) c.in-Some.is ∙ c.in-Ok.ensures.exact) c.run_file.result c.run_file.ensures
+    let old = g.R.Read.remaining c.args.reader.now in
+    let now = g.R.Read.remaining c.run_file.new.reader in
+    let before = g.W.Write.contents c.args.writer.now in
+    let after = g.W.Write.contents c.run_file.new.writer in
+    with_file old now before after (option_map (λ bytes. bytes.now) c.args.file) (limits_of c.args.options) c.in-Ok.file
+    (ap (λ file. opened (option_map (λ bytes. bytes.now) file)) c.in-Some.is ∙ c.in-Ok.ensures.exact) c.run_file.result
+    (subst (λ (limits : Limits). EndsOver limits c.in-Ok.file.steps (answers_on c.in-Ok.file limits) old now before after c.run_file.result) c.limits-in-Ok.ensures c.run_file.ensures)
 
 pub returns-in-Err : goal.returns-in-Err
 returns-in-Err g c = record {

@@ -24,14 +24,14 @@ returns-then-branches-self-clause-err g c =
     let most = ap (λ z. z.limits.branches) c.self.view_is in
     inl (too_many c.args.self.now.limits (forest c.args.self.now) c.args.branch.now c.args.name c.args.place c.in-Some.index (sym c.in-Some.ensures.index)
     (ap is_some (sym c.index-2.ensures.index) ∙ sym c.is_some.ensures ∙ c.if-is_some.false) (sym c.is_well_formed.ensures ∙ c.if-not-is_well_formed.false)
-    (omega (arith, c.len_at.ensures, c.if-len_at-place.false)) (omega (arith, most, c.branches.ensures, c.if-branches-self.true)))
+    (omega (arith, c.len_at.ensures, c.if-len_at-place.false)) (omega (arith, most, c.branches.ensures.count, c.if-branches-self.true)))
 
 pub returns-in-Ok-clause-ok : goal.returns-in-Ok-clause-ok
 returns-in-Ok-clause-ok g c =
     let most = ap (λ z. z.limits.branches) c.self.view_is in
     is_forked c.args.self.now.limits (forest c.args.self.now) c.args.branch.now c.args.name c.args.place c.in-Some.index (sym c.in-Some.ensures.index)
     (ap is_some (sym c.index-2.ensures.index) ∙ sym c.is_some.ensures ∙ c.if-is_some.false) (sym c.is_well_formed.ensures ∙ c.if-not-is_well_formed.false)
-    (omega (arith, c.len_at.ensures, c.if-len_at-place.false)) (omega (arith, most, c.branches.ensures, c.if-branches-self.false))
+    (omega (arith, c.len_at.ensures, c.if-len_at-place.false)) (omega (arith, most, c.branches.ensures.count, c.if-branches-self.false))
     ∙ sym (λ i. Ok (record { branches = c.in-Ok.ensures.ok.branches i; made = c.in-Ok.ensures.ok.made i }))
 
 pub returns-in-Err-clause-err : goal.returns-in-Err-clause-err
@@ -39,4 +39,4 @@ returns-in-Err-clause-err g c =
     let most = ap (λ z. z.limits.branches) c.self.view_is in
     memory_alone c.args.self.now.limits (forest c.args.self.now) c.args.branch.now c.args.name c.args.place c.in-Some.index (sym c.in-Some.ensures.index)
     (ap is_some (sym c.index-2.ensures.index) ∙ sym c.is_some.ensures ∙ c.if-is_some.false) (sym c.is_well_formed.ensures ∙ c.if-not-is_well_formed.false)
-    (omega (arith, c.len_at.ensures, c.if-len_at-place.false)) (omega (arith, most, c.branches.ensures, c.if-branches-self.false))
+    (omega (arith, c.len_at.ensures, c.if-len_at-place.false)) (omega (arith, most, c.branches.ensures.count, c.if-branches-self.false))

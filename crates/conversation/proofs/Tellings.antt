@@ -1,0 +1,192 @@
+-- What was told of a script, one byte at a time.
+use Rattle.std.proofs.Common.{Result, Ok, Err, OnOk, ◌≡◌, ℕ, ◌+◌, ◌<◌, ◌≤◌, Bool, true, false, cond, nat_eq, nat_lt, List, [], ◌∷◌, ◌++◌, length, take, refl, sym, ap, ◌∙◌, arith, append_assoc, append-nil, eq-eqb}
+use Rattle.std.proofs.lemmas.Bool.Decides.{nat_tests}
+use Rattle.std.specs.List.{fold}
+use Rattle.std.proofs.lemmas.List.Sums.{fold_push, fold-append}
+use Rattle.conversation.specs.Scripts.{Definition, Marks, Progress, beginning, further, next_line, after_lines, answers_to, lines_of, all_but_last, whole_lines, is_line_end, IsAnswer}
+use Rattle.conversation.specs.Told.{Told}
+use Rattle.conversation.specs.Conversations.{IsFront}
+use Rattle.conversation.proofs.Splits.{split-push, split-push_cut}
+use Rattle.conversation.proofs.Fronts.{front_push}
+
+-- the marks, with line n marked so
+abbrev mark : Marks → ℕ → Bool → Marks
+mark marks n memory k = cond (nat_eq k n) memory (marks k)
+
+mark_here : (marks : Marks) (n : ℕ) (memory : Bool) → mark marks n memory n ≡ memory
+mark_here marks n memory = ap (λ b. cond b memory (marks n)) (eq-eqb n n refl)
+
+mark_before : (marks : Marks) (n : ℕ) (memory : Bool) (k : ℕ) → k < n → marks k ≡ mark marks n memory k
+mark_before marks n memory k h = ap (λ b. cond b memory (marks k)) (sym (other k n h))
+  where
+    other : (i j : ℕ) → i < j → nat_eq i j ≡ false
+    other i j l = grind (arith, nat_tests)
+
+-- ---- the whole lines of a text
+
+but_last : (whole : List (List ℕ)) (rest : List ℕ) → all_but_last (whole ++ rest ∷ []) ≡ whole
+but_last [] rest = refl
+but_last (line ∷ []) rest = refl
+but_last (line ∷ next ∷ lines) rest = ap (λ (ls : List (List ℕ)). line ∷ ls) (but_last (next ∷ lines) rest)
+
+-- a text that goes on keeps its whole lines
+go_on : (seen more : List ℕ) (whole : List (List ℕ)) (rest : List ℕ) → lines_of seen ≡ whole ++ rest ∷ [] → (others : List (List ℕ)) × (lines_of (seen ++ more) ≡ whole ++ others)
+go_on seen [] whole rest e = (rest ∷ [], ap lines_of (append-nil seen) ∙ e)
+go_on seen (b ∷ more) whole rest e = step (is_line_end b) refl (λ w r cut. go_on (seen ++ b ∷ []) more w r cut)
+  where
+    joined : lines_of (seen ++ b ∷ more) ≡ lines_of ((seen ++ b ∷ []) ++ more)
+    joined = ap lines_of (sym (append_assoc seen (b ∷ []) more))
+
+    step : (t : Bool) → is_line_end b ≡ t
+        → ((w : List (List ℕ)) (r : List ℕ) → lines_of (seen ++ b ∷ []) ≡ w ++ r ∷ [] → (others : List (List ℕ)) × (lines_of ((seen ++ b ∷ []) ++ more) ≡ w ++ others))
+        → (others : List (List ℕ)) × (lines_of (seen ++ b ∷ more) ≡ whole ++ others)
+    step true h later =
+        let cut : lines_of (seen ++ b ∷ []) ≡ (whole ++ rest ∷ []) ++ [] ∷ [] = split-push_cut is_line_end seen b h ∙ ap (λ ls. ls ++ [] ∷ []) e in
+        let on = later (whole ++ rest ∷ []) [] cut in
+        (rest ∷ on.0, joined ∙ on.1 ∙ append_assoc whole (rest ∷ []) on.0)
+    step false h later =
+        let on = later whole (rest ++ b ∷ []) (split-push is_line_end seen b whole rest h e) in
+        (on.0, joined ∙ on.1)
+
+module _ {W : Type 0} (define : Definition W) where
+  -- what lines leave depends on their own marks alone
+  same_marks : (old new : Marks) (lines : List (List ℕ)) (p : Progress W) → ((k : ℕ) → k ≤ p.lines + length lines → old k ≡ new k)
+      → fold (next_line define old) p lines ≡ fold (next_line define new) p lines
+  same_marks old new [] p h = refl
+  same_marks old new (line ∷ lines) p h =
+      same_marks old new lines (next_line define old p line) (λ k le. h k (omega arith))
+      ∙ ap (λ memory. fold (next_line define new) (further p (define memory (p.lines + 1) line p.world)) lines) (h (p.lines + 1) (omega arith))
+
+  count_lines : (marks : Marks) (lines : List (List ℕ)) (p : Progress W) → (fold (next_line define marks) p lines).lines ≡ p.lines + length lines
+  count_lines marks [] p = omega arith
+  count_lines marks (line ∷ lines) p = omega (arith, count_lines marks lines (next_line define marks p line))
+
+  -- answers come behind those before them
+  grows : (marks : Marks) (lines : List (List ℕ)) (p : Progress W) → IsFront p.text (fold (next_line define marks) p lines).text
+  grows marks [] p = ([], sym (append-nil p.text))
+  grows marks (line ∷ lines) p =
+      let q = next_line define marks p line in
+      let more = grows marks lines q in
+      let own = (define (marks (p.lines + 1)) (p.lines + 1) line p.world).text in
+      (own ++ more.0, more.1 ∙ append_assoc p.text own more.0)
+
+  module _ (start : W) where
+    front_of_answers : (marks : Marks) (whole others : List (List ℕ)) → IsFront (answers_to define start whole marks) (answers_to define start (whole ++ others) marks)
+    front_of_answers marks whole others =
+        let more = grows marks others (after_lines define start whole marks) in
+        (more.0, ap (λ q. q.text) (fold-append (next_line define marks) (beginning start) whole others) ∙ more.1)
+
+    module _ (seen : List ℕ) (world : W) (lines : ℕ) (line text : List ℕ) where
+      pub told_start : seen ≡ [] → world ≡ start → lines ≡ 0 → line ≡ [] → text ≡ [] → Told define start seen world lines line text
+      told_start s w n l t = record {
+        marks = λ _. false;
+        whole = [];
+        rest = [];
+        cut = ap lines_of s;
+        kept = l;
+        same_world = w;
+        same_lines = n;
+        same_text = t;
+      }
+
+      module _ (t : Told define start seen world lines line text) where
+        -- the answers are those to the whole lines
+        pub told_whole : text ≡ answers_to define start (whole_lines seen) t.marks
+        told_whole = t.same_text ∙ ap (λ ls. answers_to define start ls t.marks) (sym (ap all_but_last t.cut ∙ but_last t.whole t.rest))
+
+        -- and the front of those to all lines, whatever comes behind
+        pub told_front : (more : List ℕ) → IsFront text (answers_to define start (lines_of (seen ++ more)) t.marks)
+        told_front more =
+            let on = go_on seen more t.whole t.rest t.cut in
+            let front = front_of_answers t.marks t.whole on.0 in
+            (front.0, ap (λ ls. answers_to define start ls t.marks) on.1 ∙ front.1 ∙ ap (λ xs. xs ++ front.0) (sym t.same_text))
+
+        pub told_other : (b : ℕ) (new_world : W) (new_lines : ℕ) (new_line new_text : List ℕ) → is_line_end b ≡ false
+            → new_world ≡ world → new_lines ≡ lines → new_line ≡ cond (nat_lt (length line) 256) (line ++ b ∷ []) line → new_text ≡ text
+            → Told define start (seen ++ b ∷ []) new_world new_lines new_line new_text
+        told_other b new_world new_lines new_line new_text h w n l same = record {
+          marks = t.marks;
+          whole = t.whole;
+          rest = t.rest ++ b ∷ [];
+          cut = split-push is_line_end seen b t.whole t.rest h t.cut;
+          kept = front_push line t.rest new_line b t.kept l;
+          same_world = w ∙ t.same_world;
+          same_lines = n ∙ t.same_lines;
+          same_text = same ∙ t.same_text;
+        }
+
+-- all lines are answered, the last one too
+pub record ToldAll {W : Type 0} (define : Definition W) (start : W) (script : List ℕ) (world : W) (lines : ℕ) (text : List ℕ) : Type 0 where
+  pub marks : Marks
+  pub same_world : world ≡ (after_lines define start (lines_of script) marks).world
+  pub same_lines : lines ≡ (after_lines define start (lines_of script) marks).lines
+  pub same_text : text ≡ answers_to define start (lines_of script) marks
+
+module _ {W : Type 0} (define : Definition W) (front : (memory : Bool) (number : ℕ) (line : List ℕ) (w : W) → define memory number (take 256 line) w ≡ define memory number line w)
+    (start : W) (seen : List ℕ) (world : W) (lines : ℕ) (line text : List ℕ) (t : Told define start seen world lines line text) where
+  pub told_all : (new_world : W) (new_text : List ℕ) → IsAnswer define (lines + 1) line world new_world text new_text → ToldAll define start seen new_world (lines + 1) new_text
+  told_all new_world new_text a = record {
+    marks = new_marks;
+    same_world = ap (λ q. q.world) (sym all_lines);
+    same_lines = ap (λ q. q.lines) (sym all_lines);
+    same_text = a.added ∙ ap (λ xs. xs ++ a.text) t.same_text ∙ ap (λ q. q.text) (sym all_lines);
+  }
+    where
+      p : Progress W
+      p = after_lines define start t.whole t.marks
+
+      new_marks : Marks
+      new_marks = mark t.marks (lines + 1) a.memory
+
+      counted : p.lines ≡ length t.whole
+      counted = omega (arith, count_lines define t.marks t.whole (beginning start))
+
+      same_before : after_lines define start t.whole new_marks ≡ p
+      same_before = sym (same_marks define t.marks new_marks t.whole (beginning start)
+          (λ k le. mark_before t.marks (lines + 1) a.memory k (omega (arith, counted, t.same_lines))))
+
+      answered : define (new_marks (p.lines + 1)) (p.lines + 1) t.rest p.world ≡ record { world = new_world; text = a.text }
+      answered =
+          ap (λ n. define (new_marks (n + 1)) (n + 1) t.rest p.world) (sym t.same_lines)
+          ∙ ap (λ m. define m (lines + 1) t.rest p.world) (mark_here t.marks (lines + 1) a.memory)
+          ∙ ap (λ w. define a.memory (lines + 1) t.rest w) (sym t.same_world)
+          ∙ sym (front a.memory (lines + 1) t.rest world)
+          ∙ ap (λ l. define a.memory (lines + 1) l world) (sym t.kept)
+          ∙ a.answered
+
+      all_lines : after_lines define start (lines_of seen) new_marks ≡ record { world = new_world; lines = lines + 1; text = p.text ++ a.text }
+      all_lines =
+          ap (λ ls. after_lines define start ls new_marks) t.cut
+          ∙ fold_push (next_line define new_marks) (beginning start) t.whole t.rest
+          ∙ ap (λ q. next_line define new_marks q t.rest) same_before
+          ∙ ap (further p) answered
+          ∙ ap (λ n. record { world = new_world; lines = n + 1; text = p.text ++ a.text }) (sym t.same_lines)
+
+  pub told_line : (new_world : W) (new_lines : ℕ) (new_line new_text : List ℕ) → IsAnswer define (lines + 1) line world new_world text new_text
+      → new_lines ≡ lines + 1 → new_line ≡ [] → Told define start (seen ++ 10 ∷ []) new_world new_lines new_line new_text
+  told_line new_world new_lines new_line new_text a n l =
+      let all = told_all new_world new_text a in
+      record {
+        marks = all.marks;
+        whole = lines_of seen;
+        rest = [];
+        cut = split-push_cut is_line_end seen 10 refl;
+        kept = l;
+        same_world = all.same_world;
+        same_lines = n ∙ all.same_lines;
+        same_text = all.same_text;
+      }
+
+-- an answer stands behind whatever went before
+pub behind : {W : Type 0} (define : Definition W) (number : ℕ) (line : List ℕ) (old new : W) (before after front : List ℕ)
+    → IsAnswer define number line old new before after → IsAnswer define number line old new (front ++ before) (front ++ after)
+behind define number line old new before after front a =
+    record { memory = a.memory; text = a.text; answered = a.answered; added = ap (λ xs. front ++ xs) a.added ∙ sym (append_assoc front before a.text) }
+
+pub not_line_end : (b : ℕ) → (b ≡ 10 → ⊥) → is_line_end b ≡ false
+not_line_end b h = grind (arith, nat_tests)
+
+-- two facts of one success
+pub on_ok_both : {T E P Q S : Type 0} (r : Result T E) → (P → Q → S) → OnOk r P → OnOk r Q → OnOk r S
+on_ok_both (Ok x) f p q = f p q
+on_ok_both (Err e) f p q = tt

@@ -1,0 +1,167 @@
+-- What a turn and the end of a conversation come to.
+use Rattle.std.proofs.Common.{◌≡◌, ℕ, ◌+◌, ◌^◌, ◌<◌, ◌≤◌, Bool, List, [], ◌++◌, length, take, Option, refl, sym, ap, subst, ◌∙◌, arith, append_assoc, append-nil, length-append}
+use Rattle.std.specs.Io.KnownBytes.{Appends, Consumes, IsAtEnd}
+use Rattle.conversation.specs.declared.fault.StreamFault.TheVariants.{Read, Write, TooLong, Memory}
+use Rattle.conversation.specs.Scripts.{Definition, answers_to, lines_of, IsAnswer}
+use Rattle.std.specs.Prelude.{⊤, IfErr, OnOk, Result, Ok, Err}
+use Rattle.std.specs.Result.{IsErr, IsErrAnd}
+use Rattle.conversation.specs.declared.fault.StreamFault.{StreamFault}
+use Rattle.conversation.specs.Told.{Told, Reached, Finished}
+use Rattle.conversation.specs.Conversations.{IsAnswered, Breaks, IsFront}
+use Rattle.conversation.proofs.Tellings.{ToldAll, told_start, told_whole, told_front, told_all, behind}
+use Rattle.conversation.proofs.Known.{appends_none, appends_more, consumes_start, consumes_more, consumes_kept}
+
+front_more : (a b c : List ℕ) → IsFront a b → IsFront b c → IsFront a c
+front_more a b c h k = (h.0 ++ k.0, k.1 ∙ ap (λ xs. xs ++ k.0) h.1 ∙ append_assoc a h.0 k.0)
+
+front_behind : (text front out : List ℕ) → IsFront front out → IsFront (text ++ front) (text ++ out)
+front_behind text front out h = (h.0, ap (λ xs. text ++ xs) h.1 ∙ sym (append_assoc text front h.0))
+
+module _ {W : Type 0} (define : Definition W) (start : W) where
+  pub reached_start : (old before : Option (List ℕ)) (lines : ℕ) (line : List ℕ) → lines ≡ 0 → line ≡ [] → Reached define start old old before before 0 start lines line
+  reached_start old before lines line n l = record {
+    seen = [];
+    text = [];
+    read = consumes_start old;
+    counted = refl;
+    wrote = appends_none before;
+    told = told_start define start [] start lines line [] refl refl n l refl;
+  }
+
+  module _ (old now before after : Option (List ℕ)) (count : ℕ) (world : W) (lines : ℕ) (line : List ℕ) (r : Reached define start old now before after count world lines line) where
+    pub reached_kept : (next : Option (List ℕ)) → Consumes now next [] → Reached define start old next before after count world lines line
+    reached_kept next k = record { seen = r.seen; text = r.text; read = consumes_kept old now next r.seen r.read k; counted = r.counted; wrote = r.wrote; told = r.told }
+
+    pub breaks_read : (next : Option (List ℕ)) → Consumes now next [] → count ≤ 2 ^ 24 → Breaks (answers_to define start) Read old next before after
+    breaks_read next k few = record {
+      seen = r.seen;
+      marks = r.told.marks;
+      text = r.text;
+      read = consumes_kept old now next r.seen r.read k;
+      few = omega (arith, r.counted);
+      wrote = r.wrote;
+      went = told_whole define start r.seen world lines line r.text r.told;
+    }
+
+    pub breaks_long : count ≤ 2 ^ 24 → Breaks (answers_to define start) TooLong old now before after
+    breaks_long few = record {
+      seen = r.seen;
+      marks = r.told.marks;
+      text = r.text;
+      read = r.read;
+      few = omega (arith, r.counted);
+      wrote = r.wrote;
+      went = told_whole define start r.seen world lines line r.text r.told;
+    }
+
+    -- what was read in a turn that memory ends goes unanswered
+    pub breaks_memory : (next : Option (List ℕ)) (piece : List ℕ) → Consumes now next piece → count + length piece ≤ 2 ^ 24
+        → Breaks (answers_to define start) Memory old next before after
+    breaks_memory next piece k few = record {
+      seen = r.seen ++ piece;
+      marks = r.told.marks;
+      text = r.text;
+      read = consumes_more old now next r.seen piece r.read k;
+      few = omega (arith, r.counted, length-append r.seen piece);
+      wrote = r.wrote;
+      went = told_front define start r.seen world lines line r.text r.told piece;
+    }
+
+    -- a turn's answers, and what of them the writer took
+    module _ (next : Option (List ℕ)) (piece : List ℕ) (k : Consumes now next piece) (n : ℕ) (size : length piece ≡ n)
+        (new_world : W) (new_lines : ℕ) (new_line out : List ℕ) (t : Told define start (r.seen ++ piece) new_world new_lines new_line (r.text ++ out)) where
+      pub reached_more : (last : Option (List ℕ)) (last_lines : ℕ) (last_line : List ℕ) → last_lines ≡ new_lines → last_line ≡ new_line → Appends after last out
+          → Reached define start old next before last (count + n) new_world last_lines last_line
+      reached_more last last_lines last_line same_lines same_line w = record {
+        seen = r.seen ++ piece;
+        text = r.text ++ out;
+        read = consumes_more old now next r.seen piece r.read k;
+        counted = omega (arith, r.counted, size, length-append r.seen piece);
+        wrote = appends_more before after last r.text out r.wrote w;
+        told = record {
+          marks = t.marks;
+          whole = t.whole;
+          rest = t.rest;
+          cut = t.cut;
+          kept = same_line ∙ t.kept;
+          same_world = t.same_world;
+          same_lines = same_lines ∙ t.same_lines;
+          same_text = t.same_text;
+        };
+      }
+
+      pub breaks_write : (last : Option (List ℕ)) (front : List ℕ) → IsFront front out → Appends after last front → count + n ≤ 2 ^ 24
+          → Breaks (answers_to define start) Write old next before last
+      breaks_write last front f w few =
+          let all = told_front define start (r.seen ++ piece) new_world new_lines new_line (r.text ++ out) t [] in
+          record {
+            seen = r.seen ++ piece;
+            marks = t.marks;
+            text = r.text ++ front;
+            read = consumes_more old now next r.seen piece r.read k;
+            few = omega (arith, r.counted, size, length-append r.seen piece);
+            wrote = appends_more before after last r.text front r.wrote w;
+            went = front_more (r.text ++ front) (r.text ++ out) _ (front_behind r.text front out f) (all.0, ap (λ s. answers_to define start (lines_of s) t.marks) (sym (append-nil (r.seen ++ piece))) ∙ all.1);
+          }
+
+    -- nothing is kept back between turns
+    pub told_onto : (out : List ℕ) → out ≡ [] → Told define start r.seen world lines line (r.text ++ out)
+    told_onto out e = record {
+      marks = r.told.marks;
+      whole = r.told.whole;
+      rest = r.told.rest;
+      cut = r.told.cut;
+      kept = r.told.kept;
+      same_world = r.told.same_world;
+      same_lines = r.told.same_lines;
+      same_text = ap (λ xs. r.text ++ xs) e ∙ append-nil r.text ∙ r.told.same_text;
+    }
+
+    -- the end: the last line is answered too
+    module _ (reads_front : (memory : Bool) (number : ℕ) (line : List ℕ) (w : W) → define memory number (take 256 line) w ≡ define memory number line w)
+        (ended : IsAtEnd now) (short : count < 2 ^ 24) (new_world : W) (sent out : List ℕ) (none : sent ≡ []) (a : IsAnswer define (lines + 1) line world new_world sent out) where
+      onto : IsAnswer define (lines + 1) line world new_world r.text (r.text ++ out)
+      onto =
+          let b = behind define (lines + 1) line world new_world sent out r.text a in
+          record { memory = b.memory; text = b.text; answered = b.answered; added = b.added ∙ ap (λ xs. (r.text ++ xs) ++ b.text) none ∙ ap (λ xs. xs ++ b.text) (append-nil r.text) }
+
+      all : ToldAll define start r.seen new_world (lines + 1) (r.text ++ out)
+      all = told_all define reads_front start r.seen world lines line r.text r.told new_world (r.text ++ out) onto
+
+      pub all_answered : (last : Option (List ℕ)) → Appends after last out → IsAnswered (answers_to define start) old now before last
+      all_answered last w = record {
+        script = r.seen;
+        marks = all.marks;
+        read = r.read;
+        ended = ended;
+        short = omega (arith, r.counted);
+        wrote = subst (λ xs. Appends before last xs) all.same_text (appends_more before after last r.text out r.wrote w);
+      }
+
+      pub breaks_last : (last : Option (List ℕ)) (front : List ℕ) → IsFront front out → Appends after last front → Breaks (answers_to define start) Write old now before last
+      breaks_last last front f w =
+          let h = front_behind r.text front out f in
+          record {
+            seen = r.seen;
+            marks = all.marks;
+            text = r.text ++ front;
+            read = r.read;
+            few = omega (arith, r.counted);
+            wrote = appends_more before after last r.text front r.wrote w;
+            went = (h.0, sym all.same_text ∙ h.1);
+          }
+
+  -- an end that went well or didn't, clause by clause
+  module _ (old now before after : Option (List ℕ)) where
+    abbrev IsEnd : Result ⊤ StreamFault → Type 0
+    IsEnd r = record { done : OnOk r (IsAnswered (answers_to define start) old now before after); fault : IfErr r (λ e. Breaks (answers_to define start) e old now before after) }
+
+    pub finished : (r : Result ⊤ StreamFault) → Finished define start old now before after r → IsEnd r
+    finished (Ok done) h = record { done = h; fault = tt }
+    finished (Err e) h = record { done = tt; fault = h }
+
+    -- a fault that is handed on
+    pub broken : (r : Result ⊤ StreamFault) (e : StreamFault) (Is : StreamFault → Type 0) → IsErr r → IsErrAnd r Is → ((x : StreamFault) → Is x → x ≡ e)
+        → Breaks (answers_to define start) e old now before after → IsEnd r
+    broken (Ok done) e Is h k same b = absurd k
+    broken (Err x) e Is h k same b = record { done = tt; fault = subst (λ f. Breaks (answers_to define start) f old now before after) (sym (same x k)) b }

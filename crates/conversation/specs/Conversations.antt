@@ -1,0 +1,41 @@
+-- What a conversation reads and writes, whether it ends well or by a fault.
+use Rattle.std.specs.Prelude.{ℕ, ◌≡◌, ◌<◌, ◌≤◌, ◌^◌, List, ◌++◌, Option, length}
+use Rattle.std.specs.Io.KnownBytes.{Appends, Consumes, IsAtEnd}
+use Rattle.conversation.specs.declared.fault.StreamFault.{StreamFault}
+use Rattle.conversation.specs.declared.fault.StreamFault.TheVariants.{Read, Write, TooLong, Memory}
+use Rattle.conversation.specs.Scripts.{Marks, lines_of, whole_lines}
+
+-- what lines answer, by their marks
+abbrev pub Answering : Type 0
+Answering = List (List ℕ) → Marks → List ℕ
+
+-- these bytes are the front of others
+abbrev pub IsFront : List ℕ → List ℕ → Type 0
+IsFront front all = (rest : List ℕ) × (all ≡ front ++ rest)
+
+-- A script was read to its end, which comes within the limit, and the writer took the answers to its lines.
+pub record IsAnswered (answering : Answering) (old now before after : Option (List ℕ)) : Type 0 where
+  pub script : List ℕ
+  pub marks : Marks
+  pub read : Consumes old now script
+  pub ended : IsAtEnd now
+  pub short : length script < 2 ^ 24
+  pub wrote : Appends before after (answering (lines_of script) marks)
+
+-- What went out of the answers to what was read: after a read that failed or a script too long, those to its whole
+-- lines; after a write that failed or a want of memory, a front of them all.
+abbrev pub WentOut : StreamFault → Answering → Marks → List ℕ → List ℕ → Type 0
+WentOut Read answering marks seen text = text ≡ answering (whole_lines seen) marks
+WentOut TooLong answering marks seen text = text ≡ answering (whole_lines seen) marks
+WentOut Write answering marks seen text = IsFront text (answering (lines_of seen) marks)
+WentOut Memory answering marks seen text = IsFront text (answering (lines_of seen) marks)
+
+-- A fault came after so much was read, and the writer took no more than goes out then.
+pub record Breaks (answering : Answering) (fault : StreamFault) (old now before after : Option (List ℕ)) : Type 0 where
+  pub seen : List ℕ
+  pub marks : Marks
+  pub text : List ℕ
+  pub read : Consumes old now seen
+  pub few : length seen ≤ 2 ^ 24
+  pub wrote : Appends before after text
+  pub went : WentOut fault answering marks seen text

@@ -1,0 +1,214 @@
+//! A conversation: the script comes in by pieces, and the answers to each piece go out together.
+
+ghost use Rattle.std.specs.Prelude.{◌≡◌, ◌++◌, ◌∷◌, [], ◌<◌, ◌≤◌, ◌+◌, ◌^◌, ℕ, List, Option, OnOk, OnErr, IfOk, IfErr, IfSome, length, nat_lt, if◌then◌else◌};
+ghost use Rattle.std.specs.Io.KnownBytes.{Appends, IsAtEnd};
+ghost use Rattle.conversation.specs.Scripts.{answers_to, IsAnswer};
+ghost use Rattle.conversation.specs.Told.{Told, Reached, Turned, Finished};
+ghost use Rattle.conversation.specs.Conversations.{IsAnswered, Breaks, IsFront};
+
+use crate::answering::Answers;
+use crate::fault::StreamFault;
+use crate::streams::{read_piece, write_whole};
+use std::alloc::{AllocError, Global};
+use std::io::{Read, Write};
+
+/// The bytes that a script doesn't reach.
+const MOST_BYTES: u32 = 1 << 24;
+
+/// The most reads of a script.
+const MOST_READS: u32 = 1 << 25;
+
+/// The most bytes of one read.
+const PIECE_BYTES: usize = 4096;
+
+/// A line is kept up to this many bytes: no call is as long.
+const KEPT_BYTES: usize = 256;
+
+/// The line that has not ended yet, how many lines have, and the answers that have not gone out.
+#[derive(Drop)]
+pub struct Conversation {
+    line: Vec<u8>,
+    lines: u32,
+    out: Vec<u8>,
+}
+
+impl Conversation {
+    /// The conversation before the script.
+    fn new(alloc: Global) -> Conversation
+        ensures line { result.line.items ≡ [] }
+        ensures lines { result.lines ≡ 0 }
+        ensures out { result.out.items ≡ [] }
+    {
+        Conversation {
+            line: Vec::new(alloc),
+            lines: 0,
+            out: Vec::new(alloc),
+        }
+    }
+
+    /// Takes a piece of the script, and adds the answers to the lines that end in it.
+    fn take<A: Answers>(
+        &mut self,
+        alloc: Global,
+        answers: &mut A,
+        piece: &[u8],
+    ) -> Result<(), AllocError>
+        requires { self.old.lines + length piece.now < 2 ^ 32 }
+        ensures told { OnOk result ((start : A.Worlds) (seen front : List ℕ)
+            → Told A.define start seen (A.world answers.old) self.old.lines self.old.line.items (front ++ self.old.out.items)
+            → Told A.define start (seen ++ piece.now) (A.world answers.new) self.new.lines self.new.line.items (front ++ self.new.out.items)) }
+        ensures lines { self.new.lines ≤ self.old.lines + length piece.now }
+    {
+        for byte in piece {
+            self.take_byte(alloc, answers, *byte)?;
+        }
+        Ok(())
+    }
+
+    /// Takes a byte of the script, and adds the answer to the line that it ends.
+    fn take_byte<A: Answers>(
+        &mut self,
+        alloc: Global,
+        answers: &mut A,
+        byte: u8,
+    ) -> Result<(), AllocError>
+        requires { self.old.lines + 1 < 2 ^ 32 }
+        ensures told { OnOk result ((start : A.Worlds) (seen front : List ℕ)
+            → Told A.define start seen (A.world answers.old) self.old.lines self.old.line.items (front ++ self.old.out.items)
+            → Told A.define start (seen ++ byte ∷ []) (A.world answers.new) self.new.lines self.new.line.items (front ++ self.new.out.items)) }
+        ensures lines { self.new.lines ≤ self.old.lines + 1 }
+    {
+        if byte == b'\n' {
+            return self.end_line(alloc, answers);
+        }
+        self.keep(byte)
+    }
+
+    /// Adds the answer to the line, which ends here.
+    fn end_line<A: Answers>(&mut self, alloc: Global, answers: &mut A) -> Result<(), AllocError>
+        requires { self.old.lines + 1 < 2 ^ 32 }
+        ensures lines { self.new.lines ≡ self.old.lines + 1 }
+        ensures line { OnOk result (self.new.line.items ≡ []) }
+        ensures answer { OnOk result (IsAnswer A.define (self.old.lines + 1) self.old.line.items (A.world answers.old) (A.world answers.new) self.old.out.items self.new.out.items) }
+    {
+        self.lines += 1;
+        answers.answer(alloc, &mut self.out, self.lines, &self.line)?;
+        self.line.clear();
+        Ok(())
+    }
+
+    /// Adds a byte to the line, unless the line is longer than a call.
+    fn keep(&mut self, byte: u8) -> Result<(), AllocError>
+        ensures out { self.new.out ≡ self.old.out }
+        ensures lines { self.new.lines ≡ self.old.lines }
+        ensures line { OnOk result (self.new.line.items ≡ (if nat_lt (length self.old.line.items) 256 then self.old.line.items ++ byte ∷ [] else self.old.line.items)) }
+    {
+        if self.line.len() < KEPT_BYTES {
+            self.line.push(byte)?;
+        }
+        Ok(())
+    }
+
+    /// Sends the answers out, in one write where the writer takes them all. With none there is nothing to write.
+    fn send<W: Write>(&mut self, writer: &mut W) -> Result<(), StreamFault>
+        ensures line { self.new.line ≡ self.old.line }
+        ensures lines { self.new.lines ≡ self.old.lines }
+        ensures sent { OnOk result (Appends (W.contents writer.old) (W.contents writer.new) self.old.out.items) }
+        ensures out { OnOk result (self.new.out.items ≡ []) }
+        ensures front { OnErr result ((front : List ℕ) × IsFront front self.old.out.items × Appends (W.contents writer.old) (W.contents writer.new) front) }
+        ensures fault { IfErr result (λ e. e ≡ StreamFault.Write) }
+    {
+        if self.out.is_empty() {
+            return Ok(());
+        }
+        write_whole(writer, &self.out)?;
+        let Ok(()) = writer.flush() else {
+            return Err(StreamFault::Write);
+        };
+        self.out.clear();
+        Ok(())
+    }
+
+    /// Reads once, and sends the answers to the lines that end in what was read. Nothing is answered
+    /// at the end; else how many bytes were read, 0 where the read was interrupted.
+    fn turn<A: Answers, R: Read, W: Write>(
+        &mut self,
+        alloc: Global,
+        answers: &mut A,
+        room: u32,
+        reader: &mut R,
+        writer: &mut W,
+    ) -> Result<Option<u32>, StreamFault>
+        requires some { 0 < room }
+        requires few { self.old.lines + room < 2 ^ 32 }
+        requires sent { self.old.out.items ≡ [] }
+        ensures out { OnOk result (self.new.out.items ≡ []) }
+        ensures lines { IfOk result (λ taken. IfSome taken (λ n. self.new.lines ≤ self.old.lines + n)) }
+        ensures last { IfOk result (λ taken. taken ≡ None → self.new.lines ≡ self.old.lines) }
+        ensures turned { (start : A.Worlds) (old before : Option (List ℕ)) (count : ℕ) → count + room ≤ 2 ^ 24
+            → Reached A.define start old (R.remaining reader.old) before (W.contents writer.old) count (A.world answers.old) self.old.lines self.old.line.items
+            → Turned A.define start old (R.remaining reader.new) before (W.contents writer.new) room count (A.world answers.new) self.new.lines self.new.line.items result }
+    {
+        let mut buffer = [0; PIECE_BYTES];
+        let most = PIECE_BYTES.min(room as usize);
+        let Ok(taken) = read_piece(reader, &mut buffer, most) else {
+            return Err(StreamFault::Read);
+        };
+        let Some(n) = taken else {
+            return Ok(None);
+        };
+        let Ok(()) = self.take(alloc, answers, &buffer[..n]) else {
+            return Err(StreamFault::Memory);
+        };
+        let Ok(()) = self.send(writer) else {
+            return Err(StreamFault::Write);
+        };
+        Ok(Some(n as u32))
+    }
+
+    /// Answers the last line, if the script doesn't end with a line's end.
+    fn finish<A: Answers, W: Write>(
+        &mut self,
+        alloc: Global,
+        answers: &mut A,
+        writer: &mut W,
+    ) -> Result<(), StreamFault>
+        requires few { self.old.lines + 1 < 2 ^ 32 }
+        requires sent { self.old.out.items ≡ [] }
+        ensures { (start : A.Worlds) (old now before : Option (List ℕ)) (count : ℕ) → count < 2 ^ 24 → IsAtEnd now
+            → Reached A.define start old now before (W.contents writer.old) count (A.world answers.old) self.old.lines self.old.line.items
+            → Finished A.define start old now before (W.contents writer.new) result }
+    {
+        let Ok(()) = self.end_line(alloc, answers) else {
+            return Err(StreamFault::Memory);
+        };
+        let Ok(()) = self.send(writer) else {
+            return Err(StreamFault::Write);
+        };
+        Ok(())
+    }
+}
+
+/// Answers a script, the lines of each read before the next one.
+pub fn converse<A: Answers, R: Read, W: Write>(
+    alloc: Global,
+    answers: &mut A,
+    reader: &mut R,
+    writer: &mut W,
+) -> Result<(), StreamFault>
+    ensures done { OnOk result (IsAnswered (answers_to A.define (A.world answers.old)) (R.remaining reader.old) (R.remaining reader.new) (W.contents writer.old) (W.contents writer.new)) }
+    ensures fault { IfErr result (λ e. Breaks (answers_to A.define (A.world answers.old)) e (R.remaining reader.old) (R.remaining reader.new) (W.contents writer.old) (W.contents writer.new)) }
+{
+    let mut conversation = Conversation::new(alloc);
+    let mut room = MOST_BYTES;
+    for _ in 0..MOST_READS {
+        let Some(taken) = conversation.turn(alloc, answers, room, reader, writer)? else {
+            return conversation.finish(alloc, answers, writer);
+        };
+        room -= taken;
+        if room == 0 {
+            return Err(StreamFault::TooLong);
+        }
+    }
+    Err(StreamFault::TooLong)
+}

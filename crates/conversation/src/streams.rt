@@ -1,0 +1,48 @@
+//! One read, and one write of all bytes.
+
+ghost use Rattle.std.specs.Prelude.{◌≡◌, [], ◌<◌, ◌≤◌, ℕ, List, OnErr, OnOk, IfOk, IfErr, IfSome, MatchOption, length, take};
+ghost use Rattle.std.specs.Io.KnownBytes.{Appends, Consumes, IsAtEnd};
+ghost use Rattle.conversation.specs.Conversations.{IsFront};
+
+use crate::fault::StreamFault;
+use std::io::{ErrorKind, Read, Write};
+
+/// Reads at most so many bytes to the front of a buffer: how many, 0 where the read was
+/// interrupted, and none at the end.
+pub fn read_piece<R: Read>(
+    reader: &mut R,
+    buffer: &mut [u8],
+    most: usize,
+) -> Result<Option<usize>, StreamFault>
+    requires some { 0 < most }
+    requires room { most ≤ length buffer.old }
+    ensures bound { IfOk result (λ taken. IfSome taken (λ n. n ≤ most)) }
+    ensures bytes { IfOk result (λ taken. MatchOption taken
+        (Consumes (R.remaining reader.old) (R.remaining reader.new) [] × IsAtEnd (R.remaining reader.new))
+        (λ n. Consumes (R.remaining reader.old) (R.remaining reader.new) (take n buffer.new))) }
+    ensures kept { OnErr result (Consumes (R.remaining reader.old) (R.remaining reader.new) []) }
+    ensures fault { IfErr result (λ e. e ≡ StreamFault.Read) }
+{
+    match reader.read(&mut buffer[..most]) {
+        Ok(0) => Ok(None),
+        Ok(n) => Ok(Some(n)),
+        Err(e) if e.kind() == ErrorKind::Interrupted => Ok(Some(0)),
+        Err(_) => Err(StreamFault::Read),
+    }
+}
+
+/// Writes all bytes; where a write fails, or takes none, a front of them was written.
+pub fn write_whole<W: Write>(writer: &mut W, bytes: &[u8]) -> Result<(), StreamFault>
+    ensures written { OnOk result (Appends (W.contents writer.old) (W.contents writer.new) bytes.now) }
+    ensures front { OnErr result ((front : List ℕ) × IsFront front bytes.now × Appends (W.contents writer.old) (W.contents writer.new) front) }
+    ensures fault { IfErr result (λ e. e ≡ StreamFault.Write) }
+{
+    let mut rest = bytes;
+    'writes: while !rest.is_empty() {
+        match writer.write(rest) {
+            Ok(0) | Err(_) => return Err(StreamFault::Write),
+            Ok(n) => rest = &rest[n..],
+        }
+    }
+    Ok(())
+}

@@ -1,0 +1,213 @@
+-- What a settled place's runs come to and record.
+use Rattle.std.proofs.Common.{◌≡◌, ℕ, zero, suc, ◌+◌, ◌-◌, ◌<◌, ◌≤◌, Bool, true, false, nat_eq, cond, List, [], ◌∷◌, ◌++◌, length, map, take, Option, Some, None, refl, sym, ap, subst, ◌∙◌, arith, inl, inr, append-nil, append_assoc, slice_get, get_or, eqb-true}
+use Rattle.std.specs.Option.{option_map, unwrap_or}
+use Rattle.std.specs.Cmp.{IsEquivalence}
+use Rattle.std.specs.Arc.{arc_value}
+use Rattle.std.specs.declared.sync.Arc.{Arc}
+use Rattle.checkpoints.specs.Segment.{SegmentRun, IsRun}
+use Rattle.std.proofs.lemmas.Bool.{cases_lt}
+use Rattle.std.proofs.lemmas.List.{take_all, map-append, length-map}
+use Rattle.frames.specs.declared.types.Step.{Step}
+use Rattle.frames.specs.Behaviour.{Behaviour}
+use Rattle.frames.specs.Configuration.{Configuration, initial_configuration, stepped, replayed, history}
+use Rattle.frames.specs.Configuration.{events_of as events_of_step}
+use Rattle.frames.specs.Equality.{SameConfiguration}
+use Rattle.schedule_trie.specs.Forest.{Forest, step_of, index_of, slots_in, path_by, len_of}
+use Rattle.schedule_trie.specs.Cut.{Cut, piece_at, slots_of, line, forest}
+use Rattle.schedule_trie.proofs.Lines.{slots_in_on}
+use Rattle.cutoff.specs.Fitting.{StoredRun, RunPart, RunFits, Settles, steps_at, reached, counted, part_of}
+use Rattle.cutoff.specs.Held.{Charted, keys_named, IsSettled}
+use Rattle.cutoff.specs.Links.{alone}
+use Rattle.cutoff.proofs.Fits.{register_kept, replayed_same, alone_same}
+use Rattle.views.specs.Shown.{first_configuration}
+use Rattle.views.specs.Spots.{part_end, part_events, end_of, events_of, IsSpotOf}
+use Rattle.views.specs.Looks.{steps_in}
+use Rattle.views.proofs.Alone.{replayed_alone, history_alone, replayed-append, history-append, history_same}
+
+-- the first n of two lists, one behind the other
+take_behind : {X : Type 0} (n : ℕ) (xs ys : List X) → length xs ≤ n → take n (xs ++ ys) ≡ xs ++ take (n - length xs) ys
+take_behind n [] ys h = let none : n ≡ n - 0 = omega arith in ap (λ m. take m ys) none
+take_behind zero (x ∷ xs) ys h = absurd (omega (arith, h))
+take_behind (suc n) (x ∷ xs) ys h =
+    let less : n - length xs ≡ suc n - length (x ∷ xs) = omega arith in
+    ap (λ l. x ∷ l) (take_behind n xs ys (omega (arith, h))) ∙ ap (λ m. x ∷ (xs ++ take m ys)) less
+
+take_within : {X : Type 0} (n : ℕ) (xs ys : List X) → n ≤ length xs → take n (xs ++ ys) ≡ take n xs
+take_within zero xs ys h = refl
+take_within (suc n) [] ys h = absurd (omega (arith, h))
+take_within (suc n) (x ∷ xs) ys h = ap (λ l. x ∷ l) (take_within n xs ys (omega (arith, h)))
+
+module _ {R P : Type 0} (E : R → R → Bool) (equal : IsEquivalence E) (is : R → Behaviour P) (alike : (x y : R) → E x y ≡ true → is x ≡ is y)
+    (b : Behaviour P) (old new : Cut (StoredRun R P)) where
+  -- from d on, parts come to what steps come to from c on, and record their events
+  record Comes (c d : Configuration R P) (parts : List (RunPart R P)) (steps : List Step) : Type 0 where
+    pub end : SameConfiguration E (end_of is d parts) (replayed b c steps)
+    pub events : events_of is parts ≡ history b c steps
+
+  nothing : (c d : Configuration R P) (parts : List (RunPart R P)) (place : ℕ) (steps : List Step) → SameConfiguration E d c → parts ≡ [] → place ≡ 0 → Comes c d parts (take place steps)
+  nothing c d parts place steps same none e =
+      subst (λ n. Comes c d parts (take n steps)) (sym e) (subst (λ ps. Comes c d ps []) (sym none) (record { end = same; events = refl }))
+
+  -- the steps of segments, one after the other
+  abbrev along : List ℕ → List Step
+  along keys = map step_of (line (piece_at old.pieces) keys)
+
+  along_more : (k : ℕ) (ks : List ℕ) → along (k ∷ ks) ≡ steps_at old k ++ along ks
+  along_more k ks = map-append step_of (slots_of (piece_at old.pieces k)) (line (piece_at old.pieces) ks)
+
+  -- a part that counts n steps of its segment
+  module _ (c : Configuration R P) (k n : ℕ) (part : RunPart R P) (home : is c.register ≡ b) (fits : RunFits E c (steps_at old k) part.run) (count : part.count ≡ n) where
+    own : is part.run.entry.register ≡ b
+    own = alike part.run.entry.register c.register fits.entry.register ∙ home
+
+    counts : take part.count part.run.steps ≡ take n (steps_at old k)
+    counts = ap (λ m. take m part.run.steps) count ∙ ap (take n) fits.steps
+
+    part_comes : SameConfiguration E (part_end is part) (replayed b c (take n (steps_at old k)))
+    part_comes =
+        subst (λ x. SameConfiguration E (replayed x part.run.entry (take part.count part.run.steps)) (replayed b c (take n (steps_at old k)))) (sym own)
+        (subst (λ xs. SameConfiguration E (replayed b part.run.entry xs) (replayed b c (take n (steps_at old k)))) (sym counts)
+        (replayed_same E b part.run.entry c (take n (steps_at old k)) fits.entry))
+
+    part_records : part_events is part ≡ history b c (take n (steps_at old k))
+    part_records =
+        ap (λ x. history x part.run.entry (take part.count part.run.steps)) own ∙ ap (history b part.run.entry) counts
+        ∙ history_same b E part.run.entry c (take n (steps_at old k)) fits.entry
+
+  none_reached : (c : Configuration R P) (place : ℕ) (ks : List ℕ) (parts : List (RunPart R P)) (n : ℕ) → place ≡ 0
+      → Settles E b old new c place (reached old place ks) parts n → parts ≡ []
+  none_reached c place [] parts n e h = h.0
+  none_reached c place (k ∷ ks) parts n e h =
+      (subst (λ (t : Bool). Settles E b old new c place (cond t [] (k ∷ reached old (place - length (steps_at old k)) ks)) parts n) (ap (λ m. nat_eq m 0) e) h).0
+
+  settled : (c d : Configuration R P) (place : ℕ) (keys : List ℕ) (parts : List (RunPart R P)) (n : ℕ) → is c.register ≡ b → SameConfiguration E d c → counted parts ≡ place
+      → Settles E b old new c place (reached old place keys) parts n → Comes c d parts (take place (along keys))
+  settled c d place [] parts n home same sum h = nothing c d parts place [] same h.0 (sym sum ∙ ap counted h.0)
+  settled c d place (k ∷ ks) parts n home same sum h = by (λ c' d' place' parts' n'. settled c' d' place' ks parts' n') (nat_eq place 0) refl parts sum h
+    where
+      -- the same of the segments behind this one
+      Later : Type 0
+      Later = (c' d' : Configuration R P) (place' : ℕ) (parts' : List (RunPart R P)) (n' : ℕ) → is c'.register ≡ b → SameConfiguration E d' c' → counted parts' ≡ place'
+          → Settles E b old new c' place' (reached old place' ks) parts' n' → Comes c' d' parts' (take place' (along ks))
+
+      len : ℕ
+      len = length (steps_at old k)
+
+      next : Configuration R P
+      next = replayed b c (steps_at old k)
+
+      whole : (part : RunPart R P) (rest : List (RunPart R P)) → RunFits E c (steps_at old k) part.run → part.count ≡ len → len ≤ place
+          → Comes next (part_end is part) rest (take (place - len) (along ks)) → Comes c d (part ∷ rest) (take place (along (k ∷ ks)))
+      whole part rest fits count h later =
+          let all : take place (along (k ∷ ks)) ≡ steps_at old k ++ take (place - len) (along ks) =
+          ap (take place) (along_more k ks) ∙ take_behind place (steps_at old k) (along ks) h in
+          let every : take len (steps_at old k) ≡ steps_at old k = take_all len (steps_at old k) (omega arith) in
+          subst (Comes c d (part ∷ rest)) (sym all)
+          (record {
+            end = subst (SameConfiguration E (end_of is (part_end is part) rest)) (sym (replayed-append b c (steps_at old k) (take (place - len) (along ks)))) later.end;
+            events = ap (λ es. es ++ events_of is rest) (part_records c k len part home fits count ∙ ap (history b c) every)
+                ∙ ap (λ es. history b c (steps_at old k) ++ es) later.events ∙ sym (history-append b c (steps_at old k) (take (place - len) (along ks)));
+          })
+
+      last : (part : RunPart R P) (rest : List (RunPart R P)) → RunFits E c (steps_at old k) part.run → part.count ≡ place → place < len → rest ≡ []
+          → Comes c d (part ∷ rest) (take place (along (k ∷ ks)))
+      last part rest fits count h none =
+          let all : take place (along (k ∷ ks)) ≡ take place (steps_at old k) =
+          ap (take place) (along_more k ks) ∙ take_within place (steps_at old k) (along ks) (omega (arith, h)) in
+          subst (Comes c d (part ∷ rest)) (sym all)
+          (subst (λ ps. Comes c d (part ∷ ps) (take place (steps_at old k))) (sym none)
+          (record {
+            end = part_comes c k place part home fits count;
+            events = append-nil (part_events is part) ∙ part_records c k place part home fits count;
+          }))
+
+      some : Later → (part : RunPart R P) (rest : List (RunPart R P)) (m : ℕ) → part.count + counted rest ≡ place
+          → Settles E b old new c place (k ∷ reached old (place - len) ks) (part ∷ rest) m → Comes c d (part ∷ rest) (take place (along (k ∷ ks)))
+      some later part rest m sum h = elim (cases_lt place len) [
+        | inl less ↦
+            let count : part.count ≡ place = h.3.count ∙ omega (arith, less) in
+            last part rest h.3.fits count less (none_reached next (place - len) ks rest h.1 (omega (arith, less)) h.4)
+        | inr more ↦
+            let count : part.count ≡ len = h.3.count ∙ omega (arith, more) in
+            let every : take len (steps_at old k) ≡ steps_at old k = take_all len (steps_at old k) (omega arith) in
+            whole part rest h.3.fits count more
+            (later next (part_end is part) (place - len) rest h.1 (ap is (register_kept b c (steps_at old k)) ∙ home)
+            (subst (λ xs. SameConfiguration E (part_end is part) (replayed b c xs)) every (part_comes c k len part home h.3.fits count))
+            (omega (arith, sum, count, more)) h.4)
+      ]
+
+      by : Later → (t : Bool) → nat_eq place 0 ≡ t → (parts : List (RunPart R P)) → counted parts ≡ place
+          → Settles E b old new c place (cond t [] (k ∷ reached old (place - len) ks)) parts n → Comes c d parts (take place (along (k ∷ ks)))
+      by later true e parts sum h = nothing c d parts place (along (k ∷ ks)) same h.0 (eqb-true place 0 e)
+      by later false e [] sum h = absurd h
+      by later false e (part ∷ rest) sum h = some later part rest n sum h
+
+-- the end of parts is that of the last one
+pub end_last : {R P Z : Type 0} (is : R → Behaviour P) (c : Configuration R P) (runs : List (Arc (SegmentRun R P) Z × ℕ)) (x : Arc (SegmentRun R P) Z × ℕ)
+    → Some x ≡ slice_get runs (length runs - 1) → end_of is c (map part_of runs) ≡ part_end is (part_of x)
+end_last is c [] x e = cc
+end_last {R} {P} {Z} is c (y ∷ []) x e = let same : y ≡ x = cc in ap (λ (z : Arc (SegmentRun R P) Z × ℕ). part_end is (part_of z)) same
+end_last is c (y ∷ z ∷ rs) x e =
+    let less : length (y ∷ z ∷ rs) - 1 ≡ suc (length (z ∷ rs) - 1) = omega arith in
+    end_last is (part_end is (part_of y)) (z ∷ rs) x (e ∙ ap (slice_get (y ∷ z ∷ rs)) less)
+
+history-take : {R P : Type 0} (b : Behaviour P) (c : Configuration R P) (n : ℕ) (steps : List Step) → take n (history b c steps) ≡ history b c (take n steps)
+history-take b c zero steps = refl
+history-take b c (suc n) [] = refl
+history-take b c (suc n) (s ∷ steps) = ap (λ events. events_of_step b c s ∷ events) (history-take b (stepped b c s) n steps)
+
+-- one part more
+pub events_more : {R P Z : Type 0} (is : R → Behaviour P) (runs : List (Arc (SegmentRun R P) Z × ℕ)) (i : ℕ) (x : Arc (SegmentRun R P) Z × ℕ) → i < length runs → x ≡ get_or runs i x
+    → IsRun (is (arc_value x.0).entry.register) (arc_value x.0) → events_of is (map part_of (take (suc i) runs)) ≡ events_of is (map part_of (take i runs)) ++ take x.1 (arc_value x.0).events
+events_more is [] i x within e run = absurd (omega (arith, within))
+events_more {R} {P} {Z} is (y ∷ runs) zero x within e run =
+    append-nil (part_events is (part_of y)) ∙ ap (λ (z : Arc (SegmentRun R P) Z × ℕ). part_events is (part_of z)) (sym e)
+    ∙ sym (ap (take x.1) run.events ∙ history-take (is (arc_value x.0).entry.register) (arc_value x.0).entry x.1 (arc_value x.0).steps)
+events_more is (y ∷ runs) (suc i) x within e run =
+    ap (λ events. part_events is (part_of y) ++ events) (events_more is runs i x (omega (arith, within)) e run)
+    ∙ sym (append_assoc (part_events is (part_of y)) (events_of is (map part_of (take i runs))) (take x.1 (arc_value x.0).events))
+
+-- the steps of the branch of a name are those along its keys
+steps_named : {R P : Type 0} (cut : Cut (StoredRun R P)) (name : List ℕ) → steps_in (forest cut) name ≡ map step_of (line (piece_at cut.pieces) (keys_named cut name))
+steps_named cut name = by (index_of (forest cut).branches name) refl
+  where
+    by : (o : Option ℕ) → index_of (forest cut).branches name ≡ o → steps_in (forest cut) name ≡ map step_of (line (piece_at cut.pieces) (keys_named cut name))
+    by None e = rw e refl
+    by (Some i) e = rw e (ap (map step_of) (slots_in_on (piece_at cut.pieces) cut.strands i))
+
+module _ {R P : Type 0} (E : R → R → Bool) (equal : IsEquivalence E) (is : R → Behaviour P) (alike : (x y : R) → E x y ≡ true → is x ≡ is y) where
+  -- what a settle of a place answers
+  pub spot_of : (old new : Charted R P) (name : List ℕ) (place len : ℕ) (parts : List (RunPart R P)) (n : ℕ) → Some len ≡ len_of (forest old.cut) name
+      → old.start ≡ initial_configuration (is old.start.register) old.start.register old.value
+      → IsSettled E (is old.start.register) old new name place parts n
+      → IsSpotOf is old.start old.value (steps_in (forest old.cut) name) place len parts
+  spot_of old new name place len parts n told begins h =
+      let b = is old.start.register in
+      let comes = settled E equal is alike b old.cut new.cut old.start old.start place (keys_named old.cut name) parts n refl
+      (record { register = equal.refl old.start.register; memory = refl; running = refl; stopped = refl }) h.sum h.settles in
+      let whole : List Step = map step_of (line (piece_at old.cut.pieces) (keys_named old.cut name)) in
+      let steps : whole ≡ steps_in (forest old.cut) name = sym (steps_named old.cut name) in
+      let first : alone old.start ≡ first_configuration b old.value = ap alone begins in
+      record {
+        counted = counted_by (index_of (forest old.cut).branches name) refl;
+        home = alike (end_of is old.start parts).register (replayed b old.start (take place whole)).register comes.end.register ∙ ap is (register_kept b old.start (take place whole));
+        comes = alone_same E (end_of is old.start parts) (replayed b old.start (take place whole)) comes.end ∙ replayed_alone b old.start (take place whole)
+            ∙ ap (λ xs. replayed b (alone old.start) (take place xs)) steps ∙ ap (λ c. replayed b c (take place (steps_in (forest old.cut) name))) first;
+        records = comes.events ∙ history_alone b old.start (take place whole) ∙ ap (λ xs. history b (alone old.start) (take place xs)) steps
+            ∙ ap (λ c. history b c (take place (steps_in (forest old.cut) name))) first;
+      }
+    where
+      f : Forest
+      f = forest old.cut
+
+      Counts : Option ℕ → Type 0
+      Counts o = Some len ≡ option_map (λ i. length (slots_in f.branches i)) o
+
+      counted_by : (o : Option ℕ) → index_of f.branches name ≡ o → len ≡ length (steps_in f name)
+      counted_by None e =
+          let bad : ◌≡◌ {A = Option ℕ} (Some len) None = subst Counts e told in
+          cc
+      counted_by (Some i) e =
+          let found : Some len ≡ Some (length (slots_in f.branches i)) = subst Counts e told in
+          let same : len ≡ length (slots_in f.branches i) = cc in
+          subst (λ (o : Option ℕ). len ≡ length (unwrap_or (path_by o f) [])) (sym e) (same ∙ sym (length-map (slots_in f.branches i) step_of))

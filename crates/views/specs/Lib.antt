@@ -1,0 +1,6 @@
+pub mod Numbered
+pub mod Pages
+pub mod Frames
+pub mod Shown
+pub mod Spots
+pub mod Looks

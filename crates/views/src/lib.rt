@@ -1,0 +1,14 @@
+//! Pages: what a place of a branch shows, and its text.
+//!
+//! A place is found by settling a chart, so that only what an edit changed is replayed; its page is that of replaying the branch's
+//! steps from the register's initial value.
+#![tactic(auto)]
+
+pub mod branches;
+pub mod history;
+pub mod look;
+pub mod page;
+pub mod pending;
+pub mod query;
+pub mod schedule;
+pub mod spot;

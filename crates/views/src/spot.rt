@@ -1,0 +1,72 @@
+//! What a settled place shows: the configuration that its runs come to, and their events.
+
+ghost use Rattle.std.specs.Prelude.{◌≡◌, IfOk, map, take};
+ghost use Rattle.frames.specs.Configuration.{replayed};
+ghost use Rattle.checkpoints.specs.Segment.{AllFit};
+ghost use Rattle.cutoff.specs.Fitting.{part_of};
+ghost use Rattle.views.specs.Spots.{end_of, events_of};
+
+use checkpoints::events::Events;
+use checkpoints::run::Run;
+use frames::config::Config;
+use frames::register::Register;
+use frames::types::Step;
+use std::alloc::{AllocError, Global};
+use std::sync::Arc;
+
+/// The configuration that runs one after the other come to, each as far as it counts; the first one where there are none.
+pub fn config_of<R: Register>(
+    alloc: Global,
+    first: &Config<R>,
+    runs: &[(Arc<Run<R>>, u32)],
+) -> Result<Config<R>, AllocError>
+    ensures { IfOk result (λ c. c ≡ end_of R.is first.now (map part_of runs.now)) }
+{
+    match runs.last() {
+        None => first.copy(alloc),
+        Some((run, count)) => config_in(alloc, run, *count),
+    }
+}
+
+/// The configuration that the first `count` steps of a run come to.
+fn config_in<R: Register>(alloc: Global, run: &Run<R>, count: u32) -> Result<Config<R>, AllocError>
+    ensures { IfOk result (λ c. c ≡ replayed (R.is run.now.entry.register) run.now.entry (take count run.now.steps)) }
+{
+    if count as usize >= run.steps().len() {
+        return run.exit().copy(alloc);
+    }
+    let mut config = run.entry().copy(alloc)?;
+    make(&mut config, front(run.steps(), count));
+    Ok(config)
+}
+
+/// Makes steps one after another.
+fn make<R: Register>(config: &mut Config<R>, steps: &[Step])
+    requires { AllFit (R.is config.old.register) steps.now }
+    ensures { config.new ≡ replayed (R.is config.old.register) config.old steps.now }
+{
+    for step in steps {
+        config.step(*step);
+    }
+}
+
+/// The events of runs one after the other, each as far as it counts.
+pub fn events_of<R: Register>(
+    alloc: Global,
+    runs: &[(Arc<Run<R>>, u32)],
+) -> Result<Events, AllocError>
+    ensures { IfOk result (λ events. events ≡ events_of R.is (map part_of runs.now)) }
+{
+    let mut events = Events::new(alloc);
+    for (run, count) in runs {
+        events.extend(front(run.events().as_slice(), *count))?;
+    }
+    Ok(events)
+}
+
+/// The first `count` items.
+fn front<T>(items: &[T], count: u32) -> &[T]
+    ensures { result.now ≡ take count items.now }
+{
+    &items[..items.len().min(count as usize)]
+}
