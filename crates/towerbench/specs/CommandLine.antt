@@ -7,6 +7,7 @@ use Rattle.clap.specs.Simple.{on_top}
 use Rattle.clap.specs.declared.error.kind.ErrorKind.{ErrorKind}
 use Rattle.clap.specs.declared.builder.action.ArgAction.TheVariants.{Set}
 use Rattle.clap.specs.declared.error.kind.ErrorKind.TheVariants.{DisplayHelp, OutOfMemory}
+use Rattle.clap.specs.declared.builder.value_parser.ValueParser.{ValueParser}
 use Rattle.clap.specs.declared.builder.value_parser.ValueParser.TheVariants as value_parser
 use Rattle.towerbench.specs.Ranges.{AreLimits}
 use Rattle.towerbench.specs.declared.options.Options.{Options}
@@ -17,15 +18,19 @@ use Rattle.towerbench.specs.declared.command_line.Invocation.TheVariants.{Run, H
 abbrev pub file_rule : Rule
 file_rule = new_rule (codes "FILE")
 
--- an option that takes a number from 1 to `most`, and stands for `default` where it isn't used
-abbrev pub number_rule : Text → ℕ → Text → Rule
-number_rule id most default = record (new_rule id) {
+-- an option that takes what a parser takes, and stands for `default` where it isn't used
+abbrev pub option_rule : Text → ValueParser → Text → Rule
+option_rule id parser default = record (new_rule id) {
   long = Some id;
   action = Some Set;
   value_names = 1;
   defaults = default ∷ [];
-  parser = Some (value_parser.Signed (pos 1) (pos most));
+  parser = Some parser;
 }
+
+-- one that takes a number from 1 to `most`
+abbrev pub number_rule : Text → ℕ → Text → Rule
+number_rule id most default = option_rule id (value_parser.Signed (pos 1) (pos most)) default
 
 -- --cells takes a number from 1 to 2^24, else 65536; --branches one from 1 to 1,024, else 64
 abbrev pub cells_rule : Rule

@@ -3,9 +3,10 @@
 ghost use Rattle.std.specs.Prelude.{◌≡◌, [], None, IfOk, false, map};
 ghost use Rattle.std.specs.String.{string_bytes};
 ghost use Rattle.clap.specs.Words.{app_of, kind_of, rule_of};
-ghost use Rattle.towerbench.specs.CommandLine.{IsAskedBy, IsRunOf, Tells, cells_rule, branches_rule, default_options, program};
+ghost use Rattle.towerbench.specs.CommandLine.{IsAskedBy, IsRunOf, Tells, option_rule, default_options, program};
 
 use crate::options::Options;
+use clap::builder::ValueParser;
 use clap::error::ErrorKind;
 use clap::{Arg, ArgAction, Command, Error, value_parser};
 use std::alloc::{AllocError, Global};
@@ -68,42 +69,48 @@ fn command<'a>(alloc: Global) -> Result<Command<'a>, AllocError>
     ensures { IfOk result (λ c. app_of c ≡ program) }
 {
     let file = Arg::new(alloc, FILE).help("A tower and its steps; without it a safe bit");
+    let cells = number_option(
+        alloc,
+        CELLS,
+        value_parser!(u32).range(1..=16777216),
+        "65536",
+        "The most cells that are ever made, 1 to 16777216",
+    );
+    let branches = number_option(
+        alloc,
+        BRANCHES,
+        value_parser!(u32).range(1..=1024),
+        "64",
+        "The most branches that there are at a time, 1 to 1024",
+    );
     Command::new(alloc, "towerbench")
         .about(
             "Answers the script on standard input: edits and looks over the runs of a register tower",
         )
         .no_binary_name(true)
         .arg(file)?
-        .arg(cells_option(alloc))?
-        .arg(branches_option(alloc))
+        .arg(cells)?
+        .arg(branches)
 }
 
-/// The option that limits the cells.
-fn cells_option<'a>(alloc: Global) -> Arg<'a>
-    ensures rule { rule_of result ≡ cells_rule }
+/// An option that takes a number, and stands for `default` where it isn't used.
+fn number_option<'a>(
+    alloc: Global,
+    id: &'a str,
+    number: ValueParser<'a>,
+    default: &'a str,
+    help: &'a str,
+) -> Arg<'a>
+    ensures rule { rule_of result ≡ option_rule id.now number.entry default.now }
     ensures own { result.global ≡ false }
 {
-    Arg::new(alloc, CELLS)
-        .long(CELLS)
+    Arg::new(alloc, id)
+        .long(id)
         .action(ArgAction::Set)
         .value_name("N")
-        .help("The most cells that are ever made, 1 to 16777216")
-        .value_parser(value_parser!(u32).range(1..=16777216))
-        .default_value("65536")
-}
-
-/// The option that limits the branches.
-fn branches_option<'a>(alloc: Global) -> Arg<'a>
-    ensures rule { rule_of result ≡ branches_rule }
-    ensures own { result.global ≡ false }
-{
-    Arg::new(alloc, BRANCHES)
-        .long(BRANCHES)
-        .action(ArgAction::Set)
-        .value_name("N")
-        .help("The most branches that there are at a time, 1 to 1024")
-        .value_parser(value_parser!(u32).range(1..=1024))
-        .default_value("64")
+        .help(help)
+        .value_parser(number)
+        .default_value(default)
 }
 
 /// What is told of words that aren't taken.
