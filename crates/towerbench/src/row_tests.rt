@@ -3,7 +3,7 @@
 use crate::fault::Fault;
 use crate::tests::written;
 use schedule_trie::refusal::Refusal;
-use std::alloc::Global;
+use std::alloc::{AllocError, Global};
 use std::process::Abort;
 use std::test::Fail;
 use tower_file::{FaultKind, FileFault};
@@ -324,22 +324,57 @@ fn steps_beyond_the_cells(rt: HostRuntime) -> Result<(), Fail> {
     Ok(())
 }
 
-/// A thousand steps: writes of 1 and of 0, one after the other, and the invocation of one more.
-#[test]
-fn thousand_steps(rt: HostRuntime) -> Result<(), Fail> {
-    let mut file = Vec::from_slice(rt.alloc(), b"tower 1\nsafe 0\n".as_slice())?;
+/// A file of a thousand steps: writes of 1 and of 0, one after the other, and the invocation of one more.
+fn thousand(alloc: Global) -> Result<Vec<u8>, AllocError> {
+    let mut file = Vec::from_slice(alloc, b"tower 1\nsafe 0\n".as_slice())?;
     for _ in 0..166 {
         file.extend_from_slice(b"w 0 1\ng 0 0\ng 0 0\nw 0 0\ng 0 0\ng 0 0\n".as_slice())?;
     }
     file.extend_from_slice(b"w 0 1\ng 0 0\ng 0 0\nw 0 0\n".as_slice())?;
+    Ok(file)
+}
+
+/// What a script answers over a thousand steps.
+fn over_thousand(alloc: Global, script: &str) -> Result<Vec<u8>, Fail> {
+    let file = thousand(alloc)?;
+    Ok(written(alloc, Some(file.as_slice()), 65536, script)?)
+}
+
+/// A choice that has no effect, and then a page that is the same.
+#[test]
+fn thousand_steps(rt: HostRuntime) -> Result<(), Fail> {
+    let script = "0 state main 1000\n0 replace main 10 g 0 1\n0 state main 1000\n";
     let want =
-        "0: state main 1000 of 1000\n  p0 write 0 next ws 0\n  p1 idle\n  bits 1\n  words -\n";
-    let answers = written(
-        rt.alloc(),
-        Some(file.as_slice()),
-        65536,
-        "0 state main 1000\n",
-    )?;
+        "0: state main 1000 of 1000\n  p0 write 0 next ws 0\n  p1 idle\n  bits 1\n  words -\n\
+        0: edit 1\n\
+        0: state main 1000 of 1000\n  p0 write 0 next ws 0\n  p1 idle\n  bits 1\n  words -\n";
+    let answers = over_thousand(rt.alloc(), script)?;
     assert_eq!(rt; answers.as_slice(), want.as_bytes());
+    Ok(())
+}
+
+/// A write of 1 in the place of one of 0: pages up to the next write differ, and those behind it are the same.
+#[test]
+fn rejoined_suffix(rt: HostRuntime) -> Result<(), Fail> {
+    let script = "0 state main 6\n0 replace main 3 w 0 1\n0 state main 6\n0 state main 1000\n";
+    let want = "0: state main 6 of 1000\n  p0 idle\n  p1 idle\n  bits 0\n  words -\n\
+        0: edit 1\n\
+        0: state main 6 of 1000\n  p0 idle\n  p1 idle\n  bits 1\n  words -\n\
+        0: state main 1000 of 1000\n  p0 write 0 next ws 0\n  p1 idle\n  bits 1\n  words -\n";
+    let answers = over_thousand(rt.alloc(), script)?;
+    assert_eq!(rt; answers.as_slice(), want.as_bytes());
+    Ok(())
+}
+
+/// A branch in the place of one that was dropped, whose steps were settled, shows its own.
+#[test]
+fn branch_in_place_of_another(rt: HostRuntime) -> Result<(), Fail> {
+    let script = "0 fork main 1 a\n0 insert a 1 w 0 1\n0 state a 2\n0 drop a\n0 fork main 1 b\n\
+        0 insert b 1 w 0 0\n0 state b 2\n";
+    let want = "0: edit 1\n0: edit 2\n\
+        0: state a 2 of 2\n  p0 write 1 next ws 0\n  p1 read next rs 0\n  bits 0\n  words -\n\
+        0: edit 3\n0: edit 4\n0: edit 5\n\
+        0: state b 2 of 2\n  p0 write 0 next ws 0\n  p1 read next rs 0\n  bits 0\n  words -\n";
+    check(&rt, rt.alloc(), "tower 1\nsafe 0\nr 1\n", script, want)?;
     Ok(())
 }
