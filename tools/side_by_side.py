@@ -261,8 +261,9 @@ def run_side_by_side(tasks, tell):
                 ready = [it for it in left if is_well and all(below in done for below in tasks[it].waits)]
                 for at, key in enumerate(ready):
                     if free:
-                        # (a processor that no other task waits for goes to the proof that begins now)
-                        jobs = max(1, min(tasks[key].most_jobs, free // (len(ready) - at)))
+                        # (of the free processors it gets its part, by the chains that begin with it and with those that wait beside it)
+                        part = free * chain[key] / sum(chain[it] for it in ready[at:])
+                        jobs = max(1, min(tasks[key].most_jobs, round(part)))
                         left.remove(key)
                         free -= jobs
                         running[pool.submit(tasks[key].work, jobs)] = key, jobs, time.monotonic()

@@ -190,8 +190,8 @@ fn read_within(alloc: Global, main: &Name, place: u32) -> Result<([(u32, u32); 3
 }
 
 /// The read stays pending at every later place, so that no later segment begins from the same configuration as before:
-/// the segment that it is put into and all behind it differ, and none above. Segments begin at 0, 128, .. and 896; each
-/// step makes one call.
+/// the segment that it is put into and all behind it differ, and none above. Segments begin at 0, 128, .. and 896, and a
+/// full one is cut in two new ones; each step makes one call.
 #[test]
 fn a_read_in_the_middle(rt: HostRuntime) -> Result<(), Fail> {
     let main = name(&rt, b"main");
