@@ -253,7 +253,6 @@ def run_side_by_side(tasks, tell):
     Once one fails, the others are ended. `tell` is given those that are done and those that run, each with its seconds, whenever
     that changes and once a minute."""
     free, chain = lanes(), chains(tasks)
-    most = free
     left, running, done = sorted(tasks, key=lambda it: -chain[it]), {}, {}
     is_well = True
     with ThreadPoolExecutor(free) as pool:
@@ -262,20 +261,17 @@ def run_side_by_side(tasks, tell):
                 ready = [it for it in left if is_well and all(below in done for below in tasks[it].waits)]
                 for at, key in enumerate(ready):
                     if free:
-                        # (of the free processors it gets its part, by the chains that begin with it and with those that wait beside it;
-                        # what the longest chain of all waits for may use more, whenever others leave it some)
+                        # (of the free processors it gets its part, by the chains that begin with it and with those that wait beside it)
                         part = free * chain[key] / sum(chain[it] for it in ready[at:])
-                        lent = max(1, min(tasks[key].most_jobs, round(part)))
-                        is_head = chain[key] == max(chain[it] for it in (*left, *(busy for busy, _, _ in running.values())))
+                        jobs = max(1, min(tasks[key].most_jobs, round(part)))
                         left.remove(key)
-                        free -= lent
-                        jobs = min(tasks[key].most_jobs, most) if is_head else lent
-                        running[pool.submit(tasks[key].work, jobs)] = key, lent, time.monotonic()
+                        free -= jobs
+                        running[pool.submit(tasks[key].work, jobs)] = key, jobs, time.monotonic()
                 now = time.monotonic()
                 tell(done, {key: now - since for key, _, since in running.values()})
                 for it in wait(running, SECONDS_BETWEEN_NEWS, FIRST_COMPLETED).done:
-                    key, lent, since = running.pop(it)
-                    free += lent
+                    key, jobs, since = running.pop(it)
+                    free += jobs
                     if it.result():
                         done[key] = time.monotonic() - since
                     elif is_well:
