@@ -23,11 +23,13 @@ PARTS = ("src", "specs", "proofs")
 MEMORY_OF_A_CHECK = 3 * 10**9
 # It gains little from more than 4 processors.
 JOBS_OF_A_CHECK = 4
+# How far behind the task at the head of the longest chain the others stand where processors are short.
+NICENESS_OF_OTHERS = 10
 SECONDS_BETWEEN_NEWS = 60
 LINES_SHOWN = 20
 
 # waits: the keys of the tasks that have to go well first; lines: about how long it takes; most_jobs: how many processors it can
-# use; work: is given how many it may use, and returns whether it went well.
+# use; work: is given how many it may use and its niceness, and returns whether it went well.
 Task = collections.namedtuple("Task", "waits lines most_jobs work")
 
 
@@ -180,13 +182,13 @@ class Processes:
 PROCESSES = Processes()
 
 
-def prove(crates, name, jobs):
+def prove(crates, name, jobs, niceness):
     """Proves and builds one crate over those below it, and returns whether it is proved."""
     with Tree(crates, name) as tree:
         # (a program is built by `rt run`, which also runs it, here on no input)
         verb = "run" if is_program(name) else "lib"
         log = f"{tree.folder}/out/prove.log"
-        is_proved = PROCESSES.call(["rt", verb, "--jobs", str(jobs)], tree.folder, log)
+        is_proved = PROCESSES.call(["nice", "-n", str(niceness), "rt", verb, "--jobs", str(jobs)], tree.folder, log)
         has_failed = not is_proved and not PROCESSES.are_ended
         tree.put_back()
     if has_failed:
@@ -205,7 +207,7 @@ def proofs(crates, names):
     """Returns the tasks that prove these crates and all that they stand on, by their names."""
     wanted = {it for name in names for it in [*all_below(crates, name), name]}
     return {
-        name: Task(crates[name], lines_of(name), JOBS_OF_A_CHECK, lambda jobs, it=name: prove(crates, it, jobs))
+        name: Task(crates[name], lines_of(name), JOBS_OF_A_CHECK, lambda jobs, niceness, it=name: prove(crates, it, jobs, niceness))
         for name in crates
         if name in wanted
     }
@@ -250,28 +252,33 @@ def chains(tasks):
 def run_side_by_side(tasks, tell):
     """Runs the tasks, those with the longest chain behind them first, and returns whether all went well.
 
-    Once one fails, the others are ended. `tell` is given those that are done and those that run, each with its seconds, whenever
-    that changes and once a minute."""
-    free, chain = lanes(), chains(tasks)
+    The one that the longest chain waits for may use all processors, and the others what it leaves. Once one fails, the others are
+    ended. `tell` is given those that are done and those that run, each with its seconds, whenever that changes and once a minute."""
+    all_lanes, chain = lanes(), chains(tasks)
+    free = all_lanes
     left, running, done = sorted(tasks, key=lambda it: -chain[it]), {}, {}
     is_well = True
-    with ThreadPoolExecutor(free) as pool:
+    with ThreadPoolExecutor(all_lanes) as pool:
         try:
             while running or (left and is_well):
                 ready = [it for it in left if is_well and all(below in done for below in tasks[it].waits)]
                 for at, key in enumerate(ready):
                     if free:
-                        # (of the free processors it gets its part, by the chains that begin with it and with those that wait beside it)
-                        part = free * chain[key] / sum(chain[it] for it in ready[at:])
-                        jobs = max(1, min(tasks[key].most_jobs, round(part)))
+                        if chain[key] == max(chain[it] for it in [*left, *(it for it, *_ in running.values())]):
+                            held, jobs, niceness = 1, min(tasks[key].most_jobs, all_lanes), 0
+                        else:
+                            # (of the free lanes it gets its part, by the chains that begin with it and with those that wait beside it)
+                            part = free * chain[key] / sum(chain[it] for it in ready[at:])
+                            held = jobs = max(1, min(tasks[key].most_jobs, round(part)))
+                            niceness = NICENESS_OF_OTHERS
                         left.remove(key)
-                        free -= jobs
-                        running[pool.submit(tasks[key].work, jobs)] = key, jobs, time.monotonic()
+                        free -= held
+                        running[pool.submit(tasks[key].work, jobs, niceness)] = key, held, time.monotonic()
                 now = time.monotonic()
                 tell(done, {key: now - since for key, _, since in running.values()})
                 for it in wait(running, SECONDS_BETWEEN_NEWS, FIRST_COMPLETED).done:
-                    key, jobs, since = running.pop(it)
-                    free += jobs
+                    key, held, since = running.pop(it)
+                    free += held
                     if it.result():
                         done[key] = time.monotonic() - since
                     elif is_well:
