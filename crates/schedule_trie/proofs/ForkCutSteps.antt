@@ -10,13 +10,15 @@ use Rattle.schedule_trie.specs.declared.slot.Slot.{Slot}
 use Rattle.schedule_trie.specs.declared.segment.Segment.{Segment}
 use Rattle.schedule_trie.specs.declared.trie.Trie.TheInside.{Inside}
 use Rattle.schedule_trie.specs.Forest.{branch, index_of, slots_in}
-use Rattle.schedule_trie.specs.Cut.{Cut, Piece, piece, piece_at, slots_of, line, forest, keys_in, IsWhole, divided_strand}
+use Rattle.schedule_trie.specs.Cut.{Cut, Piece, piece, piece_at, slots_of, line, forest, keys_in, IsParted, IsWhole, divided_strand}
 use Rattle.schedule_trie.specs.Held.{piece_of, pieces_of, strand_of, cut_of, IsHeld}
 use Rattle.schedule_trie.specs.Forks.{IsForked}
 use Rattle.schedule_trie.proofs.Division.{Divides, notes-divided}
 use Rattle.schedule_trie.proofs.DivisionSteps.{divides_from}
 use Rattle.schedule_trie.proofs.ForkCuts.{cut, cut_whole, same_branches, cut_front, cut_line}
 use Rattle.schedule_trie.proofs.ForkSteps.{fork_held, fork_told}
+use Rattle.schedule_trie.proofs.Notes.{notes_but}
+use Rattle.schedule_trie.proofs.Touched.{parted}
 
 -- a list from a place on
 pub rest_of : {X : Type 0} (n : ℕ) (xs : List X) → take (length xs - n) (drop n xs) ≡ drop n xs
@@ -83,6 +85,9 @@ module _ {T : Type 0} (c : Cut T) (before u : Inside T) (name : List ℕ) (index
     branches = told.branches ∙ ap (λ l. l ++ branch name (take place (slots_in l index)) ∷ []) same;
     made = told.made;
     limits = told.limits;
-    notes = notes-divided c (cut_of u) key new (piece above.slots.items above.note) (piece below.items None) divides note refl;
+    notes = λ source found. notes_but c (cut_of u) key (IsParted c source place)
+        (notes-divided c (cut_of u) key new (piece above.slots.items above.note) (piece below.items None) divides note refl)
+        (subst (IsParted c source place) (sym at_key)
+        (parted c source index found count rest place inside some (subst (λ k. rest < length (slots_of (piece_at c.pieces k))) at_key within) refl));
     cut = told.cut;
   }

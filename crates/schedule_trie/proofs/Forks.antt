@@ -3,7 +3,7 @@ use Rattle.std.proofs.Common.{◌≡◌, ℕ, zero, suc, ◌+◌, ◌<◌, true,
 use Rattle.std.proofs.lemmas.List.{length-append, map-append, take-append-drop}
 use Rattle.std.proofs.Math.Seq.{take-append_seam}
 use Rattle.schedule_trie.specs.Forest.{branch, slots_in}
-use Rattle.schedule_trie.specs.Cut.{Cut, Piece, Strand, strand, piece_at, line, forest, branch_on, branches_on, keys_in, has, note_of, Linked, IsSound, IsWhole, KeepsNotes}
+use Rattle.schedule_trie.specs.Cut.{Cut, Piece, Strand, strand, piece_at, line, forest, branch_on, branches_on, keys_in, has, note_of, Linked, IsSound, IsWhole, KeepsNotesBut, IsParted}
 use Rattle.schedule_trie.specs.Forks.{IsForked}
 use Rattle.schedule_trie.proofs.Once.{has-append}
 use Rattle.schedule_trie.proofs.Lines.{slots_in_on}
@@ -94,14 +94,17 @@ module _ {T : Type 0} (c : Cut T) (name : List ℕ) (index count : ℕ) (whole :
       ∙ ap (λ n. take n (line (piece_at c.pieces) (keys_in c.strands index))) e
       ∙ ap (take place) (sym (slots_in_on (piece_at c.pieces) c.strands index)))
 
-  front_notes : KeepsNotes c after
-  front_notes = record { touched = None; kept = λ k ne h. inl refl; cleared = λ k e. absurd (cc); fresh = λ k h. ap note_of h }
+  front_notes : (May : ℕ → Type 0) → KeepsNotesBut c after May
+  front_notes May = record {
+    notes = record { touched = None; kept = λ k ne h. inl refl; cleared = λ k e. absurd (cc); fresh = λ k h. ap note_of h };
+    only = λ k e. absurd (cc);
+  }
 
   pub front_forked : (place : ℕ) → length (line (piece_at c.pieces) front) ≡ place → IsForked c after index place name
   front_forked place e = record {
     branches = front_branches place e;
     made = refl;
     limits = refl;
-    notes = front_notes;
+    notes = λ source found. front_notes (IsParted c source place);
     cut = cut_from_sound after c.made sound;
   }

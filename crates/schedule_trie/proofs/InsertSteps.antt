@@ -1,9 +1,9 @@
 -- An insert, by what the fields become.
-use Rattle.std.proofs.Common.{◌≡◌, ℕ, ◌+◌, ◌<◌, ◌≤◌, Bool, true, false, nat_eq, cond, List, ◌++◌, length, map, slice_get, Option, Some, None, IsSome, ◌⊎◌, inl, inr, refl, sym, ap, subst, ◌∙◌, arith}
+use Rattle.std.proofs.Common.{◌≡◌, ℕ, ◌+◌, ◌<◌, ◌≤◌, Bool, true, false, nat_eq, cond, List, ◌++◌, length, map, slice_get, Option, Some, None, IsSome, ◌⊎◌, inl, inr, refl, sym, ap, subst, ◌∙◌, arith, eq-eqb}
 use Rattle.std.specs.List.{insert}
 use Rattle.std.proofs.lemmas.Bool.{eqb-true}
 use Rattle.std.proofs.lemmas.Option.{slice_get_within}
-use Rattle.std.specs.Option.{IfSome}
+use Rattle.std.specs.Option.{IfSome, option_map}
 use Rattle.std.proofs.lemmas.List.{length-append, length-map}
 use Rattle.std.proofs.lemmas.List.Edits.{length-insert}
 use Rattle.std.specs.Global.{Vec}
@@ -13,15 +13,17 @@ use Rattle.schedule_trie.specs.declared.slot.Slot.{Slot}
 use Rattle.schedule_trie.specs.declared.segment.Segment.{Segment}
 use Rattle.schedule_trie.specs.declared.trie.Trie.TheInside.{Inside}
 use Rattle.schedule_trie.specs.Forest.{slot, cell_of, slots_in, cell_in, only_in, put_last, put_before, everywhere, inserted}
-use Rattle.schedule_trie.specs.Cut.{Cut, Piece, piece, piece_at, slots_of, forest, branches_on, keys_in, has, has_cell, Once, StandsAt, IsSegment, IsSound, IsWithin, IsWhole, IsPutBefore, IsInserted, divided_strand}
+use Rattle.schedule_trie.specs.Cut.{Cut, Piece, piece, piece_at, slots_of, note_of, forest, branches_on, keys_in, has, has_cell, Once, StandsAt, IsSegment, IsSound, IsWithin, IsWhole, CanGrowAt, IsPushed, IsPutBefore, IsInserted, divided_strand}
 use Rattle.schedule_trie.specs.declared.limits.Limits.{Limits}
 use Rattle.schedule_trie.specs.Held.{piece_of, strand_of, cut_of, IsHeld}
 use Rattle.schedule_trie.proofs.Lines.{slots_in_on}
 use Rattle.schedule_trie.proofs.Changes.{Changes, piece_at_set}
-use Rattle.schedule_trie.proofs.StepSet.{slice_get_some, cell_in_at, piece_seen, key_within, cut_from_sound}
-use Rattle.schedule_trie.proofs.Insertion.{put, grown_put, put_through, put_elsewhere, grown_once, grown_cells, sound_grown, branches_changed, notes_changed}
+use Rattle.schedule_trie.proofs.StepSet.{slice_get_some, cell_in_at, piece_seen, key_within, cut_from_sound, holds_cell}
+use Rattle.schedule_trie.proofs.Insertion.{put, grown_put, put_through, put_elsewhere, grown_once, grown_cells, sound_grown, branches_changed}
 use Rattle.schedule_trie.proofs.Division.{Divides, lacked-divided, sound-divided, branches-divided, notes-divided}
 use Rattle.schedule_trie.proofs.DivisionSteps.{divides_from}
+use Rattle.schedule_trie.proofs.Notes.{notes_at, notes_but}
+use Rattle.schedule_trie.proofs.Touched.{ends_before}
 
 pub within_more : (l : Limits) (made branches : ℕ) → IsWithin l made branches → made < l.cells → IsWithin l (made + 1) branches
 within_more l made branches h room = record {
@@ -82,7 +84,7 @@ module _ {T : Type 0} (t : Inside T) (key offset : ℕ) (step : Step) (v w : Seg
         (put_elsewhere old (cut_of t).strands t.made key offset step s held.sound at_cell) (cut_of t).strands;
     made = refl;
     limits = refl;
-    notes = notes_changed (cut_of t) (cut_of after) key now change note;
+    notes = notes_at (cut_of t) (cut_of after) key change.others (ap note_of change.here ∙ note);
     cut = cut_from_sound (cut_of after) (t.made + 1) sound;
   }
 
@@ -115,8 +117,31 @@ module _ {T : Type 0} (old new : Cut T) (index place key offset : ℕ) (step : S
   inserted_before = record {
     forest_is = λ i. record { branches = branches i; made = put.made i };
     limits = put.limits;
-    notes = put.notes;
+    notes = λ name found. notes_but old new key (CanGrowAt old name place) put.notes (inl (holds_cell old name place index key offset found stands));
     cut = put.cut;
+  }
+
+-- at the end of a branch
+module _ {T : Type 0} (old new : Cut T) (index place : ℕ) (step : Step) (all : length (slots_in (forest old).branches index) ≡ place)
+    (pushed : IsPushed old new index step) where
+  pushed_branches : (forest new).branches ≡ (inserted (forest old) index place step).branches
+  pushed_branches = pushed.branches
+      ∙ sym (ap (λ b. cond b (only_in index (put_last (slot old.made step)) (forest old).branches)
+      (everywhere (put_before (cell_in (slots_in (forest old).branches index) place) (slot old.made step)) (forest old).branches))
+      (eq-eqb place (length (slots_in (forest old).branches index)) (sym all)))
+
+  pub inserted_last : IsInserted old new index place step
+  inserted_last = record {
+    forest_is = λ i. record { branches = pushed_branches i; made = pushed.made i };
+    limits = pushed.limits;
+    notes = λ name found. record {
+      notes = pushed.notes.notes;
+      only = λ k e. inr (
+        ap (option_map (λ i. length (slots_in (forest old).branches i))) found ∙ ap Some all,
+        ends_before old name index found k place (pushed.notes.only k e) all,
+      );
+    };
+    cut = pushed.cut;
   }
 
 some_full : {T : Type 0} (o : Option (Piece T)) → 128 ≤ length (slots_of o) → IsSome o

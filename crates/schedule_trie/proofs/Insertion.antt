@@ -1,5 +1,5 @@
 -- A new cell before a cell.
-use Rattle.std.proofs.Common.{◌≡◌, ℕ, zero, suc, ◌+◌, ◌<◌, ◌≤◌, Bool, true, false, ◌||◌, nat_eq, cond, List, [], ◌∷◌, ◌++◌, length, map, slice_get, Option, Some, None, IsSome, ◌⊎◌, refl, sym, ap, subst, ◌∙◌, true≢false, arith, eq-eqb, inl, inr}
+use Rattle.std.proofs.Common.{◌≡◌, ℕ, zero, suc, ◌+◌, ◌<◌, ◌≤◌, Bool, true, false, ◌||◌, nat_eq, cond, List, [], ◌∷◌, ◌++◌, length, map, slice_get, Option, Some, IsSome, ◌⊎◌, refl, sym, ap, subst, ◌∙◌, true≢false, arith, eq-eqb, inl, inr}
 use Rattle.std.specs.List.{insert}
 use Rattle.std.proofs.lemmas.Bool.{eqb-true}
 use Rattle.std.proofs.lemmas.List.Concat.{flat_map-append}
@@ -7,7 +7,7 @@ use Rattle.indexmap.proofs.SetLemmas.{map-insert}
 use Rattle.frames.specs.declared.types.Step.{Step}
 use Rattle.schedule_trie.specs.declared.slot.Slot.{Slot}
 use Rattle.schedule_trie.specs.Forest.{slot, cell_of, before_cell, put_before, everywhere}
-use Rattle.schedule_trie.specs.Cut.{Cut, Piece, Strand, piece_at, slots_of, note_of, branches_on, has, has_cell, Once, IsSound, KeepsNotes}
+use Rattle.schedule_trie.specs.Cut.{Piece, Strand, slots_of, branches_on, has, has_cell, Once, IsSound}
 use Rattle.schedule_trie.proofs.Once.{has-head, has-tail, has_cases, has_not_from}
 use Rattle.schedule_trie.proofs.Lines.{once_at, given_at}
 use Rattle.schedule_trie.proofs.Changes.{Changes, line_through, everywhere_on, nat_eq-turned, has_cell_get}
@@ -134,19 +134,3 @@ module _ {T : Type 0} (old new : ℕ → Option (Piece T)) (key : ℕ) (q : Piec
           by : (b : Bool) → nat_eq j key ≡ b → slots_of (new j) ≡ g (slots_of (old j))
           by true e = subst (λ k. slots_of (new k) ≡ g (slots_of (old k))) (sym (eqb-true j key e)) (ap slots_of change.here ∙ here)
           by false e = ap slots_of (change.others j (not_equal j key e)) ∙ sym (elsewhere j (not_equal j key e))
-
--- the changed segment is touched, and has no note
-pub notes_changed : {T : Type 0} (c d : Cut T) (key : ℕ) (q : Piece T) → Changes (piece_at c.pieces) (piece_at d.pieces) key q → q.note ≡ None → KeepsNotes c d
-notes_changed c d key q change none = record {
-  touched = Some key;
-  kept = λ k ne h. inl (change.others k (λ e. ne (ap Some (sym e))));
-  cleared = λ k e. let same : k ≡ key = cc in subst (λ j. note_of (piece_at d.pieces j) ≡ None) (sym same) cleared;
-  fresh = λ k h. fresh_at k h (nat_eq k key) refl;
-}
-  where
-    cleared : note_of (piece_at d.pieces key) ≡ None
-    cleared = ap note_of change.here ∙ none
-
-    fresh_at : (k : ℕ) → piece_at c.pieces k ≡ None → (b : Bool) → nat_eq k key ≡ b → note_of (piece_at d.pieces k) ≡ None
-    fresh_at k h true e = subst (λ j. note_of (piece_at d.pieces j) ≡ None) (sym (eqb-true k key e)) cleared
-    fresh_at k h false e = ap note_of (change.others k (not_equal k key e) ∙ h)

@@ -31,4 +31,5 @@ pub mod Renumbered
 pub mod Beside
 pub mod Detaches
 pub mod Notes
+pub mod Touched
 pub mod Apart

@@ -1,7 +1,7 @@
 -- What an edit leaves of notes.
 use Rattle.std.proofs.Common.{◌≡◌, ℕ, Bool, true, false, nat_eq, Option, Some, None, IsSome, ◌⊎◌, inl, inr, refl, sym, ap, subst, ◌∙◌, true≢false, eq-eqb}
 use Rattle.std.proofs.lemmas.Bool.{eqb-true}
-use Rattle.schedule_trie.specs.Cut.{Cut, Piece, piece_at, note_of, KeepsNotes, IsBlank}
+use Rattle.schedule_trie.specs.Cut.{Cut, Piece, piece_at, note_of, KeepsNotes, KeepsNotesBut, IsBlank}
 
 -- whether a number is the touched one
 is_touched : (t : Option ℕ) (k : ℕ) → (t ≡ Some k) ⊎ (t ≡ Some k → ⊥)
@@ -29,3 +29,40 @@ module _ {T : Type 0} (Q : Option (Piece T) → Type 0) (unnoted : (o : Option (
 
 pub blank_kept : {T : Type 0} (old new : Cut T) → KeepsNotes old new → IsBlank old → IsBlank new
 blank_kept old new notes blank = notes_kept (λ o. note_of o ≡ None) (λ o e. e) old new notes blank
+
+-- every segment but one is as it was
+module _ {T : Type 0} (c d : Cut T) (key : ℕ) (others : (j : ℕ) → (j ≡ key → ⊥) → piece_at d.pieces j ≡ piece_at c.pieces j) (clear : note_of (piece_at d.pieces key) ≡ None) where
+  unnoted_still : (k : ℕ) → piece_at c.pieces k ≡ None → note_of (piece_at d.pieces k) ≡ None
+  unnoted_still k h = by (nat_eq k key) refl
+    where
+      by : (b : Bool) → nat_eq k key ≡ b → note_of (piece_at d.pieces k) ≡ None
+      by true e = subst (λ j. note_of (piece_at d.pieces j) ≡ None) (sym (eqb-true k key e)) clear
+      by false e = ap note_of (others k (λ f. true≢false (sym (eq-eqb k key f) ∙ e)) ∙ h)
+
+  -- that one is touched
+  pub notes_at : KeepsNotesBut c d (λ k. k ≡ key)
+  notes_at = record {
+    notes = record {
+      touched = Some key;
+      kept = λ k ne h. inl (others k (λ e. ne (ap Some (sym e))));
+      cleared = λ k e. let same : k ≡ key = cc in subst (λ j. note_of (piece_at d.pieces j) ≡ None) (sym same) clear;
+      fresh = unnoted_still;
+    };
+    only = λ k e. cc;
+  }
+
+  -- that one is new
+  pub notes_beside : (May : ℕ → Type 0) → piece_at c.pieces key ≡ None → KeepsNotesBut c d May
+  notes_beside May vacant = record {
+    notes = record {
+      touched = None;
+      kept = λ k ne h. inl (others k (λ e. true≢false (sym (subst IsSome (ap (piece_at c.pieces) e ∙ vacant) h))));
+      cleared = λ k e. absurd (cc);
+      fresh = unnoted_still;
+    };
+    only = λ k e. absurd (cc);
+  }
+
+-- said of more
+pub notes_but : {T : Type 0} (c d : Cut T) (key : ℕ) (May : ℕ → Type 0) → KeepsNotesBut c d (λ k. k ≡ key) → May key → KeepsNotesBut c d May
+notes_but c d key May n may = record { notes = n.notes; only = λ k e. subst May (sym (n.only k e)) may }

@@ -7,12 +7,14 @@ use Rattle.frames.specs.declared.types.Step.{Step}
 use Rattle.schedule_trie.specs.declared.segment.Segment.{Segment}
 use Rattle.schedule_trie.specs.declared.trie.Trie.TheInside.{Inside}
 use Rattle.schedule_trie.specs.Forest.{slot}
-use Rattle.schedule_trie.specs.Cut.{piece, piece_at, slots_of, line, keys_in, set_keys, has, Once, IsOwnEnd, IsPushed}
+use Rattle.schedule_trie.specs.Cut.{piece, piece_at, slots_of, note_of, line, keys_in, set_keys, has, Once, IsOwnEnd, IsEnd, IsPushed}
 use Rattle.schedule_trie.specs.Held.{piece_of, cut_of, IsHeld}
 use Rattle.schedule_trie.proofs.Once.{has-append, Once-from_linked}
 use Rattle.schedule_trie.proofs.Changes.{Changes, piece_at_set}
 use Rattle.schedule_trie.proofs.StepSet.{piece_seen, key_within}
+use Rattle.schedule_trie.proofs.Notes.{notes_at, notes_but}
 use Rattle.schedule_trie.proofs.Pushes.{line-append}
+use Rattle.schedule_trie.proofs.Touched.{some_slots}
 use Rattle.schedule_trie.proofs.Whole.{whole_pushed, is_pushed, set_keys-same, has-last, once_front}
 
 pub on_err : {A E : Type 0} (r : Result A E) (P : Type 0) → P → OnErr r P
@@ -80,3 +82,5 @@ module _ {T : Type 0} (t : Inside T) (index key : ℕ) (held : IsHeld t) (end : 
 
       pub in_pushed : IsPushed (cut_of t) (cut_of after) index step
       in_pushed = is_pushed (cut_of t) (cut_of after) index key step end.front (piece w.slots.items w.note) held room change note slots end.room refl refl strands index_in was kept in_front fresh end.own held.sound.shares
+          (notes_but (cut_of t) (cut_of after) key (IsEnd (cut_of t) index) (notes_at (cut_of t) (cut_of after) key change.others (ap note_of change.here ∙ note))
+          (record { front = end.front; last = end.last; some = some_slots t.made (piece_at (cut_of t).pieces key) (subst IsSome (sym seen) refl) (held.sound.segments key) }))

@@ -1,33 +1,18 @@
 -- A removal, by what the fields become.
-use Rattle.std.proofs.Common.{◌≡◌, ℕ, ◌<◌, ◌≤◌, Bool, true, false, nat_eq, List, [], ◌∷◌, length, map, slice_get, Some, None, Ok, refl, sym, ap, subst, ◌∙◌, arith, inl}
+use Rattle.std.proofs.Common.{◌≡◌, ℕ, ◌<◌, ◌≤◌, List, [], ◌∷◌, length, map, slice_get, Some, None, Ok, refl, sym, ap, subst, ◌∙◌, arith}
 use Rattle.std.specs.List.{remove}
-use Rattle.std.proofs.lemmas.Bool.{eqb-true}
 use Rattle.std.proofs.lemmas.List.{length-map}
 use Rattle.slab.specs.Slab.{get, with_value, Updates}
 use Rattle.schedule_trie.specs.declared.slot.Slot.{Slot}
 use Rattle.schedule_trie.specs.declared.segment.Segment.{Segment}
 use Rattle.schedule_trie.specs.declared.trie.Trie.TheInside.{Inside}
 use Rattle.schedule_trie.specs.Forest.{without, remove_cell, index_of}
-use Rattle.schedule_trie.specs.Cut.{Cut, piece, piece_at, slots_of, note_of, forest, branches_on, keys_in, strand_without, StandsAt, IsSound, KeepsNotes, IsRemoved}
+use Rattle.schedule_trie.specs.Cut.{Cut, piece, piece_at, slots_of, note_of, forest, branches_on, keys_in, strand_without, StandsAt, IsSound, IsRemoved}
 use Rattle.schedule_trie.specs.Held.{piece_of, cut_of, IsHeld}
 use Rattle.schedule_trie.proofs.Changes.{Changes, piece_at_set}
-use Rattle.schedule_trie.proofs.Pushes.{not_equal}
+use Rattle.schedule_trie.proofs.Notes.{notes_at}
 use Rattle.schedule_trie.proofs.StepSet.{slice_get_some, piece_seen, key_within, cut_from_sound, command_at, the_cell}
 use Rattle.schedule_trie.proofs.Removals.{gone_everywhere, sound_within, gone_with_segment, sound_gone}
-
--- one segment has no note, and each other one is as it was
-pub notes_kept : {T : Type 0} (c d : Cut T) (key : ℕ) → ((j : ℕ) → (j ≡ key → ⊥) → piece_at d.pieces j ≡ piece_at c.pieces j)
-    → note_of (piece_at d.pieces key) ≡ None → KeepsNotes c d
-notes_kept c d key others clear = record {
-  touched = Some key;
-  kept = λ k ne h. inl (others k (λ e. ne (ap Some (sym e))));
-  cleared = λ k e. let same : k ≡ key = cc in subst (λ j. note_of (piece_at d.pieces j) ≡ None) (sym same) clear;
-  fresh = λ k h. fresh_at k h (nat_eq k key) refl;
-}
-  where
-    fresh_at : (k : ℕ) → piece_at c.pieces k ≡ None → (b : Bool) → nat_eq k key ≡ b → note_of (piece_at d.pieces k) ≡ None
-    fresh_at k h true e = subst (λ j. note_of (piece_at d.pieces j) ≡ None) (sym (eqb-true k key e)) clear
-    fresh_at k h false e = ap note_of (others k (not_equal k key e) ∙ h)
 
 -- a cell of a segment that has another one
 module _ {T : Type 0} (t : Inside T) (key offset : ℕ) (v w : Segment T) (held : IsHeld t) (there : get t.segments key ≡ Some v)
@@ -60,7 +45,7 @@ module _ {T : Type 0} (t : Inside T) (key offset : ℕ) (v w : Segment T) (held 
     everywhere_gone = λ s at_cell. gone_everywhere (piece_at (cut_of t).pieces) (piece_at (cut_of after).pieces) key offset s (cut_of t).strands t.made held.sound here change.others at_cell;
     made = refl;
     limits = refl;
-    notes = notes_kept (cut_of t) (cut_of after) key change.others (ap note_of change.here ∙ note);
+    notes = notes_at (cut_of t) (cut_of after) key change.others (ap note_of change.here ∙ note);
     cut = cut_from_sound (cut_of after) t.made sound;
   }
 
@@ -112,7 +97,7 @@ module _ {T : Type 0} (t u : Inside T) (key : ℕ) (held : IsHeld t) (one : leng
         ∙ gone_with_segment (piece_at (cut_of t).pieces) (piece_at (cut_of u).pieces) key 0 s (cut_of t).strands t.made held.sound all_gone others at_cell gone;
     made = made;
     limits = limits;
-    notes = notes_kept (cut_of t) (cut_of u) key others (ap note_of gone);
+    notes = notes_at (cut_of t) (cut_of u) key others (ap note_of gone);
     cut = cut_from_sound (cut_of u) u.made sound_rest;
   }
 

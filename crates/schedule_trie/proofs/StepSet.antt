@@ -1,5 +1,5 @@
 -- A step is set in a segment of a trie.
-use Rattle.std.proofs.Common.{map, ◌++◌, ◌≡◌, ℕ, ◌<◌, Bool, true, false, nat_eq, nat_le, zero, suc, ◌≤◌, List, [], ◌∷◌, length, slice_get, slice_index_or, Option, Some, None, IsSome, Ok, Err, refl, sym, ap, subst, ◌∙◌, true≢false, arith, cond, eq-eqb, inl}
+use Rattle.std.proofs.Common.{map, ◌++◌, ◌≡◌, ℕ, ◌<◌, Bool, true, false, nat_eq, nat_le, zero, suc, ◌≤◌, List, [], ◌∷◌, length, slice_get, slice_index_or, Option, Some, None, IsSome, Ok, Err, refl, sym, ap, subst, ◌∙◌, true≢false, arith, cond, eq-eqb}
 use Rattle.std.proofs.lemmas.Bool.{eqb-true}
 use Rattle.std.proofs.lemmas.Bool.Decides.{nat_tests}
 use Rattle.std.proofs.lemmas.Option.{slice_get_within}
@@ -13,10 +13,11 @@ use Rattle.schedule_trie.specs.declared.trie.Trie.TheInside.{Inside}
 use Rattle.schedule_trie.specs.declared.refusal.Refusal.TheVariants.{NoPlace}
 use Rattle.schedule_trie.specs.Forest.{branch, cell_at, cell_by, replace_step, at_cell, on_found, replaced_by, index_of, slots_in, cell_in, cell_of, everywhere}
 use Rattle.schedule_trie.specs.Slots.{set_step}
-use Rattle.schedule_trie.specs.Cut.{line, Strand, IsNoted, with_note, branches_on, Cut, Piece, piece, piece_at, slots_of, forest, keys_in, StandsAt, note_of, IsSound, IsCut, IsSegment, KeepsNotes, IsStepSet}
+use Rattle.schedule_trie.specs.Cut.{line, Strand, IsNoted, with_note, branches_on, Cut, Piece, piece, piece_at, slots_of, forest, keys_in, StandsAt, note_of, IsSound, IsCut, IsSegment, KeepsNotesBut, HoldsCellAt, IsStepSet}
 use Rattle.schedule_trie.specs.Held.{piece_of, cut_of, IsHeld}
-use Rattle.schedule_trie.proofs.Changes.{SameCells, piece_at_set, Changes, sound_same, replaced_everywhere, replaced_same}
+use Rattle.schedule_trie.proofs.Changes.{SameCells, piece_at_set, Changes, has_cell_get, sound_same, replaced_everywhere, replaced_same}
 use Rattle.schedule_trie.proofs.Lines.{slots_in_on}
+use Rattle.schedule_trie.proofs.Notes.{notes_at, notes_but}
 
 pub slice_get_some : {X : Type 0} (xs : List X) (i : ℕ) → i < length xs → (x : X) × (slice_get xs i ≡ Some x)
 slice_get_some [] i h = absurd (omega arith)
@@ -89,24 +90,12 @@ module _ {T : Type 0} (t : Inside T) (key offset : ℕ) (step : Step) (v w : Seg
     within = held.within;
   }
 
-  notes : KeepsNotes (cut_of t) (cut_of after)
-  notes = record {
-    touched = Some key;
-    kept = λ k ne h. inl (change.others k (λ e. ne (ap Some (sym e))));
-    cleared = λ k e. let same : k ≡ key = cc in subst (λ j. note_of (piece_at (cut_of after).pieces j) ≡ None) (sym same) (ap note_of here);
-    fresh = λ k h. fresh_at k h (nat_eq k key) refl;
-  }
-    where
-      fresh_at : (k : ℕ) → piece_at (cut_of t).pieces k ≡ None → (b : Bool) → nat_eq k key ≡ b → note_of (piece_at (cut_of after).pieces k) ≡ None
-      fresh_at k h true e = subst (λ j. note_of (piece_at (cut_of after).pieces j) ≡ None) (sym (eqb-true k key e)) (ap note_of here)
-      fresh_at k h false e = ap note_of (change.others k (λ f. true≢false (sym (eq-eqb k key f) ∙ e)) ∙ h)
-
   pub set_told : IsStepSet (cut_of t) (cut_of after) key offset step
   set_told = record {
     everywhere_set = λ s at_cell. replaced_everywhere (piece_at (cut_of t).pieces) (piece_at (cut_of after).pieces) (cut_of t).strands t.made key offset step s held.sound here change.others at_cell;
     made = refl;
     limits = refl;
-    notes = notes;
+    notes = notes_at (cut_of t) (cut_of after) key change.others (ap note_of here);
     cut = cut_from_sound (cut_of after) t.made set_held.sound;
   }
 
@@ -140,6 +129,23 @@ cell_found c name place index key offset s found stands here =
     ap (λ o. cell_by o (forest c) place) found
     ∙ ap (λ l. option_map cell_of (slice_get l place)) (slots_in_on (piece_at c.pieces) c.strands index)
     ∙ ap (option_map cell_of) (sym stands.same ∙ here)
+
+-- the segment of the cell at a place of a branch
+pub holds_cell : {T : Type 0} (c : Cut T) (name : List ℕ) (place index key offset : ℕ) → index_of (forest c).branches name ≡ Some index
+    → StandsAt (piece_at c.pieces) (keys_in c.strands index) place (key, offset) → HoldsCellAt c name place key
+holds_cell c name place index key offset found stands =
+    let p = slice_get_some (slots_of (piece_at c.pieces key)) offset stands.within in
+    record {
+      cell = p.0.cell;
+      there = cell_found c name place index key offset p.0 found stands p.1;
+      held = has_cell_get (slots_of (piece_at c.pieces key)) offset p.0 p.1;
+    }
+
+-- an edit at that cell touches it alone
+pub notes_here : {T : Type 0} (old new : Cut T) (name : List ℕ) (place index key offset : ℕ) → index_of (forest old).branches name ≡ Some index
+    → StandsAt (piece_at old.pieces) (keys_in old.strands index) place (key, offset) → KeepsNotesBut old new (λ k. k ≡ key) → KeepsNotesBut old new (HoldsCellAt old name place)
+notes_here old new name place index key offset found stands notes =
+    notes_but old new key (HoldsCellAt old name place) notes (holds_cell old name place index key offset found stands)
 
 -- a note is set
 module _ {T : Type 0} (t : Inside T) (key : ℕ) (v w : Segment T) (held : IsHeld t) (there : get t.segments key ≡ Some v) (same : w.slots ≡ v.slots) where

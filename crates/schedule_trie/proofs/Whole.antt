@@ -5,7 +5,7 @@ use Rattle.std.proofs.lemmas.Bool.{eqb-true}
 use Rattle.std.proofs.lemmas.List.{map-append, length-append}
 use Rattle.frames.specs.declared.types.Step.{Step}
 use Rattle.schedule_trie.specs.Forest.{slot, cell_of, only_in, put_last}
-use Rattle.schedule_trie.specs.Cut.{Cut, Piece, Strand, piece_at, slots_of, note_of, line, forest, branches_on, keys_in, set_keys, has, has_cell, Once, SharesAbove, IsSegment, IsSound, IsWhole, KeepsNotes, IsPushed, LackedByOthers}
+use Rattle.schedule_trie.specs.Cut.{Cut, Piece, Strand, piece_at, slots_of, line, forest, branches_on, keys_in, set_keys, has, has_cell, Once, SharesAbove, IsSegment, IsSound, IsWhole, KeepsNotesBut, IsEnd, IsPushed, LackedByOthers}
 use Rattle.schedule_trie.proofs.Once.{has-append, has-head, has-tail, has_not_from, has_cases, Once-append}
 use Rattle.schedule_trie.proofs.Changes.{Changes}
 use Rattle.schedule_trie.proofs.StepSet.{cut_from_sound}
@@ -158,20 +158,5 @@ module _ {T : Type 0} (c d : Cut T) (index key : ℕ) (step : Step) (front : Lis
       ∙ only_pushed (piece_at c.pieces) (piece_at d.pieces) key q change c.strands index (front ++ key ∷ []) (slot c.made step) inside lacked
       (line_pushed (piece_at c.pieces) (piece_at d.pieces) key q change front (slot c.made step) fresh slots ∙ ap (put_last (slot c.made step)) (sym was))
 
-  cleared : note_of (piece_at d.pieces key) ≡ None
-  cleared = ap note_of change.here ∙ note
-
-  notes : KeepsNotes c d
-  notes = record {
-    touched = Some key;
-    kept = λ k ne h. inl (change.others k (λ e. ne (ap Some (sym e))));
-    cleared = λ k e. let same : k ≡ key = cc in subst (λ j. note_of (piece_at d.pieces j) ≡ None) (sym same) cleared;
-    fresh = λ k h. fresh_at k h (nat_eq k key) refl;
-  }
-    where
-      fresh_at : (k : ℕ) → piece_at c.pieces k ≡ None → (b : Bool) → nat_eq k key ≡ b → note_of (piece_at d.pieces k) ≡ None
-      fresh_at k h true e = subst (λ j. note_of (piece_at d.pieces j) ≡ None) (sym (eqb-true k key e)) cleared
-      fresh_at k h false e = ap note_of (change.others k (not_equal k key e) ∙ h)
-
-  pub is_pushed : IsPushed c d index step
-  is_pushed = record { branches = branches; made = made; count = count; limits = limits; notes = notes; cut = cut_from_sound d d.made sound }
+  pub is_pushed : KeepsNotesBut c d (IsEnd c index) → IsPushed c d index step
+  is_pushed notes = record { branches = branches; made = made; count = count; limits = limits; notes = notes; cut = cut_from_sound d d.made sound }

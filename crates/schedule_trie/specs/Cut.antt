@@ -7,7 +7,7 @@ use Rattle.schedule_trie.specs.declared.slot.Slot.{Slot}
 use Rattle.schedule_trie.specs.declared.refusal.Refusal.{Refusal}
 use Rattle.schedule_trie.specs.declared.refusal.Refusal.TheVariants.{NoBranch, Memory}
 use Rattle.schedule_trie.specs.declared.limits.Limits.{Limits}
-use Rattle.schedule_trie.specs.Forest.{Forest, Branch, branch, cell_of, slot, slots_in, replaced, without, everywhere, only_in, put_last, put_before, inserted}
+use Rattle.schedule_trie.specs.Forest.{Forest, Branch, branch, cell_of, cell_at, len_of, index_of, slot, slots_in, replaced, without, everywhere, only_in, put_last, put_before, inserted}
 
 -- a segment: its cells, and what is noted at it
 pub record Piece (T : Type 0) : Type 0 where
@@ -162,6 +162,32 @@ pub record KeepsNotes {T : Type 0} (old new : Cut T) : Type 0 where
   pub cleared : (k : ℕ) → touched ≡ Some k → note_of (piece_at new.pieces k) ≡ None
   pub fresh : (k : ℕ) → piece_at old.pieces k ≡ None → note_of (piece_at new.pieces k) ≡ None
 
+-- and the one that it touches is one of these
+pub record KeepsNotesBut {T : Type 0} (old new : Cut T) (May : ℕ → Type 0) : Type 0 where
+  pub notes : KeepsNotes old new
+  pub only : (k : ℕ) → notes.touched ≡ Some k → May k
+
+-- a segment holds the cell at a place of the branch of a name
+pub record HoldsCellAt {T : Type 0} (c : Cut T) (name : List ℕ) (place key : ℕ) : Type 0 where
+  pub cell : ℕ
+  pub there : cell_at (forest c) name place ≡ Some cell
+  pub held : has_cell cell (slots_of (piece_at c.pieces key)) ≡ true
+
+-- a segment holds the cell right before a place
+pub record HoldsCellBefore {T : Type 0} (c : Cut T) (name : List ℕ) (place key : ℕ) : Type 0 where
+  pub before : ℕ
+  pub next : before + 1 ≡ place
+  pub holds : HoldsCellAt c name before key
+
+-- a segment holds the cells on both sides of a place: a fork there cuts it
+pub record IsParted {T : Type 0} (c : Cut T) (name : List ℕ) (place key : ℕ) : Type 0 where
+  pub above : HoldsCellBefore c name place key
+  pub below : HoldsCellAt c name place key
+
+-- a segment into which a new cell at a place can go: that of the cell there, or at the branch's length that of its last cell
+abbrev pub CanGrowAt : {T : Type 0} → Cut T → List ℕ → ℕ → ℕ → Type 0
+CanGrowAt c name place key = HoldsCellAt c name place key ⊎ ((len_of (forest c) name ≡ Some place) × HoldsCellBefore c name place key)
+
 -- an edit touches no segment that was there
 abbrev pub KeepsAllNotes : {T : Type 0} → Cut T → Cut T → Type 0
 KeepsAllNotes old new = (notes : KeepsNotes old new) × (notes.touched ≡ None)
@@ -172,7 +198,7 @@ pub record IsStepSet {T : Type 0} (old new : Cut T) (key offset : ℕ) (step : S
       → (forest new).branches ≡ everywhere (replaced s.cell step) (forest old).branches
   pub made : new.made ≡ old.made
   pub limits : new.limits ≡ old.limits
-  pub notes : KeepsNotes old new
+  pub notes : KeepsNotesBut old new (λ k. k ≡ key)
   pub cut : IsCut new
 
 -- a cell of a segment goes: it goes from each branch
@@ -181,7 +207,7 @@ pub record IsRemoved {T : Type 0} (old new : Cut T) (key offset : ℕ) : Type 0 
       → (forest new).branches ≡ everywhere (without s.cell) (forest old).branches
   pub made : new.made ≡ old.made
   pub limits : new.limits ≡ old.limits
-  pub notes : KeepsNotes old new
+  pub notes : KeepsNotesBut old new (λ k. k ≡ key)
   pub cut : IsCut new
 
 -- no branch but that at an index has a segment
@@ -195,13 +221,19 @@ pub record IsOwnEnd {T : Type 0} (c : Cut T) (index key : ℕ) : Type 0 where
   pub own : LackedByOthers c.strands index key
   pub room : length (slots_of (piece_at c.pieces key)) < 128
 
+-- the last segment of the branch at an index, with its cells
+pub record IsEnd {T : Type 0} (c : Cut T) (index key : ℕ) : Type 0 where
+  pub front : List ℕ
+  pub last : keys_in c.strands index ≡ front ++ key ∷ []
+  pub some : 0 < length (slots_of (piece_at c.pieces key))
+
 -- a step is put last in the branch at an index, as a new cell
 pub record IsPushed {T : Type 0} (old new : Cut T) (index : ℕ) (step : Step) : Type 0 where
   pub branches : (forest new).branches ≡ only_in index (put_last (slot old.made step)) (forest old).branches
   pub made : new.made ≡ old.made + 1
   pub count : length new.strands ≡ length old.strands
   pub limits : new.limits ≡ old.limits
-  pub notes : KeepsNotes old new
+  pub notes : KeepsNotesBut old new (IsEnd old index)
   pub cut : IsCut new
 
 -- a new cell is put before a cell of a segment: so it is in each branch that holds that one
@@ -210,14 +242,14 @@ pub record IsPutBefore {T : Type 0} (old new : Cut T) (key offset : ℕ) (step :
       → (forest new).branches ≡ everywhere (put_before s.cell (slot old.made step)) (forest old).branches
   pub made : new.made ≡ old.made + 1
   pub limits : new.limits ≡ old.limits
-  pub notes : KeepsNotes old new
+  pub notes : KeepsNotesBut old new (λ k. k ≡ key)
   pub cut : IsCut new
 
 -- a new cell is put at a place of the branch at an index
 pub record IsInserted {T : Type 0} (old new : Cut T) (index place : ℕ) (step : Step) : Type 0 where
   pub forest_is : forest new ≡ inserted (forest old) index place step
   pub limits : new.limits ≡ old.limits
-  pub notes : KeepsNotes old new
+  pub notes : (name : List ℕ) → index_of (forest old).branches name ≡ Some index → KeepsNotesBut old new (CanGrowAt old name place)
   pub cut : IsCut new
 
 -- the keys of the branch at an index, if there is one

@@ -1,7 +1,7 @@
 -- A fork, by what the cut becomes.
-use Rattle.std.specs.Prelude.{ℕ, ◌≡◌, ◌+◌, ◌<◌, ◌≤◌, List, [], ◌∷◌, ◌++◌, Option, length, take, slice_index}
-use Rattle.schedule_trie.specs.Forest.{branch, slots_in}
-use Rattle.schedule_trie.specs.Cut.{Cut, Piece, forest, line, slots_of, IsCut, KeepsNotes}
+use Rattle.std.specs.Prelude.{ℕ, ◌≡◌, ◌+◌, ◌<◌, ◌≤◌, List, [], ◌∷◌, ◌++◌, Option, Some, length, take, slice_index}
+use Rattle.schedule_trie.specs.Forest.{branch, index_of, slots_in}
+use Rattle.schedule_trie.specs.Cut.{Cut, Piece, forest, line, slots_of, IsCut, KeepsNotesBut, IsParted}
 
 -- a place in a path: so many segments lie before it whole, and so many cells of the next one
 pub record LiesAt {T : Type 0} (at : ℕ → Option (Piece T)) (keys : List ℕ) (place : ℕ) (spot : ℕ × ℕ) : Type 0 where
@@ -14,5 +14,5 @@ pub record IsForked {T : Type 0} (old new : Cut T) (index place : ℕ) (name : L
   pub branches : (forest new).branches ≡ (forest old).branches ++ branch name (take place (slots_in (forest old).branches index)) ∷ []
   pub made : new.made ≡ old.made
   pub limits : new.limits ≡ old.limits
-  pub notes : KeepsNotes old new
+  pub notes : (source : List ℕ) → index_of (forest old).branches source ≡ Some index → KeepsNotesBut old new (IsParted old source place)
   pub cut : IsCut new

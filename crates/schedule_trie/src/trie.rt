@@ -4,7 +4,7 @@ ghost use Rattle.std.specs.Prelude.{◌<◌, ◌≤◌, length, IfSome, IfNone, 
 ghost use Rattle.std.specs.Option.{option_map, option_copied};
 ghost use Rattle.std.specs.List.{position};
 ghost use Rattle.schedule_trie.specs.Forest.{path_of, step_of, cell_at, place_of, is_cell, opened, opening, IsRefused, replace_step, index_of, slots_in, name_in, len_of, AreNamedApart};
-ghost use Rattle.schedule_trie.specs.Cut.{IsBlank, IsNoted, above_of, before_key, keys_by, if_lacks, note_of, AreLimits, has, IsOwnEnd, IsPushed, LackedByOthers, forest, IsCut, KeepsNotes, IsStepSet, piece_at, slots_of, keys_in, line, StandsAt};
+ghost use Rattle.schedule_trie.specs.Cut.{IsBlank, IsNoted, above_of, before_key, keys_by, if_lacks, note_of, AreLimits, has, IsOwnEnd, IsPushed, LackedByOthers, forest, IsCut, KeepsNotesBut, HoldsCellAt, IsStepSet, piece_at, slots_of, keys_in, line, StandsAt};
 
 mod detach;
 mod division;
@@ -266,7 +266,7 @@ impl<T: Drop> Trie<T> {
         ensures ok { OnOk result (replace_step (forest self.old) branch.now place step ≡ Ok (forest self.new)) }
         ensures err { IfErr result (λ e. replace_step (forest self.old) branch.now place step ≡ Err e) }
         ensures unchanged { OnErr result (self.new ≡ self.old) }
-        ensures notes { OnOk result (KeepsNotes self.old self.new) }
+        ensures notes { OnOk result (KeepsNotesBut self.old self.new (HoldsCellAt self.old branch.now place)) }
         ensures cut { OnOk result (IsCut self.new) }
         ensures limits { self.new.limits ≡ self.old.limits }
     {

@@ -3,7 +3,7 @@
 ghost use Rattle.std.specs.Prelude.{◌≡◌, true, Ok, Err, OnOk, OnErr, IfErr};
 ghost use Rattle.frames.specs.Configuration.{fits_step};
 ghost use Rattle.schedule_trie.specs.Forest.{IsRefused, insert, remove_cell, replace_step, fork, detach, drop_branch};
-ghost use Rattle.schedule_trie.specs.Cut.{IsCut, KeepsNotes, KeepsAllNotes, forest};
+ghost use Rattle.schedule_trie.specs.Cut.{IsCut, KeepsNotesBut, KeepsAllNotes, HoldsCellAt, CanGrowAt, IsParted, forest};
 
 use super::Chart;
 use frames::register::Register;
@@ -31,7 +31,7 @@ impl<R: Register> Chart<R> {
         ensures ok { OnOk result (insert self.old.cut.limits (forest self.old.cut) branch.now place step ≡ Ok (forest self.new.cut)) }
         ensures err { IfErr result (IsRefused (insert self.old.cut.limits (forest self.old.cut) branch.now place step)) }
         ensures unchanged { OnErr result (self.new ≡ self.old) }
-        ensures notes { OnOk result (KeepsNotes self.old.cut self.new.cut) }
+        ensures notes { OnOk result (KeepsNotesBut self.old.cut self.new.cut (CanGrowAt self.old.cut branch.now place)) }
         ensures cut { OnOk result (IsCut self.new.cut) }
         ensures limits { self.new.cut.limits ≡ self.old.cut.limits }
         ensures start { self.new.start ≡ self.old.start }
@@ -49,7 +49,7 @@ impl<R: Register> Chart<R> {
         ensures ok { OnOk result (remove_cell (forest self.old.cut) branch.now place ≡ Ok (forest self.new.cut)) }
         ensures err { IfErr result (λ e. remove_cell (forest self.old.cut) branch.now place ≡ Err e) }
         ensures unchanged { OnErr result (self.new ≡ self.old) }
-        ensures notes { OnOk result (KeepsNotes self.old.cut self.new.cut) }
+        ensures notes { OnOk result (KeepsNotesBut self.old.cut self.new.cut (HoldsCellAt self.old.cut branch.now place)) }
         ensures cut { OnOk result (IsCut self.new.cut) }
         ensures limits { self.new.cut.limits ≡ self.old.cut.limits }
         ensures start { self.new.start ≡ self.old.start }
@@ -69,7 +69,7 @@ impl<R: Register> Chart<R> {
         ensures ok { OnOk result (replace_step (forest self.old.cut) branch.now place step ≡ Ok (forest self.new.cut)) }
         ensures err { IfErr result (λ e. replace_step (forest self.old.cut) branch.now place step ≡ Err e) }
         ensures unchanged { OnErr result (self.new ≡ self.old) }
-        ensures notes { OnOk result (KeepsNotes self.old.cut self.new.cut) }
+        ensures notes { OnOk result (KeepsNotesBut self.old.cut self.new.cut (HoldsCellAt self.old.cut branch.now place)) }
         ensures cut { OnOk result (IsCut self.new.cut) }
         ensures limits { self.new.cut.limits ≡ self.old.cut.limits }
         ensures start { self.new.start ≡ self.old.start }
@@ -94,7 +94,7 @@ impl<R: Register> Chart<R> {
         ensures ok { OnOk result (fork self.old.cut.limits (forest self.old.cut) branch.now place name ≡ Ok (forest self.new.cut)) }
         ensures err { IfErr result (IsRefused (fork self.old.cut.limits (forest self.old.cut) branch.now place name)) }
         ensures unchanged { OnErr result (self.new ≡ self.old) }
-        ensures notes { OnOk result (KeepsNotes self.old.cut self.new.cut) }
+        ensures notes { OnOk result (KeepsNotesBut self.old.cut self.new.cut (IsParted self.old.cut branch.now place)) }
         ensures cut { OnOk result (IsCut self.new.cut) }
         ensures limits { self.new.cut.limits ≡ self.old.cut.limits }
         ensures start { self.new.start ≡ self.old.start }

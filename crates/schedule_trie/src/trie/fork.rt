@@ -4,7 +4,7 @@ ghost use Rattle.std.specs.Prelude.{◌≡◌, ◌+◌, ◌<◌, ◌≤◌, ◌+
 ghost use Rattle.std.specs.Cmp.Lexicographic.{pointwise};
 ghost use Rattle.indexmap.specs.IndexMap.{insert_entry, spare};
 ghost use Rattle.schedule_trie.specs.Forest.{fork, index_of, slots_in, IsRefused};
-ghost use Rattle.schedule_trie.specs.Cut.{forest, keys_in, line, piece_at, slots_of, IsCut, KeepsNotes};
+ghost use Rattle.schedule_trie.specs.Cut.{forest, keys_in, line, piece_at, slots_of, IsCut, KeepsNotesBut, IsParted};
 ghost use Rattle.schedule_trie.specs.Forks.{IsForked, LiesAt};
 
 use super::Trie;
@@ -32,7 +32,7 @@ impl<T: Drop> Trie<T> {
         ensures ok { OnOk result (fork self.old.limits (forest self.old) branch.now place name ≡ Ok (forest self.new)) }
         ensures err { IfErr result (IsRefused (fork self.old.limits (forest self.old) branch.now place name)) }
         ensures unchanged { OnErr result (self.new ≡ self.old) }
-        ensures notes { OnOk result (KeepsNotes self.old self.new) }
+        ensures notes { OnOk result (KeepsNotesBut self.old self.new (IsParted self.old branch.now place)) }
         ensures cut { OnOk result (IsCut self.new) }
         ensures limits { self.new.limits ≡ self.old.limits }
     {

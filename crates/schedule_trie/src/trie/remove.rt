@@ -2,7 +2,7 @@
 
 ghost use Rattle.std.specs.Prelude.{◌≡◌, ◌<◌, length, map, Ok, Err, OnOk, IfErr, OnErr};
 ghost use Rattle.schedule_trie.specs.Forest.{remove_cell};
-ghost use Rattle.schedule_trie.specs.Cut.{forest, piece_at, slots_of, keys_without, strand_without, IsCut, IsRemoved, KeepsNotes};
+ghost use Rattle.schedule_trie.specs.Cut.{forest, piece_at, slots_of, keys_without, strand_without, IsCut, IsRemoved, KeepsNotesBut, HoldsCellAt};
 ghost use Rattle.schedule_trie.specs.Held.{strand_of};
 
 use crate::name::Name;
@@ -21,7 +21,7 @@ impl<T: Drop> Trie<T> {
         ensures ok { OnOk result (remove_cell (forest self.old) branch.now place ≡ Ok (forest self.new)) }
         ensures err { IfErr result (λ e. remove_cell (forest self.old) branch.now place ≡ Err e) }
         ensures unchanged { OnErr result (self.new ≡ self.old) }
-        ensures notes { OnOk result (KeepsNotes self.old self.new) }
+        ensures notes { OnOk result (KeepsNotesBut self.old self.new (HoldsCellAt self.old branch.now place)) }
         ensures cut { OnOk result (IsCut self.new) }
         ensures limits { self.new.limits ≡ self.old.limits }
     {

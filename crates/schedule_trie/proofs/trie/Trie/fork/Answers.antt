@@ -40,3 +40,6 @@ returns-in-Err-clause-err g c =
     memory_alone c.args.self.now.limits (forest c.args.self.now) c.args.branch.now c.args.name c.args.place c.in-Some.index (sym c.in-Some.ensures.index)
     (ap is_some (sym c.index-2.ensures.index) ∙ sym c.is_some.ensures ∙ c.if-is_some.false) (sym c.is_well_formed.ensures ∙ c.if-not-is_well_formed.false)
     (omega (arith, c.len_at.ensures, c.if-len_at-place.false)) (omega (arith, most, c.branches.ensures.count, c.if-branches-self.false))
+
+pub returns-in-Ok-clause-notes : goal.returns-in-Ok-clause-notes
+returns-in-Ok-clause-notes g c = c.in-Ok.ensures.ok.notes c.args.branch.now (sym c.in-Some.ensures.index)

@@ -13,6 +13,6 @@ loop-step-preserved g c =
       count = p.count ∙ c.loop-step.invariant.count;
       made = p.made ∙ ap (λ n. n + 1) c.loop-step.invariant.made;
       cut = p.cut;
-      blank = blank_kept c.loop-step.trie c.push_last.new.self p.notes c.loop-step.invariant.blank;
+      blank = blank_kept c.loop-step.trie c.push_last.new.self p.notes.notes c.loop-step.invariant.blank;
       few = c.loop-step.invariant.few;
     }
