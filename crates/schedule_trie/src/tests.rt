@@ -14,6 +14,8 @@ const READ: Step = Step::Read { p: 1 };
 
 const GO: Step = Step::Go { p: 1, c: 0 };
 
+const OTHER_GO: Step = Step::Go { p: 1, c: 1 };
+
 /// As many reads.
 fn reads(alloc: Global, count: u32) -> Result<Vec<Step>, AllocError> {
     let mut steps = Vec::new(alloc);
@@ -130,6 +132,25 @@ fn made_after_detach(rt: &impl Abort, alloc: Global) -> Result<u32, Refusal> {
 #[test]
 fn a_detached_branch_has_new_cells(rt: HostRuntime) -> Result<(), Fail> {
     assert_eq!(rt; made_after_detach(&rt, rt.alloc())?, 2046);
+    Ok(())
+}
+
+/// `main`'s steps, and into how many segments it is cut, where a branch of all its steps is detached before the second one is replaced.
+fn replaced_after_detach(rt: &impl Abort, alloc: Global) -> Result<(Vec<Step>, usize), Refusal> {
+    let main = main_branch(rt);
+    let a = Name::new(b"a").expect(rt, "a byte");
+    let mut trie: Trie<u32> = Trie::new(alloc, limits(2046), &[READ, GO])?;
+    trie.fork(alloc, &main, 2, a)?;
+    trie.detach(alloc, &a)?;
+    trie.replace(&main, 1, OTHER_GO)?;
+    Ok((trie.path(alloc, &main)?, trie.segments(alloc, &main)?.len()))
+}
+
+#[test]
+fn detach_replace(rt: HostRuntime) -> Result<(), Fail> {
+    let (path, segments) = replaced_after_detach(&rt, rt.alloc())?;
+    assert!(rt; path.as_slice() == [READ, OTHER_GO].as_slice());
+    assert!(rt; segments == 1 || segments == 2);
     Ok(())
 }
 
