@@ -33,6 +33,14 @@ impl Events {
         }
     }
 
+    /// The events of no step, with room for those of so many.
+    pub(crate) fn with_capacity(alloc: Global, steps: usize) -> Result<Events, AllocError>
+        ensures { IfOk result (λ events. events ≡ []) }
+    {
+        let steps = Vec::with_capacity(alloc, steps)?;
+        Ok(Events { steps })
+    }
+
     /// Adds the events of the next step.
     pub(crate) fn push(&mut self, events: StepEvents) -> Result<(), AllocError>
         ensures ok { OnOk result (self.new ≡ self.old ++ events ∷ []) }

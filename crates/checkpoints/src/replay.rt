@@ -46,7 +46,7 @@ pub(crate) fn replay_from<R: Register>(
     ensures events { IfOk result (λ r. r.events ≡ history (R.is entry.register) entry steps.now) }
 {
     let mut config = entry;
-    let mut events = Events::new(alloc);
+    let mut events = Events::with_capacity(alloc, steps.len())?;
     for step in steps {
         let told = config.step(*step);
         events.push(told)?;

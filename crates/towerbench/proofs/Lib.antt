@@ -1,3 +1,4 @@
 pub mod Opened
 pub mod CommandLines
 pub mod Endings
+pub mod Looks

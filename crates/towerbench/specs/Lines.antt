@@ -12,8 +12,7 @@ use Rattle.towerbench.specs.declared.command.Line.{Line}
 use Rattle.towerbench.specs.declared.command.Line.TheVariants as line
 use Rattle.schedule_trie.specs.Names.{name}
 use Rattle.views.specs.declared.query.Query.{Query}
-use Rattle.views.specs.declared.query.Query.TheVariants.{Config, History, Steps, Branches}
-use Rattle.views.specs.declared.query.PageKind.TheVariants.{State, Process, Pending, Bits}
+use Rattle.views.specs.declared.query.Query.TheVariants.{State, Process, Bits, Pending, History, Verdict, Branches, Steps}
 use Rattle.words.specs.Words.{◌>>=◌, words, next, after_next, is_end, number}
 use Rattle.words.specs.Steps.{step_of}
 
@@ -61,11 +60,12 @@ fork_of ws = do
 -- a look at a place, by its word
 abbrev pub query_at : List ℕ → List ℕ → ℕ → Option Query
 query_at word b place =
-    if bytes_eq word (codes "state") then Some (Config b place State)
-    else (if bytes_eq word (codes "pending") then Some (Config b place Pending)
-    else (if bytes_eq word (codes "bits") then Some (Config b place Bits)
+    if bytes_eq word (codes "state") then Some (State b place)
+    else (if bytes_eq word (codes "pending") then Some (Pending b place)
+    else (if bytes_eq word (codes "bits") then Some (Bits b place)
     else (if bytes_eq word (codes "history") then Some (History b place)
-    else None)))
+    else (if bytes_eq word (codes "verdict") then Some (Verdict b place)
+    else None))))
 
 abbrev pub place_look_of : List ℕ → List (List ℕ) → Option Query
 place_look_of word ws = do
@@ -77,7 +77,7 @@ abbrev pub look_of : List ℕ → List (List ℕ) → Option Query
 look_of word ws =
     if bytes_eq word (codes "branches") then (if is_end ws then Some Branches else None)
     else (if bytes_eq word (codes "steps") then option_map Steps (branch_of ws)
-    else (if bytes_eq word (codes "process") then option_map (λ p. Config p.0 p.1 (Process p.2)) (process_at ws)
+    else (if bytes_eq word (codes "process") then option_map (λ p. Process p.0 p.1 p.2) (process_at ws)
     else place_look_of word ws))
 
 -- a command on a branch as a whole, by its word: `fork B K NAME`, `detach B`, `drop B`; or a look

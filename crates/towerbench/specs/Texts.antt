@@ -6,7 +6,7 @@ use Rattle.schedule_trie.specs.declared.refusal.Refusal.TheVariants.{BadLine}
 use Rattle.schedule_trie.specs.Refusals.{number, name}
 use Rattle.towerbench.specs.declared.reply.Reply.{Reply}
 use Rattle.towerbench.specs.declared.reply.Reply.TheVariants.{Edited, Refused}
-use Rattle.views.specs.Pages.{line_end}
+use Rattle.views.specs.page.Head.{line_end}
 
 abbrev pub refusal_text : Refusal → List ℕ
 refusal_text r = codes "refused " ++ decimal (number r) ++ codes " " ++ name r

@@ -1,7 +1,9 @@
 //! Answers to the lines of a script.
 
-ghost use Rattle.std.specs.Prelude.{◌≡◌, Bool, OnOk, []};
-ghost use Rattle.views.specs.Looks.{looked};
+ghost use Rattle.std.specs.Prelude.{◌≡◌, Bool, Ok, OnOk, IfOk, IfErr, []};
+ghost use Rattle.schedule_trie.specs.Forest.{IsRefused};
+ghost use Rattle.views.specs.Pages.{page_text};
+ghost use Rattle.towerbench.specs.Answers.{looked_in, page_of};
 ghost use Rattle.towerbench.specs.World.{world_of};
 ghost use Rattle.towerbench.specs.Answers as spec;
 
@@ -14,7 +16,10 @@ use conversation::answering::Answers;
 use frames::register::Register;
 use schedule_trie::refusal::Refusal;
 use std::alloc::{AllocError, Global};
+use views::lens::Lens;
+use views::page::page_text;
 use views::query::Query;
+use views::slip::Slip;
 
 impl<R: Register> Answers for Book<R> {
     ghost use Rattle.towerbench.specs.World.{World, world_of};
@@ -93,12 +98,39 @@ fn answer_look<R: Register>(
     query: Query,
 ) -> Result<(), AllocError>
     requires { out.old.items ≡ [] }
-    ensures text { let w = world_of R.is book.old in OnOk result ((memory : Bool) × (out.new.items ≡ spec.look_text memory session (looked query w.forest) (spec.page_of session query w))) }
+    ensures text { OnOk result ((memory : Bool) × (out.new.items ≡ spec.look_text memory session (looked_in query (world_of R.is book.old).forest) (page_of session query (world_of R.is book.old)))) }
     ensures kept { world_of R.is book.new ≡ world_of R.is book.old }
 {
-    let Err(refusal) = book.look(out, alloc, session, query) else {
-        return Ok(());
-    };
-    out.clear();
-    push_reply(out, session, Reply::Refused(refusal))
+    match page_in(alloc, book, session, query) {
+        Ok(page) => out.extend_from_slice(&page),
+        Err(refusal) => push_reply(out, session, Reply::Refused(refusal)),
+    }
+}
+
+/// The text of a look's page.
+fn page_in<R: Register>(
+    alloc: Global,
+    book: &mut Book<R>,
+    session: u32,
+    query: Query,
+) -> Result<Vec<u8>, Refusal>
+    ensures text { IfOk result (λ text. text.items ≡ page_of session query (world_of R.is book.old)) }
+    ensures found { let f = (world_of R.is book.old).forest in OnOk result (looked_in query f ≡ Ok f) }
+    ensures err { IfErr result (IsRefused (looked_in query (world_of R.is book.old).forest)) }
+    ensures kept { world_of R.is book.new ≡ world_of R.is book.old }
+{
+    let slip = book.look(alloc, query)?;
+    match text_of(alloc, session, &slip) {
+        Ok(text) => Ok(text),
+        Err(AllocError) => Err(Refusal::Memory),
+    }
+}
+
+/// The text of the page that a slip stands for.
+fn text_of<R: Register>(alloc: Global, session: u32, slip: &Slip<R>) -> Result<Vec<u8>, AllocError>
+    ensures { IfOk result (λ text. text.items ≡ page_text session slip.now) }
+{
+    let mut lens = Lens::new(alloc)?;
+    let page = slip.page(alloc, &mut lens)?;
+    page_text(alloc, session, &page)
 }

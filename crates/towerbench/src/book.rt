@@ -1,10 +1,13 @@
 //! The book: a chart, with the counts of edits and of logged commands.
 
-ghost use Rattle.std.specs.Prelude.{◌≡◌, ◌≢◌, ◌<◌, ◌+◌, ◌++◌, true, None, Ok, OnOk, OnErr, IfOk, IfErr};
+ghost use Rattle.std.specs.Prelude.{◌≡◌, ◌≢◌, ◌<◌, ◌+◌, true, None, Some, Ok, OnOk, OnErr, IfOk, IfErr};
 ghost use Rattle.checkpoints.specs.Segment.{AllFit};
 ghost use Rattle.schedule_trie.specs.Forest.{IsRefused, opened};
 ghost use Rattle.schedule_trie.specs.Cut.{AreLimits, forest};
-ghost use Rattle.views.specs.Looks.{looked, page};
+ghost use Rattle.towerbench.specs.Answers.{looked_in, shown_in};
+ghost use Rattle.views.specs.Looks.{is_at_branch};
+ghost use Rattle.views.specs.page.Branches.{branches_page};
+ghost use Rattle.views.specs.declared.page.Page.TheVariants as page;
 ghost use Rattle.towerbench.specs.World.{world_of, opening, first_refusal, fits_edit, early_refusals, changed, edit_by, edit_to, accepted, refused, with_branches};
 
 use crate::command::Edit;
@@ -18,8 +21,10 @@ use schedule_trie::name::Name;
 use schedule_trie::refusal::Refusal;
 use std::alloc::{AllocError, Global};
 use std::marker::Model;
-use views::look::push_page;
+use views::page::Page;
+use views::page::branches::BranchesPage;
 use views::query::Query;
+use views::slip::Slip;
 
 /// The greatest number of a session.
 const LAST_SESSION: u32 = 15;
@@ -166,25 +171,51 @@ impl<R: Register> Book<R> {
         None
     }
 
-    /// Adds the page of a look.
+    /// Looks at the branches.
     ///
     /// # Errors
     ///
-    /// NoBranch; NoPlace where the branch is shorter; Memory, and then a part of the page may have been added. The world is as
-    /// before in any case.
-    pub fn look(
-        &mut self,
-        out: &mut Vec<u8>,
-        alloc: Global,
-        session: u32,
-        query: Query,
-    ) -> Result<(), Refusal>
-        ensures page { let w = world_of R.is self.old in OnOk result (out.new.items ≡ out.old.items ++ page session w.tower w.value w.edits w.forest query) }
-        ensures found { OnOk result (looked query (forest self.old.chart.cut) ≡ Ok (forest self.old.chart.cut)) }
-        ensures err { IfErr result (IsRefused (looked query (forest self.old.chart.cut))) }
+    /// NoSession, since no session has a cursor; NoBranch; NoPlace where the branch is shorter; Memory. The world is as before in any
+    /// case.
+    pub fn look(&mut self, alloc: Global, query: Query) -> Result<Slip<R>, Refusal>
+        ensures page { IfOk result (λ slip. Some slip ≡ shown_in (world_of R.is self.old) query) }
+        ensures found { OnOk result (looked_in query (forest self.old.chart.cut) ≡ Ok (forest self.old.chart.cut)) }
+        ensures err { IfErr result (IsRefused (looked_in query (forest self.old.chart.cut))) }
         ensures kept { world_of R.is self.new ≡ world_of R.is self.old }
     {
-        push_page(out, alloc, session, self.edits, &mut self.chart, query)
+        match query {
+            Query::Branches => self.branches(alloc),
+            Query::Cursor { .. } => Err(Refusal::NoSession),
+            Query::State { .. }
+            | Query::Process { .. }
+            | Query::Bits { .. }
+            | Query::Pending { .. }
+            | Query::History { .. }
+            | Query::Verdict { .. }
+            | Query::Steps { .. } => self.look_at_branch(alloc, query),
+        }
+    }
+
+    /// Looks at one branch.
+    fn look_at_branch(&mut self, alloc: Global, query: Query) -> Result<Slip<R>, Refusal>
+        requires { is_at_branch query ≡ true }
+        ensures page { IfOk result (λ slip. Some slip ≡ shown_in (world_of R.is self.old) query) }
+        ensures found { OnOk result (looked_in query (forest self.old.chart.cut) ≡ Ok (forest self.old.chart.cut)) }
+        ensures err { IfErr result (IsRefused (looked_in query (forest self.old.chart.cut))) }
+        ensures kept { world_of R.is self.new ≡ world_of R.is self.old }
+    {
+        Slip::at(alloc, &mut self.chart, query)
+    }
+
+    /// Looks at all branches.
+    fn branches(&self, alloc: Global) -> Result<Slip<R>, Refusal>
+        ensures page { IfOk result (λ slip. slip ≡ page.Branches (branches_page self.now.edits (forest self.now.chart.cut))) }
+        ensures err { IfErr result (λ e. e ≡ Refusal.Memory) }
+    {
+        let Ok(page) = BranchesPage::new(alloc, u64::from(self.edits), &self.chart) else {
+            return Err(Refusal::Memory);
+        };
+        Ok(Slip::of(Page::Branches(page)))
     }
 }
 

@@ -7,7 +7,7 @@ ghost use Rattle.towerbench.specs.Lines as spec;
 use crate::command::{Call, Command, Edit, Line};
 use frames::types::Step;
 use schedule_trie::name::Name;
-use views::query::{PageKind, Query};
+use views::query::Query;
 use words::number::number;
 use words::parts::Parts;
 use words::step::{is, step_of};
@@ -113,11 +113,10 @@ fn look_of(word: &[u8], words: &mut Parts<'_>) -> Option<Query>
     }
     if is(word, "process") {
         let (branch, place, process) = process_at(words)?;
-        let kind = PageKind::Process(process);
-        return Some(Query::Config {
+        return Some(Query::Process {
             branch,
             place,
-            kind,
+            process,
         });
     }
     place_look_of(word, words)
@@ -135,22 +134,19 @@ fn place_look_of(word: &[u8], words: &mut Parts<'_>) -> Option<Query>
 fn query_at(word: &[u8], branch: Name, place: u32) -> Option<Query>
     ensures { result ≡ spec.query_at word.now branch place }
 {
-    let kind = if is(word, "state") {
-        PageKind::State
+    if is(word, "state") {
+        Some(Query::State { branch, place })
     } else if is(word, "pending") {
-        PageKind::Pending
+        Some(Query::Pending { branch, place })
     } else if is(word, "bits") {
-        PageKind::Bits
+        Some(Query::Bits { branch, place })
     } else if is(word, "history") {
-        return Some(Query::History { branch, place });
+        Some(Query::History { branch, place })
+    } else if is(word, "verdict") {
+        Some(Query::Verdict { branch, place })
     } else {
-        return None;
-    };
-    Some(Query::Config {
-        branch,
-        place,
-        kind,
-    })
+        None
+    }
 }
 
 /// Reads a branch, and no more.

@@ -34,9 +34,11 @@ fn idle_page(rt: HostRuntime) -> Result<(), Fail> {
 #[test]
 fn overlapped_read(rt: HostRuntime) -> Result<(), Fail> {
     let file = "tower 1\nsafe 0\nw 0 1\ng 0 0\nr 1\ng 1 0\ng 0 0\ng 1 0\n";
-    let script = "0 history main 6\n0 state main 6\n";
+    let script = "0 history main 6\n0 verdict main 6\n0 verdict main 5\n0 state main 6\n";
     let want = "0: history main 6 of 6\n  0 p0 invoke write 1\n  2 p1 invoke read\n\
         \x20 4 p0 return written\n  5 p1 chosen bit 0 value 0\n  5 p1 return 0\n\
+        0: verdict main 6 of 6\n  5 p1 0 fresh\n\
+        0: verdict main 5 of 6\n  none\n\
         0: state main 6 of 6\n  p0 idle\n  p1 idle\n  bits 1\n  words -\n";
     check(&rt, rt.alloc(), file, script, want)?;
     Ok(())
@@ -132,6 +134,15 @@ fn copies(rt: HostRuntime) -> Result<(), Fail> {
     Ok(())
 }
 
+/// A read that a write of its own value overlaps may still give another.
+#[test]
+fn safe_stray(rt: HostRuntime) -> Result<(), Fail> {
+    let file = "tower 1\nsafe 0\nw 0 0\ng 0 0\nr 1\ng 1 0\ng 1 1\n";
+    let want = "0: verdict main 5 of 5\n  4 p1 1 stray\n";
+    check(&rt, rt.alloc(), file, "0 verdict main 5\n", want)?;
+    Ok(())
+}
+
 #[test]
 fn regular_same_value(rt: HostRuntime) -> Result<(), Fail> {
     let file = "tower 1\nregular 1 0\nw 0 0\n";
@@ -154,10 +165,11 @@ fn unary_write(rt: HostRuntime) -> Result<(), Fail> {
 fn unary_overlap(rt: HostRuntime) -> Result<(), Fail> {
     let file = "tower 1\nunary 4 1 0\nw 0 3\ng 0 0\ng 0 0\nr 1\ng 0 0\n\
         g 1 0\ng 1 0\ng 1 0\ng 1 0\ng 1 0\ng 1 0\ng 1 0\ng 1 0\n";
-    let script = "0 history main 13\n0 state main 13\n0 bits main 6\n\
+    let script = "0 history main 13\n0 verdict main 13\n0 state main 13\n0 bits main 6\n\
         0 process main 6 1\n0 process main 6 2\n";
     let want = "0: history main 13 of 13\n  0 p0 invoke write 3\n  3 p1 invoke read\n\
         \x20 6 p1 chosen bit 0 value 0\n  12 p1 return 3\n\
+        0: verdict main 13 of 13\n  12 p1 3 overlap\n\
         0: state main 13 of 13\n  p0 write 3 next we 0\n  p1 idle\n  bits 1001\n  words 0 0 0 1\n\
         0: bits main 6 of 13\n  0 1 0 h\n  1 0 - -\n  2 0 - -\n  3 1 - -\n  words 0 0 0 1\n\
         0: process main 6 of 13\n  p1 read next re 0\n\
@@ -223,8 +235,10 @@ fn matrix_pending(rt: HostRuntime) -> Result<(), Fail> {
 #[test]
 fn matrix_first_read_spent(rt: HostRuntime) -> Result<(), Fail> {
     let file = "tower 1\nmatrix 2 2 1 0\nr 0\ng 0 0\ng 0 0\ng 0 0\ng 0 0\n";
-    let want = "0: history main 5 of 5\n  0 p0 invoke read\n  4 p0 refused spent stamped\n";
-    check(&rt, rt.alloc(), file, "0 history main 5\n", want)?;
+    let script = "0 history main 5\n0 verdict main 5\n";
+    let want = "0: history main 5 of 5\n  0 p0 invoke read\n  4 p0 refused spent stamped\n\
+        0: verdict main 5 of 5\n  undefined for matrix\n";
+    check(&rt, rt.alloc(), file, script, want)?;
     Ok(())
 }
 
@@ -232,10 +246,12 @@ fn matrix_first_read_spent(rt: HostRuntime) -> Result<(), Fail> {
 #[test]
 fn stopped_writer(rt: HostRuntime) -> Result<(), Fail> {
     let file = "tower 2\nsafe 0\nw 0 1\ng 0 0\nx 0\ng 0 0\nr 1\ng 1 0\ng 1 1\n";
-    let script = "0 history main 7\n0 state main 7\n0 bits main 7\n0 pending main 7\n";
+    let script =
+        "0 history main 7\n0 verdict main 7\n0 state main 7\n0 bits main 7\n0 pending main 7\n";
     let want = "0: history main 7 of 7\n  0 p0 invoke write 1\n  2 p0 stop\n\
         \x20 3 p0 void stopped\n  4 p1 invoke read\n  6 p1 chosen bit 0 value 1\n\
         \x20 6 p1 return 1\n\
+        0: verdict main 7 of 7\n  6 p1 1 overlap\n\
         0: state main 7 of 7\n  p0 write 1 stopped\n  p1 idle\n  bits 0\n  words -\n\
         0: bits main 7 of 7\n  0 0 1 -\n  words -\n\
         0: pending main 7 of 7\n  p0 safe w 1 1 stopped\n  p1 idle\n";
@@ -257,9 +273,11 @@ fn stopped_writer(rt: HostRuntime) -> Result<(), Fail> {
 fn stopped_regular(rt: HostRuntime) -> Result<(), Fail> {
     let file = "tower 2\nregular 2 0\nw 0 1\ng 0 0\ng 0 0\nx 0\nr 1\ng 1 0\ng 1 0\n\
         r 2\ng 2 0\ng 2 0\n";
-    let script = "0 insert main 10 x 3\n0 insert main 10 x 2\n0 insert main 11 x 2\n\
+    let script =
+        "0 verdict main 10\n0 insert main 10 x 3\n0 insert main 10 x 2\n0 insert main 11 x 2\n\
         0 steps main\n0 history main 12\n0 process main 12 2\n";
-    let want = "0: refused 30 BadStep\n0: edit 1\n0: edit 2\n\
+    let want = "0: verdict main 10 of 10\n  6 p1 1 overlap\n  9 p2 0 fresh\n\
+        0: refused 30 BadStep\n0: edit 1\n0: edit 2\n\
         0: steps main 12\n  0 w 0 1\n  1 g 0 0\n  2 g 0 0\n  3 x 0\n  4 r 1\n  5 g 1 0\n\
         \x20 6 g 1 0\n  7 r 2\n  8 g 2 0\n  9 g 2 0\n  10 x 2\n  11 x 2\n\
         0: history main 12 of 12\n  0 p0 invoke write 1\n  3 p0 stop\n  4 p1 invoke read\n\

@@ -1,15 +1,17 @@
 -- A register alone: what its steps do is the same whatever value of a type stands for it.
-use Rattle.std.proofs.Common.{◌≡◌, Bool, List, [], ◌∷◌, ◌++◌, refl, sym, ap, ◌∙◌}
+use Rattle.std.proofs.Common.{◌≡◌, ℕ, Bool, List, [], ◌∷◌, ◌++◌, refl, sym, ap, ◌∙◌}
 use Rattle.std.specs.Prelude.{⊤}
+use Rattle.frames.specs.declared.types.Event.{Event}
 use Rattle.frames.specs.declared.types.Step.{Step}
 use Rattle.frames.specs.Behaviour.{Behaviour}
 use Rattle.frames.specs.Configuration.{Configuration, events_of, stepped, replayed, history}
 use Rattle.frames.specs.Equality.{SameConfiguration}
 use Rattle.cutoff.specs.Links.{alone}
 use Rattle.cutoff.proofs.Fits.{alone_same}
-use Rattle.views.specs.declared.query.PageKind.{PageKind}
-use Rattle.views.specs.declared.query.PageKind.TheVariants.{State, Process, Pending, Bits}
-use Rattle.views.specs.Looks.{kind_lines}
+use Rattle.views.specs.declared.query.PlaceKind.{PlaceKind}
+use Rattle.views.specs.declared.query.PlaceKind.TheVariants.{State, Process, Bits, Pending, History, Verdict}
+use Rattle.views.specs.declared.page.head.Head.{Head}
+use Rattle.views.specs.Pages.{page_at}
 
 module _ {R P : Type 0} (b : Behaviour P) where
   pub replayed_alone : (c : Configuration R P) (steps : List Step) → alone (replayed b c steps) ≡ replayed b (alone c) steps
@@ -32,9 +34,12 @@ module _ {R P : Type 0} (b : Behaviour P) where
   pub history_same : (E : R → R → Bool) (a c : Configuration R P) (steps : List Step) → SameConfiguration E a c → history b a steps ≡ history b c steps
   history_same E a c steps same = history_alone a steps ∙ ap (λ d. history b d steps) (alone_same E a c same) ∙ sym (history_alone c steps)
 
--- the lines of a configuration say nothing of its register's value
-pub kind_lines_alone : {R P : Type 0} (b d : Behaviour P) (kind : PageKind) (c : Configuration R P) (m : Configuration ⊤ P) → b ≡ d → alone c ≡ m → kind_lines b kind c ≡ kind_lines d kind m
-kind_lines_alone b d State c m e f = λ i. kind_lines (e i) State (f i)
-kind_lines_alone b d (Process p) c m e f = λ i. kind_lines (e i) (Process p) (f i)
-kind_lines_alone b d Pending c m e f = λ i. kind_lines (e i) Pending (f i)
-kind_lines_alone b d Bits c m e f = λ i. kind_lines (e i) Bits (f i)
+-- a page says nothing of its register's value
+pub page_alone : {R P : Type 0} (b d : Behaviour P) (kind : PlaceKind) (head : Head) (c : Configuration R P) (m : Configuration ⊤ P) (events : List (ℕ × Event)) → b ≡ d → alone c ≡ m
+    → page_at b kind head c events ≡ page_at d kind head m events
+page_alone b d State head c m events e f = λ i. page_at (e i) State head (f i) events
+page_alone b d (Process p) head c m events e f = λ i. page_at (e i) (Process p) head (f i) events
+page_alone b d Bits head c m events e f = λ i. page_at (e i) Bits head (f i) events
+page_alone b d Pending head c m events e f = λ i. page_at (e i) Pending head (f i) events
+page_alone b d History head c m events e f = refl
+page_alone b d (Verdict value) head c m events e f = refl

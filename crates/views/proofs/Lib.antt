@@ -1,5 +1,10 @@
-pub mod PageLines
+pub mod Ranges
 pub mod Alone
 pub mod Spots
-pub mod BranchLines
-pub mod Texts
+pub mod BranchLengths
+pub mod Slips
+pub mod VerdictRows
+pub mod VerdictKnown
+pub mod VerdictWords
+pub mod VerdictOverlaps
+pub mod VerdictHistories

@@ -1,62 +1,65 @@
 -- Looks at the branches of a forest: why one is refused, and its page.
-use Rattle.std.specs.Prelude.{ℕ, ◌≡◌, ◌++◌, List, [], Result, Ok, take, length, codes}
+use Rattle.std.specs.Prelude.{ℕ, ◌≡◌, Bool, true, false, List, [], Option, Some, None, Result, Ok, take, length, if◌then◌else◌}
 use Rattle.std.specs.Option.{unwrap_or}
+use Rattle.frames.specs.declared.types.Op.TheVariants as op
 use Rattle.frames.specs.declared.types.Step.{Step}
 use Rattle.frames.specs.Behaviour.{Behaviour}
-use Rattle.frames.specs.Configuration.{Configuration}
 use Rattle.schedule_trie.specs.declared.refusal.Refusal.{Refusal}
 use Rattle.schedule_trie.specs.Forest.{Forest, path_of}
 use Rattle.schedule_trie.specs.Cut.{forest}
 use Rattle.cutoff.specs.Held.{Charted, look}
-use Rattle.views.specs.declared.query.PageKind.{PageKind}
-use Rattle.views.specs.declared.query.PageKind.TheVariants.{State, Process, Pending, Bits}
+use Rattle.views.specs.declared.query.PlaceKind.{PlaceKind}
+use Rattle.views.specs.declared.query.PlaceKind.TheVariants as kind
 use Rattle.views.specs.declared.query.Query.{Query}
-use Rattle.views.specs.declared.query.Query.TheVariants.{Config, History, Steps, Branches}
+use Rattle.views.specs.declared.query.Query.TheVariants.{State, Process, Bits, Pending, History, Verdict, Branches, Cursor, Steps}
+use Rattle.views.specs.declared.page.Page.{Page}
+use Rattle.views.specs.declared.page.Page.TheVariants as page
 use Rattle.views.specs.Shown.{shown, recorded}
-use Rattle.views.specs.Pages.{page_head, state_lines, one_process, memory_lines, history_lines, steps_page, branches_page}
-use Rattle.views.specs.Frames.{pending_lines}
+use Rattle.views.specs.Pages.{page_at}
 
--- a look leaves the forest: NoBranch where there is no such branch, NoPlace where it is shorter. A branch's steps are looked at
--- from its beginning
+-- a look at a branch leaves the forest: NoBranch where there is no such branch, NoPlace where it is shorter. A branch's steps are
+-- looked at from its beginning
 abbrev pub looked : Query → Forest → Result Forest Refusal
-looked (Config branch place kind) f = look f branch place
+looked (State branch place) f = look f branch place
+looked (Process branch place process) f = look f branch place
+looked (Bits branch place) f = look f branch place
+looked (Pending branch place) f = look f branch place
 looked (History branch place) f = look f branch place
+looked (Verdict branch place) f = look f branch place
 looked (Steps branch) f = look f branch 0
 looked Branches f = Ok f
+looked (Cursor who) f = Ok f
 
 -- the steps of a branch; none where there is no such branch
 abbrev pub steps_in : Forest → List ℕ → List Step
 steps_in f branch = unwrap_or (path_of f branch) []
 
--- the word of a page
-abbrev pub kind_word : PageKind → List ℕ
-kind_word State = codes "state"
-kind_word (Process p) = codes "process"
-kind_word Pending = codes "pending"
-kind_word Bits = codes "bits"
+-- the page of a place of a branch with these steps, of a register from a value on: it is after the first so many steps
+abbrev pub place_page : {P : Type 0} → Behaviour P → ℕ → PlaceKind → List ℕ → ℕ → List Step → Page
+place_page b value what branch place steps =
+    page_at b what (record { branch = branch; place = place; len = length steps }) (shown b value (take place steps)) (recorded b value (take place steps))
 
--- the lines of a configuration's page, behind its first
-abbrev pub kind_lines : {R P : Type 0} → Behaviour P → PageKind → Configuration R P → List ℕ
-kind_lines b State c = state_lines b c
-kind_lines b (Process p) c = one_process b p c
-kind_lines b Pending c = pending_lines b c
-kind_lines b Bits c = memory_lines c.memory
+-- verdicts are of registers with one writer: process 1 doesn't write
+abbrev pub judged_from : {P : Type 0} → Behaviour P → ℕ → Option ℕ
+judged_from b value = if b.suits 1 (op.Write 0) then None else Some value
 
--- the page of a place: it is after the first so many steps
-abbrev pub config_page : {P : Type 0} → ℕ → Behaviour P → ℕ → List ℕ → ℕ → PageKind → List Step → List ℕ
-config_page session b value branch place kind steps =
-    page_head session (kind_word kind) branch place (length steps) ++ kind_lines b kind (shown b value (take place steps))
+-- the page of a look at a branch; none of a look at all branches or at a session
+abbrev pub page_of : {P : Type 0} → Behaviour P → ℕ → Forest → Query → Option Page
+page_of b value f (State branch place) = Some (place_page b value kind.State branch place (steps_in f branch))
+page_of b value f (Process branch place process) = Some (place_page b value (kind.Process process) branch place (steps_in f branch))
+page_of b value f (Bits branch place) = Some (place_page b value kind.Bits branch place (steps_in f branch))
+page_of b value f (Pending branch place) = Some (place_page b value kind.Pending branch place (steps_in f branch))
+page_of b value f (History branch place) = Some (place_page b value kind.History branch place (steps_in f branch))
+page_of b value f (Verdict branch place) = Some (place_page b value (kind.Verdict (judged_from b value)) branch place (steps_in f branch))
+page_of b value f (Steps branch) = Some (page.Steps (record { branch = branch; steps = steps_in f branch }))
+page_of b value f Branches = None
+page_of b value f (Cursor who) = None
 
-abbrev pub history_page : {P : Type 0} → ℕ → Behaviour P → ℕ → List ℕ → ℕ → List Step → List ℕ
-history_page session b value branch place steps =
-    page_head session (codes "history") branch place (length steps) ++ history_lines (recorded b value (take place steps))
-
--- the page of a look, of a register from a value on and a forest of which so many edits were accepted
-abbrev pub page : {P : Type 0} → ℕ → Behaviour P → ℕ → ℕ → Forest → Query → List ℕ
-page session b value edits f (Config branch place kind) = config_page session b value branch place kind (steps_in f branch)
-page session b value edits f (History branch place) = history_page session b value branch place (steps_in f branch)
-page session b value edits f (Steps branch) = steps_page session branch (steps_in f branch)
-page session b value edits f Branches = branches_page session edits f
+-- a look at a branch
+abbrev pub is_at_branch : Query → Bool
+is_at_branch Branches = false
+is_at_branch (Cursor who) = false
+is_at_branch query = true
 
 -- a chart behind a look: all but the stored runs is as before
 pub record IsKept {R P : Type 0} (old new : Charted R P) : Type 0 where

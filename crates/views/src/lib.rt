@@ -4,11 +4,11 @@
 //! steps from the register's initial value.
 #![tactic(auto)]
 
-pub mod branches;
-pub mod history;
-pub mod look;
+pub mod breakpoint;
+pub mod lens;
+pub mod listed;
 pub mod page;
-pub mod pending;
 pub mod query;
-pub mod schedule;
+pub mod slip;
 pub mod spot;
+pub mod verdict;

@@ -1,55 +1,58 @@
-//! What is asked of a forest's branches.
-
-ghost use Rattle.std.specs.Prelude.{◌≡◌};
-ghost use Rattle.views.specs.Looks as spec;
+//! What is asked of a desk's branches and sessions.
 
 use schedule_trie::name::Name;
 
-/// A page of a configuration.
-#[derive(Clone, Copy, Debug, PartialEq, Eq)]
-pub enum PageKind {
-    /// The processes, and the values of all cells and words.
-    State,
-    /// One process.
-    Process(u32),
-    /// What each process has pending, in frames.
-    Pending,
-    /// Each cell and each word.
-    Bits,
-}
-
-impl PageKind {
-    /// The word that names it.
-    pub fn word(self) -> &'static str
-        ensures { result.now ≡ spec.kind_word self }
-    {
-        match self {
-            PageKind::State => "state",
-            PageKind::Process(_) => "process",
-            PageKind::Pending => "pending",
-            PageKind::Bits => "bits",
-        }
-    }
-}
-
-/// A look at branches. A place is after so many steps of a branch.
+/// A look. A place is after so many steps of a branch.
 #[derive(Clone, Copy, Debug, PartialEq, Eq)]
 pub enum Query {
-    /// The configuration at a place.
-    Config {
+    /// The processes, and the values of all cells and words.
+    State {
         branch: Name,
         place: u32,
-        kind: PageKind,
+    },
+    /// One process.
+    Process {
+        branch: Name,
+        place: u32,
+        process: u32,
+    },
+    /// Each cell and each word.
+    Bits {
+        branch: Name,
+        place: u32,
+    },
+    /// What each process has pending, in frames.
+    Pending {
+        branch: Name,
+        place: u32,
     },
     /// The events up to a place.
     History {
         branch: Name,
         place: u32,
     },
+    /// The verdicts on the reads that returned up to a place.
+    Verdict { branch: Name, place: u32 },
+    /// The branches.
+    Branches,
+    /// A session's cursor and its breaks.
+    Cursor {
+        who: u32,
+    },
     /// The steps of a branch.
     Steps {
         branch: Name,
     },
-    /// The branches.
-    Branches,
+}
+
+/// What is asked of a place of a branch.
+#[derive(Clone, Copy, Debug, PartialEq, Eq)]
+pub(crate) enum PlaceKind {
+    State,
+    Process(u32),
+    Bits,
+    Pending,
+    History,
+    /// From the initial value, on a tower with one writer.
+    Verdict(Option<u32>),
 }

@@ -1,7 +1,0 @@
-use Rattle.towerbench.proofs.book.Book.look.Goals as goal
-
-pub returns-clause-page : goal.returns-clause-page
-returns-clause-page g c = rw (← c.self.view_is) c.push_page.ensures.page
-
-pub returns-clause-err : goal.returns-clause-err
-returns-clause-err g c = rw (← c.self.view_is) c.push_page.ensures.err

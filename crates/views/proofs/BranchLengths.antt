@@ -1,0 +1,52 @@
+-- How long branches are.
+use Rattle.std.proofs.Common.{◌≡◌, ℕ, zero, suc, ◌+◌, List, [], ◌∷◌, ◌++◌, length, take, map, slice_get, Some, refl, sym, ap, subst, ◌∙◌, arith}
+use Rattle.std.specs.Option.{option_map, IfSome}
+use Rattle.schedule_trie.specs.Forest.{Branch, slots_in, name_in, index_of, AreNamedApart}
+use Rattle.views.specs.declared.page.branches.BranchLength.{BranchLength}
+use Rattle.views.specs.page.Branches.{length_of}
+
+-- the branch at an index, by its name and its length
+record IsBranchAt (branches : List Branch) (i : ℕ) (name : List ℕ) (len : ℕ) : Type 0 where
+  pub here : Branch
+  pub at : slice_get branches i ≡ Some here
+  pub named : here.name ≡ name
+  pub counted : length here.slots ≡ len
+
+there : (branches : List Branch) (i : ℕ) (name : List ℕ) → name_in branches i ≡ Some name → (b : Branch) × (slice_get branches i ≡ Some b) × (b.name ≡ name) × (slots_in branches i ≡ b.slots)
+there [] i name e = cc
+there (b ∷ bs) zero name e = (b, refl, cc, refl)
+there (b ∷ bs) (suc i) name e = there bs i name e
+
+branch_at : (branches : List Branch) (i : ℕ) (name : List ℕ) (len : ℕ) → AreNamedApart branches → Some name ≡ name_in branches i
+    → Some len ≡ option_map (λ j. length (slots_in branches j)) (index_of branches name) → IsBranchAt branches i name len
+branch_at branches i name len apart named counts =
+    let b = there branches i name (sym named) in
+    let found : index_of branches name ≡ Some i = subst (λ o. IfSome o (λ n. index_of branches n ≡ Some i)) (sym named) (apart i) in
+    let counted : Some len ≡ Some (length (slots_in branches i)) = counts ∙ ap (option_map (λ j. length (slots_in branches j))) found in
+    let same : len ≡ length (slots_in branches i) = cc in
+    record { here = b.0; at = b.1; named = b.2; counted = sym (same ∙ ap length b.3) }
+
+abbrev branch_length : List ℕ → ℕ → BranchLength
+branch_length name len = record { name = name; len = len }
+
+pub branch_told : (branches : List Branch) (i : ℕ) (name : List ℕ) (len : ℕ) → AreNamedApart branches → Some name ≡ name_in branches i
+    → Some len ≡ option_map (λ j. length (slots_in branches j)) (index_of branches name)
+    → (b : Branch) × (slice_get branches i ≡ Some b) × (branch_length name len ≡ length_of b)
+branch_told branches i name len apart named counts =
+    let b = branch_at branches i name len apart named counts in
+    (b.here, b.at, λ j. branch_length (sym b.named j) (sym b.counted j))
+
+-- one branch more
+take_more : (branches : List Branch) (i : ℕ) (b : Branch) → slice_get branches i ≡ Some b → map length_of (take (suc i) branches) ≡ map length_of (take i branches) ++ length_of b ∷ []
+take_more [] i b e = cc
+take_more (c ∷ cs) zero b e =
+    let same : c ≡ b = cc in
+    ap (λ d. length_of d ∷ []) same
+take_more (c ∷ cs) (suc i) b e = ap (λ l. length_of c ∷ l) (take_more cs i b e)
+
+pub lengths_more : (branches : List Branch) (i : ℕ) (old new : List BranchLength) (here : BranchLength) → old ≡ map length_of (take i branches) → new ≡ old ++ here ∷ []
+    → (b : Branch) × (slice_get branches i ≡ Some b) × (here ≡ length_of b) → new ≡ map length_of (take (i + 1) branches)
+lengths_more branches i old new here so_far h b =
+    let next : suc i ≡ i + 1 = omega arith in
+    h ∙ ap (λ l. l ++ here ∷ []) so_far ∙ ap (λ l. map length_of (take i branches) ++ l ∷ []) b.2
+    ∙ sym (take_more branches i b.0 b.1) ∙ ap (λ n. map length_of (take n branches)) next

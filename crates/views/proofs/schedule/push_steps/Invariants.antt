@@ -1,7 +1,0 @@
-use Rattle.std.proofs.Common.{◌≡◌, ◌++◌, drop}
-use Rattle.views.specs.Numbered.{numbered}
-use Rattle.views.specs.Pages.{step_line}
-use Rattle.views.proofs.schedule.push_steps.Given as goal
-
-abbrev pub invariant-loop-index : goal.invariant-loop-index
-invariant-loop-index l = l.out.items ++ numbered step_line l.index (drop l.index l.steps) ≡ l.initial.out.items ++ numbered step_line 0 l.steps

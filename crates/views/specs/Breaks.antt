@@ -1,0 +1,68 @@
+-- Breaks: what a seek stops at.
+use Rattle.std.specs.Prelude.{ℕ, Bool, true, false, ◌==◌, ◌||◌, ◌&&◌, nat_lt, List, [], ◌∷◌, Option, Some, None, length, if◌then◌else◌}
+use Rattle.safe_bit.specs.Memory.{Memory, cell_at}
+use Rattle.frames.specs.declared.types.Event.{Event}
+use Rattle.frames.specs.declared.types.Event.TheVariants as event
+use Rattle.frames.specs.declared.types.StepEvents.{StepEvents}
+use Rattle.views.specs.declared.breakpoint.Break.{Break}
+use Rattle.views.specs.declared.breakpoint.Break.TheVariants.{Returns, Bit, Chosen, Void, Refused}
+
+-- a return of a process
+abbrev pub is_return_of : ℕ → Event → Bool
+is_return_of p (event.Got q v) = p == q
+is_return_of p (event.Wrote q) = p == q
+is_return_of p (event.Invoke q o) = false
+is_return_of p (event.Refused q layer) = false
+is_return_of p (event.Void q reason) = false
+is_return_of p (event.Stop q) = false
+is_return_of p (event.Chosen q bit v) = false
+
+abbrev pub is_choice : Event → Bool
+is_choice (event.Chosen q bit v) = true
+is_choice e = false
+
+abbrev pub is_void : Event → Bool
+is_void (event.Void q reason) = true
+is_void e = false
+
+abbrev pub is_refusal : Event → Bool
+is_refusal (event.Refused q layer) = true
+is_refusal e = false
+
+-- an event meets a break
+abbrev pub is_event : Break → Event → Bool
+is_event (Returns p) e = is_return_of p e
+is_event (Bit j v) e = false
+is_event Chosen e = is_choice e
+is_event Void e = is_void e
+is_event Refused e = is_refusal e
+
+abbrev pub is_in : Break → Option Event → Bool
+is_in break None = false
+is_in break (Some e) = is_event break e
+
+-- a step that records these events meets a break
+abbrev pub is_recorded : Break → StepEvents → Bool
+is_recorded break events = is_in break events.first || is_in break events.second
+
+-- a bit as a number
+abbrev pub bit_number : Bool → ℕ
+bit_number v = if v then 1 else 0
+
+-- memory meets a break: it has the break's bit, at the break's value
+abbrev pub is_shown : Break → Memory → Bool
+is_shown (Bit j v) m = nat_lt j (length m.cells) && (bit_number (cell_at j m).value == v)
+is_shown (Returns p) m = false
+is_shown Chosen m = false
+is_shown Void m = false
+is_shown Refused m = false
+
+-- one of these breaks is met by a step that records these events, or by the memory behind it
+abbrev pub is_met : List Break → StepEvents → Memory → Bool
+is_met [] events m = false
+is_met (break ∷ breaks) events m = (is_recorded break events || is_shown break m) || is_met breaks events m
+
+-- one of these breaks is met by memory alone
+abbrev pub is_met_at_first : List Break → Memory → Bool
+is_met_at_first [] m = false
+is_met_at_first (break ∷ breaks) m = is_shown break m || is_met_at_first breaks m

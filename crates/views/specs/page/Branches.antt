@@ -1,0 +1,26 @@
+-- The page of the branches.
+use Rattle.std.specs.Prelude.{ℕ, List, ◌++◌, codes, length, map}
+use Rattle.std.specs.List.{flat_map}
+use Rattle.std.specs.Fmt.{decimal}
+use Rattle.schedule_trie.specs.Forest.{Forest, Branch}
+use Rattle.views.specs.declared.page.branches.BranchLength.{BranchLength}
+use Rattle.views.specs.declared.page.branches.BranchesPage.{BranchesPage}
+use Rattle.views.specs.page.Head.{line_end}
+
+-- how long a branch is
+abbrev pub length_of : Branch → BranchLength
+length_of b = record { name = b.name; len = length b.slots }
+
+-- a forest of which so many edits were accepted: its branches in order of making, and how many cells were ever made
+abbrev pub branches_page : ℕ → Forest → BranchesPage
+branches_page edits f = record { edits = edits; made = f.made; branches = map length_of f.branches }
+
+abbrev pub counts_line : ℕ → ℕ → ℕ → ℕ → List ℕ
+counts_line session count edits made =
+    decimal session ++ codes ": branches " ++ decimal count ++ codes " edits " ++ decimal edits ++ codes " made " ++ decimal made ++ line_end
+
+abbrev pub branch_line : BranchLength → List ℕ
+branch_line b = codes "  " ++ b.name ++ codes " " ++ decimal b.len ++ line_end
+
+abbrev pub branches_text : ℕ → BranchesPage → List ℕ
+branches_text session page = counts_line session (length page.branches) page.edits page.made ++ flat_map branch_line page.branches

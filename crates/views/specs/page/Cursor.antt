@@ -1,0 +1,26 @@
+-- The page of a session's cursor and its breaks.
+use Rattle.std.specs.Prelude.{ℕ, List, ◌++◌, codes, length}
+use Rattle.std.specs.List.{flat_map}
+use Rattle.std.specs.Fmt.{decimal}
+use Rattle.views.specs.declared.breakpoint.Break.{Break}
+use Rattle.views.specs.declared.breakpoint.Break.TheVariants.{Returns, Bit, Chosen, Void, Refused}
+use Rattle.views.specs.declared.page.cursor.CursorPage.{CursorPage}
+use Rattle.views.specs.page.Head.{line_end, page_title}
+
+-- a break
+abbrev pub break_text : Break → List ℕ
+break_text (Returns p) = codes "returns " ++ decimal p
+break_text (Bit j v) = codes "bit " ++ decimal j ++ codes " " ++ decimal v
+break_text Chosen = codes "chosen"
+break_text Void = codes "void"
+break_text Refused = codes "refused"
+
+abbrev pub break_line : Break → List ℕ
+break_line break = codes "  " ++ break_text break ++ line_end
+
+abbrev pub cursor_head : ℕ → List ℕ → ℕ → ℕ → List ℕ
+cursor_head session branch place count =
+    page_title session (codes "cursor") branch ++ decimal place ++ codes " breaks " ++ decimal count ++ line_end
+
+abbrev pub cursor_text : ℕ → CursorPage → List ℕ
+cursor_text session page = cursor_head session page.branch page.place (length page.breaks) ++ flat_map break_line page.breaks

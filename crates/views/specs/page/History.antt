@@ -1,0 +1,54 @@
+-- The lines of events.
+use Rattle.std.specs.Prelude.{ℕ, List, [], ◌∷◌, ◌++◌, codes}
+use Rattle.std.specs.List.{flat_map}
+use Rattle.std.specs.Fmt.{decimal}
+use Rattle.frames.specs.declared.types.Layer.{Layer}
+use Rattle.frames.specs.declared.types.Layer.TheVariants.{Stamped, Matrix}
+use Rattle.frames.specs.declared.types.Reason.{Reason}
+use Rattle.frames.specs.declared.types.Reason.TheVariants as reason
+use Rattle.frames.specs.declared.types.Event.{Event}
+use Rattle.frames.specs.declared.types.Event.TheVariants.{Invoke, Got, Wrote, Refused, Void, Stop, Chosen}
+use Rattle.views.specs.declared.page.history.HistoryPage.{HistoryPage}
+use Rattle.views.specs.page.Head.{line_end, head_line}
+use Rattle.views.specs.page.Memory.{bit_name}
+use Rattle.views.specs.page.Process.{op_text}
+
+-- an event: its process and its name
+abbrev pub layer_name : Layer → List ℕ
+layer_name Stamped = codes "stamped"
+layer_name Matrix = codes "matrix"
+
+abbrev pub reason_name : Reason → List ℕ
+reason_name reason.Busy = codes "busy"
+reason_name reason.Idle = codes "idle"
+reason_name reason.Stopped = codes "stopped"
+
+abbrev pub event_process : Event → ℕ
+event_process (Invoke p o) = p
+event_process (Got p v) = p
+event_process (Wrote p) = p
+event_process (Refused p layer) = p
+event_process (Void p why) = p
+event_process (Stop p) = p
+event_process (Chosen p bit v) = p
+
+abbrev pub event_name : Event → List ℕ
+event_name (Invoke p o) = codes "invoke " ++ op_text o
+event_name (Got p v) = codes "return " ++ decimal v
+event_name (Wrote p) = codes "return written"
+event_name (Refused p layer) = codes "refused spent " ++ layer_name layer
+event_name (Void p why) = codes "void " ++ reason_name why
+event_name (Stop p) = codes "stop"
+event_name (Chosen p bit v) = codes "chosen bit " ++ decimal bit ++ codes " value " ++ bit_name v
+
+-- the line of an event, with the index of its step
+abbrev pub event_line : ℕ × Event → List ℕ
+event_line e = codes "  " ++ decimal e.0 ++ codes " p" ++ decimal (event_process e.1) ++ codes " " ++ event_name e.1 ++ line_end
+
+-- events, each with the index of its step; `none` where there are none
+abbrev pub history_lines : List (ℕ × Event) → List ℕ
+history_lines [] = codes "  none" ++ line_end
+history_lines (e ∷ es) = flat_map event_line (e ∷ es)
+
+abbrev pub history_text : ℕ → HistoryPage → List ℕ
+history_text session page = head_line session (codes "history") page.head ++ history_lines page.events

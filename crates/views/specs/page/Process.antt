@@ -1,0 +1,75 @@
+-- What a page tells of a process, and its line.
+use Rattle.std.specs.Prelude.{ℕ, List, [], ◌++◌, Option, Some, None, Bool, nat_lt, codes, map, if◌then◌else◌}
+use Rattle.std.specs.List.{range_with_len}
+use Rattle.std.specs.Fmt.{decimal}
+use Rattle.frames.specs.declared.types.Op.{Op}
+use Rattle.frames.specs.declared.types.Op.TheVariants as op
+use Rattle.frames.specs.declared.types.Action.{Action}
+use Rattle.frames.specs.declared.types.ActionKind.{ActionKind}
+use Rattle.frames.specs.declared.types.ActionKind.TheVariants.{WriteStart, WriteEnd, ReadStart, ReadEnd}
+use Rattle.frames.specs.declared.running.Running.{Running}
+use Rattle.frames.specs.Behaviour.{Behaviour}
+use Rattle.frames.specs.Configuration.{Configuration, running_at, is_stopped}
+use Rattle.views.specs.declared.page.process.ProcessStatus.{ProcessStatus}
+use Rattle.views.specs.declared.page.process.ProcessStatus.TheVariants.{Idle, Busy, Stopped}
+use Rattle.views.specs.declared.page.head.Head.{Head}
+use Rattle.views.specs.declared.page.process.ProcessPage.{ProcessPage}
+use Rattle.views.specs.page.Head.{line_end, head_line}
+
+-- a process that has this pending, or nothing, and has stopped or not
+abbrev pub status : {P : Type 0} → Behaviour P → Option (Running P) → Bool → ProcessStatus
+status b None stopped = Idle stopped
+status b (Some r) stopped = if stopped then Stopped r.op else Busy r.op (b.acts r.point)
+
+abbrev pub status_at : {R P : Type 0} → Behaviour P → Configuration R P → ℕ → ProcessStatus
+status_at b c p = status b (running_at p c) (is_stopped p c)
+
+-- all processes, in order
+abbrev pub statuses : {R P : Type 0} → Behaviour P → Configuration R P → List ProcessStatus
+statuses b c = map (status_at b c) (range_with_len 0 b.processes)
+
+-- one process; none where the register has no process of this number
+abbrev pub status_of : {R P : Type 0} → Behaviour P → Configuration R P → ℕ → Option ProcessStatus
+status_of b c p = if nat_lt p b.processes then Some (status_at b c p) else None
+
+-- an operation, and a bit action
+abbrev pub op_text : Op → List ℕ
+op_text (op.Write v) = codes "write " ++ decimal v
+op_text op.Read = codes "read"
+
+abbrev pub kind_name : ActionKind → List ℕ
+kind_name WriteStart = codes "ws"
+kind_name WriteEnd = codes "we"
+kind_name ReadStart = codes "rs"
+kind_name ReadEnd = codes "re"
+
+-- what stands behind a process that has stopped
+abbrev pub stopped_text : Bool → List ℕ
+stopped_text stopped = if stopped then codes " stopped" else []
+
+-- a process that is idle, and one with an operation pending: its next bit action with its cell, or that it has stopped
+abbrev pub idle_line : ℕ → Bool → List ℕ
+idle_line p stopped = codes "  p" ++ decimal p ++ codes " idle" ++ stopped_text stopped ++ line_end
+
+abbrev pub busy_line : ℕ → Op → Action → List ℕ
+busy_line p o a =
+    codes "  p" ++ decimal p ++ codes " " ++ op_text o ++ codes " next " ++ kind_name a.kind ++ codes " " ++ decimal a.cell ++ line_end
+
+abbrev pub stopped_line : ℕ → Op → List ℕ
+stopped_line p o = codes "  p" ++ decimal p ++ codes " " ++ op_text o ++ codes " stopped" ++ line_end
+
+abbrev pub status_line : ℕ → ProcessStatus → List ℕ
+status_line p (Idle stopped) = idle_line p stopped
+status_line p (Busy o a) = busy_line p o a
+status_line p (Stopped o) = stopped_line p o
+
+-- the line of one process, which may not be there
+abbrev pub one_line : ℕ → Option ProcessStatus → List ℕ
+one_line p None = codes "  p" ++ decimal p ++ codes " none" ++ line_end
+one_line p (Some s) = status_line p s
+
+abbrev pub process_page : {R P : Type 0} → Behaviour P → Head → ℕ → Configuration R P → ProcessPage
+process_page b head p c = record { head = head; process = p; status = status_of b c p }
+
+abbrev pub process_text : ℕ → ProcessPage → List ℕ
+process_text session page = head_line session (codes "process") page.head ++ one_line page.process page.status

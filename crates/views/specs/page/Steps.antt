@@ -1,0 +1,21 @@
+-- The page of a branch's steps.
+use Rattle.std.specs.Prelude.{ℕ, List, ◌++◌, codes, length}
+use Rattle.std.specs.Fmt.{decimal}
+use Rattle.frames.specs.declared.types.Step.{Step}
+use Rattle.views.specs.declared.page.steps.StepsPage.{StepsPage}
+use Rattle.words.specs.Steps.{step_text}
+use Rattle.views.specs.Numbered.{numbered}
+use Rattle.views.specs.page.Head.{line_end, page_title}
+
+-- the page of a branch's steps: their number, and a line for each with its index
+abbrev pub steps_head : ℕ → List ℕ → ℕ → List ℕ
+steps_head session branch len = page_title session (codes "steps") branch ++ decimal len ++ line_end
+
+abbrev pub step_line : ℕ → Step → List ℕ
+step_line i s = codes "  " ++ decimal i ++ codes " " ++ step_text s ++ line_end
+
+abbrev pub step_lines : List Step → List ℕ
+step_lines steps = numbered step_line 0 steps
+
+abbrev pub steps_text : ℕ → StepsPage → List ℕ
+steps_text session page = steps_head session page.branch (length page.steps) ++ step_lines page.steps

@@ -1,0 +1,47 @@
+//! The page of each cell and each word.
+
+ghost use Rattle.std.specs.Prelude.{◌≡◌, ◌++◌, IfOk, OnOk};
+ghost use Rattle.safe_bit.specs.Parts.{HasSize};
+ghost use Rattle.views.specs.page.Bits as spec;
+
+use crate::listed::Listed;
+use crate::page::head::{Head, push_head};
+use crate::page::memory::{cells, push_cells, push_words, words};
+use frames::config::Config;
+use frames::register::Register;
+use safe_bit::Cell;
+use std::alloc::{AllocError, Global};
+use std::io;
+
+/// Each cell and each word.
+#[derive(Drop)]
+pub struct BitsPage {
+    pub head: Head,
+    pub cells: Listed<Cell>,
+    pub words: Listed<u32>,
+}
+
+/// The page of a configuration's memory.
+pub(crate) fn bits_page<R: Register>(
+    alloc: Global,
+    head: &Head,
+    config: &Config<R>,
+) -> Result<BitsPage, AllocError>
+    requires { HasSize (R.is config.now.register).size config.now.memory }
+    ensures { IfOk result (λ page. page ≡ spec.bits_page head.now config.now) }
+{
+    let size = config.register().size();
+    let cells = cells(alloc, config.store(), size.cell)?;
+    let words = words(alloc, config.store(), size.word)?;
+    let head = *head;
+    Ok(BitsPage { head, cells, words })
+}
+
+/// Adds the page of each cell and each word.
+pub(crate) fn push_bits_page(out: &mut Vec<u8>, session: u32, page: &BitsPage) -> io::Result<()>
+    ensures { OnOk result (out.new.items ≡ out.old.items ++ spec.bits_text session page.now) }
+{
+    push_head(out, session, "bits", &page.head)?;
+    push_cells(out, page.cells.as_slice())?;
+    push_words(out, page.words.as_slice())
+}

@@ -1,0 +1,134 @@
+//! The page of the branches.
+
+ghost use Rattle.std.specs.Prelude.{◌≡◌, ◌++◌, ◌<◌, IfOk, OnOk, Some, length, map, slice_get};
+ghost use Rattle.std.specs.List.{flat_map};
+ghost use Rattle.schedule_trie.specs.Forest.{Branch, AreNamedApart};
+ghost use Rattle.schedule_trie.specs.Cut.{forest};
+ghost use Rattle.views.specs.page.Branches as spec;
+
+use crate::listed::Listed;
+use cutoff::chart::Chart;
+use frames::register::Register;
+use schedule_trie::name::Name;
+use std::alloc::{AllocError, Global};
+use std::io;
+use std::io::Write;
+
+/// A branch, and how many cells it has.
+#[derive(Clone, Copy, Debug, PartialEq, Eq)]
+pub struct BranchLength {
+    pub name: Name,
+    pub len: u32,
+}
+
+/// How many edits were accepted, how many cells were ever made, and the branches in order of making.
+#[derive(Drop)]
+pub struct BranchesPage {
+    pub edits: u64,
+    pub made: u32,
+    pub branches: Listed<BranchLength>,
+}
+
+impl BranchesPage {
+    /// The page of a chart's branches, of which so many edits were accepted.
+    pub fn new<R: Register>(
+        alloc: Global,
+        edits: u64,
+        chart: &Chart<R>,
+    ) -> Result<BranchesPage, AllocError>
+        ensures { IfOk result (λ page. page ≡ spec.branches_page edits (forest chart.now.cut)) }
+    {
+        let made = chart.made();
+        let branches = lengths(alloc, chart)?;
+        Ok(BranchesPage {
+            edits,
+            made,
+            branches,
+        })
+    }
+
+    /// The same page, with memory of its own.
+    pub(crate) fn copy(&self, alloc: Global) -> Result<BranchesPage, AllocError>
+        ensures { IfOk result (λ page. page ≡ self.now) }
+    {
+        let branches = self.branches.copy(alloc)?;
+        Ok(BranchesPage {
+            edits: self.edits,
+            made: self.made,
+            branches,
+        })
+    }
+}
+
+/// How long each branch is.
+fn lengths<R: Register>(alloc: Global, chart: &Chart<R>) -> Result<Listed<BranchLength>, AllocError>
+    ensures { IfOk result (λ all. all ≡ map spec.length_of (forest chart.now.cut).branches) }
+{
+    let mut all = Vec::new(alloc);
+    for index in 0..chart.branches() {
+        all.push(length_at(chart, index))?;
+    }
+    Ok(Listed::new(all))
+}
+
+/// How long the branch at an index is, in order of making.
+fn length_at<R: Register>(chart: &Chart<R>, index: u32) -> BranchLength
+    requires apart { AreNamedApart (forest chart.now.cut).branches }
+    requires within { index < length (forest chart.now.cut).branches }
+    ensures { (b : Branch) × (slice_get (forest chart.now.cut).branches index ≡ Some b) × (result ≡ spec.length_of b) }
+{
+    let Some(name) = chart.name_at(index) else {
+        unreachable!();
+    };
+    let Some(len) = chart.len(&name) else {
+        unreachable!();
+    };
+    BranchLength { name, len }
+}
+
+/// Adds the page of the branches.
+pub(crate) fn push_branches_page(
+    out: &mut Vec<u8>,
+    session: u32,
+    page: &BranchesPage,
+) -> io::Result<()>
+    ensures { OnOk result (out.new.items ≡ out.old.items ++ spec.branches_text session page.now) }
+{
+    let branches = page.branches.as_slice();
+    push_counts(out, session, branches.len(), page.edits, page.made)?;
+    push_branches(out, branches)
+}
+
+/// Adds the first line of the page of the branches.
+fn push_counts(
+    out: &mut Vec<u8>,
+    session: u32,
+    count: usize,
+    edits: u64,
+    made: u32,
+) -> io::Result<()>
+    ensures { OnOk result (out.new.items ≡ out.old.items ++ spec.counts_line session count edits made) }
+{
+    write!(out, "{session}: branches {count}")?;
+    writeln!(out, " edits {edits} made {made}")
+}
+
+/// Adds a line for each branch.
+fn push_branches(out: &mut Vec<u8>, branches: &[BranchLength]) -> io::Result<()>
+    ensures { OnOk result (out.new.items ≡ out.old.items ++ flat_map spec.branch_line branches.now) }
+{
+    for branch in branches {
+        push_branch(out, branch)?;
+    }
+    Ok(())
+}
+
+/// Adds the line of a branch: its name and its length.
+fn push_branch(out: &mut Vec<u8>, branch: &BranchLength) -> io::Result<()>
+    ensures { OnOk result (out.new.items ≡ out.old.items ++ spec.branch_line branch.now) }
+{
+    let len = branch.len;
+    write!(out, "  ")?;
+    out.extend_from_slice(branch.name.as_bytes())?;
+    writeln!(out, " {len}")
+}

@@ -1,0 +1,121 @@
+//! The lines of cells and words.
+
+ghost use Rattle.std.specs.Prelude.{◌≡◌, ◌++◌, IfOk, OnOk, length, map};
+ghost use Rattle.std.specs.List.{flat_map};
+ghost use Rattle.views.specs.page.Memory as spec;
+
+use crate::listed::Listed;
+use safe_bit::{Cell, Store};
+use std::alloc::{AllocError, Global};
+use std::io;
+use std::io::Write;
+
+/// The values of a store's cells, of which there are so many.
+pub(crate) fn bits(alloc: Global, store: &Store, cells: u32) -> Result<Listed<bool>, AllocError>
+    requires { length store.now.cells ≡ cells }
+    ensures { IfOk result (λ all. all ≡ map spec.value_of store.now.cells) }
+{
+    let mut all = Vec::new(alloc);
+    for i in 0..cells {
+        all.push(store.cell(i).value)?;
+    }
+    Ok(Listed::new(all))
+}
+
+/// A store's cells, of which there are so many.
+pub(crate) fn cells(alloc: Global, store: &Store, cells: u32) -> Result<Listed<Cell>, AllocError>
+    requires { length store.now.cells ≡ cells }
+    ensures { IfOk result (λ all. all ≡ store.now.cells) }
+{
+    let mut all = Vec::new(alloc);
+    for i in 0..cells {
+        all.push(store.cell(i))?;
+    }
+    Ok(Listed::new(all))
+}
+
+/// A store's words, of which there are so many.
+pub(crate) fn words(alloc: Global, store: &Store, words: u32) -> Result<Listed<u32>, AllocError>
+    requires { length store.now.words ≡ words }
+    ensures { IfOk result (λ all. all ≡ store.now.words) }
+{
+    let mut all = Vec::new(alloc);
+    for i in 0..words {
+        all.push(store.word(i))?;
+    }
+    Ok(Listed::new(all))
+}
+
+/// A bit as a digit.
+pub(crate) fn bit_name(value: bool) -> &'static str
+    ensures { result.now ≡ spec.bit_name value }
+{
+    if value { "1" } else { "0" }
+}
+
+/// Adds the line of the values of all cells.
+pub(crate) fn push_bits(out: &mut Vec<u8>, bits: &[bool]) -> io::Result<()>
+    ensures { OnOk result (out.new.items ≡ out.old.items ++ spec.bits_line bits.now) }
+{
+    write!(out, "  bits ")?;
+    for bit in bits {
+        let value = bit_name(*bit);
+        write!(out, "{value}")?;
+    }
+    writeln!(out)
+}
+
+/// Adds the line of all words.
+pub(crate) fn push_words(out: &mut Vec<u8>, words: &[u32]) -> io::Result<()>
+    ensures { OnOk result (out.new.items ≡ out.old.items ++ spec.words_line words.now) }
+{
+    if words.is_empty() {
+        return writeln!(out, "  words -");
+    }
+    write!(out, "  words")?;
+    for word in words {
+        write!(out, " {word}")?;
+    }
+    writeln!(out)
+}
+
+/// Adds a line for each cell.
+pub(crate) fn push_cells(out: &mut Vec<u8>, cells: &[Cell]) -> io::Result<()>
+    ensures { OnOk result (out.new.items ≡ out.old.items ++ spec.cell_lines cells.now) }
+{
+    for (i, cell) in cells.iter().enumerate() {
+        push_cell(out, i, *cell)?;
+    }
+    Ok(())
+}
+
+/// Adds the line of a cell.
+fn push_cell(out: &mut Vec<u8>, i: usize, cell: Cell) -> io::Result<()>
+    ensures { OnOk result (out.new.items ≡ out.old.items ++ spec.cell_line i cell) }
+{
+    let value = bit_name(cell.value);
+    let writing = writing_name(cell.writing);
+    let reading = reading_name(cell);
+    write!(out, "  {i} {value} ")?;
+    writeln!(out, "{writing} {reading}")
+}
+
+/// The value being written, or a dash.
+fn writing_name(writing: Option<bool>) -> &'static str
+    ensures { result.now ≡ spec.writing_name writing }
+{
+    match writing {
+        None => "-",
+        Some(value) => bit_name(value),
+    }
+}
+
+/// A dash where a cell isn't read, `r` where it is, and `h` where that read is hit.
+fn reading_name(cell: Cell) -> &'static str
+    ensures { result.now ≡ spec.reading_name cell }
+{
+    if !cell.reading {
+        return "-";
+    }
+    if cell.hit { "h" } else { "r" }
+}

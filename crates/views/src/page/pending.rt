@@ -1,0 +1,197 @@
+//! What a page tells of pending operations, in frames.
+
+ghost use Rattle.std.specs.Prelude.{◌≡◌, ◌++◌, IfOk, OnOk};
+ghost use Rattle.std.specs.List.{flat_map};
+ghost use Rattle.views.specs.page.Pending as spec;
+
+use crate::listed::Listed;
+use crate::page::head::{Head, push_head};
+use crate::page::process::{push_idle, stopped_text};
+use frames::config::Config;
+use frames::register::Register;
+use frames::types::{Frame, FrameLayer, Op};
+use std::alloc::{AllocError, Global};
+use std::io;
+use std::io::Write;
+
+/// What a process has pending.
+#[derive(Drop)]
+pub struct PendingStatus {
+    /// The frames of its operation, outermost first; none where it has nothing pending.
+    pub frames: Option<Listed<Frame>>,
+    /// Whether it has stopped.
+    pub stopped: bool,
+}
+
+/// The pending operations.
+#[derive(Drop)]
+pub struct PendingPage {
+    pub head: Head,
+    pub processes: Listed<PendingStatus>,
+}
+
+/// The page of a configuration's pending operations.
+pub(crate) fn pending_page<R: Register>(
+    alloc: Global,
+    head: &Head,
+    config: &Config<R>,
+) -> Result<PendingPage, AllocError>
+    ensures { IfOk result (λ page. page ≡ spec.pending_page (R.is config.now.register) head.now config.now) }
+{
+    let processes = pending(alloc, config)?;
+    let head = *head;
+    Ok(PendingPage { head, processes })
+}
+
+/// Adds the page of pending operations.
+pub(crate) fn push_pending_page(
+    out: &mut Vec<u8>,
+    session: u32,
+    page: &PendingPage,
+) -> io::Result<()>
+    ensures { OnOk result (out.new.items ≡ out.old.items ++ spec.pending_text session page.now) }
+{
+    push_head(out, session, "pending", &page.head)?;
+    push_pending(out, page.processes.as_slice())
+}
+
+/// What each process has pending.
+fn pending<R: Register>(
+    alloc: Global,
+    config: &Config<R>,
+) -> Result<Listed<PendingStatus>, AllocError>
+    ensures { IfOk result (λ all. all ≡ spec.pending (R.is config.now.register) config.now) }
+{
+    let mut all = Vec::new(alloc);
+    for p in 0..config.register().processes() {
+        all.push(pending_at(alloc, config, p)?)?;
+    }
+    Ok(Listed::new(all))
+}
+
+/// What a process has pending.
+fn pending_at<R: Register>(
+    alloc: Global,
+    config: &Config<R>,
+    p: u32,
+) -> Result<PendingStatus, AllocError>
+    ensures { IfOk result (λ s. s ≡ spec.pending_at (R.is config.now.register) config.now p) }
+{
+    let stopped = config.stopped(p);
+    let frames = match config.stack(alloc, p) {
+        None => None,
+        Some(stack) => {
+            let frames = Vec::from_slice(alloc, stack.as_slice())?;
+            Some(Listed::new(frames))
+        }
+    };
+    Ok(PendingStatus { frames, stopped })
+}
+
+/// Adds a line for each process.
+fn push_pending(out: &mut Vec<u8>, statuses: &[PendingStatus]) -> io::Result<()>
+    ensures { OnOk result (out.new.items ≡ out.old.items ++ spec.pending_lines statuses.now) }
+{
+    for (p, status) in statuses.iter().enumerate() {
+        push_process(out, p, status)?;
+    }
+    Ok(())
+}
+
+/// Adds the line of a process.
+fn push_process(out: &mut Vec<u8>, p: usize, status: &PendingStatus) -> io::Result<()>
+    ensures { OnOk result (out.new.items ≡ out.old.items ++ spec.pending_line p status.now) }
+{
+    match &status.frames {
+        None => push_idle(out, p, status.stopped),
+        Some(frames) => push_frames(out, p, frames.as_slice(), status.stopped),
+    }
+}
+
+/// Adds the line of a process with frames.
+fn push_frames(out: &mut Vec<u8>, p: usize, frames: &[Frame], stopped: bool) -> io::Result<()>
+    ensures { OnOk result (out.new.items ≡ out.old.items ++ spec.frames_line p frames.now stopped) }
+{
+    let stopped = stopped_text(stopped);
+    write!(out, "  p{p} ")?;
+    push_nested(out, frames)?;
+    writeln!(out, "{stopped}")
+}
+
+/// Adds frames, outermost first.
+fn push_nested(out: &mut Vec<u8>, frames: &[Frame]) -> io::Result<()>
+    ensures { OnOk result (out.new.items ≡ out.old.items ++ spec.frames_text frames.now) }
+{
+    let Some((outermost, inner)) = frames.split_first() else {
+        return Ok(());
+    };
+    push_frame(out, *outermost)?;
+    push_all_inner(out, inner)
+}
+
+/// Adds frames inside another.
+fn push_all_inner(out: &mut Vec<u8>, frames: &[Frame]) -> io::Result<()>
+    ensures { OnOk result (out.new.items ≡ out.old.items ++ flat_map spec.inner_frame frames.now) }
+{
+    for frame in frames {
+        push_inner(out, *frame)?;
+    }
+    Ok(())
+}
+
+/// Adds a frame inside another.
+fn push_inner(out: &mut Vec<u8>, frame: Frame) -> io::Result<()>
+    ensures { OnOk result (out.new.items ≡ out.old.items ++ spec.inner_frame frame) }
+{
+    write!(out, " > ")?;
+    push_frame(out, frame)
+}
+
+/// Adds a frame.
+fn push_frame(out: &mut Vec<u8>, frame: Frame) -> io::Result<()>
+    ensures { OnOk result (out.new.items ≡ out.old.items ++ spec.frame_text frame) }
+{
+    let name = frame_name(frame.layer);
+    write!(out, "{name} ")?;
+    push_frame_op(out, frame.layer, frame.op, frame.x)?;
+    push_frame_rest(out, frame.layer, frame.i, frame.x)
+}
+
+/// The name of a layer; that of a matrix is one in both of its phases.
+fn frame_name(layer: FrameLayer) -> &'static str
+    ensures { result.now ≡ spec.frame_name layer }
+{
+    match layer {
+        FrameLayer::Safe => "safe",
+        FrameLayer::Copies => "copies",
+        FrameLayer::Regular => "regular",
+        FrameLayer::Unary => "unary",
+        FrameLayer::Stamped => "stamped",
+        FrameLayer::MatrixRead | FrameLayer::MatrixWrite => "matrix",
+    }
+}
+
+/// Adds the operation of a frame: a stamped register writes its code, every other layer its value.
+fn push_frame_op(out: &mut Vec<u8>, layer: FrameLayer, op: Op, x: u32) -> io::Result<()>
+    ensures { OnOk result (out.new.items ≡ out.old.items ++ spec.frame_op layer op x) }
+{
+    match op {
+        Op::Write(v) => {
+            let written = if layer == FrameLayer::Stamped { x } else { v };
+            write!(out, "w {written}")
+        }
+        Op::Read => write!(out, "r"),
+    }
+}
+
+/// Adds what stands behind the operation of a frame.
+fn push_frame_rest(out: &mut Vec<u8>, layer: FrameLayer, i: u32, x: u32) -> io::Result<()>
+    ensures { OnOk result (out.new.items ≡ out.old.items ++ spec.frame_rest layer i x) }
+{
+    match layer {
+        FrameLayer::Safe | FrameLayer::Copies | FrameLayer::Unary => write!(out, " {i}"),
+        FrameLayer::Regular | FrameLayer::Stamped => Ok(()),
+        FrameLayer::MatrixRead => write!(out, " read {i} {x}"),
+        FrameLayer::MatrixWrite => write!(out, " write {i} {x}"),
+    }
+}

@@ -1,0 +1,192 @@
+//! What a page tells of a process.
+
+ghost use Rattle.std.specs.Prelude.{◌≡◌, ◌++◌, IfOk, OnOk};
+ghost use Rattle.views.specs.Numbered.{numbered};
+ghost use Rattle.views.specs.page.Process as spec;
+
+use crate::listed::Listed;
+use crate::page::head::{Head, push_head};
+use frames::config::Config;
+use frames::register::Register;
+use frames::types::{Action, ActionKind, Op};
+use std::alloc::{AllocError, Global};
+use std::io;
+use std::io::Write;
+
+/// What a process is at.
+#[derive(Clone, Copy, Debug, PartialEq, Eq)]
+pub enum ProcessStatus {
+    /// It has nothing pending.
+    Idle { stopped: bool },
+    /// It has an operation pending, and this is its next bit action.
+    Busy { op: Op, next: Action },
+    /// It has stopped with an operation pending.
+    Stopped { op: Op },
+}
+
+/// One process; none where the register has no process of this number.
+#[derive(Clone, Copy, Debug, PartialEq, Eq)]
+pub struct ProcessPage {
+    pub head: Head,
+    pub process: u32,
+    pub status: Option<ProcessStatus>,
+}
+
+/// The page of one process.
+pub(crate) fn process_page<R: Register>(
+    head: &Head,
+    process: u32,
+    config: &Config<R>,
+) -> ProcessPage
+    ensures { result ≡ spec.process_page (R.is config.now.register) head.now process config.now }
+{
+    let status = status_of(config, process);
+    let head = *head;
+    ProcessPage {
+        head,
+        process,
+        status,
+    }
+}
+
+/// Adds the page of one process.
+pub(crate) fn push_process_page(
+    out: &mut Vec<u8>,
+    session: u32,
+    page: &ProcessPage,
+) -> io::Result<()>
+    ensures { OnOk result (out.new.items ≡ out.old.items ++ spec.process_text session page.now) }
+{
+    push_head(out, session, "process", &page.head)?;
+    push_one(out, page.process, page.status)
+}
+
+/// The status of each process.
+pub(crate) fn statuses<R: Register>(
+    alloc: Global,
+    config: &Config<R>,
+) -> Result<Listed<ProcessStatus>, AllocError>
+    ensures { IfOk result (λ all. all ≡ spec.statuses (R.is config.now.register) config.now) }
+{
+    let mut all = Vec::new(alloc);
+    for p in 0..config.register().processes() {
+        all.push(status_at(config, p))?;
+    }
+    Ok(Listed::new(all))
+}
+
+/// The status of a process, which the register may not have.
+fn status_of<R: Register>(config: &Config<R>, p: u32) -> Option<ProcessStatus>
+    ensures { result ≡ spec.status_of (R.is config.now.register) config.now p }
+{
+    if p < config.register().processes() {
+        Some(status_at(config, p))
+    } else {
+        None
+    }
+}
+
+/// The status of a process.
+fn status_at<R: Register>(config: &Config<R>, p: u32) -> ProcessStatus
+    ensures { result ≡ spec.status_at (R.is config.now.register) config.now p }
+{
+    let stopped = config.stopped(p);
+    let Some(op) = config.op(p) else {
+        return ProcessStatus::Idle { stopped };
+    };
+    if stopped {
+        return ProcessStatus::Stopped { op };
+    }
+    let Some(next) = config.action(p) else {
+        return ProcessStatus::Idle { stopped };
+    };
+    ProcessStatus::Busy { op, next }
+}
+
+/// Adds a line for each process.
+pub(crate) fn push_statuses(out: &mut Vec<u8>, statuses: &[ProcessStatus]) -> io::Result<()>
+    ensures { OnOk result (out.new.items ≡ out.old.items ++ numbered spec.status_line 0 statuses.now) }
+{
+    for (p, status) in statuses.iter().enumerate() {
+        push_status(out, p, *status)?;
+    }
+    Ok(())
+}
+
+/// Adds the line of one process, which may not be there.
+fn push_one(out: &mut Vec<u8>, p: u32, status: Option<ProcessStatus>) -> io::Result<()>
+    ensures { OnOk result (out.new.items ≡ out.old.items ++ spec.one_line p status) }
+{
+    match status {
+        None => writeln!(out, "  p{p} none"),
+        Some(status) => push_status(out, p as usize, status),
+    }
+}
+
+/// Adds the line of a process.
+fn push_status(out: &mut Vec<u8>, p: usize, status: ProcessStatus) -> io::Result<()>
+    ensures { OnOk result (out.new.items ≡ out.old.items ++ spec.status_line p status) }
+{
+    match status {
+        ProcessStatus::Idle { stopped } => push_idle(out, p, stopped),
+        ProcessStatus::Busy { op, next } => push_busy(out, p, op, next),
+        ProcessStatus::Stopped { op } => push_stopped(out, p, op),
+    }
+}
+
+/// Adds the line of a process that is idle.
+pub(crate) fn push_idle(out: &mut Vec<u8>, p: usize, stopped: bool) -> io::Result<()>
+    ensures { OnOk result (out.new.items ≡ out.old.items ++ spec.idle_line p stopped) }
+{
+    let stopped = stopped_text(stopped);
+    writeln!(out, "  p{p} idle{stopped}")
+}
+
+/// What stands behind a process that has stopped.
+pub(crate) fn stopped_text(stopped: bool) -> &'static str
+    ensures { result.now ≡ spec.stopped_text stopped }
+{
+    if stopped { " stopped" } else { "" }
+}
+
+/// Adds the line of a process with an operation pending.
+fn push_busy(out: &mut Vec<u8>, p: usize, op: Op, next: Action) -> io::Result<()>
+    ensures { OnOk result (out.new.items ≡ out.old.items ++ spec.busy_line p op next) }
+{
+    let kind = kind_name(next.kind);
+    let cell = next.cell;
+    write!(out, "  p{p} ")?;
+    push_op(out, op)?;
+    writeln!(out, " next {kind} {cell}")
+}
+
+/// Adds the line of a process that has stopped with an operation pending.
+fn push_stopped(out: &mut Vec<u8>, p: usize, op: Op) -> io::Result<()>
+    ensures { OnOk result (out.new.items ≡ out.old.items ++ spec.stopped_line p op) }
+{
+    write!(out, "  p{p} ")?;
+    push_op(out, op)?;
+    writeln!(out, " stopped")
+}
+
+/// Adds an operation.
+pub(crate) fn push_op(out: &mut Vec<u8>, op: Op) -> io::Result<()>
+    ensures { OnOk result (out.new.items ≡ out.old.items ++ spec.op_text op) }
+{
+    match op {
+        Op::Write(v) => write!(out, "write {v}"),
+        Op::Read => write!(out, "read"),
+    }
+}
+
+/// The short name of a bit action.
+fn kind_name(kind: ActionKind) -> &'static str
+    ensures { result.now ≡ spec.kind_name kind }
+{
+    match kind {
+        ActionKind::WriteStart => "ws",
+        ActionKind::WriteEnd => "we",
+        ActionKind::ReadStart => "rs",
+        ActionKind::ReadEnd => "re",
+    }
+}

@@ -1,0 +1,55 @@
+//! The page of a configuration: its processes, and the values of all cells and words.
+
+ghost use Rattle.std.specs.Prelude.{◌≡◌, ◌++◌, IfOk, OnOk};
+ghost use Rattle.safe_bit.specs.Parts.{HasSize};
+ghost use Rattle.views.specs.page.State as spec;
+
+use crate::listed::Listed;
+use crate::page::head::{Head, push_head};
+use crate::page::memory::{bits, push_bits, push_words, words};
+use crate::page::process::{ProcessStatus, push_statuses, statuses};
+use frames::config::Config;
+use frames::register::Register;
+use std::alloc::{AllocError, Global};
+use std::io;
+
+/// The processes, and the values of all cells and words.
+#[derive(Drop)]
+pub struct StatePage {
+    pub head: Head,
+    pub processes: Listed<ProcessStatus>,
+    pub bits: Listed<bool>,
+    pub words: Listed<u32>,
+}
+
+/// The page of a configuration.
+pub(crate) fn state_page<R: Register>(
+    alloc: Global,
+    head: &Head,
+    config: &Config<R>,
+) -> Result<StatePage, AllocError>
+    requires { HasSize (R.is config.now.register).size config.now.memory }
+    ensures { IfOk result (λ page. page ≡ spec.state_page (R.is config.now.register) head.now config.now) }
+{
+    let size = config.register().size();
+    let processes = statuses(alloc, config)?;
+    let bits = bits(alloc, config.store(), size.cell)?;
+    let words = words(alloc, config.store(), size.word)?;
+    let head = *head;
+    Ok(StatePage {
+        head,
+        processes,
+        bits,
+        words,
+    })
+}
+
+/// Adds the page of a configuration.
+pub(crate) fn push_state(out: &mut Vec<u8>, session: u32, page: &StatePage) -> io::Result<()>
+    ensures { OnOk result (out.new.items ≡ out.old.items ++ spec.state_text session page.now) }
+{
+    push_head(out, session, "state", &page.head)?;
+    push_statuses(out, page.processes.as_slice())?;
+    push_bits(out, page.bits.as_slice())?;
+    push_words(out, page.words.as_slice())
+}

@@ -1,0 +1,67 @@
+//! The lines of a branch's steps.
+
+ghost use Rattle.std.specs.Prelude.{◌≡◌, ◌++◌, IfOk, OnOk};
+ghost use Rattle.views.specs.page.Steps as spec;
+
+use crate::listed::Listed;
+use crate::page::head::push_title;
+use frames::types::Step;
+use schedule_trie::name::Name;
+use std::alloc::{AllocError, Global};
+use std::io;
+use std::io::Write;
+use words::step::push_step;
+
+/// The steps of a branch, in order.
+#[derive(Drop)]
+pub struct StepsPage {
+    pub branch: Name,
+    pub steps: Listed<Step>,
+}
+
+impl StepsPage {
+    /// The same page, with memory of its own.
+    pub(crate) fn copy(&self, alloc: Global) -> Result<StepsPage, AllocError>
+        ensures { IfOk result (λ page. page ≡ self.now) }
+    {
+        let steps = self.steps.copy(alloc)?;
+        let branch = self.branch;
+        Ok(StepsPage { branch, steps })
+    }
+}
+
+/// Adds the page of a branch's steps.
+pub(crate) fn push_steps_page(out: &mut Vec<u8>, session: u32, page: &StepsPage) -> io::Result<()>
+    ensures { OnOk result (out.new.items ≡ out.old.items ++ spec.steps_text session page.now) }
+{
+    let steps = page.steps.as_slice();
+    push_steps_head(out, session, &page.branch, steps.len())?;
+    push_steps(out, steps)
+}
+
+/// Adds the first line of the page of a branch's steps.
+fn push_steps_head(out: &mut Vec<u8>, session: u32, branch: &Name, len: usize) -> io::Result<()>
+    ensures { OnOk result (out.new.items ≡ out.old.items ++ spec.steps_head session branch.now len) }
+{
+    push_title(out, session, "steps", branch)?;
+    writeln!(out, "{len}")
+}
+
+/// Adds a line for each step, with its index.
+fn push_steps(out: &mut Vec<u8>, steps: &[Step]) -> io::Result<()>
+    ensures { OnOk result (out.new.items ≡ out.old.items ++ spec.step_lines steps.now) }
+{
+    for (index, step) in steps.iter().enumerate() {
+        push_step_line(out, index, *step)?;
+    }
+    Ok(())
+}
+
+/// Adds the line of the step with this index.
+fn push_step_line(out: &mut Vec<u8>, index: usize, step: Step) -> io::Result<()>
+    ensures { OnOk result (out.new.items ≡ out.old.items ++ spec.step_line index step) }
+{
+    write!(out, "  {index} ")?;
+    push_step(out, step)?;
+    writeln!(out)
+}

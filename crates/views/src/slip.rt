@@ -1,0 +1,193 @@
+//! Slips: what a look found, from which its page is made later.
+
+ghost use Rattle.std.specs.Prelude.{◌≡◌, Some, true, Ok, IfOk, OnOk, IfErr, map};
+ghost use Rattle.schedule_trie.specs.Forest.{IsRefused};
+ghost use Rattle.schedule_trie.specs.Cut.{forest};
+ghost use Rattle.cutoff.specs.Fitting.{part_of};
+ghost use Rattle.cutoff.specs.Held.{look};
+ghost use Rattle.views.specs.Spots.{IsSpotOf};
+ghost use Rattle.views.specs.Looks as spec;
+ghost use Rattle.views.specs.Looks.{looked, steps_in, IsKept};
+ghost use Rattle.views.specs.Slips.{IsReady};
+ghost use Rattle.views.specs.declared.page.Page.TheVariants as spec_page;
+
+use crate::lens::Lens;
+use crate::listed::Listed;
+use crate::page::Page;
+use crate::page::head::Head;
+use crate::page::steps::StepsPage;
+use crate::query::{PlaceKind, Query};
+use cutoff::chart::Chart;
+use cutoff::settle::Spot;
+use frames::register::Register;
+use frames::types::Op;
+use schedule_trie::name::Name;
+use schedule_trie::refusal::Refusal;
+use std::alloc::{AllocError, Global};
+use std::marker::Model;
+
+mod content;
+
+use content::{Content, PlaceSlip};
+
+/// What a look found. It stands for the page that is made of it, whatever happens to the branches meanwhile.
+#[derive(Drop)]
+pub struct Slip<R: Register> {
+    content: Content<R>,
+}
+
+impl<R: Register> Model for Slip<R> {
+    ghost use Rattle.views.specs.declared.page.Page.{Page};
+    ghost use Rattle.views.specs.Slips.{content_page};
+
+    ghost Value = { Page };
+
+    ghost view = { λ s. content_page s.content };
+}
+
+impl<R: Register> Slip<R> {
+    /// Looks at a branch.
+    ///
+    /// # Errors
+    ///
+    /// NoBranch; NoPlace where the branch is shorter; Memory. In any case the branches are as before, and true runs may have been
+    /// stored.
+    pub fn at(alloc: Global, chart: &mut Chart<R>, query: Query) -> Result<Slip<R>, Refusal>
+        requires { spec.is_at_branch query ≡ true }
+        ensures page { IfOk result (λ slip. Some slip ≡ spec.page_of (R.is chart.old.start.register) chart.old.value (forest chart.old.cut) query) }
+        ensures found { OnOk result (looked query (forest chart.old.cut) ≡ Ok (forest chart.old.cut)) }
+        ensures err { IfErr result (IsRefused (looked query (forest chart.old.cut))) }
+        ensures kept { IsKept chart.old chart.new }
+    {
+        match query {
+            Query::State { branch, place } => {
+                place_slip(alloc, chart, PlaceKind::State, branch, place)
+            }
+            Query::Process {
+                branch,
+                place,
+                process,
+            } => place_slip(alloc, chart, PlaceKind::Process(process), branch, place),
+            Query::Bits { branch, place } => {
+                place_slip(alloc, chart, PlaceKind::Bits, branch, place)
+            }
+            Query::Pending { branch, place } => {
+                place_slip(alloc, chart, PlaceKind::Pending, branch, place)
+            }
+            Query::History { branch, place } => {
+                place_slip(alloc, chart, PlaceKind::History, branch, place)
+            }
+            Query::Verdict { branch, place } => {
+                let value = judged_from(chart);
+                place_slip(alloc, chart, PlaceKind::Verdict(value), branch, place)
+            }
+            Query::Steps { branch } => steps_slip(alloc, chart, branch),
+            Query::Branches | Query::Cursor { .. } => unreachable!(),
+        }
+    }
+
+    /// The slip of a page of the branches, or of a session. It takes no memory.
+    pub fn of(page: Page) -> Slip<R>
+        requires { IsReady page }
+        ensures { result ≡ page }
+    {
+        let content = match page {
+            Page::Branches(page) => Content::Branches(page),
+            Page::Cursor(page) => Content::Cursor(page),
+            Page::State(_)
+            | Page::Process(_)
+            | Page::Bits(_)
+            | Page::Pending(_)
+            | Page::History(_)
+            | Page::Verdict(_)
+            | Page::Steps(_) => unreachable!(),
+        };
+        Slip { content }
+    }
+
+    /// Its page, which doesn't depend on what the lens holds.
+    pub fn page(&self, alloc: Global, _lens: &mut Lens<R>) -> Result<Page, AllocError>
+        ensures { IfOk result (λ page. page ≡ self.now) }
+    {
+        match &self.content {
+            Content::Place(slip) => slip.page(alloc),
+            Content::Branches(page) => Ok(Page::Branches(page.copy(alloc)?)),
+            Content::Cursor(page) => Ok(Page::Cursor(page.copy(alloc)?)),
+            Content::Steps(page) => Ok(Page::Steps(page.copy(alloc)?)),
+        }
+    }
+}
+
+/// The initial value, on a tower with one writer.
+fn judged_from<R: Register>(chart: &Chart<R>) -> Option<u32>
+    ensures { result ≡ spec.judged_from (R.is chart.now.start.register) chart.now.value }
+{
+    let register = chart.initial().register();
+    if register.fits(1, Op::Write(0)) {
+        None
+    } else {
+        Some(chart.value())
+    }
+}
+
+/// Looks at a place of a branch.
+fn place_slip<R: Register>(
+    alloc: Global,
+    chart: &mut Chart<R>,
+    kind: PlaceKind,
+    branch: Name,
+    place: u32,
+) -> Result<Slip<R>, Refusal>
+    ensures page { IfOk result (λ slip. slip ≡ spec.place_page (R.is chart.old.start.register) chart.old.value kind branch place (steps_in (forest chart.old.cut) branch)) }
+    ensures found { OnOk result (look (forest chart.old.cut) branch place ≡ Ok (forest chart.old.cut)) }
+    ensures err { IfErr result (IsRefused (look (forest chart.old.cut) branch place)) }
+    ensures kept { IsKept chart.old chart.new }
+{
+    let (len, spot) = settled(alloc, chart, &branch, place)?;
+    let Ok(first) = chart.initial().copy(alloc) else {
+        return Err(Refusal::Memory);
+    };
+    let head = Head { branch, place, len };
+    let runs = spot.runs;
+    let content = Content::Place(PlaceSlip {
+        kind,
+        head,
+        first,
+        runs,
+    });
+    Ok(Slip { content })
+}
+
+/// Settles a place of a branch: the branch's length, and the runs that come to the place.
+fn settled<R: Register>(
+    alloc: Global,
+    chart: &mut Chart<R>,
+    branch: &Name,
+    place: u32,
+) -> Result<(u32, Spot<R>), Refusal>
+    ensures spot { IfOk result (λ s. IsSpotOf R.is chart.old.start chart.old.value (steps_in (forest chart.old.cut) branch.now) place s.0 (map part_of s.1.runs.items)) }
+    ensures found { OnOk result (look (forest chart.old.cut) branch.now place ≡ Ok (forest chart.old.cut)) }
+    ensures err { IfErr result (IsRefused (look (forest chart.old.cut) branch.now place)) }
+    ensures kept { IsKept chart.old chart.new }
+{
+    let Some(len) = chart.len(branch) else {
+        return Err(Refusal::NoBranch);
+    };
+    let spot = chart.settle(alloc, branch, place)?;
+    Ok((len, spot))
+}
+
+/// Looks at the steps of a branch.
+fn steps_slip<R: Register>(
+    alloc: Global,
+    chart: &Chart<R>,
+    branch: Name,
+) -> Result<Slip<R>, Refusal>
+    ensures page { IfOk result (λ slip. slip ≡ spec_page.Steps (record { branch = branch; steps = steps_in (forest chart.now.cut) branch })) }
+    ensures found { OnOk result (look (forest chart.now.cut) branch 0 ≡ Ok (forest chart.now.cut)) }
+    ensures err { IfErr result (IsRefused (look (forest chart.now.cut) branch 0)) }
+{
+    let steps = Listed::new(chart.path(alloc, &branch)?);
+    let content = Content::Steps(StepsPage { branch, steps });
+    Ok(Slip { content })
+}
