@@ -3,41 +3,27 @@
 ghost use Rattle.std.specs.Prelude.{◌≡◌};
 ghost use Rattle.schedule_trie.specs.Refusals as spec;
 
+use std::fmt;
 use thiserror::Error;
 
 /// Why a call is refused, or a line is none.
 #[derive(Clone, Copy, Debug, PartialEq, Eq, Error)]
 pub enum Refusal {
-    #[error("20 NoBranch")]
     NoBranch,
-    #[error("21 NameTaken")]
     NameTaken,
-    #[error("22 BadName")]
     BadName,
-    #[error("23 NoPlace")]
     NoPlace,
-    #[error("24 Full")]
     Full,
-    #[error("25 LastBranch")]
     LastBranch,
-    #[error("26 TooManyBranches")]
     TooManyBranches,
-    #[error("30 BadStep")]
     BadStep,
-    #[error("31 Occupied")]
     Occupied,
-    #[error("32 NoBreak")]
     NoBreak,
-    #[error("33 NoSession")]
     NoSession,
     /// With the edit count.
-    #[error("34 Newer")]
     Newer(u64),
-    #[error("35 LogFull")]
     LogFull,
-    #[error("36 BadLine")]
     BadLine,
-    #[error("40 Memory")]
     Memory,
 }
 
@@ -86,5 +72,11 @@ impl Refusal {
             Refusal::BadLine => "BadLine",
             Refusal::Memory => "Memory",
         }
+    }
+}
+
+impl fmt::Display for Refusal {
+    fn fmt<W: fmt::Write>(&self, f: &mut fmt::Formatter<W>) -> fmt::Result {
+        write!(f, "{} {}", self.number(), self.name())
     }
 }

@@ -1,18 +1,22 @@
 //! Forks: a new last branch that shares the first cells of another.
 
-ghost use Rattle.std.specs.Prelude.{◌≡◌, ◌+◌, ◌<◌, ◌≤◌, ◌++◌, ◌∷◌, [], length, nat_eq, take, slice_index, None, Ok, OnOk, OnErr, IfErr, IfOk, vec_capacity};
+ghost use Rattle.std.specs.Prelude.{◌≡◌, ◌+◌, ◌<◌, ◌≤◌, ◌++◌, ◌∷◌, [], length, nat_eq, map, take, drop, slice_index, None, Ok, OnOk, OnErr, IfErr, IfOk, vec_capacity};
 ghost use Rattle.std.specs.Cmp.Lexicographic.{pointwise};
 ghost use Rattle.indexmap.specs.IndexMap.{insert_entry, spare};
 ghost use Rattle.schedule_trie.specs.Forest.{fork, index_of, slots_in, IsRefused};
 ghost use Rattle.schedule_trie.specs.Cut.{forest, keys_in, line, piece_at, slots_of, IsCut, KeepsNotesBut, IsParted};
 ghost use Rattle.schedule_trie.specs.Forks.{IsForked, LiesAt};
+ghost use Rattle.schedule_trie.specs.Held.{strand_of, HavePathRoom};
+ghost use Rattle.slab.specs.Slab.{HasRoomFor};
 
 use super::Trie;
 use super::division::{divide, reserve_division};
 use crate::name::Name;
 use crate::refusal::Refusal;
 use crate::segment::{SegKey, Segment};
+use crate::slot::Slot;
 use indexmap::IndexMap;
+use slab::Slab;
 use std::alloc::{AllocError, Global};
 
 impl<T: Drop> Trie<T> {
@@ -136,14 +140,12 @@ impl<T: Drop> Trie<T> {
     {
         let mut keys = copy_with_room(alloc, &self.keys_at(index)[..count])?;
         let key = self.keys_at(index)[count];
-        let slots = self.slots_at(key);
+        let (above, below) = parts_at(alloc, self.slots_at(key), rest)?;
         let above = Segment {
-            slots: Vec::from_slice(alloc, &slots[..rest])?,
+            slots: above,
             note: None,
         };
-        let below = Vec::from_slice(alloc, &slots[rest..])?;
-        self.branches.reserve(1)?;
-        reserve_division(&mut self.segments, &mut self.branches)?;
+        reserve_fork(&mut self.segments, &mut self.branches)?;
         let above_key = divide(&mut self.segments, &mut self.branches, key, above, below);
         push_reserved(&mut keys, above_key);
         insert_reserved(&mut self.branches, name, keys);
@@ -159,6 +161,36 @@ fn copy_with_room(alloc: Global, path: &[SegKey]) -> Result<Vec<SegKey>, AllocEr
     let mut keys = Vec::from_slice(alloc, path)?;
     keys.reserve(1)?;
     Ok(keys)
+}
+
+/// Cells in two parts, cut after the first of them.
+fn parts_at(
+    alloc: Global,
+    slots: &[Slot],
+    count: usize,
+) -> Result<(Vec<Slot>, Vec<Slot>), AllocError>
+    requires { count ≤ length slots.now }
+    ensures first { IfOk result (λ r. r.0.items ≡ take count slots.now) }
+    ensures rest { IfOk result (λ r. r.1.items ≡ drop count slots.now) }
+{
+    let above = Vec::from_slice(alloc, &slots[..count])?;
+    let below = Vec::from_slice(alloc, &slots[count..])?;
+    Ok((above, below))
+}
+
+/// Makes room for one more branch, for one more segment, and for one more key in each path.
+fn reserve_fork<T: Drop>(
+    segments: &mut Slab<Segment<T>>,
+    branches: &mut IndexMap<Name, Vec<SegKey>>,
+) -> Result<(), AllocError>
+    ensures slots { segments.new.slots ≡ segments.old.slots }
+    ensures strands { map strand_of branches.new.entries ≡ map strand_of branches.old.entries }
+    ensures spare { OnOk result (0 < spare branches.new) }
+    ensures room { OnOk result (HasRoomFor segments.new 1) }
+    ensures path_room { OnOk result (HavePathRoom branches.new) }
+{
+    branches.reserve(1)?;
+    reserve_division(segments, branches)
 }
 
 /// Puts a key last in a path that has room for it.

@@ -21,6 +21,16 @@ loop-key-init g c =
       keys = c.keys_at-key-items.ensures.keys;
     }
 
+pub renumbered-requires : goal.renumbered-requires
+renumbered-requires g c =
+    let at = piece_at c.args.self.now.pieces in
+    let keys = c.keys_at-key-items.result.now in
+    let i = c.loop-key.key-index in
+    let was = c.loop-key.invariant in
+    let len : length (slots_of (at (slice_index_or keys i 0))) ≡ length c.slots_at-slots.result.now = sym (ap length c.slots_at-slots.ensures) in
+    let below = cell_below at c.args.self.now.made keys i c.loop-key.cell (omega arith) was.rest in
+    omega (arith, len, below, was.fits)
+
 pub loop-key-preserved : goal.loop-key-preserved
 loop-key-preserved g c =
     let now = c.args.self.now in

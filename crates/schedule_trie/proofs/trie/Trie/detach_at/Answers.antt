@@ -1,13 +1,24 @@
-use Rattle.std.proofs.Common.{◌≡◌, ◌<◌, ◌≤◌, ◌+◌, [], ◌∷◌, length, map, Some, slice_get, sym, ap, subst, ◌∙◌}
+use Rattle.std.proofs.Common.{◌≡◌, ◌<◌, ◌≤◌, ◌+◌, [], ◌∷◌, length, map, Some, slice_get, refl, sym, ap, subst, ◌∙◌}
 use Rattle.slab.specs.Slab.{get}
 use Rattle.indexmap.specs.IndexMap.{values, with_value_at}
 use Rattle.schedule_trie.specs.Forest.{slots_in}
-use Rattle.schedule_trie.specs.Cut.{forest, piece_at, keys_in, strand, SharesAbove}
+use Rattle.schedule_trie.specs.Cut.{forest, piece_at, keys_in, strand, IsWhole, SharesAbove}
 use Rattle.schedule_trie.specs.Held.{strand_of, cut_of}
 use Rattle.schedule_trie.specs.Releases.{IsReleased}
 use Rattle.schedule_trie.specs.Copies.{AreCopies, ArePut}
+use Rattle.schedule_trie.proofs.DivisionSteps.{cut_reserved}
+use Rattle.schedule_trie.proofs.PushSteps.{on_err}
 use Rattle.schedule_trie.proofs.Detaches.{detach_shares, detach_held, detach_told}
 use Rattle.schedule_trie.proofs.trie.Trie.detach_at.Goals as goal
+
+pub invariant_of-self : goal.invariant_of-self
+invariant_of-self g c =
+    subst IsWhole (sym (cut_reserved c.self.inside (record c.self.inside { segments = c.put_all.new.segments }) c.in_err-path.ensures.err refl refl refl)) c.self.invariant
+
+pub returns-in_err-path-clause-err : goal.returns-in_err-path-clause-err
+returns-in_err-path-clause-err g c =
+    on_err c.from_residual-in_err-path.result _
+    (cut_reserved c.self.inside (record c.self.inside { segments = c.put_all.new.segments }) c.in_err-path.ensures.err refl refl refl ∙ c.self.view_is)
 
 pub release-requires : goal.release-requires
 release-requires g c =

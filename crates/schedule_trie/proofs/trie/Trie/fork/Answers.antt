@@ -1,6 +1,7 @@
 use Rattle.std.proofs.Common.{sym, ap, ◌∙◌, Ok, is_some, inl, arith}
-use Rattle.schedule_trie.specs.Cut.{forest}
-use Rattle.schedule_trie.proofs.ForkAnswers.{name_taken, bad_name, no_place, too_many, is_forked, memory_alone}
+use Rattle.std.proofs.lemmas.List.{length-map}
+use Rattle.schedule_trie.specs.Cut.{forest, branch_on, piece_at}
+use Rattle.schedule_trie.proofs.ForkAnswers.{name_taken, bad_name, no_place, too_many, is_forked, memory_alone, none_from}
 use Rattle.schedule_trie.proofs.trie.Trie.fork.Goals as goal
 
 pub returns-then-is_some-clause-err : goal.returns-then-is_some-clause-err
@@ -25,6 +26,16 @@ returns-then-branches-self-clause-err g c =
     inl (too_many c.args.self.now.limits (forest c.args.self.now) c.args.branch.now c.args.name c.args.place c.in-Some.index (sym c.in-Some.ensures.index)
     (ap is_some (sym c.index-2.ensures.index) ∙ sym c.is_some.ensures ∙ c.if-is_some.false) (sym c.is_well_formed.ensures ∙ c.if-not-is_well_formed.false)
     (omega (arith, c.len_at.ensures, c.if-len_at-place.false)) (omega (arith, most, c.branches.ensures.count, c.if-branches-self.true)))
+
+pub fork_at-requires-clause-name : goal.fork_at-requires-clause-name
+fork_at-requires-clause-name g c =
+    none_from _ (ap is_some (sym c.index-2.ensures.index) ∙ sym c.is_some.ensures ∙ c.if-is_some.false)
+
+pub fork_at-requires-clause-room : goal.fork_at-requires-clause-room
+fork_at-requires-clause-room g c =
+    let most = ap (λ z. z.limits.branches) c.self.view_is in
+    let count = length-map c.args.self.now.strands (branch_on (piece_at c.args.self.now.pieces)) in
+    omega (arith, most, count, c.branches.ensures.count, c.if-branches-self.false)
 
 pub returns-in-Ok-clause-ok : goal.returns-in-Ok-clause-ok
 returns-in-Ok-clause-ok g c =

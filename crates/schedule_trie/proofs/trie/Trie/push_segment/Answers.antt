@@ -1,9 +1,19 @@
-use Rattle.std.proofs.Common.{sym, subst, ◌∙◌, ◌<◌, length, ap, Some}
+use Rattle.std.proofs.Common.{sym, subst, ◌∙◌, ◌<◌, length, ap, refl, Some}
 use Rattle.slab.specs.Slab.{Updates}
 use Rattle.schedule_trie.specs.Cut.{IsWhole}
+use Rattle.schedule_trie.proofs.DivisionSteps.{cut_reserved}
 use Rattle.schedule_trie.proofs.PushSteps.{on_err}
 use Rattle.schedule_trie.proofs.PushFresh.{path_kept, segment_held, segment_pushed}
 use Rattle.schedule_trie.proofs.trie.Trie.push_segment.Goals as goal
+
+pub invariant_of-self : goal.invariant_of-self
+invariant_of-self g c =
+    subst IsWhole (sym (cut_reserved c.self.inside (record c.self.inside { segments = c.reserve.new.self }) (ap (λ s. s.slots) c.in_err-reserve.ensures.rest_kept) refl refl refl)) c.self.invariant
+
+pub returns-in_err-reserve-clause-err : goal.returns-in_err-reserve-clause-err
+returns-in_err-reserve-clause-err g c =
+    on_err c.from_residual-in_err-reserve.result _
+    (cut_reserved c.self.inside (record c.self.inside { segments = c.reserve.new.self }) (ap (λ s. s.slots) c.in_err-reserve.ensures.rest_kept) refl refl refl ∙ c.self.view_is)
 
 pub invariant_of-self-in_err-push : goal.invariant_of-self-in_err-push
 invariant_of-self-in_err-push g c =

@@ -1,12 +1,23 @@
 use Rattle.std.proofs.Common.{◌+◌, map, refl, ap, sym, subst, ◌∙◌}
-use Rattle.schedule_trie.specs.Cut.{Once, keys_in, divided_strand}
-use Rattle.schedule_trie.proofs.DivisionSteps.{held_once}
+use Rattle.schedule_trie.specs.Cut.{Once, IsWhole, keys_in, divided_strand}
+use Rattle.schedule_trie.proofs.DivisionSteps.{held_once, cut_reserved}
+use Rattle.schedule_trie.proofs.PushSteps.{on_err}
 use Rattle.schedule_trie.proofs.InsertSteps.{divided_held, divided_told}
 use Rattle.schedule_trie.proofs.trie.Trie.put_divided.Goals as goal
 
 pub divide-requires-clause-once : goal.divide-requires-clause-once
 divide-requires-clause-once g c =
     λ i. subst (λ l. Once (keys_in l i)) (sym c.in_ok-reserve_division.ensures.strands) (held_once c.self.inside c.self.invariant i)
+
+pub invariant_of-self : goal.invariant_of-self
+invariant_of-self g c =
+    subst IsWhole (sym (cut_reserved c.self.inside (record c.self.inside { segments = c.reserve_division.new.segments; branches = c.reserve_division.new.branches })
+    c.in_err-reserve_division.ensures.slots c.in_err-reserve_division.ensures.strands refl refl)) c.self.invariant
+
+pub returns-in_err-reserve_division-clause-err : goal.returns-in_err-reserve_division-clause-err
+returns-in_err-reserve_division-clause-err g c =
+    on_err c.from_residual-in_err-reserve_division.result _ (cut_reserved c.self.inside (record c.self.inside { segments = c.reserve_division.new.segments; branches = c.reserve_division.new.branches })
+    c.in_err-reserve_division.ensures.slots c.in_err-reserve_division.ensures.strands refl refl ∙ c.self.view_is)
 
 pub invariant_of-self-2 : goal.invariant_of-self-2
 invariant_of-self-2 g c =

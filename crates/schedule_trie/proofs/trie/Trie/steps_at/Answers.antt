@@ -1,7 +1,15 @@
-use Rattle.std.proofs.Common.{arith}
+use Rattle.std.proofs.Common.{◌++◌, map, ap, ◌∙◌, arith}
+use Rattle.schedule_trie.specs.Forest.{step_of}
 use Rattle.schedule_trie.specs.Cut.{piece_at}
-use Rattle.schedule_trie.proofs.Lines.{steps_all}
+use Rattle.schedule_trie.proofs.Lines.{steps_more, steps_all}
 use Rattle.schedule_trie.proofs.trie.Trie.steps_at.Goals as goal
+
+pub loop-key-preserved : goal.loop-key-preserved
+loop-key-preserved g c = (
+  steps_more (piece_at c.args.self.now.pieces) c.keys_at-key-items.result.now c.loop-key.key-index c.loop-key.steps.items c.push_steps.new.steps.items (omega arith)
+      c.loop-key.invariant.0 (c.in_ok-push_steps.ensures ∙ ap (λ l. c.loop-key.steps.items ++ map step_of l) c.slots_at.ensures),
+  c.loop-key.invariant.1,
+)
 
 pub returns : goal.returns
 returns g c =
