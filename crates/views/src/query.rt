@@ -32,7 +32,10 @@ pub enum Query {
         place: u32,
     },
     /// The verdicts on the reads that returned up to a place.
-    Verdict { branch: Name, place: u32 },
+    Verdict {
+        branch: Name,
+        place: u32,
+    },
     /// The branches.
     Branches,
     /// A session's cursor and its breaks.
