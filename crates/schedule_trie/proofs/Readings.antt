@@ -31,6 +31,9 @@ module _ {X : Type 0} (p : X → Bool) where
           (same, subst (λ n. n < length xs) same inside)
       by false h = let none : None ≡ Some o = sym (ap (λ b. cond b (Some (position_or_len p xs)) None) h) ∙ e in absurd (cc)
 
+  pub first_within : (xs : List X) (o : ℕ) → Some o ≡ position p xs → o < length xs
+  first_within xs o e = (first_of xs o (sym e)).1
+
   none_of : (xs : List X) → position p xs ≡ None → position_or_len p xs ≡ length xs
   none_of xs e = by (nat_lt (position_or_len p xs) (length xs)) refl
     where
@@ -68,6 +71,10 @@ module _ {T : Type 0} (at : ℕ → Option (Piece T)) (test : Slot → Bool) (ke
 
   len : length (line at (drop i keys)) ≡ length here + length below
   len = ap length (line-drop at keys i inside) ∙ length-append here below
+
+  -- so that places fit where all cells do
+  pub room_left : before + length here ≤ length (line at keys)
+  room_left = omega (arith, len, cells)
 
   pub place_here : (strands : List Strand) (index o : ℕ) (slots : List Slot) → slots ≡ here → Some o ≡ position test slots → keys ≡ keys_in strands index
       → Some (before + o) ≡ position test (slots_in (branches_on at strands) index)

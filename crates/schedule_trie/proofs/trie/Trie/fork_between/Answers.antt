@@ -1,7 +1,19 @@
-use Rattle.std.proofs.Common.{refl, ap, subst, ◌∙◌, take}
+use Rattle.std.proofs.Common.{refl, sym, ap, subst, ◌∙◌, map, take}
 use Rattle.schedule_trie.specs.Cut.{IsWhole}
+use Rattle.schedule_trie.specs.Held.{strand_of}
+use Rattle.schedule_trie.proofs.DivisionSteps.{cut_reserved}
+use Rattle.schedule_trie.proofs.PushSteps.{on_err}
 use Rattle.schedule_trie.proofs.ForkSteps.{fork_held, fork_told}
 use Rattle.schedule_trie.proofs.trie.Trie.fork_between.Goals as goal
+
+pub invariant_of-self : goal.invariant_of-self
+invariant_of-self g c =
+    subst IsWhole (sym (cut_reserved c.self.inside (record c.self.inside { branches = c.insert.new.self }) refl (ap (map strand_of) c.in_err-insert.ensures.err) refl refl)) c.self.invariant
+
+pub returns-in_err-insert-clause-err : goal.returns-in_err-insert-clause-err
+returns-in_err-insert-clause-err g c =
+    on_err c.from_residual-in_err-insert.result _
+    (cut_reserved c.self.inside (record c.self.inside { branches = c.insert.new.self }) refl (ap (map strand_of) c.in_err-insert.ensures.err) refl refl ∙ c.self.view_is)
 
 pub invariant_of-self-2 : goal.invariant_of-self-2
 invariant_of-self-2 g c =
