@@ -3,12 +3,6 @@ use Rattle.schedule_trie.proofs.Openings.{get_or_own, pushed_next}
 use Rattle.schedule_trie.proofs.Notes.{blank_kept}
 use Rattle.schedule_trie.proofs.trie.Trie.with_steps.Goals as goal
 
-pub push_last-requires-clause-room : goal.push_last-requires-clause-room
-push_last-requires-clause-room g c =
-    let was = c.loop-step.invariant in
-    let most = ap (λ l. l.cells) was.limits in
-    omega (arith, most, was.made, was.few)
-
 pub loop-step-preserved : goal.loop-step-preserved
 loop-step-preserved g c =
     let p = c.in_ok-push_last.ensures.ok in
