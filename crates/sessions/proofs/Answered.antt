@@ -1,0 +1,87 @@
+-- How a command is answered: by its first refusal, or by what it leaves.
+use Rattle.std.proofs.Common.{◌≡◌, ℕ, ◌+◌, ◌<◌, ◌≤◌, Bool, true, false, not, ◌||◌, cond, nat_lt, nat_le, List, [], ◌∷◌, ◌++◌, Option, Some, None, Result, Ok, Err, length, map, take, refl, sym, ap, ◌∙◌, arith}
+use Rattle.std.proofs.lemmas.Bool.{cases_lt}
+use Rattle.std.specs.List.{list_any, remove}
+use Rattle.std.specs.Cmp.Lexicographic.{pointwise}
+use Rattle.std.specs.Prelude.{nat_eq}
+use Rattle.frames.specs.declared.types.Step.{Step}
+use Rattle.schedule_trie.specs.declared.limits.Limits.{Limits}
+use Rattle.schedule_trie.specs.declared.refusal.Refusal.{Refusal}
+use Rattle.schedule_trie.specs.declared.refusal.Refusal.TheVariants.{NoBranch, NameTaken, BadName, NoPlace, Full, LastBranch, TooManyBranches, LogFull, Memory}
+use Rattle.schedule_trie.specs.Names.{is_well_formed}
+use Rattle.schedule_trie.specs.Forest as forests
+use Rattle.schedule_trie.specs.Forest.{Forest, on_found, index_of, slots_in, name_of, branch}
+use Rattle.cutoff.specs.Held.{looked_at}
+use Rattle.sessions.specs.declared.command.Command.{Command}
+use Rattle.sessions.specs.declared.command.Command.TheVariants as command
+use Rattle.sessions.specs.declared.cursor.Cursor.{Cursor}
+use Rattle.sessions.specs.declared.reply.Reply.{Reply}
+use Rattle.sessions.specs.declared.reply.Reply.TheVariants.{No}
+use Rattle.sessions.specs.declared.way.Way.TheVariants as way
+use Rattle.sessions.specs.World.{World}
+use Rattle.sessions.specs.Acts.{Acted, acted, answered, refusals, early_refusals, late_refusals, first_refusal, refused_if, refusal_in, refused, left, reply_to, hit_reply, hit_of, is_full, lacks_session, needs_session, is_missed, fits_command, branches_after, drops_occupied, lacks_break}
+use Rattle.sessions.specs.Logs.{is_logged}
+
+-- the first refusal of two lists
+pub first_behind : (xs ys : List (Option Refusal)) → first_refusal xs ≡ None → first_refusal (xs ++ ys) ≡ first_refusal ys
+first_behind [] ys e = refl
+first_behind (None ∷ xs) ys e = first_behind xs ys e
+first_behind (Some r ∷ xs) ys e = cc
+
+pub first_before : (xs ys : List (Option Refusal)) (r : Refusal) → first_refusal xs ≡ Some r → first_refusal (xs ++ ys) ≡ Some r
+first_before [] ys r e = cc
+first_before (None ∷ xs) ys r e = first_before xs ys r e
+first_before (Some q ∷ xs) ys r e = e
+
+-- four conditions of which none holds
+none_of : (a b c d : Bool) (r s t u : Refusal) → first_refusal (refused_if a r ∷ refused_if b s ∷ refused_if c t ∷ refused_if d u ∷ []) ≡ None → (b ≡ false) × (d ≡ false)
+none_of true b c d r s t u e = cc
+none_of false true c d r s t u e = cc
+none_of false false true d r s t u e = cc
+none_of false false false true r s t u e = cc
+none_of false false false false r s t u e = (refl, refl)
+
+or_left : (a b : Bool) → (a || b) ≡ false → a ≡ false
+or_left true b e = cc
+or_left false b e = refl
+
+from_not : (a : Bool) → not a ≡ false → a ≡ true
+from_not true e = refl
+from_not false e = cc
+
+below_16 : (who : ℕ) (t : Bool) → nat_lt 15 who ≡ t → t ≡ false → who < 16
+below_16 who t e f = grind (arith, e, f)
+
+module _ {P : Type 0} (who : ℕ) (c : Command) (w : World P) where
+  -- a late refusal, once it is counted
+  pub late_refused : (r : Refusal) (before after : World P) (reply : Reply) → first_refusal (late_refusals who c w) ≡ Some r → before ≡ w → after ≡ refused r before → reply ≡ No r
+      → answered (first_refusal (late_refusals who c w)) who c w ≡ record { world = after; reply = reply }
+  late_refused r before after reply late same count replies =
+      let world : refused r w ≡ after = ap (refused r) (sym same) ∙ sym count in
+      let told : No r ≡ reply = sym replies in
+      ap (λ o. answered o who c w) late ∙ λ i. record { world = world i; reply = told i }
+
+  -- a command that goes well
+  pub late_done : (after : World P) (reply : Reply) → first_refusal (late_refusals who c w) ≡ None → left who c w ≡ after → reply_to who c w ≡ reply
+      → answered (first_refusal (late_refusals who c w)) who c w ≡ record { world = after; reply = reply }
+  late_done after reply late leaves replies = ap (λ o. answered o who c w) late ∙ λ i. record { world = leaves i; reply = replies i }
+
+module _ {P : Type 0} (who : ℕ) (guard : Option ℕ) (c : Command) (w : World P) where
+  pub early_none : first_refusal (early_refusals who guard c w) ≡ None → (who < 16) × (fits_command w.tower c ≡ true)
+  early_none e =
+      let none = none_of (is_full w) (lacks_session who c w.cursors) (is_missed guard w.edits) (not (fits_command w.tower c)) _ _ _ _ e in
+      (below_16 who (nat_lt 15 who) refl (or_left (nat_lt 15 who) _ none.0), from_not (fits_command w.tower c) none.1)
+
+  acted_early : (r : Refusal) → first_refusal (early_refusals who guard c w) ≡ Some r → acted who guard c w ≡ record { world = refused r w; reply = No r }
+  acted_early r e = ap (λ o. answered o who c w) (first_before (early_refusals who guard c w) (late_refusals who c w) r e)
+
+  pub early_refused : (r : Refusal) (after : World P) (reply : Reply) → Some r ≡ first_refusal (early_refusals who guard c w) → after ≡ refused r w → reply ≡ No r
+      → acted who guard c w ≡ record { world = after; reply = reply }
+  early_refused r after reply early count replies =
+      let world : refused r w ≡ after = sym count in
+      let told : No r ≡ reply = sym replies in
+      acted_early r (sym early) ∙ λ i. record { world = world i; reply = told i }
+
+  -- nothing refuses a command early
+  pub not_early : None ≡ first_refusal (early_refusals who guard c w) → acted who guard c w ≡ answered (first_refusal (late_refusals who c w)) who c w
+  not_early e = ap (λ o. answered o who c w) (first_behind (early_refusals who guard c w) (late_refusals who c w) (sym e))

@@ -1,0 +1,278 @@
+-- What the runs of a branch tell of its places.
+use Rattle.std.proofs.Common.{◌≡◌, ℕ, zero, suc, ◌+◌, ◌-◌, ◌<◌, ◌≤◌, Bool, true, false, nat_eq, cond, min, List, [], ◌∷◌, ◌++◌, length, map, take, Option, Some, None, refl, sym, ap, subst, ◌∙◌, arith, append_assoc, get_or, slice_index_or, eqb-true, append-nil}
+use Rattle.std.specs.List.{list_any}
+use Rattle.std.specs.Arc.{arc_value}
+use Rattle.std.specs.declared.sync.Arc.{Arc}
+use Rattle.checkpoints.specs.Segment.{SegmentRun, IsRun}
+use Rattle.std.proofs.lemmas.List.{map-append, length-append, length-map, length-take, take-append-le}
+use Rattle.frames.specs.declared.types.Step.{Step}
+use Rattle.frames.specs.declared.types.StepEvents.{StepEvents}
+use Rattle.frames.specs.Behaviour.{Behaviour}
+use Rattle.frames.specs.Configuration.{Configuration, initial_configuration, stepped, replayed, history}
+use Rattle.frames.specs.Configuration.{events_of as events_of_step}
+use Rattle.frames.specs.Equality.{SameConfiguration}
+use Rattle.std.specs.Option.{option_map, unwrap_or}
+use Rattle.schedule_trie.specs.Forest.{Forest, step_of, index_of, slots_in, path_by, len_of}
+use Rattle.schedule_trie.specs.Cut.{Cut, piece_at, slots_of, line, forest}
+use Rattle.schedule_trie.proofs.Lines.{slots_in_on}
+use Rattle.cutoff.specs.Fitting.{StoredRun, RunPart, RunFits, Settles, steps_at, reached, counted, part_of}
+use Rattle.cutoff.specs.Held.{Charted, IsSettled, keys_named}
+use Rattle.cutoff.specs.Links.{alone}
+use Rattle.cutoff.proofs.Fits.{register_kept, alone_same}
+use Rattle.views.specs.declared.breakpoint.Break.{Break}
+use Rattle.views.specs.Breaks.{is_met}
+use Rattle.views.specs.Shown.{Alone, first_configuration, shown}
+use Rattle.views.proofs.Alone.{replayed_alone, history_alone, replayed-append, history-append}
+use Rattle.sessions.specs.Seeks.{no_events, events_before, is_hit, steps_of}
+use Rattle.sessions.specs.Walks.{Tells, TellAll, is_on_bit, records_any}
+use Rattle.sessions.proofs.Searches.{met_by_records}
+
+-- the item at a place of two lists
+pub get_behind : {X : Type 0} (xs ys : List X) (m n : ℕ) (d : X) → m ≡ length xs + n → slice_index_or (xs ++ ys) m d ≡ slice_index_or ys n d
+get_behind [] ys m n d e = let same : m ≡ n = omega (arith, e) in ap (λ k. slice_index_or ys k d) same
+get_behind (x ∷ xs) ys zero n d e = absurd (omega (arith, e))
+get_behind (x ∷ xs) ys (suc m) n d e = get_behind xs ys m n d (omega (arith, e))
+
+pub get_within : {X : Type 0} (xs ys : List X) (n : ℕ) (d : X) → n < length xs → slice_index_or (xs ++ ys) n d ≡ slice_index_or xs n d
+get_within [] ys n d h = absurd (omega (arith, h))
+get_within (x ∷ xs) ys zero d h = refl
+get_within (x ∷ xs) ys (suc n) d h = get_within xs ys n d (omega (arith, h))
+
+take_behind : {X : Type 0} (xs ys : List X) (m n : ℕ) → m ≡ length xs + n → take m (xs ++ ys) ≡ xs ++ take n ys
+take_behind [] ys m n e = let same : m ≡ n = omega (arith, e) in ap (λ k. take k ys) same
+take_behind (x ∷ xs) ys zero n e = absurd (omega (arith, e))
+take_behind (x ∷ xs) ys (suc m) n e = ap (λ l. x ∷ l) (take_behind xs ys m n (omega (arith, e)))
+
+module _ {R P : Type 0} (b : Behaviour P) where
+  pub length-history : (c : Configuration R P) (steps : List Step) → length (history b c steps) ≡ length steps
+  length-history c [] = refl
+  length-history c (s ∷ steps) = ap suc (length-history (stepped b c s) steps)
+
+-- a step of a segment that stands on a branch behind a front
+module _ {P : Type 0} (b : Behaviour P) (value : ℕ) (breaks : List Break) (before segment behind steps : List Step) (all : steps ≡ before ++ (segment ++ behind)) where
+  at : Alone P
+  at = shown b value before
+
+  events_in : (i : ℕ) → i < length segment → events_before b value steps (suc (length before + i)) ≡ slice_index_or (history b at segment) i no_events
+  unfolding at
+  events_in i within =
+      let first = first_configuration b value in
+      let parted : history b first steps ≡ history b first before ++ (history b at segment ++ history b (replayed b at segment) behind) =
+      ap (history b first) all ∙ history-append b first before (segment ++ behind) ∙ ap (λ l. history b first before ++ l) (history-append b at segment behind) in
+      let long : length before + i ≡ length (history b first before) + i = ap (λ n. n + i) (sym (length-history b first before)) in
+      ap (λ l. slice_index_or l (length before + i) no_events) parted
+      ∙ get_behind (history b first before) (history b at segment ++ history b (replayed b at segment) behind) (length before + i) i no_events long
+      ∙ get_within (history b at segment) (history b (replayed b at segment) behind) i no_events (omega (arith, within, length-history b at segment))
+
+  shown_in : (i : ℕ) → i < length segment → shown b value (take (suc (length before + i)) steps) ≡ replayed b at (take (i + 1) segment)
+  unfolding at
+  shown_in i within =
+      let first = first_configuration b value in
+      let next : suc (length before + i) ≡ length before + (i + 1) = omega arith in
+      let taken : take (suc (length before + i)) steps ≡ before ++ take (i + 1) segment =
+      ap (take (suc (length before + i))) all ∙ take_behind before (segment ++ behind) (suc (length before + i)) (i + 1) next
+      ∙ ap (λ l. before ++ l) (take-append-le (i + 1) segment behind (omega (arith, within))) in
+      ap (replayed b first) taken ∙ replayed-append b first before (take (i + 1) segment)
+
+  pub hit_in : (i : ℕ) → i < length segment
+      → is_hit b value steps breaks ((length before + 1) + i) ≡ is_met breaks (slice_index_or (history b (shown b value before) segment) i no_events) (replayed b (shown b value before) (take (i + 1) segment)).memory
+  unfolding at
+  hit_in i within =
+      let place : (length before + 1) + i ≡ suc (length before + i) = omega arith in
+      ap (is_hit b value steps breaks) place
+      ∙ ap (λ events. is_met breaks events (shown b value (take (suc (length before + i)) steps)).memory) (events_in i within)
+      ∙ ap (λ c. is_met breaks (slice_index_or (history b (shown b value before) segment) i no_events) c.memory) (shown_in i within)
+
+module _ {R P : Type 0} (E : R → R → Bool) (is : R → Behaviour P) (alike : (x y : R) → E x y ≡ true → is x ≡ is y)
+    (b : Behaviour P) (old new : Cut (StoredRun R P)) (value : ℕ) (breaks : List Break) (steps : List Step) where
+  test : ℕ → Bool
+  test place = is_hit b value steps breaks place
+
+  abbrev along : List ℕ → List Step
+  along keys = map step_of (line (piece_at old.pieces) keys)
+
+  along_more : (k : ℕ) (ks : List ℕ) → along (k ∷ ks) ≡ steps_at old k ++ along ks
+  along_more k ks = map-append step_of (slots_of (piece_at old.pieces k)) (line (piece_at old.pieces) ks)
+
+  -- a run that stands behind a front, and counts whole
+  one : (before : List Step) (c : Configuration R P) (k : ℕ) (ks : List ℕ) (part : RunPart R P) → is c.register ≡ b → alone c ≡ shown b value before
+      → steps ≡ before ++ along (k ∷ ks) → RunFits E c (steps_at old k) part.run → part.count ≡ length (steps_at old k)
+      → Tells is breaks (is_hit b value steps breaks) (length before) part
+  one before c k ks part home comes all fits count =
+      let own : is part.run.entry.register ≡ b = alike part.run.entry.register c.register fits.entry.register ∙ home in
+      let entry : alone part.run.entry ≡ shown b value before = alone_same E part.run.entry c fits.entry ∙ comes in
+      let parted : steps ≡ before ++ (part.run.steps ++ along ks) =
+      all ∙ ap (λ l. before ++ l) (along_more k ks ∙ ap (λ l. l ++ along ks) (sym fits.steps)) in
+      let long : part.count ≡ length part.run.steps = count ∙ ap length (sym fits.steps) in
+      record {
+        within = omega (arith, long);
+        each = λ i h.
+            hit_in b value breaks before part.run.steps (along ks) steps parted i (omega (arith, h, long))
+            ∙ sym (ap (λ d. is_met breaks (slice_index_or (history d part.run.entry part.run.steps) i no_events) (replayed d part.run.entry (take (i + 1) part.run.steps)).memory) own
+            ∙ ap (λ events. is_met breaks (slice_index_or events i no_events) (replayed b part.run.entry (take (i + 1) part.run.steps)).memory) (history_alone b part.run.entry part.run.steps)
+            ∙ ap (λ d. is_met breaks (slice_index_or (history b (alone part.run.entry) part.run.steps) i no_events) d.memory) (replayed_alone b part.run.entry (take (i + 1) part.run.steps))
+            ∙ ap (λ d. is_met breaks (slice_index_or (history b d part.run.steps) i no_events) (replayed b d (take (i + 1) part.run.steps)).memory) entry);
+      }
+
+  nothing : (place : ℕ) (parts : List (RunPart R P)) → parts ≡ [] → TellAll is breaks (is_hit b value steps breaks) place parts
+  nothing place parts e = subst (TellAll is breaks (is_hit b value steps breaks) place) (sym e) tt
+
+  -- the runs of a settle of all that is behind a front
+  told : (before : List Step) (c : Configuration R P) (keys : List ℕ) (rest : ℕ) (parts : List (RunPart R P)) (n : ℕ) → is c.register ≡ b → alone c ≡ shown b value before
+      → steps ≡ before ++ along keys → rest ≡ length (along keys) → Settles E b old new c rest (reached old rest keys) parts n
+      → TellAll is breaks (is_hit b value steps breaks) (length before) parts
+  told before c [] rest parts n home comes all long h = nothing (length before) parts h.0
+  told before c (k ∷ ks) rest parts n home comes all long h = by (λ before' c' rest' parts' n'. told before' c' ks rest' parts' n') (nat_eq rest 0) parts h
+    where
+      Later : Type 0
+      Later = (before' : List Step) (c' : Configuration R P) (rest' : ℕ) (parts' : List (RunPart R P)) (n' : ℕ) → is c'.register ≡ b → alone c' ≡ shown b value before'
+          → steps ≡ before' ++ along ks → rest' ≡ length (along ks) → Settles E b old new c' rest' (reached old rest' ks) parts' n'
+          → TellAll is breaks (is_hit b value steps breaks) (length before') parts'
+
+      some : Later → (part : RunPart R P) (parts' : List (RunPart R P)) → Settles E b old new c rest (k ∷ reached old (rest - length (steps_at old k)) ks) (part ∷ parts') n
+          → TellAll is breaks (is_hit b value steps breaks) (length before) (part ∷ parts')
+      some later part parts' s =
+          let segment : List Step = steps_at old k in
+          let total : rest ≡ length segment + length (along ks) = long ∙ ap length (along_more k ks) ∙ length-append segment (along ks) in
+          let count : part.count ≡ length segment = s.3.count ∙ omega (arith, total) in
+          let parted : steps ≡ (before ++ segment) ++ along ks = all ∙ ap (λ l. before ++ l) (along_more k ks) ∙ sym (append_assoc before segment (along ks)) in
+          let next : alone (replayed b c segment) ≡ shown b value (before ++ segment) =
+          replayed_alone b c segment ∙ ap (λ d. replayed b d segment) comes ∙ sym (replayed-append b (first_configuration b value) before segment) in
+          let place : length (before ++ segment) ≡ length before + part.count = length-append before segment ∙ ap (λ m. length before + m) (sym count) in
+          (one before c k ks part home comes all s.3.fits count,
+          subst (λ m. TellAll is breaks (is_hit b value steps breaks) m parts') place
+          (later (before ++ segment) (replayed b c segment) (rest - length segment) parts' s.1 (ap is (register_kept b c segment) ∙ home) next parted (omega (arith, total)) s.4))
+
+      by : Later → (t : Bool) (parts' : List (RunPart R P)) → Settles E b old new c rest (cond t [] (k ∷ reached old (rest - length (steps_at old k)) ks)) parts' n
+          → TellAll is breaks (is_hit b value steps breaks) (length before) parts'
+      by later true parts' s = nothing (length before) parts' s.0
+      by later false [] s = absurd s
+      by later false (part ∷ parts') s = some later part parts' s
+
+-- the steps of the branch of a name are those along its keys
+steps_named : {R P : Type 0} (cut : Cut (StoredRun R P)) (name : List ℕ) → steps_of (forest cut) name ≡ map step_of (line (piece_at cut.pieces) (keys_named cut name))
+steps_named cut name = by (index_of (forest cut).branches name) refl
+  where
+    by : (o : Option ℕ) → index_of (forest cut).branches name ≡ o → steps_of (forest cut) name ≡ map step_of (line (piece_at cut.pieces) (keys_named cut name))
+    by None e = rw e refl
+    by (Some i) e = rw e (ap (map step_of) (slots_in_on (piece_at cut.pieces) cut.strands i))
+
+module _ {R P : Type 0} (E : R → R → Bool) (is : R → Behaviour P) (alike : (x y : R) → E x y ≡ true → is x ≡ is y) where
+  -- what a settle of a whole branch answers
+  pub runs_tell : (old new : Charted R P) (name : List ℕ) (len : ℕ) (parts : List (RunPart R P)) (n : ℕ) (breaks : List Break) → len ≡ length (steps_of (forest old.cut) name)
+      → old.start ≡ initial_configuration (is old.start.register) old.start.register old.value
+      → IsSettled E (is old.start.register) old new name len parts n
+      → TellAll is breaks (is_hit (is old.start.register) old.value (steps_of (forest old.cut) name) breaks) 0 parts
+  runs_tell old new name len parts n breaks long begins h =
+      let b = is old.start.register in
+      let named = steps_named old.cut name in
+      told E is alike b old.cut new.cut old.value breaks (steps_of (forest old.cut) name) [] old.start (keys_named old.cut name) len parts n refl (ap alone begins) named
+      (long ∙ ap length named) h.settles
+
+-- one step of many
+module _ {R P : Type 0} (b : Behaviour P) where
+  pub made_next : (c : Configuration R P) (steps : List Step) (i : ℕ) (s : Step) → i < length steps → s ≡ get_or steps i s
+      → replayed b c (take (i + 1) steps) ≡ stepped b (replayed b c (take i steps)) s
+  made_next c [] i s h e = absurd (omega (arith, h))
+  made_next c (x ∷ steps) zero s h e = let same : x ≡ s = sym e in ap (stepped b c) same
+  made_next c (x ∷ steps) (suc i) s h e =
+      let next : suc i + 1 ≡ suc (i + 1) = omega arith in
+      ap (λ n. replayed b c (take n (x ∷ steps))) next ∙ made_next (stepped b c x) steps i s (omega (arith, h)) e
+
+  pub recorded_next : (c : Configuration R P) (steps : List Step) (i : ℕ) (s : Step) → i < length steps → s ≡ get_or steps i s
+      → slice_index_or (history b c steps) i no_events ≡ events_of_step b (replayed b c (take i steps)) s
+  recorded_next c [] i s h e = absurd (omega (arith, h))
+  recorded_next c (x ∷ steps) zero s h e = let same : x ≡ s = sym e in ap (events_of_step b c) same
+  recorded_next c (x ∷ steps) (suc i) s h e = recorded_next (stepped b c x) steps i s (omega (arith, h)) e
+
+  pub recorded_front : (c : Configuration R P) (steps : List Step) (count i : ℕ) → i < count
+      → slice_index_or (history b c (take count steps)) i no_events ≡ slice_index_or (history b c steps) i no_events
+  recorded_front c steps zero i h = absurd (omega (arith, h))
+  recorded_front c [] (suc count) i h = refl
+  recorded_front c (x ∷ steps) (suc count) zero h = refl
+  recorded_front c (x ∷ steps) (suc count) (suc i) h = recorded_front (stepped b c x) steps count i (omega (arith, h))
+
+pub get_front : {X : Type 0} (xs : List X) (count i : ℕ) (d : X) → i < count → slice_index_or (take count xs) i d ≡ slice_index_or xs i d
+get_front xs zero i d h = absurd (omega (arith, h))
+get_front [] (suc count) i d h = refl
+get_front (x ∷ xs) (suc count) zero d h = refl
+get_front (x ∷ xs) (suc count) (suc i) d h = get_front xs count i d (omega (arith, h))
+
+pub take_front : {X : Type 0} (xs : List X) (count n : ℕ) → n ≤ count → take n (take count xs) ≡ take n xs
+take_front xs count zero h = refl
+take_front xs zero (suc n) h = absurd (omega (arith, h))
+take_front [] (suc count) (suc n) h = refl
+take_front (x ∷ xs) (suc count) (suc n) h = ap (λ l. x ∷ l) (take_front xs count n (omega (arith, h)))
+
+-- what a run tells of its places
+module _ {R P : Type 0} (is : R → Behaviour P) (breaks : List Break) (test : ℕ → Bool) (place : ℕ) (run : SegmentRun R P) (count : ℕ) (tells : Tells is breaks test place (record { run = run; count = count })) where
+  pub events_tell : IsRun (is run.entry.register) run → list_any is_on_bit breaks ≡ false → (i : ℕ) → i < length (take count run.events)
+      → test ((place + 1) + i) ≡ records_any breaks (slice_index_or (take count run.events) i no_events)
+  events_tell true_run none i h =
+      let within : i < count = omega (arith, h, length-take count run.events) in
+      let b = is run.entry.register in
+      tells.each i within
+      ∙ met_by_records breaks (slice_index_or (history b run.entry run.steps) i no_events) (replayed b run.entry (take (i + 1) run.steps)).memory none
+      ∙ ap (λ events. records_any breaks (slice_index_or events i no_events)) (sym true_run.events)
+      ∙ ap (records_any breaks) (sym (get_front run.events count i no_events within))
+
+  pub events_count : IsRun (is run.entry.register) run → length (take count run.events) ≡ count
+  events_count true_run =
+      let long : length run.events ≡ length run.steps = ap length true_run.events ∙ length-history (is run.entry.register) run.entry run.steps in
+      omega (arith, length-take count run.events, long, tells.within)
+
+  pub steps_tell : (i : ℕ) → i < length (take count run.steps)
+      → test ((place + 1) + i) ≡ is_met breaks (slice_index_or (history (is run.entry.register) run.entry (take count run.steps)) i no_events)
+      (replayed (is run.entry.register) run.entry (take (i + 1) (take count run.steps))).memory
+  steps_tell i h =
+      let within : i < count = omega (arith, h, length-take count run.steps) in
+      let b = is run.entry.register in
+      tells.each i within
+      ∙ ap (λ events. is_met breaks events (replayed b run.entry (take (i + 1) run.steps)).memory) (sym (recorded_front b run.entry run.steps count i within))
+      ∙ ap (λ steps. is_met breaks (slice_index_or (history b run.entry (take count run.steps)) i no_events) (replayed b run.entry steps).memory)
+      (sym (take_front run.steps count (i + 1) (omega (arith, within))))
+
+  pub steps_count : length (take count run.steps) ≡ count
+  steps_count = omega (arith, length-take count run.steps, tells.within)
+
+-- runs one after the other
+module _ {R P Z : Type 0} where
+  pub counted_split : (runs : List (Arc (SegmentRun R P) Z × ℕ)) (i : ℕ) (x : Arc (SegmentRun R P) Z × ℕ) → i < length runs → x ≡ get_or runs i x
+      → counted (map part_of (take (i + 1) runs)) ≡ counted (map part_of (take i runs)) + x.1
+  counted_split [] i x h e = absurd (omega (arith, h))
+  counted_split (y ∷ runs) zero x h e = let same : y ≡ x = sym e in ap (λ (z : Arc (SegmentRun R P) Z × ℕ). z.1 + 0) same ∙ omega arith
+  counted_split (y ∷ runs) (suc i) x h e =
+      let next : suc i + 1 ≡ suc (i + 1) = omega arith in
+      ap (λ n. counted (map part_of (take n (y ∷ runs)))) next ∙ ap (λ n. y.1 + n) (counted_split runs i x (omega (arith, h)) e) ∙ omega arith
+
+  pub counted_within : (runs : List (Arc (SegmentRun R P) Z × ℕ)) (n : ℕ) → counted (map part_of (take n runs)) ≤ counted (map part_of runs)
+  counted_within runs zero = omega arith
+  counted_within [] (suc n) = omega arith
+  counted_within (y ∷ runs) (suc n) = omega (arith, counted_within runs n)
+
+  pub tells_at : (is : R → Behaviour P) (breaks : List Break) (test : ℕ → Bool) (place : ℕ) (runs : List (Arc (SegmentRun R P) Z × ℕ)) (i : ℕ) (x : Arc (SegmentRun R P) Z × ℕ)
+      → i < length runs → x ≡ get_or runs i x → TellAll is breaks test place (map part_of runs) → Tells is breaks test (place + counted (map part_of (take i runs))) (part_of x)
+  tells_at is breaks test place [] i x h e t = absurd (omega (arith, h))
+  tells_at is breaks test place (y ∷ runs) zero x h e t =
+      let none : place ≡ place + 0 = omega arith in
+      let same : y ≡ x = sym e in
+      subst (λ n. Tells is breaks test n (part_of x)) none (subst (λ (z : Arc (SegmentRun R P) Z × ℕ). Tells is breaks test place (part_of z)) same t.0)
+  tells_at is breaks test place (y ∷ runs) (suc i) x h e t =
+      let next : (place + y.1) + counted (map part_of (take i runs)) ≡ place + (y.1 + counted (map part_of (take i runs))) = omega arith in
+      subst (λ n. Tells is breaks test n (part_of x)) next (tells_at is breaks test (place + y.1) runs i x (omega (arith, h)) e t.1)
+
+-- how long a branch is
+pub length_told : (f : Forest) (name : List ℕ) (len : ℕ) → Some len ≡ len_of f name → len ≡ length (steps_of f name)
+length_told f name len e = by (index_of f.branches name) refl
+  where
+    Counts : Option ℕ → Type 0
+    Counts o = Some len ≡ option_map (λ i. length (slots_in f.branches i)) o
+
+    by : (o : Option ℕ) → index_of f.branches name ≡ o → len ≡ length (steps_of f name)
+    by None s =
+        let bad : ◌≡◌ {A = Option ℕ} (Some len) None = subst Counts s e in
+        cc
+    by (Some i) s =
+        let found : Some len ≡ Some (length (slots_in f.branches i)) = subst Counts s e in
+        let same : len ≡ length (slots_in f.branches i) = cc in
+        subst (λ (o : Option ℕ). len ≡ length (unwrap_or (path_by o f) [])) (sym s) (same ∙ sym (length-map (slots_in f.branches i) step_of))

@@ -1,0 +1,82 @@
+-- What a search has found behind one more place.
+use Rattle.std.proofs.Common.{◌≡◌, ℕ, zero, suc, ◌+◌, Bool, true, false, ◌&&◌, ◌||◌, cond, nat_lt, List, [], ◌∷◌, ◌++◌, Option, Some, None, refl, sym, ap, ◌∙◌, arith, append-nil, reverse}
+use Rattle.std.specs.List.{find, filter, list_any, range_with_len}
+use Rattle.std.specs.Option.{option_or}
+use Rattle.std.proofs.lemmas.List.{reverse-append}
+use Rattle.std.proofs.lemmas.List.Elements.{filter-append}
+use Rattle.std.proofs.lemmas.List.Folds.{find-append}
+use Rattle.safe_bit.specs.Memory.{Memory}
+use Rattle.frames.specs.declared.types.StepEvents.{StepEvents}
+use Rattle.views.specs.declared.breakpoint.Break.{Break}
+use Rattle.views.specs.declared.breakpoint.Break.TheVariants.{Returns, Bit, Chosen, Void, Refused}
+use Rattle.views.specs.Breaks.{is_met, is_recorded, is_shown}
+use Rattle.sessions.specs.declared.way.Way.{Way}
+use Rattle.sessions.specs.declared.way.Way.TheVariants.{Forth, Back}
+use Rattle.sessions.specs.Seeks.{places_with, least_above, greatest_below}
+use Rattle.sessions.specs.Walks.{is_on_bit, records_any}
+
+range_more : (a n : ℕ) → range_with_len a (suc n) ≡ range_with_len a n ++ (a + n) ∷ []
+range_more a zero = let e : a ≡ a + 0 = omega arith in ap (λ m. m ∷ []) e
+range_more a (suc n) =
+    let e : (a + 1) + n ≡ a + suc n = omega arith in
+    ap (λ l. a ∷ l) (range_more (a + 1) n ∙ ap (λ m. range_with_len (a + 1) n ++ m ∷ []) e)
+
+module _ (test : ℕ → Bool) where
+  alone : (place : ℕ) → filter test (place ∷ []) ≡ cond (test place) (place ∷ []) []
+  alone place = refl
+
+  pub places_more : (place : ℕ) → places_with test (place + 1) ≡ places_with test place ++ cond (test place) (place ∷ []) []
+  places_more place =
+      let e : place + 1 ≡ suc place = omega arith in
+      let z : 0 + place ≡ place = omega arith in
+      ap (places_with test) e ∙ ap (filter test) (range_more 0 place ∙ ap (λ m. range_with_len 0 place ++ m ∷ []) z)
+      ∙ filter-append test (range_with_len 0 place) (place ∷ [])
+
+  pub find_one : (p : ℕ → Bool) (place : ℕ) (hit : Bool) → find p (cond hit (place ∷ []) []) ≡ cond (hit && p place) (Some place) None
+  find_one p place true = refl
+  find_one p place false = refl
+
+  pub find_last : (p : ℕ → Bool) (places : List ℕ) (place : ℕ) (hit : Bool)
+      → find p (reverse (places ++ cond hit (place ∷ []) [])) ≡ cond (hit && p place) (Some place) (find p (reverse places))
+  find_last p places place true = ap (find p) (reverse-append places (place ∷ []))
+  find_last p places place false = ap (λ l. find p (reverse l)) (append-nil places)
+
+  pub forth_more : (from place : ℕ) (hit : Bool) (found result : Option ℕ) → test place ≡ hit → found ≡ least_above from (places_with test place)
+      → result ≡ option_or found (cond (hit && nat_lt from place) (Some place) None) → result ≡ least_above from (places_with test (place + 1))
+  forth_more from place hit found result told before after =
+      after ∙ ap (λ o. option_or o (cond (hit && nat_lt from place) (Some place) None)) before
+      ∙ ap (option_or (find (nat_lt from) (places_with test place))) (sym (find_one (nat_lt from) place hit) ∙ ap (λ h. find (nat_lt from) (cond h (place ∷ []) [])) (sym told))
+      ∙ sym (find-append (nat_lt from) (places_with test place) (cond (test place) (place ∷ []) []))
+      ∙ ap (find (nat_lt from)) (sym (places_more place))
+
+  pub back_more : (from place : ℕ) (hit : Bool) (found result : Option ℕ) → test place ≡ hit → found ≡ greatest_below from (places_with test place)
+      → result ≡ cond (hit && nat_lt place from) (Some place) found → result ≡ greatest_below from (places_with test (place + 1))
+  back_more from place hit found result told before after =
+      let below : ℕ → Bool = λ k. nat_lt k from in
+      after ∙ ap (cond (hit && below place) (Some place)) before
+      ∙ sym (find_last below (places_with test place) place hit)
+      ∙ ap (λ h. find below (reverse (places_with test place ++ cond h (place ∷ []) []))) (sym told)
+      ∙ ap (λ l. find below (reverse l)) (sym (places_more place))
+
+-- breaks of which none is on a bit
+or_false : (a b : Bool) → (a || b) ≡ false → (a ≡ false) × (b ≡ false)
+or_false true b e = cc
+or_false false b e = (refl, e)
+
+shown_false : (break : Break) (m : Memory) → is_on_bit break ≡ false → is_shown break m ≡ false
+shown_false (Returns p) m e = refl
+shown_false (Bit j v) m e = cc
+shown_false Chosen m e = refl
+shown_false Void m e = refl
+shown_false Refused m e = refl
+
+or_nothing : (a b : Bool) → b ≡ false → (a || b) ≡ a
+or_nothing true b e = refl
+or_nothing false b e = e
+
+pub met_by_records : (breaks : List Break) (events : StepEvents) (m : Memory) → list_any is_on_bit breaks ≡ false → is_met breaks events m ≡ records_any breaks events
+met_by_records [] events m e = refl
+met_by_records (break ∷ breaks) events m e =
+    let none = or_false (is_on_bit break) (list_any is_on_bit breaks) e in
+    ap (λ b. b || is_met breaks events m) (or_nothing (is_recorded break events) (is_shown break m) (shown_false break m none.0))
+    ∙ ap (λ b. is_recorded break events || b) (met_by_records breaks events m none.1)

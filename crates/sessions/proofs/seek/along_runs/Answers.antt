@@ -1,0 +1,35 @@
+use Rattle.std.proofs.Common.{◌≡◌, ◌∙◌, ◌<◌, ◌+◌, ◌^◌, sym, ap, subst, map, take, arith}
+use Rattle.cutoff.specs.Fitting.{counted, part_of}
+use Rattle.sessions.specs.Seeks.{next_of, places_with}
+use Rattle.sessions.specs.Walks.{Tells}
+use Rattle.sessions.proofs.Runs.{counted_split, counted_within, tells_at}
+use Rattle.sessions.proofs.seek.along_runs.Goals as goal
+
+pub along_run-requires : goal.along_run-requires
+along_run-requires g c =
+    let runs = c.args.runs.now in
+    let i = c.loop-run.run-index in
+    omega (arith, counted_split runs i c.loop-run-item.result c.loop-run-test.true c.loop-run-item.is, counted_within runs (i + 1), c.loop-run.invariant.place, c.requires.room)
+
+pub overflow_add-place : goal.overflow_add-place
+overflow_add-place g c =
+    let runs = c.args.runs.now in
+    let i = c.loop-run.run-index in
+    omega (arith, counted_split runs i c.loop-run-item.result c.loop-run-test.true c.loop-run-item.is, counted_within runs (i + 1), c.loop-run.invariant.place, c.requires.room)
+
+pub loop-run-preserved : goal.loop-run-preserved
+loop-run-preserved g c =
+    let is = g.R.Behaves.is in
+    let runs = c.args.runs.now in
+    let i = c.loop-run.run-index in
+    let x = c.loop-run-item.result in
+    let place = c.loop-run.place in
+    let here : 0 + counted (map part_of (take i runs)) ≡ place = omega (arith, c.loop-run.invariant.place) in
+    record {
+      place = ap (λ n. n + x.1) c.loop-run.invariant.place ∙ sym (counted_split runs i x c.loop-run-test.true c.loop-run-item.is);
+      found = λ test first tells.
+          c.in_ok-found.ensures test
+          (subst (λ r. Tells is c.args.breaks.now test place (record { run = r; count = x.1 })) (sym c.deref.ensures)
+          (subst (λ n. Tells is c.args.breaks.now test n (part_of x)) here (tells_at is c.args.breaks.now test 0 runs i x c.loop-run-test.true c.loop-run-item.is tells)))
+          (c.loop-run.invariant.found test first tells);
+    }

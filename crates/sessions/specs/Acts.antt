@@ -1,0 +1,199 @@
+-- What a command does: why it is refused, and else what it leaves and replies.
+use Rattle.std.specs.Prelude.{ℕ, ◌+◌, Bool, true, false, not, ◌==◌, ◌&&◌, ◌||◌, nat_le, nat_lt, List, [], ◌∷◌, ◌++◌, Option, Some, None, Result, Ok, Err, is_none, slice_set, option_and_then, if◌then◌else◌}
+use Rattle.std.specs.Option.{option_map}
+use Rattle.frames.specs.Behaviour.{Behaviour}
+use Rattle.frames.specs.Configuration.{fits_step}
+use Rattle.schedule_trie.specs.declared.limits.Limits.{Limits}
+use Rattle.schedule_trie.specs.declared.refusal.Refusal.{Refusal}
+use Rattle.schedule_trie.specs.declared.refusal.Refusal.TheVariants.{LogFull, NoSession, Newer, BadStep, Occupied, NoBreak}
+use Rattle.schedule_trie.specs.Forest as forests
+use Rattle.schedule_trie.specs.Forest.{Forest}
+use Rattle.cutoff.specs.Held.{look}
+use Rattle.views.specs.declared.breakpoint.Break.{Break}
+use Rattle.sessions.specs.declared.cursor.Cursor.{Cursor}
+use Rattle.sessions.specs.declared.cursor.Shift.TheVariants as shift
+use Rattle.sessions.specs.declared.way.Way.{Way}
+use Rattle.sessions.specs.declared.way.Way.TheVariants as way
+use Rattle.sessions.specs.declared.command.Command.{Command}
+use Rattle.sessions.specs.declared.command.Command.TheVariants as command
+use Rattle.sessions.specs.declared.reply.Reply.{Reply}
+use Rattle.sessions.specs.declared.reply.Reply.TheVariants.{Joined, Left, Edited, Moved, NoHit, BreakSet, BreakCleared, No}
+use Rattle.sessions.specs.Cursors.{cursor, cursor_at, first_cursor, shifted, each_cursor, is_occupied}
+use Rattle.sessions.specs.BreakLists.{breaks_at, has_break, with_break, without_break}
+use Rattle.sessions.specs.Seeks.{steps_of, hits, next_of}
+use Rattle.sessions.specs.World.{World}
+
+-- a command of a session that has joined; the others are any session's
+abbrev pub needs_session : Command → Bool
+needs_session command.Leave = true
+needs_session (command.Go branch place) = true
+needs_session command.Seek = true
+needs_session command.Back = true
+needs_session (command.Break break) = true
+needs_session (command.Clear break) = true
+needs_session c = false
+
+abbrev pub lacks_session : ℕ → Command → List (Option Cursor) → Bool
+lacks_session who c cursors = nat_lt 15 who || (needs_session c && is_none (cursor_at cursors who))
+
+-- a guard that was given, and isn't the edit count
+abbrev pub is_missed : Option ℕ → ℕ → Bool
+is_missed None edits = false
+is_missed (Some guard) edits = not (guard == edits)
+
+-- the step that a command brings, if any, fits
+abbrev pub fits_command : {P : Type 0} → Behaviour P → Command → Bool
+fits_command b (command.Insert branch place step) = fits_step b step
+fits_command b (command.Replace branch place step) = fits_step b step
+fits_command b c = true
+
+-- the branches after a command, or why they refuse it; a go only looks
+abbrev pub branches_after : Limits → Forest → Command → Result Forest Refusal
+branches_after limits f (command.Insert branch place step) = forests.insert limits f branch place step
+branches_after limits f (command.Remove branch place) = forests.remove_cell f branch place
+branches_after limits f (command.Replace branch place step) = forests.replace_step f branch place step
+branches_after limits f (command.Fork branch place name) = forests.fork limits f branch place name
+branches_after limits f (command.Detach branch) = forests.detach limits f branch
+branches_after limits f (command.Drop branch) = forests.drop_branch f branch
+branches_after limits f (command.Go branch place) = look f branch place
+branches_after limits f c = Ok f
+
+-- a drop of a branch on which a cursor stands
+abbrev pub drops_occupied : Command → List (Option Cursor) → Bool
+drops_occupied (command.Drop branch) cursors = is_occupied branch cursors
+drops_occupied c cursors = false
+
+-- a clear of a break that isn't there
+abbrev pub lacks_break : ℕ → Command → List (List Break) → Bool
+lacks_break who (command.Clear break) breaks = not (has_break break (breaks_at breaks who))
+lacks_break who c breaks = false
+
+abbrev pub refused_if : Bool → Refusal → Option Refusal
+refused_if condition r = if condition then Some r else None
+
+abbrev pub refusal_in : Result Forest Refusal → Option Refusal
+refusal_in (Ok f) = None
+refusal_in (Err r) = Some r
+
+-- the first refusal of a list
+abbrev pub first_refusal : List (Option Refusal) → Option Refusal
+first_refusal [] = None
+first_refusal (None ∷ rs) = first_refusal rs
+first_refusal (Some r ∷ rs) = Some r
+
+module _ {P : Type 0} where
+  -- no more commands can be logged
+  abbrev pub is_full : World P → Bool
+  is_full w = nat_le w.limits.log w.logged
+
+  -- why a command is refused, in order
+  abbrev pub early_refusals : ℕ → Option ℕ → Command → World P → List (Option Refusal)
+  early_refusals who guard c w =
+      refused_if (is_full w) LogFull
+      ∷ refused_if (lacks_session who c w.cursors) NoSession
+      ∷ refused_if (is_missed guard w.edits) (Newer w.edits)
+      ∷ refused_if (not (fits_command w.tower c)) BadStep
+      ∷ []
+
+  abbrev pub late_refusals : ℕ → Command → World P → List (Option Refusal)
+  late_refusals who c w =
+      refusal_in (branches_after w.limits w.forest c)
+      ∷ refused_if (drops_occupied c w.cursors) Occupied
+      ∷ refused_if (lacks_break who c w.breaks) NoBreak
+      ∷ []
+
+  abbrev pub refusals : ℕ → Option ℕ → Command → World P → List (Option Refusal)
+  refusals who guard c w = early_refusals who guard c w ++ late_refusals who c w
+
+  -- where a seek takes a session's cursor, if there is a hit on its way
+  abbrev pub hit_from : Way → World P → List Break → Cursor → Option Cursor
+  hit_from towards w breaks c = option_map (cursor c.branch) (next_of towards c.place (hits w.tower w.value (steps_of w.forest c.branch) breaks))
+
+  abbrev pub hit_of : Way → World P → ℕ → Option Cursor
+  hit_of towards w who = option_and_then (hit_from towards w (breaks_at w.breaks who)) (cursor_at w.cursors who)
+
+-- a cursor goes where a seek takes it; where it takes it nowhere nothing moves
+abbrev pub put_cursor : ℕ → Option Cursor → List (Option Cursor) → List (Option Cursor)
+put_cursor who None cursors = cursors
+put_cursor who (Some c) cursors = slice_set cursors who (Some c)
+
+-- the cursors after a command that isn't refused
+abbrev pub cursors_after : {P : Type 0} → ℕ → Command → World P → List (Option Cursor)
+cursors_after who command.Join w = slice_set w.cursors who (first_cursor w.forest)
+cursors_after who command.Leave w = slice_set w.cursors who None
+cursors_after who (command.Insert branch place step) w = each_cursor (shifted shift.Up w.forest branch place) w.cursors
+cursors_after who (command.Remove branch place) w = each_cursor (shifted shift.Down w.forest branch place) w.cursors
+cursors_after who (command.Go branch place) w = slice_set w.cursors who (Some (cursor branch place))
+cursors_after who command.Seek w = put_cursor who (hit_of way.Forth w who) w.cursors
+cursors_after who command.Back w = put_cursor who (hit_of way.Back w who) w.cursors
+cursors_after who c w = w.cursors
+
+-- the breaks after it
+abbrev pub breaks_after : ℕ → Command → List (List Break) → List (List Break)
+breaks_after who command.Join breaks = slice_set breaks who []
+breaks_after who command.Leave breaks = slice_set breaks who []
+breaks_after who (command.Break break) breaks = slice_set breaks who (with_break break (breaks_at breaks who))
+breaks_after who (command.Clear break) breaks = slice_set breaks who (without_break break (breaks_at breaks who))
+breaks_after who c breaks = breaks
+
+-- an edit is counted
+abbrev pub edits_after : Command → ℕ → ℕ
+edits_after (command.Insert branch place step) edits = edits + 1
+edits_after (command.Remove branch place) edits = edits + 1
+edits_after (command.Replace branch place step) edits = edits + 1
+edits_after (command.Fork branch place name) edits = edits + 1
+edits_after (command.Detach branch) edits = edits + 1
+edits_after (command.Drop branch) edits = edits + 1
+edits_after c edits = edits
+
+abbrev pub hit_reply : Option Cursor → Reply
+hit_reply None = NoHit
+hit_reply (Some c) = Moved c.branch c.place
+
+-- the reply to it
+abbrev pub reply_to : {P : Type 0} → ℕ → Command → World P → Reply
+reply_to who command.Join w = Joined
+reply_to who command.Leave w = Left
+reply_to who (command.Go branch place) w = Moved branch place
+reply_to who command.Seek w = hit_reply (hit_of way.Forth w who)
+reply_to who command.Back w = hit_reply (hit_of way.Back w who)
+reply_to who (command.Break break) w = BreakSet
+reply_to who (command.Clear break) w = BreakCleared
+reply_to who edit w = Edited (w.edits + 1)
+
+abbrev pub kept_or : Result Forest Refusal → Forest → Forest
+kept_or (Ok new) f = new
+kept_or (Err r) f = f
+
+-- a command is counted
+abbrev pub counted : {P : Type 0} → World P → World P
+counted w = record w { logged = w.logged + 1 }
+
+-- a command that isn't refused leaves this
+abbrev pub left : {P : Type 0} → ℕ → Command → World P → World P
+left who c w =
+    record w {
+      forest = kept_or (branches_after w.limits w.forest c) w.forest;
+      cursors = cursors_after who c w;
+      breaks = breaks_after who c w.breaks;
+      edits = edits_after c w.edits;
+      logged = w.logged + 1;
+    }
+
+-- a refused command is counted and changes nothing else; where the log is full it isn't counted
+abbrev pub refused : {P : Type 0} → Refusal → World P → World P
+refused LogFull w = w
+refused r w = counted w
+
+-- what a command leaves and replies
+pub record Acted (P : Type 0) : Type 0 where
+  pub world : World P
+  pub reply : Reply
+
+abbrev pub answered : {P : Type 0} → Option Refusal → ℕ → Command → World P → Acted P
+answered None who c w = record { world = left who c w; reply = reply_to who c w }
+answered (Some r) who c w = record { world = refused r w; reply = No r }
+
+-- a session's command, with its guard
+abbrev pub acted : {P : Type 0} → ℕ → Option ℕ → Command → World P → Acted P
+acted who guard c w = answered (first_refusal (refusals who guard c w)) who c w

@@ -1,0 +1,31 @@
+-- The breaks of a session.
+use Rattle.std.specs.Prelude.{ℕ, Bool, true, false, not, ◌==◌, ◌&&◌, List, [], ◌∷◌, ◌++◌, filter, slice_index_or, if◌then◌else◌}
+use Rattle.std.specs.List.{list_any}
+use Rattle.views.specs.declared.breakpoint.Break.{Break}
+use Rattle.views.specs.declared.breakpoint.Break.TheVariants.{Returns, Bit, Chosen, Void, Refused}
+
+abbrev pub is_same : Break → Break → Bool
+is_same (Returns p) (Returns q) = p == q
+is_same (Bit j v) (Bit k w) = (j == k) && (v == w)
+is_same Chosen Chosen = true
+is_same Void Void = true
+is_same Refused Refused = true
+is_same (Returns p) other = false
+is_same (Bit j v) other = false
+is_same Chosen other = false
+is_same Void other = false
+is_same Refused other = false
+
+-- the breaks of a session of these
+abbrev pub breaks_at : List (List Break) → ℕ → List Break
+breaks_at breaks who = slice_index_or breaks who []
+
+abbrev pub has_break : Break → List Break → Bool
+has_break break breaks = list_any (is_same break) breaks
+
+-- a break is added last, where it isn't there
+abbrev pub with_break : Break → List Break → List Break
+with_break break breaks = if has_break break breaks then breaks else breaks ++ break ∷ []
+
+abbrev pub without_break : Break → List Break → List Break
+without_break break breaks = filter (λ other. not (is_same break other)) breaks

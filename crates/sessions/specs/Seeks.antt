@@ -1,0 +1,63 @@
+-- The places of a branch at which a break is met, and the one that a seek comes to.
+use Rattle.std.specs.Prelude.{ℕ, zero, suc, ◌+◌, ◌≡◌, ◌<◌, Bool, true, false, nat_lt, List, [], Option, None, length, filter, take, reverse, slice_index_or}
+use Rattle.std.specs.List.{find, range_with_len}
+use Rattle.std.specs.Option.{unwrap_or}
+use Rattle.frames.specs.declared.types.Step.{Step}
+use Rattle.frames.specs.declared.types.StepEvents.{StepEvents}
+use Rattle.frames.specs.Behaviour.{Behaviour}
+use Rattle.frames.specs.Configuration.{history}
+use Rattle.schedule_trie.specs.Forest.{Forest, path_of}
+use Rattle.views.specs.declared.breakpoint.Break.{Break}
+use Rattle.views.specs.Breaks.{is_met}
+use Rattle.views.specs.Shown.{first_configuration, shown}
+use Rattle.sessions.specs.declared.way.Way.{Way}
+use Rattle.sessions.specs.declared.way.Way.TheVariants.{Forth, Back}
+
+-- the steps of a branch; none where there is no such branch
+abbrev pub steps_of : Forest → List ℕ → List Step
+steps_of f branch = unwrap_or (path_of f branch) []
+
+abbrev pub no_events : StepEvents
+no_events = record { first = None; second = None }
+
+-- the places below a number that pass a test, in order
+abbrev pub places_with : (ℕ → Bool) → ℕ → List ℕ
+places_with test n = filter test (range_with_len 0 n)
+
+module _ {P : Type 0} (b : Behaviour P) (value : ℕ) (steps : List Step) where
+  -- the events of the step before a place; none at the beginning
+  abbrev pub events_before : ℕ → StepEvents
+  events_before zero = no_events
+  events_before (suc k) = slice_index_or (history b (first_configuration b value) steps) k no_events
+
+  -- a place is hit: the step before it records the event of a break, or the configuration there has the bit of one
+  abbrev pub is_hit : List Break → ℕ → Bool
+  is_hit breaks place = is_met breaks (events_before place) (shown b value (take place steps)).memory
+
+  -- the places that are hit, in order
+  abbrev pub hits : List Break → List ℕ
+  hits breaks = places_with (is_hit breaks) (length steps + 1)
+
+-- of places in order, the least above a place, and the greatest below it
+abbrev pub least_above : ℕ → List ℕ → Option ℕ
+least_above place places = find (nat_lt place) places
+
+abbrev pub greatest_below : ℕ → List ℕ → Option ℕ
+greatest_below place places = find (λ k. nat_lt k place) (reverse places)
+
+-- where a way leads from a place
+abbrev pub next_of : Way → ℕ → List ℕ → Option ℕ
+next_of Forth place places = least_above place places
+next_of Back place places = greatest_below place places
+
+-- a place lies on a way from another
+abbrev pub is_ahead : Way → ℕ → ℕ → Bool
+is_ahead Forth from place = nat_lt from place
+is_ahead Back from place = nat_lt place from
+
+-- of the places below n, the next on a way that passes a test: it does, it lies on the way, and none between does
+pub record IsNextHit (way : Way) (test : ℕ → Bool) (n from place : ℕ) : Type 0 where
+  pub within : place < n
+  pub hit : test place ≡ true
+  pub ahead : is_ahead way from place ≡ true
+  pub first : (j : ℕ) → j < n → is_ahead way from j ≡ true → is_ahead way j place ≡ true → test j ≡ false

@@ -1,0 +1,24 @@
+-- The world of a desk: what its commands see and change.
+use Rattle.std.specs.Prelude.{ℕ, List, [], Option, None, replicate}
+use Rattle.frames.specs.Behaviour.{Behaviour}
+use Rattle.schedule_trie.specs.declared.limits.Limits.{Limits}
+use Rattle.schedule_trie.specs.Forest.{Forest}
+use Rattle.views.specs.declared.breakpoint.Break.{Break}
+use Rattle.sessions.specs.declared.cursor.Cursor.{Cursor}
+
+-- the register that is worked on and its initial value; the limits; the branches; the cursor of each of sixteen sessions, none
+-- where it isn't joined, and its breaks in the order in which they were set; how many edits were accepted, and how many commands logged
+pub record World (P : Type 0) : Type 0 where
+  pub tower : Behaviour P
+  pub value : ℕ
+  pub limits : Limits
+  pub forest : Forest
+  pub cursors : List (Option Cursor)
+  pub breaks : List (List Break)
+  pub edits : ℕ
+  pub logged : ℕ
+
+-- the world before the first command: nobody has joined
+abbrev pub opening : {P : Type 0} → Behaviour P → ℕ → Limits → Forest → World P
+opening b value limits f =
+    record { tower = b; value = value; limits = limits; forest = f; cursors = replicate 16 None; breaks = replicate 16 []; edits = 0; logged = 0 }

@@ -1,0 +1,79 @@
+//! The breaks of a session.
+
+ghost use Rattle.std.specs.Prelude.{◌≡◌, [], not, OnOk, OnErr};
+ghost use Rattle.sessions.specs.BreakLists as spec;
+
+use std::alloc::{AllocError, Global};
+use std::marker::Model;
+use views::breakpoint::Break;
+
+/// Breaks in the order in which they were set, none twice.
+#[derive(Drop)]
+pub(crate) struct Breaks {
+    list: Vec<Break>,
+}
+
+impl Model for Breaks {
+    ghost use Rattle.std.specs.Prelude.{List};
+    ghost use Rattle.views.specs.declared.breakpoint.Break.{Break};
+
+    ghost Value = { List Break };
+
+    ghost view = { λ b. b.list.items };
+}
+
+impl Breaks {
+    /// No breaks.
+    pub(crate) fn new(alloc: Global) -> Breaks
+        ensures { result ≡ [] }
+    {
+        Breaks {
+            list: Vec::new(alloc),
+        }
+    }
+
+    pub(crate) fn as_slice(&self) -> &[Break]
+        ensures { result.now ≡ self.now }
+    {
+        &self.list
+    }
+
+    /// Whether a break is among them.
+    pub(crate) fn has(&self, sought: Break) -> bool
+        ensures { result ≡ spec.has_break sought self.now }
+    {
+        self.list.iter().any(|other| is_same(sought, *other))
+    }
+
+    /// Adds a break, where it isn't there.
+    pub(crate) fn add(&mut self, added: Break) -> Result<(), AllocError>
+        ensures ok { OnOk result (self.new ≡ spec.with_break added self.old) }
+        ensures err { OnErr result (self.new ≡ self.old) }
+    {
+        if !self.has(added) {
+            self.list.push(added)?;
+        }
+        Ok(())
+    }
+
+    /// Takes a break away.
+    pub(crate) fn remove(&mut self, gone: Break)
+        ensures { self.new ≡ spec.without_break gone self.old }
+    {
+        self.list.retain(|other| is_other(gone, *other));
+    }
+}
+
+/// Whether two breaks are the same.
+fn is_same(one: Break, other: Break) -> bool
+    ensures { result ≡ spec.is_same one other }
+{
+    one == other
+}
+
+/// Whether they differ.
+fn is_other(one: Break, other: Break) -> bool
+    ensures { result ≡ not (spec.is_same one other) }
+{
+    !is_same(one, other)
+}

@@ -1,0 +1,244 @@
+//! Seeks: the places of a branch at which breaks are met.
+
+ghost use Rattle.std.specs.Prelude.{ℕ, Bool, List, ◌≡◌, ◌<◌, ◌≤◌, ◌+◌, ◌^◌, ◌&&◌, ◌||◌, nat_lt, IfOk, IfSome, length, map, slice_index_or, take, if◌then◌else◌, Some, None};
+ghost use Rattle.std.specs.List.{list_any};
+ghost use Rattle.std.specs.Option.{option_or};
+ghost use Rattle.safe_bit.specs.Parts.{HasSize};
+ghost use Rattle.frames.specs.Configuration.{history, replayed};
+ghost use Rattle.checkpoints.specs.Segment.{AllFit};
+ghost use Rattle.schedule_trie.specs.Cut.{forest};
+ghost use Rattle.cutoff.specs.Fitting.{counted, part_of};
+ghost use Rattle.views.specs.Breaks as breaks_spec;
+ghost use Rattle.sessions.specs.Seeks.{hits, next_of, no_events, places_with, steps_of};
+ghost use Rattle.sessions.specs.Walks.{IsKept, Tells, TellAll};
+ghost use Rattle.sessions.specs.Seeks.{IsNextHit, is_hit};
+ghost use Rattle.sessions.specs.Walks as spec;
+
+use crate::way::Way;
+use checkpoints::run::Run;
+use cutoff::chart::Chart;
+use frames::config::Config;
+use frames::register::Register;
+use frames::types::{Step, StepEvents};
+use safe_bit::Store;
+use schedule_trie::name::Name;
+use std::alloc::{AllocError, Global};
+use std::sync::Arc;
+use views::breakpoint::Break;
+
+/// A seek: its way, and the place from which it goes.
+#[derive(Clone, Copy)]
+pub struct Search {
+    pub way: Way,
+    pub from: u32,
+}
+
+impl Search {
+    /// What is found behind one more place, greater than those before it.
+    fn with_place(self, found: Option<u32>, place: u32, hit: bool) -> Option<u32>
+        ensures { (test : ℕ → Bool) → test place ≡ hit → found ≡ next_of self.way self.from (places_with test place) → result ≡ next_of self.way self.from (places_with test (place + 1)) }
+    {
+        match self.way {
+            Way::Forth => first_of(found, hit, self.from, place),
+            Way::Back => last_of(found, hit, self.from, place),
+        }
+    }
+}
+
+/// What was found, or else a hit above a place.
+fn first_of(found: Option<u32>, hit: bool, from: u32, place: u32) -> Option<u32>
+    ensures { result ≡ option_or found (if hit && nat_lt from place then Some place else None) }
+{
+    if hit && from < place && found.is_none() {
+        return Some(place);
+    }
+    found
+}
+
+/// A hit below a place, or else what was found.
+fn last_of(found: Option<u32>, hit: bool, from: u32, place: u32) -> Option<u32>
+    ensures { result ≡ (if hit && nat_lt place from then Some place else found) }
+{
+    if hit && place < from {
+        Some(place)
+    } else {
+        found
+    }
+}
+
+/// Whether a break is on a bit.
+fn is_on_bit(one: &Break) -> bool
+    ensures { result ≡ spec.is_on_bit one.now }
+{
+    matches!(one, Break::Bit(_, _))
+}
+
+/// Whether one of the breaks is on a bit.
+fn any_on_bit(breaks: &[Break]) -> bool
+    ensures { result ≡ list_any spec.is_on_bit breaks.now }
+{
+    breaks.iter().any(|one| is_on_bit(one))
+}
+
+/// Whether a step that records these events meets one of the breaks.
+fn records_any(breaks: &[Break], events: StepEvents) -> bool
+    ensures { result ≡ spec.records_any breaks.now events }
+{
+    breaks.iter().any(|one| one.is_recorded(events))
+}
+
+/// Whether a step that records these events, or the memory behind it, of so many cells, meets a break.
+fn meets(one: &Break, events: StepEvents, store: &Store, cells: u32) -> bool
+    requires { length store.now.cells ≡ cells }
+    ensures { result ≡ (breaks_spec.is_recorded one.now events || breaks_spec.is_shown one.now store.now) }
+{
+    one.is_recorded(events) || one.is_shown(store, cells)
+}
+
+/// Whether a step that records these events, or the configuration behind it, meets one of the breaks.
+fn is_met<R: Register>(breaks: &[Break], events: StepEvents, config: &Config<R>) -> bool
+    requires { HasSize (R.is config.now.register).size config.now.memory }
+    ensures { result ≡ breaks_spec.is_met breaks.now events config.now.memory }
+{
+    let cells = config.register().size().cell;
+    let store = config.store();
+    for one in breaks {
+        if meets(one, events, store, cells) {
+            return true;
+        }
+    }
+    false
+}
+
+/// Goes on over the places behind steps that record these events; the first step stands at a place.
+fn along_events(
+    search: Search,
+    breaks: &[Break],
+    events: &[StepEvents],
+    place: u32,
+    found: Option<u32>,
+) -> Option<u32>
+    requires { place + length events.now < 2 ^ 32 }
+    ensures { (test : ℕ → Bool) → ((i : ℕ) → i < length events.now → test ((place + 1) + i) ≡ spec.records_any breaks.now (slice_index_or events.now i no_events)) → found ≡ next_of search.way search.from (places_with test (place + 1)) → result ≡ next_of search.way search.from (places_with test ((place + length events.now) + 1)) }
+{
+    let mut found = found;
+    for (i, step) in events.iter().enumerate() {
+        let hit = records_any(breaks, *step);
+        found = search.with_place(found, place + 1 + i as u32, hit);
+    }
+    found
+}
+
+/// Goes on over the places behind steps that are made from a configuration at a place.
+fn along_steps<R: Register>(
+    search: Search,
+    breaks: &[Break],
+    config: Config<R>,
+    steps: &[Step],
+    place: u32,
+    found: Option<u32>,
+) -> Option<u32>
+    requires fits { AllFit (R.is config.register) steps.now }
+    requires room { place + length steps.now < 2 ^ 32 }
+    ensures { (test : ℕ → Bool) → ((i : ℕ) → i < length steps.now → test ((place + 1) + i) ≡ breaks_spec.is_met breaks.now (slice_index_or (history (R.is config.register) config steps.now) i no_events) (replayed (R.is config.register) config (take (i + 1) steps.now)).memory) → found ≡ next_of search.way search.from (places_with test (place + 1)) → result ≡ next_of search.way search.from (places_with test ((place + length steps.now) + 1)) }
+{
+    let mut config = config;
+    let mut found = found;
+    for (i, step) in steps.iter().enumerate() {
+        let events = config.step(*step);
+        let hit = is_met(breaks, events, &config);
+        found = search.with_place(found, place + 1 + i as u32, hit);
+    }
+    found
+}
+
+/// Goes on over the places of a run that begins at a place, as far as it counts. Only a break on a bit makes it replay the run.
+fn along_run<R: Register>(
+    alloc: Global,
+    search: Search,
+    breaks: &[Break],
+    run: &Run<R>,
+    count: u32,
+    place: u32,
+    found: Option<u32>,
+) -> Result<Option<u32>, AllocError>
+    requires { place + count < 2 ^ 32 }
+    ensures { IfOk result (λ all. (test : ℕ → Bool) → Tells R.is breaks.now test place (record { run = run.now; count = count }) → found ≡ next_of search.way search.from (places_with test (place + 1)) → all ≡ next_of search.way search.from (places_with test ((place + count) + 1))) }
+{
+    if any_on_bit(breaks) {
+        let config = run.entry().copy(alloc)?;
+        let steps = front(run.steps(), count);
+        return Ok(along_steps(search, breaks, config, steps, place, found));
+    }
+    let events = front(run.events().as_slice(), count);
+    Ok(along_events(search, breaks, events, place, found))
+}
+
+/// The first `count` items.
+fn front<T>(items: &[T], count: u32) -> &[T]
+    ensures { result.now ≡ take count items.now }
+{
+    &items[..items.len().min(count as usize)]
+}
+
+/// Goes over the places of runs one after the other, and the beginning.
+fn along_runs<R: Register>(
+    alloc: Global,
+    search: Search,
+    breaks: &[Break],
+    first: &Config<R>,
+    runs: &[(Arc<Run<R>>, u32)],
+) -> Result<Option<u32>, AllocError>
+    requires size { HasSize (R.is first.now.register).size first.now.memory }
+    requires room { counted (map part_of runs.now) < 2 ^ 32 }
+    ensures { IfOk result (λ all. (test : ℕ → Bool) → test 0 ≡ breaks_spec.is_met breaks.now no_events first.now.memory → TellAll R.is breaks.now test 0 (map part_of runs.now) → all ≡ next_of search.way search.from (places_with test (counted (map part_of runs.now) + 1))) }
+{
+    let none = StepEvents {
+        first: None,
+        second: None,
+    };
+    let mut found = search.with_place(None, 0, is_met(breaks, none, first));
+    let mut place = 0;
+    for (run, count) in runs {
+        found = along_run(alloc, search, breaks, run, *count, place, found)?;
+        place += *count;
+    }
+    Ok(found)
+}
+
+/// The next place of a branch on a search's way at which one of the breaks is met, if there is one.
+pub fn next_hit<R: Register>(
+    alloc: Global,
+    chart: &mut Chart<R>,
+    branch: &Name,
+    breaks: &[Break],
+    search: Search,
+) -> Result<Option<u32>, AllocError>
+    ensures met { let b = R.is chart.old.start.register in let steps = steps_of (forest chart.old.cut) branch.now in IfOk result (λ place. IfSome place (IsNextHit search.way (is_hit b chart.old.value steps breaks.now) (length steps + 1) search.from)) }
+    ensures hit { let all = hits (R.is chart.old.start.register) chart.old.value (steps_of (forest chart.old.cut) branch.now) breaks.now in IfOk result (λ place. place ≡ next_of search.way search.from all) }
+    ensures kept { IsKept chart.old chart.new }
+{
+    let runs = settled(alloc, chart, branch)?;
+    let first = chart.initial().copy(alloc)?;
+    along_runs(alloc, search, breaks, &first, &runs)
+}
+
+/// The stored runs of a whole branch; none where there is no such branch.
+fn settled<R: Register>(
+    alloc: Global,
+    chart: &mut Chart<R>,
+    branch: &Name,
+) -> Result<Vec<(Arc<Run<R>>, u32)>, AllocError>
+    ensures tells { let b = R.is chart.old.start.register in let steps = steps_of (forest chart.old.cut) branch.now in (breaks : List Break) → IfOk result (λ runs. TellAll R.is breaks (is_hit b chart.old.value steps breaks) 0 (map part_of runs.items)) }
+    ensures counts { IfOk result (λ runs. counted (map part_of runs.items) ≡ length (steps_of (forest chart.old.cut) branch.now)) }
+    ensures room { IfOk result (λ runs. counted (map part_of runs.items) < 2 ^ 32) }
+    ensures kept { IsKept chart.old chart.new }
+{
+    let Some(len) = chart.len(branch) else {
+        return Ok(Vec::new(alloc));
+    };
+    match chart.settle(alloc, branch, len) {
+        Ok(spot) => Ok(spot.runs),
+        Err(_) => Err(AllocError),
+    }
+}

@@ -1,0 +1,283 @@
+//! The world of a desk, without its log.
+
+ghost use Rattle.std.specs.Prelude.{◌≡◌, ◌<◌, ◌≤◌, ◌+◌, ℕ, true, false, replicate, [], IfOk, IfErr, OnErr};
+ghost use Rattle.std.specs.Arc.{arc_value};
+ghost use Rattle.cutoff.specs.Installs.{Installs};
+ghost use Rattle.checkpoints.specs.Segment.{AllFit};
+ghost use Rattle.schedule_trie.specs.Forest.{IsRefused, opened};
+ghost use Rattle.schedule_trie.specs.Forest as forests;
+ghost use Rattle.schedule_trie.specs.Cut.{AreLimits};
+ghost use Rattle.sessions.specs.World.{opening};
+ghost use Rattle.sessions.specs.Acts.{acted, answered, early_refusals, first_refusal, late_refusals, refused};
+ghost use Rattle.sessions.specs.Acts as spec;
+ghost use Rattle.sessions.specs.Held.{Does, world_of};
+
+mod cursors;
+mod edits;
+
+use crate::breaks::Breaks;
+use crate::command::Command;
+use crate::cursor::{Cursor, SESSIONS};
+use crate::reply::Reply;
+use crate::way::Way;
+use checkpoints::run::Run;
+use cutoff::chart::Chart;
+use cutoff::install::Installation;
+use frames::register::Register;
+use frames::roles::step_fits;
+use frames::types::Step;
+use schedule_trie::limits::Limits;
+use schedule_trie::refusal::Refusal;
+use schedule_trie::trie::SegKey;
+use std::alloc::{AllocError, Global};
+use std::marker::Model;
+use std::sync::Arc;
+
+/// The branches of a register's schedules with their stored runs, the limits, the sessions' cursors and breaks, and the counts of
+/// edits and of logged commands.
+#[derive(Drop)]
+pub struct Stage<R: Register> {
+    chart: Chart<R>,
+    limits: Limits,
+    cursors: [Option<Cursor>; SESSIONS],
+    breaks: Vec<Breaks>,
+    edits: u64,
+    logged: u32,
+}
+
+impl<R: Register> Model for Stage<R> {
+    ghost use Rattle.sessions.specs.Held.{Staged, IsStaged};
+
+    ghost Value = { Staged R R.Pending };
+
+    ghost view = { λ s. record { chart = s.chart; limits = s.limits; cursors = s.cursors; breaks = s.breaks.items; edits = s.edits; logged = s.logged } };
+
+    ghost invariant = { λ s. IsStaged (record { chart = s.chart; limits = s.limits; cursors = s.cursors; breaks = s.breaks.items; edits = s.edits; logged = s.logged }) };
+}
+
+impl<R: Register> Stage<R> {
+    /// The world before the first command: a register at a value, the limits, and steps that fit the register.
+    ///
+    /// # Errors
+    ///
+    /// Full where there are more steps than cells may be made; Memory.
+    pub(crate) fn new(
+        alloc: Global,
+        register: R,
+        value: u32,
+        limits: Limits,
+        steps: &[Step],
+    ) -> Result<Stage<R>, Refusal>
+        requires value { value < (R.is register).values }
+        requires limits { AreLimits limits }
+        requires fits { AllFit (R.is register) steps.now }
+        ensures world { IfOk result (λ stage. world_of R.is stage ≡ opening (R.is register) value limits (forests.opening steps.now)) }
+        ensures err { IfErr result (IsRefused (opened limits steps.now)) }
+    {
+        let chart = Chart::new(alloc, register, value, limits, steps)?;
+        let Ok(breaks) = no_breaks(alloc) else {
+            return Err(Refusal::Memory);
+        };
+        Ok(Stage {
+            chart,
+            limits,
+            cursors: [None; SESSIONS],
+            breaks,
+            edits: 0,
+            logged: 0,
+        })
+    }
+
+    /// The branches with their stored runs.
+    pub(crate) fn chart(&self) -> &Chart<R>
+        ensures { result.now ≡ self.now.chart }
+    {
+        &self.chart
+    }
+
+    /// How many edits were accepted.
+    pub(crate) fn edits(&self) -> u64
+        ensures { result ≡ self.now.edits }
+    {
+        self.edits
+    }
+
+    /// Whether no more commands can be logged.
+    pub(crate) fn is_full(&self) -> bool
+        ensures { result ≡ spec.is_full (world_of R.is self.now) }
+    {
+        self.logged >= self.limits.log
+    }
+
+    /// Stores a run that was made elsewhere, as a chart does.
+    pub(crate) fn install(&mut self, key: SegKey, run: Arc<Run<R>>) -> Installation
+        ensures installs { let old = self.old.chart in Installs R.PartialEq.eq (R.is old.start.register) old self.new.chart key (arc_value run) result }
+        ensures world { world_of R.is self.new ≡ world_of R.is self.old }
+    {
+        self.chart.install(key, run)
+    }
+
+    /// Answers a command that can be logged. Want of memory changes nothing that a command sees.
+    pub(crate) fn act(
+        &mut self,
+        alloc: Global,
+        who: u32,
+        if_at: Option<u64>,
+        command: &Command,
+    ) -> Result<Reply, AllocError>
+        requires room { self.old.logged < self.old.limits.log }
+        ensures ok { IfOk result (λ reply. acted who if_at command.now (world_of R.is self.old) ≡ record { world = world_of R.is self.new; reply = reply }) }
+        ensures err { OnErr result (world_of R.is self.new ≡ world_of R.is self.old) }
+    {
+        match self.early_refusal(who, if_at, command) {
+            Some(refusal) => Ok(self.refuse(refusal)),
+            None => self.answer(alloc, who, command),
+        }
+    }
+
+    /// Answers a command that nothing refuses early.
+    fn answer(
+        &mut self,
+        alloc: Global,
+        who: u32,
+        command: &Command,
+    ) -> Result<Reply, AllocError>
+        requires room { self.old.logged < self.old.limits.log }
+        requires session { who < 16 }
+        requires fits { spec.fits_command (R.is self.old.chart.start.register) command.now ≡ true }
+        ensures ok { let w = world_of R.is self.old in IfOk result (λ reply. answered (first_refusal (late_refusals who command.now w)) who command.now w ≡ record { world = world_of R.is self.new; reply = reply }) }
+        ensures err { OnErr result (world_of R.is self.new ≡ world_of R.is self.old) }
+    {
+        match self.work(alloc, who, command) {
+            Ok(reply) => Ok(reply),
+            Err(refusal) => {
+                if refusal == Refusal::Memory {
+                    return Err(AllocError);
+                }
+                Ok(self.refuse(refusal))
+            }
+        }
+    }
+
+    /// Counts a refused command, unless the log is full.
+    fn refuse(&mut self, refusal: Refusal) -> Reply
+        requires { self.old.logged < self.old.limits.log }
+        ensures world { world_of R.is self.new ≡ refused refusal (world_of R.is self.old) }
+        ensures reply { result ≡ Reply.No refusal }
+    {
+        if refusal != Refusal::LogFull {
+            self.logged += 1;
+        }
+        Reply::No(refusal)
+    }
+
+    /// Why a command is refused before its branches are looked at, if it is.
+    fn early_refusal(&self, who: u32, if_at: Option<u64>, command: &Command) -> Option<Refusal>
+        ensures { result ≡ first_refusal (early_refusals who if_at command.now (world_of R.is self.now)) }
+    {
+        if self.is_full() {
+            return Some(Refusal::LogFull);
+        }
+        if self.lacks_session(who, command) {
+            return Some(Refusal::NoSession);
+        }
+        if is_missed(if_at, self.edits) {
+            return Some(Refusal::Newer(self.edits));
+        }
+        let register = self.chart.initial().register();
+        if !fits_command(&register, command) {
+            return Some(Refusal::BadStep);
+        }
+        None
+    }
+
+    /// Whether there is no such session, or it would have to have joined.
+    fn lacks_session(&self, who: u32, command: &Command) -> bool
+        ensures { result ≡ spec.lacks_session who command.now self.now.cursors }
+    {
+        let index = who as usize;
+        index >= SESSIONS || (needs_session(command) && self.cursors[index].is_none())
+    }
+
+    /// Does a command that nothing refuses early.
+    fn work(&mut self, alloc: Global, who: u32, command: &Command) -> Result<Reply, Refusal>
+        requires room { self.old.logged < self.old.limits.log }
+        requires session { who < 16 }
+        requires fits { spec.fits_command (R.is self.old.chart.start.register) command.now ≡ true }
+        ensures { Does R.is who command.now self.old self.new result }
+    {
+        match command {
+            Command::Join => Ok(self.join(alloc, who)),
+            Command::Leave => Ok(self.leave(alloc, who)),
+            Command::Insert {
+                branch,
+                place,
+                step,
+            } => self.insert(alloc, branch, *place, *step),
+            Command::Remove { branch, place } => self.remove(branch, *place),
+            Command::Replace {
+                branch,
+                place,
+                step,
+            } => self.replace(branch, *place, *step),
+            Command::Fork {
+                branch,
+                place,
+                name,
+            } => self.fork(alloc, branch, *place, name),
+            Command::Detach { branch } => self.detach(alloc, branch),
+            Command::Drop { branch } => self.drop_branch(branch),
+            Command::Go { branch, place } => self.go(who, branch, *place),
+            Command::Seek => self.seek(alloc, who, Way::Forth),
+            Command::Back => self.seek(alloc, who, Way::Back),
+            Command::Break(added) => self.set_break(who, *added),
+            Command::Clear(gone) => self.clear_break(who, *gone),
+        }
+    }
+}
+
+/// The breaks of sessions that haven't joined.
+fn no_breaks(alloc: Global) -> Result<Vec<Breaks>, AllocError>
+    ensures { IfOk result (λ breaks. breaks.items ≡ replicate 16 []) }
+{
+    let mut breaks = Vec::new(alloc);
+    while breaks.len() < SESSIONS {
+        breaks.push(Breaks::new(alloc))?;
+    }
+    Ok(breaks)
+}
+
+/// Whether a command is of a session that has joined.
+fn needs_session(command: &Command) -> bool
+    ensures { result ≡ spec.needs_session command.now }
+{
+    matches!(
+        command,
+        Command::Leave
+            | Command::Go { .. }
+            | Command::Seek
+            | Command::Back
+            | Command::Break(_)
+            | Command::Clear(_)
+    )
+}
+
+/// Whether a guard was given that isn't the edit count.
+fn is_missed(if_at: Option<u64>, edits: u64) -> bool
+    ensures { result ≡ spec.is_missed if_at edits }
+{
+    match if_at {
+        None => false,
+        Some(guard) => guard != edits,
+    }
+}
+
+/// Whether the step that a command brings, if any, fits the register.
+fn fits_command<R: Register>(register: &R, command: &Command) -> bool
+    ensures { result ≡ spec.fits_command (R.is register.now) command.now }
+{
+    match command {
+        Command::Insert { step, .. } | Command::Replace { step, .. } => step_fits(register, *step),
+        _ => true,
+    }
+}

@@ -1,0 +1,210 @@
+//! The sessions of a world: their cursors and breaks.
+
+ghost use Rattle.std.specs.Prelude.{◌≡◌, ◌<◌, IfOk, length};
+ghost use Rattle.schedule_trie.specs.Cut.{forest};
+ghost use Rattle.sessions.specs.Cursors as spec;
+ghost use Rattle.sessions.specs.Held.{Does, Done, command_of, world_of};
+ghost use Rattle.std.specs.Option.{option_map};
+ghost use Rattle.sessions.specs.Acts.{hit_of, hit_reply};
+ghost use Rattle.sessions.specs.BreakLists.{breaks_at};
+ghost use Rattle.sessions.specs.Seeks.{hits, next_of, steps_of};
+ghost use Rattle.sessions.specs.Walks.{IsKept};
+
+use super::Stage;
+use crate::breaks::Breaks;
+use crate::command::Command;
+use crate::cursor::Cursor;
+use crate::reply::Reply;
+use crate::seek::{Search, next_hit};
+use crate::way::Way;
+use cutoff::chart::Chart;
+use frames::register::Register;
+use schedule_trie::name::Name;
+use schedule_trie::refusal::Refusal;
+use std::alloc::{AllocError, Global};
+use views::breakpoint::Break;
+
+impl<R: Register> Stage<R> {
+    /// Begins a session, whether it was there or not.
+    pub(super) fn join(&mut self, alloc: Global, who: u32) -> Reply
+        requires room { self.old.logged < self.old.limits.log }
+        requires session { who < 16 }
+        ensures { Done R.is who Command.Join self.old self.new result }
+    {
+        self.cursors[who as usize] = first_cursor(&self.chart);
+        self.breaks[who as usize] = Breaks::new(alloc);
+        self.logged += 1;
+        Reply::Joined
+    }
+
+    /// Ends a session.
+    pub(super) fn leave(&mut self, alloc: Global, who: u32) -> Reply
+        requires room { self.old.logged < self.old.limits.log }
+        requires session { who < 16 }
+        ensures { Done R.is who Command.Leave self.old self.new result }
+    {
+        self.cursors[who as usize] = None;
+        self.breaks[who as usize] = Breaks::new(alloc);
+        self.logged += 1;
+        Reply::Left
+    }
+
+    /// Moves a cursor to a place of a branch.
+    ///
+    /// # Errors
+    ///
+    /// NoBranch; NoPlace where the branch is shorter.
+    pub(super) fn go(&mut self, who: u32, branch: &Name, place: u32) -> Result<Reply, Refusal>
+        requires room { self.old.logged < self.old.limits.log }
+        requires session { who < 16 }
+        ensures { Does R.is who (Command.Go branch.now place) self.old self.new result }
+    {
+        let Some(len) = self.chart.len(branch) else {
+            return Err(Refusal::NoBranch);
+        };
+        if len < place {
+            return Err(Refusal::NoPlace);
+        }
+        self.cursors[who as usize] = Some(Cursor {
+            branch: *branch,
+            place,
+        });
+        self.logged += 1;
+        Ok(Reply::Moved(*branch, place))
+    }
+
+    /// Moves a cursor to the next place at which a break of its session is met, if there is one on the way.
+    ///
+    /// # Errors
+    ///
+    /// Memory.
+    pub(super) fn seek(&mut self, alloc: Global, who: u32, way: Way) -> Result<Reply, Refusal>
+        requires room { self.old.logged < self.old.limits.log }
+        requires session { who < 16 }
+        ensures { Does R.is who (command_of way) self.old self.new result }
+    {
+        let Ok(hit) = self.hit_of(alloc, who, way) else {
+            return Err(Refusal::Memory);
+        };
+        let reply = hit_reply(&hit);
+        if hit.is_some() {
+            self.cursors[who as usize] = hit;
+        }
+        self.logged += 1;
+        Ok(reply)
+    }
+
+    /// Where a seek takes a session's cursor, if there is a hit on its way.
+    fn hit_of(
+        &mut self,
+        alloc: Global,
+        who: u32,
+        way: Way,
+    ) -> Result<Option<Cursor>, AllocError>
+        requires { who < 16 }
+        ensures hit { IfOk result (λ hit. hit ≡ hit_of way (world_of R.is self.old) who) }
+        ensures world { world_of R.is self.new ≡ world_of R.is self.old }
+        ensures limits { self.new.limits ≡ self.old.limits }
+    {
+        let cursor = cursor_of(&self.cursors, who);
+        let breaks = breaks_of(&self.breaks, who);
+        match &cursor {
+            None => Ok(None),
+            Some(cursor) => hit_from(alloc, &mut self.chart, cursor, breaks, way),
+        }
+    }
+
+    /// Adds a break to a session's, where it isn't there.
+    ///
+    /// # Errors
+    ///
+    /// Memory.
+    pub(super) fn set_break(&mut self, who: u32, added: Break) -> Result<Reply, Refusal>
+        requires room { self.old.logged < self.old.limits.log }
+        requires session { who < 16 }
+        ensures { Does R.is who (Command.Break added) self.old self.new result }
+    {
+        let Ok(()) = self.breaks[who as usize].add(added) else {
+            return Err(Refusal::Memory);
+        };
+        self.logged += 1;
+        Ok(Reply::BreakSet)
+    }
+
+    /// Takes a break away.
+    ///
+    /// # Errors
+    ///
+    /// NoBreak where it isn't there.
+    pub(super) fn clear_break(&mut self, who: u32, gone: Break) -> Result<Reply, Refusal>
+        requires room { self.old.logged < self.old.limits.log }
+        requires session { who < 16 }
+        ensures { Does R.is who (Command.Clear gone) self.old self.new result }
+    {
+        if !self.breaks[who as usize].has(gone) {
+            return Err(Refusal::NoBreak);
+        }
+        self.breaks[who as usize].remove(gone);
+        self.logged += 1;
+        Ok(Reply::BreakCleared)
+    }
+}
+
+/// A cursor at the beginning of the first branch.
+fn first_cursor<R: Register>(chart: &Chart<R>) -> Option<Cursor>
+    ensures { result ≡ spec.first_cursor (forest chart.now.cut) }
+{
+    chart
+        .name_at(0)
+        .map(|branch| Cursor { branch, place: 0 })
+}
+
+/// Where a seek takes a cursor, if there is a hit on its way.
+fn hit_from<R: Register>(
+    alloc: Global,
+    chart: &mut Chart<R>,
+    cursor: &Cursor,
+    breaks: &[Break],
+    way: Way,
+) -> Result<Option<Cursor>, AllocError>
+    ensures hit { let all = hits (R.is chart.old.start.register) chart.old.value (steps_of (forest chart.old.cut) cursor.now.branch) breaks.now in IfOk result (λ hit. hit ≡ option_map (spec.cursor cursor.now.branch) (next_of way cursor.now.place all)) }
+    ensures kept { IsKept chart.old chart.new }
+{
+    let search = Search {
+        way,
+        from: cursor.place,
+    };
+    match next_hit(alloc, chart, &cursor.branch, breaks, search)? {
+        None => Ok(None),
+        Some(place) => Ok(Some(Cursor {
+            branch: cursor.branch,
+            place,
+        })),
+    }
+}
+
+/// The reply to a seek.
+fn hit_reply(hit: &Option<Cursor>) -> Reply
+    ensures { result ≡ hit_reply hit.now }
+{
+    match hit {
+        None => Reply::NoHit,
+        Some(cursor) => Reply::Moved(cursor.branch, cursor.place),
+    }
+}
+
+/// The cursor of a session, if it is joined.
+fn cursor_of(cursors: &[Option<Cursor>], who: u32) -> Option<Cursor>
+    requires { who < length cursors.now }
+    ensures { result ≡ spec.cursor_at cursors.now who }
+{
+    cursors[who as usize]
+}
+
+/// The breaks of a session.
+fn breaks_of(breaks: &[Breaks], who: u32) -> &[Break]
+    requires { who < length breaks.now }
+    ensures { result.now ≡ breaks_at breaks.now who }
+{
+    breaks[who as usize].as_slice()
+}
