@@ -1,26 +1,11 @@
 -- How a command is answered: by its first refusal, or by what it leaves.
-use Rattle.std.proofs.Common.{◌≡◌, ℕ, ◌+◌, ◌<◌, ◌≤◌, Bool, true, false, not, ◌||◌, cond, nat_lt, nat_le, List, [], ◌∷◌, ◌++◌, Option, Some, None, Result, Ok, Err, length, map, take, refl, sym, ap, ◌∙◌, arith}
-use Rattle.std.proofs.lemmas.Bool.{cases_lt}
-use Rattle.std.specs.List.{list_any, remove}
-use Rattle.std.specs.Cmp.Lexicographic.{pointwise}
-use Rattle.std.specs.Prelude.{nat_eq}
-use Rattle.frames.specs.declared.types.Step.{Step}
-use Rattle.schedule_trie.specs.declared.limits.Limits.{Limits}
+use Rattle.std.proofs.Common.{◌≡◌, ℕ, ◌<◌, Bool, true, false, not, ◌||◌, nat_lt, List, [], ◌∷◌, ◌++◌, Option, Some, None, refl, sym, ap, ◌∙◌, arith}
 use Rattle.schedule_trie.specs.declared.refusal.Refusal.{Refusal}
-use Rattle.schedule_trie.specs.declared.refusal.Refusal.TheVariants.{NoBranch, NameTaken, BadName, NoPlace, Full, LastBranch, TooManyBranches, LogFull, Memory}
-use Rattle.schedule_trie.specs.Names.{is_well_formed}
-use Rattle.schedule_trie.specs.Forest as forests
-use Rattle.schedule_trie.specs.Forest.{Forest, on_found, index_of, slots_in, name_of, branch}
-use Rattle.cutoff.specs.Held.{looked_at}
 use Rattle.sessions.specs.declared.command.Command.{Command}
-use Rattle.sessions.specs.declared.command.Command.TheVariants as command
-use Rattle.sessions.specs.declared.cursor.Cursor.{Cursor}
 use Rattle.sessions.specs.declared.reply.Reply.{Reply}
 use Rattle.sessions.specs.declared.reply.Reply.TheVariants.{No}
-use Rattle.sessions.specs.declared.way.Way.TheVariants as way
 use Rattle.sessions.specs.World.{World}
-use Rattle.sessions.specs.Acts.{Acted, acted, answered, refusals, early_refusals, late_refusals, first_refusal, refused_if, refusal_in, refused, left, reply_to, hit_reply, hit_of, is_full, lacks_session, needs_session, is_missed, fits_command, branches_after, drops_occupied, lacks_break}
-use Rattle.sessions.specs.Logs.{is_logged}
+use Rattle.sessions.specs.Acts.{acted, answered, early_refusals, late_refusals, first_refusal, refused_if, refused, left, reply_to, is_full, lacks_session, is_missed, fits_command}
 
 -- the first refusal of two lists
 pub first_behind : (xs ys : List (Option Refusal)) → first_refusal xs ≡ None → first_refusal (xs ++ ys) ≡ first_refusal ys

@@ -1,12 +1,12 @@
 -- What a command leaves of a book.
-use Rattle.std.proofs.Common.{◌≡◌, ℕ, ◌+◌, ◌<◌, ◌≤◌, Bool, true, false, List, [], ◌∷◌, ◌++◌, cond, nat_le, length, refl, sym, ap, subst, ◌∙◌, arith}
+use Rattle.std.proofs.Common.{◌≡◌, ℕ, ◌+◌, ◌<◌, Bool, true, false, [], ◌∷◌, ◌++◌, cond, nat_le, length, refl, sym, ap, subst, ◌∙◌, arith}
 use Rattle.std.proofs.lemmas.List.{length_push}
 use Rattle.frames.specs.Behaviour.{Behaviour}
 use Rattle.schedule_trie.specs.declared.refusal.Refusal.TheVariants.{LogFull}
 use Rattle.schedule_trie.specs.Cut.{forest}
 use Rattle.sessions.specs.declared.log.Entry.{Entry}
 use Rattle.sessions.specs.declared.reply.Reply.TheVariants.{No}
-use Rattle.sessions.specs.World.{World, opening}
+use Rattle.sessions.specs.World.{opening}
 use Rattle.sessions.specs.Acts.{acted, is_full}
 use Rattle.sessions.specs.Logs.{IsLegal, is_logged, world_after, acted_by}
 use Rattle.sessions.specs.Held.{Held, IsHeld, Acts, opening_of, world_of}

@@ -1,5 +1,5 @@
 -- Where a seek comes to is hit, and no place between is.
-use Rattle.std.proofs.Common.{◌≡◌, ℕ, zero, suc, ◌+◌, ◌<◌, ◌≤◌, Bool, true, false, ◌&&◌, cond, nat_lt, List, [], ◌∷◌, ◌++◌, Option, Some, None, MatchOption, IfSome, inl, inr, refl, sym, ap, subst, ◌∙◌, arith, reverse}
+use Rattle.std.proofs.Common.{◌≡◌, ℕ, zero, suc, ◌+◌, ◌<◌, Bool, true, false, ◌&&◌, cond, nat_lt, [], ◌∷◌, Option, Some, None, MatchOption, IfSome, inl, inr, refl, sym, ap, subst, ◌∙◌, arith, reverse}
 use Rattle.std.specs.List.{find}
 use Rattle.std.specs.Option.{option_or}
 use Rattle.std.proofs.lemmas.Bool.{cases_lt}

@@ -1,16 +1,13 @@
 -- What the runs of a branch tell of its places.
-use Rattle.std.proofs.Common.{◌≡◌, ℕ, zero, suc, ◌+◌, ◌-◌, ◌<◌, ◌≤◌, Bool, true, false, nat_eq, cond, min, List, [], ◌∷◌, ◌++◌, length, map, take, Option, Some, None, refl, sym, ap, subst, ◌∙◌, arith, append_assoc, get_or, slice_index_or, eqb-true, append-nil}
+use Rattle.std.proofs.Common.{◌≡◌, ℕ, zero, suc, ◌+◌, ◌-◌, ◌<◌, ◌≤◌, Bool, true, false, nat_eq, cond, List, [], ◌∷◌, ◌++◌, length, map, take, Option, Some, None, refl, sym, ap, subst, ◌∙◌, arith, append_assoc, get_or, slice_index_or}
 use Rattle.std.specs.List.{list_any}
-use Rattle.std.specs.Arc.{arc_value}
 use Rattle.std.specs.declared.sync.Arc.{Arc}
 use Rattle.checkpoints.specs.Segment.{SegmentRun, IsRun}
 use Rattle.std.proofs.lemmas.List.{map-append, length-append, length-map, length-take, take-append-le}
 use Rattle.frames.specs.declared.types.Step.{Step}
-use Rattle.frames.specs.declared.types.StepEvents.{StepEvents}
 use Rattle.frames.specs.Behaviour.{Behaviour}
 use Rattle.frames.specs.Configuration.{Configuration, initial_configuration, stepped, replayed, history}
 use Rattle.frames.specs.Configuration.{events_of as events_of_step}
-use Rattle.frames.specs.Equality.{SameConfiguration}
 use Rattle.std.specs.Option.{option_map, unwrap_or}
 use Rattle.schedule_trie.specs.Forest.{Forest, step_of, index_of, slots_in, path_by, len_of}
 use Rattle.schedule_trie.specs.Cut.{Cut, piece_at, slots_of, line, forest}
@@ -138,10 +135,11 @@ module _ {R P : Type 0} (E : R → R → Bool) (is : R → Behaviour P) (alike :
           let parted : steps ≡ (before ++ segment) ++ along ks = all ∙ ap (λ l. before ++ l) (along_more k ks) ∙ sym (append_assoc before segment (along ks)) in
           let next : alone (replayed b c segment) ≡ shown b value (before ++ segment) =
           replayed_alone b c segment ∙ ap (λ d. replayed b d segment) comes ∙ sym (replayed-append b (first_configuration b value) before segment) in
-          let place : length (before ++ segment) ≡ length before + part.count = length-append before segment ∙ ap (λ m. length before + m) (sym count) in
-          (one before c k ks part home comes all s.3.fits count,
-          subst (λ m. TellAll is breaks (is_hit b value steps breaks) m parts') place
-          (later (before ++ segment) (replayed b c segment) (rest - length segment) parts' s.1 (ap is (register_kept b c segment) ∙ home) next parted (omega (arith, total)) s.4))
+          let place : length (before ++ segment) ≡ length before + part.count = length-append before segment ∙ ap (λ m. length before + m) (sym count) in (
+            one before c k ks part home comes all s.3.fits count,
+            subst (λ m. TellAll is breaks (is_hit b value steps breaks) m parts') place
+                (later (before ++ segment) (replayed b c segment) (rest - length segment) parts' s.1 (ap is (register_kept b c segment) ∙ home) next parted (omega (arith, total)) s.4),
+          )
 
       by : Later → (t : Bool) (parts' : List (RunPart R P)) → Settles E b old new c rest (cond t [] (k ∷ reached old (rest - length (steps_at old k)) ks)) parts' n
           → TellAll is breaks (is_hit b value steps breaks) (length before) parts'

@@ -10,8 +10,6 @@ use Rattle.frames.specs.declared.types.StepEvents.{StepEvents}
 use Rattle.views.specs.declared.breakpoint.Break.{Break}
 use Rattle.views.specs.declared.breakpoint.Break.TheVariants.{Returns, Bit, Chosen, Void, Refused}
 use Rattle.views.specs.Breaks.{is_met, is_recorded, is_shown}
-use Rattle.sessions.specs.declared.way.Way.{Way}
-use Rattle.sessions.specs.declared.way.Way.TheVariants.{Forth, Back}
 use Rattle.sessions.specs.Seeks.{places_with, least_above, greatest_below}
 use Rattle.sessions.specs.Walks.{is_on_bit, records_any}
 

@@ -4,7 +4,7 @@ use Rattle.frames.specs.Behaviour.{Behaviour}
 use Rattle.schedule_trie.specs.declared.limits.Limits.{Limits}
 use Rattle.schedule_trie.specs.declared.refusal.Refusal.{Refusal}
 use Rattle.schedule_trie.specs.declared.refusal.Refusal.TheVariants.{Memory}
-use Rattle.schedule_trie.specs.Cut.{AreLimits, forest}
+use Rattle.schedule_trie.specs.Cut.{forest}
 use Rattle.cutoff.specs.Held.{Charted}
 use Rattle.views.specs.declared.breakpoint.Break.{Break}
 use Rattle.sessions.specs.declared.cursor.Cursor.{Cursor}

@@ -18,7 +18,10 @@ pub enum Command {
         step: Step,
     },
     /// Takes out the cell at a place.
-    Remove { branch: Name, place: u32 },
+    Remove {
+        branch: Name,
+        place: u32,
+    },
     /// Gives the cell at a place another step.
     Replace {
         branch: Name,
@@ -32,11 +35,18 @@ pub enum Command {
         name: Name,
     },
     /// Gives the branch cells of its own.
-    Detach { branch: Name },
+    Detach {
+        branch: Name,
+    },
     /// Drops the branch.
-    Drop { branch: Name },
+    Drop {
+        branch: Name,
+    },
     /// Moves the cursor.
-    Go { branch: Name, place: u32 },
+    Go {
+        branch: Name,
+        place: u32,
+    },
     /// Moves the cursor to the next place at which a break is met.
     Seek,
     /// Moves the cursor to the last place before it at which a break is met.

@@ -43,12 +43,7 @@ impl Shift {
 }
 
 /// Whether an edit at a cell of a branch acts in another.
-fn acts_in<R: Register>(
-    chart: &Chart<R>,
-    cell: Option<u32>,
-    branch: &Name,
-    other: &Name,
-) -> bool
+fn acts_in<R: Register>(chart: &Chart<R>, cell: Option<u32>, branch: &Name, other: &Name) -> bool
     ensures { result ≡ spec.acts_in cell (forest chart.now.cut) branch.now other.now }
 {
     match cell {

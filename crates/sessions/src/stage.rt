@@ -136,12 +136,7 @@ impl<R: Register> Stage<R> {
     }
 
     /// Answers a command that nothing refuses early.
-    fn answer(
-        &mut self,
-        alloc: Global,
-        who: u32,
-        command: &Command,
-    ) -> Result<Reply, AllocError>
+    fn answer(&mut self, alloc: Global, who: u32, command: &Command) -> Result<Reply, AllocError>
         requires room { self.old.logged < self.old.limits.log }
         requires session { who < 16 }
         requires fits { spec.fits_command (R.is self.old.chart.start.register) command.now ≡ true }

@@ -95,12 +95,7 @@ impl<R: Register> Stage<R> {
     }
 
     /// Where a seek takes a session's cursor, if there is a hit on its way.
-    fn hit_of(
-        &mut self,
-        alloc: Global,
-        who: u32,
-        way: Way,
-    ) -> Result<Option<Cursor>, AllocError>
+    fn hit_of(&mut self, alloc: Global, who: u32, way: Way) -> Result<Option<Cursor>, AllocError>
         requires { who < 16 }
         ensures hit { IfOk result (λ hit. hit ≡ hit_of way (world_of R.is self.old) who) }
         ensures world { world_of R.is self.new ≡ world_of R.is self.old }
@@ -154,9 +149,7 @@ impl<R: Register> Stage<R> {
 fn first_cursor<R: Register>(chart: &Chart<R>) -> Option<Cursor>
     ensures { result ≡ spec.first_cursor (forest chart.now.cut) }
 {
-    chart
-        .name_at(0)
-        .map(|branch| Cursor { branch, place: 0 })
+    chart.name_at(0).map(|branch| Cursor { branch, place: 0 })
 }
 
 /// Where a seek takes a cursor, if there is a hit on its way.

@@ -1,6 +1,5 @@
-use Rattle.std.proofs.Common.{◌≡◌, ◌∙◌, ◌<◌, ◌+◌, ◌^◌, sym, ap, subst, map, take, arith}
+use Rattle.std.proofs.Common.{◌≡◌, ◌∙◌, ◌+◌, sym, ap, subst, map, take, arith}
 use Rattle.cutoff.specs.Fitting.{counted, part_of}
-use Rattle.sessions.specs.Seeks.{next_of, places_with}
 use Rattle.sessions.specs.Walks.{Tells}
 use Rattle.sessions.proofs.Runs.{counted_split, counted_within, tells_at}
 use Rattle.sessions.proofs.seek.along_runs.Goals as goal

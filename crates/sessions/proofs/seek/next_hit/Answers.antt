@@ -25,7 +25,7 @@ found g c =
     let long : counted (map part_of c.deref.result.now) ≡ length steps = ap (λ rs. counted (map part_of rs)) c.deref.ensures.value ∙ c.in_ok-runs.ensures.counts in
     IfOk-weaker c.along_runs.result
     (λ all. (test : ℕ → Bool) → test 0 ≡ is_met breaks no_events c.in_ok-first.first.memory → TellAll is breaks test 0 (map part_of c.deref.result.now)
-        → all ≡ next_of c.args.search.way c.args.search.from (places_with test (counted (map part_of c.deref.result.now) + 1)))
+    → all ≡ next_of c.args.search.way c.args.search.from (places_with test (counted (map part_of c.deref.result.now) + 1)))
     _
     (λ all h. h (is_hit b old.value steps breaks) zero tells ∙ ap (λ n. next_of c.args.search.way c.args.search.from (places_with (is_hit b old.value steps breaks) (n + 1))) long)
     c.along_runs.ensures

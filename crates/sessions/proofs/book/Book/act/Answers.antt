@@ -1,5 +1,5 @@
 use Rattle.std.proofs.Common.{◌≡◌, ◌∙◌, ◌⊎◌, ◌∷◌, [], ◌++◌, inl, inr, refl, sym, ap, subst, false}
-use Rattle.sessions.specs.Acts.{acted, is_full}
+use Rattle.sessions.specs.Acts.{is_full}
 use Rattle.sessions.specs.Logs.{entry}
 use Rattle.sessions.specs.Held.{Held, Acts, Wants, world_of, opening_of}
 use Rattle.sessions.proofs.Books.{done_acts, held_more, same_opening}

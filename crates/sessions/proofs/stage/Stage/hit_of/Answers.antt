@@ -26,7 +26,7 @@ returns-in-Some-clause-hit g c =
     (λ hit. hit ≡ option_map (cursor here.branch) (next_of way here.place (hits (is old.start.register) old.value (steps_of (forest old.cut) here.branch) c.breaks_of-breaks.result.now)))
     _
     (λ hit h.
-        h ∙ ap (λ s. option_map (cursor here.branch) (next_of way here.place (hits (is s.chart.start.register) s.chart.value (steps_of (forest s.chart.cut) here.branch) c.breaks_of-breaks.result.now))) c.self.view_is
-        ∙ ap (λ bs. option_map (cursor here.branch) (next_of way here.place (hits (is now.chart.start.register) now.chart.value (steps_of (forest now.chart.cut) here.branch) bs))) breaks
-        ∙ sym (ap (option_and_then (hit_from way w (breaks_at w.breaks who))) found))
+    h ∙ ap (λ s. option_map (cursor here.branch) (next_of way here.place (hits (is s.chart.start.register) s.chart.value (steps_of (forest s.chart.cut) here.branch) c.breaks_of-breaks.result.now))) c.self.view_is
+    ∙ ap (λ bs. option_map (cursor here.branch) (next_of way here.place (hits (is now.chart.start.register) now.chart.value (steps_of (forest now.chart.cut) here.branch) bs))) breaks
+    ∙ sym (ap (option_and_then (hit_from way w (breaks_at w.breaks who))) found))
     c.hit_from.ensures.hit

@@ -1,5 +1,3 @@
-use Rattle.std.proofs.Common.{sym}
-use Rattle.sessions.specs.Held.{Does}
 use Rattle.sessions.proofs.stage.Stage.work.Goals as goal
 
 pub returns-in-Insert : goal.returns-in-Insert
