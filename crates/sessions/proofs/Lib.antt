@@ -5,3 +5,4 @@ pub mod Books
 pub mod Searches
 pub mod Runs
 pub mod NextHits
+pub mod Looks

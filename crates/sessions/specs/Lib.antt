@@ -6,3 +6,4 @@ pub mod World
 pub mod Acts
 pub mod Logs
 pub mod Held
+pub mod Looks

@@ -1,6 +1,6 @@
 //! The book: the world of a desk, and the log that tells how it came to be.
 
-ghost use Rattle.std.specs.Prelude.{◌≡◌, ◌<◌, ◌⊎◌, Ok, OnOk, IfOk, IfErr, [], ◌∷◌, ◌++◌, length, vec_capacity};
+ghost use Rattle.std.specs.Prelude.{◌≡◌, ◌<◌, ◌⊎◌, Some, Ok, OnOk, IfOk, IfErr, [], ◌∷◌, ◌++◌, length, vec_capacity};
 ghost use Rattle.std.specs.Arc.{arc_value};
 ghost use Rattle.checkpoints.specs.Segment.{AllFit};
 ghost use Rattle.schedule_trie.specs.Forest.{IsRefused, index_of, opened};
@@ -11,6 +11,7 @@ ghost use Rattle.cutoff.specs.Installs.{Installs};
 ghost use Rattle.sessions.specs.World.{opening};
 ghost use Rattle.sessions.specs.Logs.{IsLegal};
 ghost use Rattle.sessions.specs.Logs as spec;
+ghost use Rattle.sessions.specs.Looks.{looked, shown_in};
 ghost use Rattle.sessions.specs.Held.{Acts, Wants, opening_of, world_of};
 
 use crate::command::Command;
@@ -31,6 +32,8 @@ use std::alloc::Global;
 use std::marker::Model;
 use std::snapshot::Snapshot;
 use std::sync::Arc;
+use views::query::Query;
+use views::slip::Slip;
 
 /// The world of a desk and its log. Proofs remember how it opened.
 #[derive(Drop)]
@@ -105,6 +108,23 @@ impl<R: Register> Book<R> {
         };
         push_within(&mut self.log, entry(chair, who, if_at, command, &reply));
         reply
+    }
+
+    /// Looks at the branches, or at a session. What it answers stands for the page as it now is.
+    ///
+    /// # Errors
+    ///
+    /// NoSession for the cursor of a session that hasn't joined; NoBranch; NoPlace where the branch is shorter; Memory. World and log
+    /// stay in any case.
+    pub fn look(&mut self, alloc: Global, query: Query) -> Result<Slip<R>, Refusal>
+        ensures page { IfOk result (λ slip. Some slip ≡ shown_in (world_of R.is self.old.now) query) }
+        ensures found { let w = world_of R.is self.old.now in OnOk result (looked w query ≡ Ok w.forest) }
+        ensures err { IfErr result (IsRefused (looked (world_of R.is self.old.now) query)) }
+        ensures world { world_of R.is self.new.now ≡ world_of R.is self.old.now }
+        ensures opening { opening_of R.is self.new ≡ opening_of R.is self.old }
+        ensures log { self.new.log ≡ self.old.log }
+    {
+        self.stage.look(alloc, query)
     }
 
     /// The segments that no stored run fits where their branch comes to them: the first of the named branch, and that of each

@@ -14,6 +14,7 @@ ghost use Rattle.sessions.specs.Held.{Does, world_of};
 
 mod cursors;
 mod edits;
+mod looks;
 
 use crate::breaks::Breaks;
 use crate::command::Command;

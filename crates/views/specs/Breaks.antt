@@ -61,8 +61,3 @@ is_shown Refused m = false
 abbrev pub is_met : List Break → StepEvents → Memory → Bool
 is_met [] events m = false
 is_met (break ∷ breaks) events m = (is_recorded break events || is_shown break m) || is_met breaks events m
-
--- one of these breaks is met by memory alone
-abbrev pub is_met_at_first : List Break → Memory → Bool
-is_met_at_first [] m = false
-is_met_at_first (break ∷ breaks) m = is_shown break m || is_met_at_first breaks m

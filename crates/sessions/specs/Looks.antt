@@ -1,0 +1,33 @@
+-- Looks at a world: why one is refused, and the page that it shows.
+use Rattle.std.specs.Prelude.{ℕ, List, Option, Some, None, Result, Ok, Err, is_none, if◌then◌else◌}
+use Rattle.schedule_trie.specs.declared.refusal.Refusal.{Refusal}
+use Rattle.schedule_trie.specs.declared.refusal.Refusal.TheVariants.{NoSession}
+use Rattle.schedule_trie.specs.Forest.{Forest}
+use Rattle.views.specs.declared.breakpoint.Break.{Break}
+use Rattle.views.specs.declared.query.Query.{Query}
+use Rattle.views.specs.declared.query.Query.TheVariants.{Branches, Cursor}
+use Rattle.views.specs.declared.page.Page.{Page}
+use Rattle.views.specs.declared.page.Page.TheVariants as page
+use Rattle.views.specs.page.Branches.{branches_page}
+use Rattle.views.specs.Looks as views
+use Rattle.sessions.specs.declared.cursor.Cursor as declared
+use Rattle.sessions.specs.Cursors.{cursor_at}
+use Rattle.sessions.specs.BreakLists.{breaks_at}
+use Rattle.sessions.specs.World.{World}
+
+-- where a session stands, and its breaks; none where it hasn't joined
+abbrev pub cursor_page : Option declared.Cursor → List Break → Option Page
+cursor_page None breaks = None
+cursor_page (Some c) breaks = Some (page.Cursor (record { branch = c.branch; place = c.place; breaks = breaks }))
+
+module _ {P : Type 0} where
+  -- a look leaves the branches: NoSession for the cursor of a session that hasn't joined; NoBranch, NoPlace
+  abbrev pub looked : World P → Query → Result Forest Refusal
+  looked w (Cursor who) = if is_none (cursor_at w.cursors who) then Err NoSession else Ok w.forest
+  looked w query = views.looked query w.forest
+
+  -- the page of a look, where it isn't refused
+  abbrev pub shown_in : World P → Query → Option Page
+  shown_in w Branches = Some (page.Branches (branches_page w.edits w.forest))
+  shown_in w (Cursor who) = cursor_page (cursor_at w.cursors who) (breaks_at w.breaks who)
+  shown_in w query = views.page_of w.tower w.value w.forest query

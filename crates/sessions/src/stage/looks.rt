@@ -1,0 +1,99 @@
+//! Looks at a world.
+
+ghost use Rattle.std.specs.Prelude.{◌≡◌, true, Some, Ok, OnOk, IfOk, IfErr};
+ghost use Rattle.schedule_trie.specs.Forest.{IsRefused};
+ghost use Rattle.schedule_trie.specs.Cut.{forest};
+ghost use Rattle.views.specs.Looks.{is_at_branch};
+ghost use Rattle.views.specs.page.Branches.{branches_page};
+ghost use Rattle.views.specs.declared.page.Page.TheVariants as page;
+ghost use Rattle.sessions.specs.Cursors.{cursor_at};
+ghost use Rattle.sessions.specs.BreakLists.{breaks_at};
+ghost use Rattle.sessions.specs.Looks as spec;
+ghost use Rattle.sessions.specs.Held.{world_of};
+
+use super::Stage;
+use crate::cursor::SESSIONS;
+use frames::register::Register;
+use schedule_trie::refusal::Refusal;
+use std::alloc::Global;
+use views::listed::Listed;
+use views::page::Page;
+use views::page::branches::BranchesPage;
+use views::page::cursor::CursorPage;
+use views::query::Query;
+use views::slip::Slip;
+
+impl<R: Register> Stage<R> {
+    /// Looks at the branches, or at a session.
+    ///
+    /// # Errors
+    ///
+    /// NoSession for the cursor of a session that hasn't joined; NoBranch; NoPlace where the branch is shorter; Memory. What commands
+    /// see is as before in any case.
+    pub(crate) fn look(&mut self, alloc: Global, query: Query) -> Result<Slip<R>, Refusal>
+        ensures page { IfOk result (λ slip. Some slip ≡ spec.shown_in (world_of R.is self.old) query) }
+        ensures found { let w = world_of R.is self.old in OnOk result (spec.looked w query ≡ Ok w.forest) }
+        ensures err { IfErr result (IsRefused (spec.looked (world_of R.is self.old) query)) }
+        ensures world { world_of R.is self.new ≡ world_of R.is self.old }
+    {
+        match query {
+            Query::Branches => self.look_at_branches(alloc),
+            Query::Cursor { who } => self.look_at_cursor(alloc, who),
+            Query::State { .. }
+            | Query::Process { .. }
+            | Query::Bits { .. }
+            | Query::Pending { .. }
+            | Query::History { .. }
+            | Query::Verdict { .. }
+            | Query::Steps { .. } => self.look_at_branch(alloc, query),
+        }
+    }
+
+    /// Looks at one branch.
+    fn look_at_branch(&mut self, alloc: Global, query: Query) -> Result<Slip<R>, Refusal>
+        requires { is_at_branch query ≡ true }
+        ensures page { IfOk result (λ slip. Some slip ≡ spec.shown_in (world_of R.is self.old) query) }
+        ensures found { let w = world_of R.is self.old in OnOk result (spec.looked w query ≡ Ok w.forest) }
+        ensures err { IfErr result (IsRefused (spec.looked (world_of R.is self.old) query)) }
+        ensures world { world_of R.is self.new ≡ world_of R.is self.old }
+    {
+        Slip::at(alloc, &mut self.chart, query)
+    }
+
+    /// Looks at all branches.
+    fn look_at_branches(&self, alloc: Global) -> Result<Slip<R>, Refusal>
+        ensures page { IfOk result (λ slip. slip ≡ page.Branches (branches_page self.now.edits (forest self.now.chart.cut))) }
+        ensures err { IfErr result (λ e. e ≡ Refusal.Memory) }
+    {
+        let Ok(page) = BranchesPage::new(alloc, self.edits, &self.chart) else {
+            return Err(Refusal::Memory);
+        };
+        Ok(Slip::of(Page::Branches(page)))
+    }
+
+    /// Looks at where a session stands, and at its breaks.
+    fn look_at_cursor(&self, alloc: Global, who: u32) -> Result<Slip<R>, Refusal>
+        ensures page { IfOk result (λ slip. Some slip ≡ spec.cursor_page (cursor_at self.now.cursors who) (breaks_at self.now.breaks who)) }
+        ensures found { let w = world_of R.is self.now in OnOk result (spec.looked w (Query.Cursor who) ≡ Ok w.forest) }
+        ensures err { IfErr result (IsRefused (spec.looked (world_of R.is self.now) (Query.Cursor who))) }
+    {
+        let index = who as usize;
+        if index >= SESSIONS {
+            return Err(Refusal::NoSession);
+        }
+        let Some(cursor) = self.cursors[index] else {
+            return Err(Refusal::NoSession);
+        };
+        let Ok(breaks) = Vec::from_slice(alloc, self.breaks[index].as_slice()) else {
+            return Err(Refusal::Memory);
+        };
+        let breaks = Listed::new(breaks);
+        let branch = cursor.branch;
+        let place = cursor.place;
+        Ok(Slip::of(Page::Cursor(CursorPage {
+            branch,
+            place,
+            breaks,
+        })))
+    }
+}
