@@ -6,3 +6,4 @@ pub mod Searches
 pub mod Runs
 pub mod NextHits
 pub mod Looks
+pub mod Rows

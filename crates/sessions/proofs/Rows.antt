@@ -1,0 +1,117 @@
+-- Rows of replies, computed by the definitions alone: a safe bit, a read, and two branches at most.
+use Rattle.std.proofs.Common.{◌≡◌, ℕ, List, [], ◌∷◌, Some, None, refl}
+use Rattle.std.specs.Prelude.{codes}
+use Rattle.frames.specs.declared.types.Step.TheVariants as step
+use Rattle.frames.specs.SafeBit.{safe_behaviour}
+use Rattle.frames.specs.declared.safe.SafePoint.{SafePoint}
+use Rattle.schedule_trie.specs.declared.limits.Limits.{Limits}
+use Rattle.schedule_trie.specs.declared.refusal.Refusal.TheVariants.{NoBranch, NameTaken, BadName, NoPlace, LastBranch, TooManyBranches, BadStep, Occupied, NoBreak, NoSession, Newer, LogFull}
+use Rattle.schedule_trie.specs.Forest as forests
+use Rattle.views.specs.declared.breakpoint.Break.TheVariants as break
+use Rattle.sessions.specs.declared.command.Command.{Command}
+use Rattle.sessions.specs.declared.command.Command.TheVariants as command
+use Rattle.sessions.specs.declared.reply.Reply.{Reply}
+use Rattle.sessions.specs.declared.reply.Reply.TheVariants.{Edited, Moved, NoHit, BreakCleared, No}
+use Rattle.sessions.specs.World.{World, opening}
+use Rattle.sessions.specs.Acts.{acted}
+
+abbrev main : List ℕ
+main = codes "main"
+
+abbrev a : List ℕ
+a = codes "a"
+
+abbrev limits : Limits
+limits = record { cells = 65536; branches = 2; log = 1000 }
+
+-- session 0 behind its commands
+abbrev behind : List Command → World SafePoint → World SafePoint
+behind [] w = w
+behind (c ∷ cs) w = behind cs (acted 0 None c w).world
+
+abbrev at_first : World SafePoint
+at_first = opening safe_behaviour 0 limits (forests.opening (step.Read 1 ∷ step.Go 1 0 ∷ step.Go 1 0 ∷ []))
+
+abbrev joined : World SafePoint
+joined = behind (command.Join ∷ []) at_first
+
+-- a reply to session 0
+abbrev says : Command → World SafePoint → Reply
+says c w = (acted 0 None c w).reply
+
+no_branch : says (command.Remove (codes "zed") 0) joined ≡ No NoBranch
+no_branch = refl
+
+name_taken : says (command.Fork main 0 main) joined ≡ No NameTaken
+name_taken = refl
+
+bad_name : says (command.Fork main 0 (codes "9x")) joined ≡ No BadName
+bad_name = refl
+
+no_place : says (command.Remove main 3) joined ≡ No NoPlace
+no_place = refl
+
+bad_step : says (command.Insert main 0 (step.Write 1 0)) joined ≡ No BadStep
+bad_step = refl
+
+last_branch : says (command.Drop main) joined ≡ No LastBranch
+last_branch = refl
+
+no_break : says (command.Clear break.Void) joined ≡ No NoBreak
+no_break = refl
+
+no_session : (acted 5 None command.Seek joined).reply ≡ No NoSession
+no_session = refl
+
+no_such_session : (acted 16 None command.Join joined).reply ≡ No NoSession
+no_such_session = refl
+
+newer : (acted 0 (Some 9) (command.Drop main) joined).reply ≡ No (Newer 0)
+newer = refl
+
+-- a branch that is forked, and dropped once no cursor stands on it
+abbrev forked : World SafePoint
+forked = behind (command.Fork main 0 a ∷ command.Go a 0 ∷ []) joined
+
+occupied : says (command.Drop a) forked ≡ No Occupied
+occupied = refl
+
+too_many : says (command.Fork main 0 (codes "b")) forked ≡ No TooManyBranches
+too_many = refl
+
+dropped : says (command.Drop a) (behind (command.Leave ∷ []) forked) ≡ Edited 2
+dropped = refl
+
+-- a write and a read that overlaps it
+abbrev overlapped : World SafePoint
+overlapped =
+    behind (command.Join ∷ [])
+    (opening safe_behaviour 0 limits (forests.opening (step.Write 0 1 ∷ step.Go 0 0 ∷ step.Read 1 ∷ step.Go 1 0 ∷ step.Go 0 0 ∷ step.Go 1 0 ∷ [])))
+
+chosen : says command.Seek (behind (command.Break break.Chosen ∷ []) overlapped) ≡ Moved main 6
+chosen = refl
+
+no_hit : says command.Seek (behind (command.Break break.Chosen ∷ command.Seek ∷ []) overlapped) ≡ NoHit
+no_hit = refl
+
+bit : says command.Seek (behind (command.Break (break.Bit 0 1) ∷ []) overlapped) ≡ Moved main 5
+bit = refl
+
+back : says command.Back (behind (command.Break (break.Bit 0 1) ∷ command.Go main 6 ∷ []) overlapped) ≡ Moved main 5
+back = refl
+
+back_no_hit : says command.Back (behind (command.Break (break.Bit 0 1) ∷ command.Go main 6 ∷ command.Back ∷ []) overlapped) ≡ NoHit
+back_no_hit = refl
+
+cleared : says (command.Clear break.Chosen) (behind (command.Break break.Chosen ∷ command.Seek ∷ []) overlapped) ≡ BreakCleared
+cleared = refl
+
+-- a log of one entry
+abbrev one_logged : World SafePoint
+one_logged = behind (command.Join ∷ []) (opening safe_behaviour 0 (record { cells = 65536; branches = 2; log = 1 }) (forests.opening []))
+
+log_full : says command.Join one_logged ≡ No LogFull
+log_full = refl
+
+stays_full : (behind (command.Join ∷ []) one_logged).logged ≡ 1
+stays_full = refl
