@@ -1,5 +1,5 @@
 -- Looks at one branch.
-use Rattle.std.proofs.Common.{◌≡◌, Bool, true, refl}
+use Rattle.std.proofs.Common.{◌≡◌, true, refl}
 use Rattle.views.specs.declared.query.Query.{Query}
 use Rattle.views.specs.declared.query.Query.TheVariants.{State, Process, Bits, Pending, History, Verdict, Branches, Cursor, Steps}
 use Rattle.views.specs.Looks as views

@@ -1,5 +1,5 @@
 -- Looks at a world: why one is refused, and the page that it shows.
-use Rattle.std.specs.Prelude.{ℕ, List, Option, Some, None, Result, Ok, Err, is_none, if◌then◌else◌}
+use Rattle.std.specs.Prelude.{ℕ, Bool, ◌||◌, nat_lt, List, Option, Some, None, Result, Ok, Err, is_none, if◌then◌else◌}
 use Rattle.schedule_trie.specs.declared.refusal.Refusal.{Refusal}
 use Rattle.schedule_trie.specs.declared.refusal.Refusal.TheVariants.{NoSession}
 use Rattle.schedule_trie.specs.Forest.{Forest}
@@ -20,10 +20,14 @@ abbrev pub cursor_page : Option declared.Cursor → List Break → Option Page
 cursor_page None breaks = None
 cursor_page (Some c) breaks = Some (page.Cursor (record { branch = c.branch; place = c.place; breaks = breaks }))
 
+-- there is no such session, or it hasn't joined
+abbrev pub lacks_cursor : ℕ → List (Option declared.Cursor) → Bool
+lacks_cursor who cursors = nat_lt 15 who || is_none (cursor_at cursors who)
+
 module _ {P : Type 0} where
   -- a look leaves the branches: NoSession for the cursor of a session that hasn't joined; NoBranch, NoPlace
   abbrev pub looked : World P → Query → Result Forest Refusal
-  looked w (Cursor who) = if is_none (cursor_at w.cursors who) then Err NoSession else Ok w.forest
+  looked w (Cursor who) = if lacks_cursor who w.cursors then Err NoSession else Ok w.forest
   looked w query = views.looked query w.forest
 
   -- the page of a look, where it isn't refused

@@ -1,5 +1,6 @@
-use Rattle.std.proofs.Common.{◌≡◌, Some, IfOk, IfErr, subst}
+use Rattle.std.proofs.Common.{◌≡◌, Some, Ok, OnOk, IfOk, IfErr, subst}
 use Rattle.schedule_trie.specs.Forest.{IsRefused}
+use Rattle.schedule_trie.specs.Cut.{forest}
 use Rattle.sessions.specs.Held.{Staged, world_of}
 use Rattle.sessions.proofs.Looks.{shown_at, looked_at}
 use Rattle.sessions.proofs.stage.Stage.look_at_branch.Goals as goal
@@ -15,3 +16,9 @@ returns-clause-err g c =
     let i = c.self.inside in
     let held : Staged g.row.R.Denot g.row.R-Pending.Denot = record { chart = i.chart; limits = i.limits; cursors = i.cursors; breaks = i.breaks.items; edits = i.edits; logged = i.logged } in
     rw (← c.self.view_is) (subst (λ r. IfErr c.at.result (IsRefused r)) (looked_at (world_of g.R.Behaves.is held) c.args.query c.requires) c.at.ensures.err)
+
+pub returns-clause-found : goal.returns-clause-found
+returns-clause-found g c =
+    let i = c.self.inside in
+    let held : Staged g.row.R.Denot g.row.R-Pending.Denot = record { chart = i.chart; limits = i.limits; cursors = i.cursors; breaks = i.breaks.items; edits = i.edits; logged = i.logged } in
+    rw (← c.self.view_is) (subst (λ r. OnOk c.at.result (r ≡ Ok (forest i.chart.cut))) (looked_at (world_of g.R.Behaves.is held) c.args.query c.requires) c.at.ensures.found)
