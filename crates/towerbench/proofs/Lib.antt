@@ -1,4 +1,2 @@
 pub mod Opened
-pub mod CommandLines
 pub mod Endings
-pub mod Looks

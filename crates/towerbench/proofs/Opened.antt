@@ -15,12 +15,11 @@ use Rattle.conversation.specs.declared.fault.StreamFault.{StreamFault}
 use Rattle.conversation.specs.declared.fault.StreamFault.TheVariants as streams
 use Rattle.towerbench.specs.declared.fault.Fault.{Fault}
 use Rattle.towerbench.specs.declared.fault.Fault.TheVariants as fault
-use Rattle.towerbench.specs.World.{opening}
-use Rattle.towerbench.specs.Answers.{answer_line}
+use Rattle.script.specs.Answers.{answer_line}
 use Rattle.conversation.specs.Scripts.{answers_to}
 use Rattle.conversation.specs.Conversations.{Answering, Breaks}
 use Rattle.towerbench.specs.Faults.{of_streams}
-use Rattle.towerbench.specs.Opening.{opened, answers_of, answers_on, FailsOver, EndsOver, Ran, RanInto}
+use Rattle.towerbench.specs.Opening.{opening, opened, answers_of, answers_on, FailsOver, EndsOver, Ran, RanInto}
 
 -- steps that were opened are within the cells
 pub opened_within : (limits : Limits) (steps : List Step) (f : Forest) → forests.opened limits steps ≡ Ok f → length steps ≤ limits.cells

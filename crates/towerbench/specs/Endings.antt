@@ -4,13 +4,13 @@ use Rattle.std.specs.Option.{is_some}
 use Rattle.std.specs.Io.KnownBytes.{Appends}
 use Rattle.clap.specs.Words.{Text}
 use Rattle.schedule_trie.specs.declared.limits.Limits.{Limits}
-use Rattle.towerbench.specs.declared.options.Options.{Options}
-use Rattle.towerbench.specs.Ranges.{limits_of}
+use Rattle.command_line.specs.declared.options.Options.{Options}
+use Rattle.command_line.specs.Ranges.{limits_of}
 use Rattle.towerbench.specs.declared.fault.Fault.{Fault}
 use Rattle.towerbench.specs.declared.fault.ProgramFault.TheVariants.{Source, Run, Help, Memory}
 use Rattle.towerbench.specs.declared.ending.Ending.{Ending}
 use Rattle.towerbench.specs.declared.ending.Ending.TheVariants.{Done, Refused, Faulted}
-use Rattle.towerbench.specs.CommandLine.{Says, AsksHelp, IsWrong}
+use Rattle.command_line.specs.CommandLine.{Says, AsksHelp, IsWrong}
 use Rattle.towerbench.specs.Opening.{IsUntouched, Ran, RanInto}
 
 -- bytes that stand for a file: there are some exactly where one is named

@@ -1,10 +1,3 @@
-pub mod Lines
-pub mod Texts
-pub mod World
-pub mod Answers
-pub mod LineFronts
-pub mod Ranges
 pub mod Faults
 pub mod Opening
-pub mod CommandLine
 pub mod Endings

@@ -17,8 +17,10 @@ use Rattle.towerbench.specs.declared.fault.Fault.{Fault}
 use Rattle.towerbench.specs.declared.fault.Fault.TheVariants as fault
 use Rattle.schedule_trie.specs.declared.limits.Limits.{Limits}
 use Rattle.schedule_trie.specs.Forest as forests
-use Rattle.towerbench.specs.World.{opening}
-use Rattle.towerbench.specs.Answers.{answer_line}
+use Rattle.frames.specs.Behaviour.{Behaviour}
+use Rattle.sessions.specs.World as sessions
+use Rattle.sessions.specs.World.{World}
+use Rattle.script.specs.Answers.{answer_line}
 use Rattle.conversation.specs.Scripts.{answers_to}
 use Rattle.conversation.specs.Conversations.{Answering, IsAnswered, Breaks}
 
@@ -26,6 +28,10 @@ use Rattle.conversation.specs.Conversations.{Answering, IsAnswered, Breaks}
 abbrev pub opened : Option (List ℕ) → Result File FileFault
 opened None = Ok (file_of One (Safe 0) [])
 opened (Some bytes) = reading bytes
+
+-- the world before the first line: a register at a value, the limits, and steps on the branch `main`
+abbrev pub opening : {P : Type 0} → Behaviour P → ℕ → Limits → List Step → World P
+opening b value limits steps = sessions.opening b value limits (forests.opening steps)
 
 -- what lines answer on a tower, from its initial value, the limits and steps on
 abbrev pub answers_of : TowerSpec → Limits → List Step → Answering

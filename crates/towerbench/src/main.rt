@@ -1,31 +1,13 @@
 //! A workbench for runs of a register: a script of edits and looks comes in, the answers go out.
 #![tactic(auto)]
 
-pub mod answer;
-pub mod book;
-pub mod command;
-pub mod command_line;
-#[cfg(test)]
-mod command_line_tests;
-#[cfg(test)]
-mod edit_tests;
 pub mod ending;
 pub mod fault;
-pub mod line;
-pub mod options;
-pub mod reply;
-#[cfg(test)]
-mod row_tests;
 pub mod run;
 #[cfg(test)]
-mod stream_tests;
-#[cfg(test)]
 mod tests;
-pub mod text;
 pub mod tool;
 pub mod tower_source;
-#[cfg(test)]
-mod tower_source_tests;
 
 use std::process::ExitCode;
 use std::rt::Env;

@@ -5,19 +5,19 @@ ghost use Rattle.std.specs.Option.{option_map};
 ghost use Rattle.checkpoints.specs.Segment.{AllFit};
 ghost use Rattle.schedule_trie.specs.Cut.{AreLimits as AreTrieLimits};
 ghost use Rattle.conversation.specs.Scripts.{answers_to};
-ghost use Rattle.towerbench.specs.World.{opening};
-ghost use Rattle.towerbench.specs.Answers.{answer_line};
-ghost use Rattle.towerbench.specs.Ranges.{AreLimits, limits_of};
-ghost use Rattle.towerbench.specs.Opening.{answers_on, EndsOver, Ran, RanInto};
+ghost use Rattle.script.specs.Answers.{answer_line};
+ghost use Rattle.command_line.specs.Ranges.{AreLimits, limits_of};
+ghost use Rattle.towerbench.specs.Opening.{answers_on, opening, EndsOver, Ran, RanInto};
 
-use crate::book::Book;
 use crate::fault::Fault;
-use crate::options::Options;
+use command_line::options::Options;
 use conversation::converse::converse;
 use frames::register::Register;
 use frames::safe::Safe;
 use frames::types::Step;
 use schedule_trie::limits::Limits;
+use script::room::Room;
+use sessions::book::Book;
 use std::alloc::Global;
 use std::io::{Read, Write};
 use tower_file::{TowerFile, TowerSpec, parse};
@@ -132,10 +132,11 @@ fn begin<B: Register, R: Read, W: Write>(
 {
     let opened = Book::new(alloc, register, value, limits, &steps);
     drop(steps);
-    let mut book = match opened {
+    let book = match opened {
         Ok(book) => book,
         Err(refusal) => return Err(Fault::Refused(refusal)),
     };
-    converse(alloc, &mut book, reader, writer)?;
+    let mut room = Room { book };
+    converse(alloc, &mut room, reader, writer)?;
     Ok(())
 }

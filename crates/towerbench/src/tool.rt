@@ -3,17 +3,17 @@
 ghost use Rattle.std.specs.Prelude.{◌≡◌, ◌≤◌, IfOk, OnErr, map};
 ghost use Rattle.std.specs.Option.{is_some};
 ghost use Rattle.std.specs.String.{string_bytes};
-ghost use Rattle.towerbench.specs.Ranges.{AreLimits, limits_of};
+ghost use Rattle.command_line.specs.Ranges.{AreLimits, limits_of};
 ghost use Rattle.towerbench.specs.declared.ending.Ending.{Ending};
 ghost use Rattle.towerbench.specs.Opening.{IsUntouched};
 ghost use Rattle.towerbench.specs.Endings.{IsPrinted, EndsBy, WorksOut, ending_of, status_of};
 
-use crate::command_line::{Invocation, parse};
 use crate::ending::Ending;
 use crate::fault::{Fault, ProgramFault};
-use crate::options::Options;
 use crate::run::{run, run_read};
 use crate::tower_source::read_file;
+use command_line::invocation::{Invocation, parse};
+use command_line::options::Options;
 use conversation::streams::write_whole;
 use std::io;
 use std::io::{ErrorKind, Read, Write};

@@ -1,8 +1,8 @@
 use Rattle.std.proofs.Common.{◌≡◌, ◌≤◌, ◌∙◌, ap, subst, refl, length, Ok}
 use Rattle.schedule_trie.specs.Forest as forests
-use Rattle.schedule_trie.specs.Cut.{forest}
-use Rattle.towerbench.specs.World.{opening, world_of}
-use Rattle.towerbench.specs.Answers.{answer_line}
+use Rattle.sessions.specs.Held.{world_of}
+use Rattle.script.specs.Answers.{answer_line}
+use Rattle.towerbench.specs.Opening.{opening}
 use Rattle.conversation.specs.Scripts.{answers_to}
 use Rattle.conversation.specs.Conversations.{IsAnswered, Breaks}
 use Rattle.towerbench.proofs.Opened.{handed, opened_within}
@@ -15,10 +15,10 @@ returns-in-Err g c =
 pub returns-in_err-converse : goal.returns-in_err-converse
 returns-in_err-converse g c =
     let items : c.deref.result.now ≡ c.args.steps.items = c.deref.ensures.value in
-    let opened : forests.opened c.args.limits c.args.steps.items ≡ Ok (forest c.in-Ok.book.chart.cut) =
-    subst (λ steps. forests.opened c.args.limits steps ≡ Ok (forest c.in-Ok.book.chart.cut)) items c.in-Ok.ensures.ok in
-    let room : length c.args.steps.items ≤ c.args.limits.cells = opened_within c.args.limits c.args.steps.items (forest c.in-Ok.book.chart.cut) opened in
-    let world : world_of g.B.Behaves.is c.in-Ok.book ≡ opening (g.B.Behaves.is c.args.register) c.args.value c.args.limits c.args.steps.items =
+    let opened : forests.opened c.args.limits c.args.steps.items ≡ Ok (forests.opening c.args.steps.items) =
+    subst (λ steps. forests.opened c.args.limits steps ≡ Ok (forests.opening steps)) items c.in-Ok.ensures.ok in
+    let room : length c.args.steps.items ≤ c.args.limits.cells = opened_within c.args.limits c.args.steps.items (forests.opening c.args.steps.items) opened in
+    let world : world_of g.B.Behaves.is c.in-Ok.book.now ≡ opening (g.B.Behaves.is c.args.register) c.args.value c.args.limits c.args.steps.items =
     c.in-Ok.ensures.world ∙ ap (λ steps. opening (g.B.Behaves.is c.args.register) c.args.value c.args.limits steps) items in
     let old = g.R.Read.remaining c.args.reader.now in
     let now = g.R.Read.remaining c.converse.new.reader in
@@ -31,12 +31,12 @@ returns-in_err-converse g c =
 pub returns : goal.returns
 returns g c =
     let items : c.deref.result.now ≡ c.args.steps.items = c.deref.ensures.value in
-    let opened : forests.opened c.args.limits c.args.steps.items ≡ Ok (forest c.in-Ok.book.chart.cut) =
-    subst (λ steps. forests.opened c.args.limits steps ≡ Ok (forest c.in-Ok.book.chart.cut)) items c.in-Ok.ensures.ok in
-    let world : world_of g.B.Behaves.is c.in-Ok.book ≡ opening (g.B.Behaves.is c.args.register) c.args.value c.args.limits c.args.steps.items =
+    let opened : forests.opened c.args.limits c.args.steps.items ≡ Ok (forests.opening c.args.steps.items) =
+    subst (λ steps. forests.opened c.args.limits steps ≡ Ok (forests.opening steps)) items c.in-Ok.ensures.ok in
+    let world : world_of g.B.Behaves.is c.in-Ok.book.now ≡ opening (g.B.Behaves.is c.args.register) c.args.value c.args.limits c.args.steps.items =
     c.in-Ok.ensures.world ∙ ap (λ steps. opening (g.B.Behaves.is c.args.register) c.args.value c.args.limits steps) items in
     record {
-      room = opened_within c.args.limits c.args.steps.items (forest c.in-Ok.book.chart.cut) opened;
+      room = opened_within c.args.limits c.args.steps.items (forests.opening c.args.steps.items) opened;
       answered = subst (λ w. IsAnswered (answers_to answer_line w) (g.R.Read.remaining c.args.reader.now) (g.R.Read.remaining c.converse.new.reader) (g.W.Write.contents c.args.writer.now) (g.W.Write.contents c.converse.new.writer))
           world c.in_ok-converse.ensures.done;
     }

@@ -3,14 +3,13 @@ use Rattle.std.specs.Option.{option_map}
 use Rattle.tower_file.specs.declared.tower.TowerSpec.TheVariants.{Safe}
 use Rattle.tower_file.specs.declared.version.Version.TheVariants.{One}
 use Rattle.tower_file.specs.Files.{file_of}
-use Rattle.towerbench.specs.Ranges.{limits_of}
+use Rattle.command_line.specs.Ranges.{limits_of}
 use Rattle.frames.specs.declared.types.Step.{Step}
 use Rattle.frames.specs.SafeBit.{safe_behaviour}
 use Rattle.schedule_trie.specs.declared.limits.Limits.{Limits}
 use Rattle.conversation.specs.Scripts.{answers_to}
-use Rattle.towerbench.specs.World.{opening}
-use Rattle.towerbench.specs.Answers.{answer_line}
-use Rattle.towerbench.specs.Opening.{opened, answers_on, EndsOver}
+use Rattle.script.specs.Answers.{answer_line}
+use Rattle.towerbench.specs.Opening.{opening, opened, answers_on, EndsOver}
 use Rattle.towerbench.proofs.Opened.{with_file}
 use Rattle.towerbench.proofs.run.run.Goals as goal
 

@@ -1,7 +1,7 @@
 use Rattle.std.proofs.Common.{refl, Some, ap, sym, subst, ◌∙◌}
 use Rattle.schedule_trie.specs.declared.limits.Limits.{Limits}
 use Rattle.tower_file.specs.Reading.{reading}
-use Rattle.towerbench.specs.Ranges.{limits_of}
+use Rattle.command_line.specs.Ranges.{limits_of}
 use Rattle.towerbench.specs.Opening.{answers_on, EndsOver, IsFileFault}
 use Rattle.towerbench.proofs.Opened.{with_file}
 use Rattle.towerbench.proofs.run.run_read.Goals as goal

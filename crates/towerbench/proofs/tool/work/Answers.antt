@@ -1,6 +1,6 @@
 use Rattle.std.proofs.Common.{ap, sym, refl, Some, None}
 use Rattle.std.specs.Option.{is_some}
-use Rattle.towerbench.specs.Ranges.{limits_of}
+use Rattle.command_line.specs.Ranges.{limits_of}
 use Rattle.towerbench.proofs.Endings.{ran_over, worked}
 use Rattle.towerbench.proofs.tool.work.Goals as goal
 

@@ -1,0 +1,16 @@
+-- The ranges of a run's limits.
+use Rattle.std.specs.Prelude.{◌≤◌, ◌^◌}
+use Rattle.schedule_trie.specs.declared.limits.Limits.{Limits}
+use Rattle.command_line.specs.declared.options.Options.{Options}
+
+-- each limit lies in its range
+pub record AreLimits (o : Options) : Type 0 where
+  pub few_workers : o.workers ≤ 4
+  pub some_cells : 1 ≤ o.cells
+  pub few_cells : o.cells ≤ 2 ^ 24
+  pub some_branches : 1 ≤ o.branches
+  pub few_branches : o.branches ≤ 1024
+
+-- the limits of the branches and of the log
+abbrev pub limits_of : Options → Limits
+limits_of o = record { cells = o.cells; branches = o.branches; log = 1048576 }

@@ -1,0 +1,128 @@
+//! The words behind the program's name.
+
+ghost use Rattle.std.specs.Prelude.{◌≡◌, [], None, IfOk, false, map};
+ghost use Rattle.std.specs.String.{string_bytes};
+ghost use Rattle.clap.specs.Words.{app_of, kind_of, rule_of};
+ghost use Rattle.command_line.specs.CommandLine.{IsAskedBy, IsRunOf, Tells, option_rule, default_options, program};
+
+use crate::options::Options;
+use clap::builder::ValueParser;
+use clap::error::ErrorKind;
+use clap::{Arg, ArgAction, Command, Error, value_parser};
+use std::alloc::{AllocError, Global};
+
+/// The id of the word that names a tower file.
+const FILE: &str = "FILE";
+
+/// The id of the option that limits the cells.
+const CELLS: &str = "cells";
+
+/// The id of the option that limits the branches.
+const BRANCHES: &str = "branches";
+
+/// What the words ask for.
+#[derive(Debug, Drop)]
+pub enum Invocation<'a> {
+    /// A run over the tower file that is named, if any.
+    Run {
+        file: Option<&'a str>,
+        options: Options,
+    },
+    /// The help, to be printed.
+    Help(String),
+    /// The words are refused, with this to be told.
+    Refused(String),
+    /// There is no memory to read the words.
+    Memory,
+}
+
+/// Reads the words behind the program's name.
+pub fn parse<'a>(alloc: Global, words: &'a [String]) -> Invocation<'a>
+    ensures asked { IsAskedBy (map string_bytes words.entry.now) result }
+    ensures bare { words.entry.now ≡ [] → IsRunOf None default_options result }
+{
+    let Ok(command) = command(alloc) else {
+        return Invocation::Memory;
+    };
+    let matches = match command.try_get_matches_from(words) {
+        Ok(matches) => matches,
+        Err(error) => return invocation_of(alloc, &error),
+    };
+    let Some(cells) = matches.get_one::<u32>(CELLS) else {
+        unreachable!();
+    };
+    let Some(branches) = matches.get_one::<u32>(BRANCHES) else {
+        unreachable!();
+    };
+    Invocation::Run {
+        file: matches.get_str(FILE),
+        options: Options {
+            workers: 0,
+            cells,
+            branches,
+        },
+    }
+}
+
+/// The program's command line.
+fn command<'a>(alloc: Global) -> Result<Command<'a>, AllocError>
+    ensures { IfOk result (λ c. app_of c ≡ program) }
+{
+    let file = Arg::new(alloc, FILE).help("A tower and its steps; without it a safe bit");
+    let cells = number_option(
+        alloc,
+        CELLS,
+        value_parser!(u32).range(1..=16777216),
+        "65536",
+        "The most cells that are ever made, 1 to 16777216",
+    );
+    let branches = number_option(
+        alloc,
+        BRANCHES,
+        value_parser!(u32).range(1..=1024),
+        "64",
+        "The most branches that there are at a time, 1 to 1024",
+    );
+    Command::new(alloc, "towerbench")
+        .about(
+            "Answers the script on standard input: edits and looks over the runs of a register tower",
+        )
+        .no_binary_name(true)
+        .arg(file)?
+        .arg(cells)?
+        .arg(branches)
+}
+
+/// An option that takes a number, and stands for `default` where it isn't used.
+fn number_option<'a>(
+    alloc: Global,
+    id: &'a str,
+    number: ValueParser<'a>,
+    default: &'a str,
+    help: &'a str,
+) -> Arg<'a>
+    ensures rule { rule_of result ≡ option_rule id.now number.entry default.now }
+    ensures own { result.global ≡ false }
+{
+    Arg::new(alloc, id)
+        .long(id)
+        .action(ArgAction::Set)
+        .value_name("N")
+        .help(help)
+        .value_parser(number)
+        .default_value(default)
+}
+
+/// What is told of words that aren't taken.
+fn invocation_of<'a>(alloc: Global, error: &Error) -> Invocation<'a>
+    ensures { Tells (kind_of error.now) result }
+{
+    let Ok(text) = format!(in alloc; "{error}") else {
+        return Invocation::Memory;
+    };
+    match error.kind() {
+        ErrorKind::OutOfMemory => Invocation::Memory,
+        ErrorKind::DisplayHelp => Invocation::Help(text),
+        _ => Invocation::Refused(text),
+    }
+}

@@ -1,0 +1,186 @@
+//! Lines of words, good and bad.
+
+use crate::invocation::{Invocation, parse};
+use crate::options::Options;
+use std::alloc::Global;
+use std::process::Abort;
+use std::test::Fail;
+
+/// The words of a line, which spaces part.
+fn split(alloc: Global, line: &str) -> Result<Vec<String>, Fail> {
+    let mut words = Vec::new(alloc);
+    for word in line.split_ascii_whitespace() {
+        words.push(String::from_str(alloc, word)?)?;
+    }
+    Ok(words)
+}
+
+/// Asserts that a line asks for a run.
+fn check_run(
+    rt: &impl Abort,
+    alloc: Global,
+    line: &str,
+    want: Option<&str>,
+    cells: u32,
+    branches: u32,
+) -> Result<(), Fail> {
+    let words = split(alloc, line)?;
+    let wanted = Options {
+        workers: 0,
+        cells,
+        branches,
+    };
+    match parse(alloc, words.as_slice()) {
+        Invocation::Run { file, options } => {
+            assert_eq!(rt; file, want, "{line}");
+            assert_eq!(rt; options, wanted, "{line}");
+        }
+        _ => panic!(rt; "{line}"),
+    }
+    Ok(())
+}
+
+#[test]
+fn runs(rt: HostRuntime) -> Result<(), Fail> {
+    for (line, file, cells, branches) in [
+        ("", None, 65536, 64),
+        ("tower", Some("tower"), 65536, 64),
+        ("-", Some("-"), 65536, 64),
+        ("--cells 1", None, 1, 64),
+        ("--cells 16777216", None, 16777216, 64),
+        ("--cells=16777216", None, 16777216, 64),
+        ("--cells 65537 tower", Some("tower"), 65537, 64),
+        ("tower --cells 4", Some("tower"), 4, 64),
+        ("--cells=4 tower", Some("tower"), 4, 64),
+        ("-- tower", Some("tower"), 65536, 64),
+        ("-- --cells", Some("--cells"), 65536, 64),
+        ("--cells 4 -- --help", Some("--help"), 4, 64),
+        ("--branches 1", None, 65536, 1),
+        ("--branches=1024 tower", Some("tower"), 65536, 1024),
+        ("--branches 2 --cells 4 tower", Some("tower"), 4, 2),
+        ("--cells 4 tower --branches 2", Some("tower"), 4, 2),
+    ] {
+        check_run(&rt, rt.alloc(), line, file, cells, branches)?;
+    }
+    Ok(())
+}
+
+#[test]
+fn refusals(rt: HostRuntime) -> Result<(), Fail> {
+    for line in [
+        "one two",
+        "one -- two",
+        "--cells",
+        "--cells=",
+        "tower --cells",
+        "--cells 0",
+        "--cells 16777217",
+        "--cells 99999999999999999999",
+        "--cells -1",
+        "--cells=-1",
+        "--cells x",
+        "--cells 4x",
+        "--cells 0x4",
+        "--cells 4.0",
+        "--cells --help",
+        "--cells 4 --cells 4",
+        "--cell 4",
+        "--Cells 4",
+        "-c 4",
+        "--workers 1",
+        "--workers",
+        "--branches",
+        "--branches 0",
+        "--branches 1025",
+        "--branches x",
+        "--branches 4 --branches 4",
+        "--branches 4 one two",
+        "--version",
+        "-V",
+        "-x",
+        "--help=1",
+        "one two --help",
+        "--cells 0 --help",
+    ] {
+        let words = split(rt.alloc(), line)?;
+        match parse(rt.alloc(), words.as_slice()) {
+            Invocation::Refused(text) => assert!(rt; text.contains("--help"), "{line}: {text}"),
+            _ => panic!(rt; "{line}"),
+        }
+    }
+    Ok(())
+}
+
+const HELP: &str = "\
+Answers the script on standard input: edits and looks over the runs of a register tower
+
+Usage: towerbench [OPTIONS] [FILE]
+
+Arguments:
+  [FILE]  A tower and its steps; without it a safe bit
+
+Options:
+      --cells <N>     The most cells that are ever made, 1 to 16777216 [default: 65536]
+      --branches <N>  The most branches that there are at a time, 1 to 1024 [default: 64]
+  -h, --help          Print help
+";
+
+#[test]
+fn help(rt: HostRuntime) -> Result<(), Fail> {
+    for line in [
+        "--help",
+        "-h",
+        "tower --help",
+        "--cells 4 -h",
+        "--help --workers 1",
+    ] {
+        let words = split(rt.alloc(), line)?;
+        match parse(rt.alloc(), words.as_slice()) {
+            Invocation::Help(text) => assert_eq!(rt; text.as_str(), HELP, "{line}"),
+            _ => panic!(rt; "{line}"),
+        }
+    }
+    Ok(())
+}
+
+/// What is told names what is wrong.
+#[test]
+fn what_is_wrong_is_named(rt: HostRuntime) -> Result<(), Fail> {
+    for (line, want) in [
+        (
+            "--cells 0",
+            "error: invalid value '0' for '--cells <N>': 0 is not in 1..=16777216\n\n\
+             For more information, try '--help'.\n",
+        ),
+        (
+            "--cells",
+            "error: a value is required for '--cells <N>' but none was supplied\n\n\
+             For more information, try '--help'.\n",
+        ),
+        (
+            "--branches 1025",
+            "error: invalid value '1025' for '--branches <N>': 1025 is not in 1..=1024\n\n\
+             For more information, try '--help'.\n",
+        ),
+        (
+            "--threads 4",
+            "error: unexpected argument '--threads' found\n\n  \
+             tip: to pass '--threads' as a value, use '-- --threads'\n\n\
+             Usage: towerbench [OPTIONS] [FILE]\n\n\
+             For more information, try '--help'.\n",
+        ),
+        (
+            "one two",
+            "error: unexpected argument 'two' found\n\n\
+             Usage: towerbench [OPTIONS] [FILE]\n\n\
+             For more information, try '--help'.\n",
+        ),
+    ] {
+        let words = split(rt.alloc(), line)?;
+        match parse(rt.alloc(), words.as_slice()) {
+            Invocation::Refused(text) => assert_eq!(rt; text.as_str(), want, "{line}"),
+            _ => panic!(rt; "{line}"),
+        }
+    }
+    Ok(())
+}

@@ -1,0 +1,114 @@
+//! Reading a look, and the branches and places of a line.
+
+ghost use Rattle.std.specs.Prelude.{◌≡◌};
+ghost use Rattle.script.specs.Lines as spec;
+
+use schedule_trie::name::Name;
+use views::query::Query;
+use words::number::number;
+use words::parts::Parts;
+use words::step::is;
+
+/// Whether a look begins with this word.
+pub(crate) fn is_look(word: &[u8]) -> bool
+    ensures { result ≡ spec.is_look word.now }
+{
+    is(word, "branches")
+        || is(word, "cursor")
+        || is(word, "steps")
+        || is(word, "process")
+        || is_place_look(word)
+}
+
+/// Whether a look at a place, and at no one process, begins with this word.
+fn is_place_look(word: &[u8]) -> bool
+    ensures { result ≡ spec.is_place_look word.now }
+{
+    is(word, "state")
+        || is(word, "pending")
+        || is(word, "bits")
+        || is(word, "history")
+        || is(word, "verdict")
+}
+
+/// Reads a session's look that begins with this word.
+pub(crate) fn look_of(session: u32, word: &[u8], words: &mut Parts<'_>) -> Option<Query>
+    ensures { result ≡ spec.look_of session word.now words.old }
+{
+    if is(word, "branches") {
+        return words.is_end().then_some(Query::Branches);
+    }
+    if is(word, "cursor") {
+        return words.is_end().then_some(Query::Cursor { who: session });
+    }
+    if is(word, "steps") {
+        let branch = branch_of(words)?;
+        return Some(Query::Steps { branch });
+    }
+    if is(word, "process") {
+        let (branch, place, process) = process_at(words)?;
+        return Some(Query::Process {
+            branch,
+            place,
+            process,
+        });
+    }
+    let (branch, place) = place_of(words)?;
+    query_at(word, branch, place)
+}
+
+/// The look at a place that a word calls.
+fn query_at(word: &[u8], branch: Name, place: u32) -> Option<Query>
+    ensures { result ≡ spec.query_at word.now branch place }
+{
+    if is(word, "state") {
+        Some(Query::State { branch, place })
+    } else if is(word, "pending") {
+        Some(Query::Pending { branch, place })
+    } else if is(word, "bits") {
+        Some(Query::Bits { branch, place })
+    } else if is(word, "history") {
+        Some(Query::History { branch, place })
+    } else if is(word, "verdict") {
+        Some(Query::Verdict { branch, place })
+    } else {
+        None
+    }
+}
+
+/// Reads a branch, and no more words.
+pub(crate) fn branch_of(words: &mut Parts<'_>) -> Option<Name>
+    ensures { result ≡ spec.branch_of words.old }
+{
+    let branch = branch(words.next())?;
+    words.is_end().then_some(branch)
+}
+
+/// Reads a branch and a place, and no more words.
+pub(crate) fn place_of(words: &mut Parts<'_>) -> Option<(Name, u32)>
+    ensures { result ≡ spec.place_of words.old }
+{
+    let branch = branch(words.next())?;
+    let place = number(words.next())?;
+    words.is_end().then_some((branch, place))
+}
+
+/// Reads a branch, a place and a process, and no more words.
+fn process_at(words: &mut Parts<'_>) -> Option<(Name, u32, u32)>
+    ensures { result ≡ spec.process_at words.old }
+{
+    let branch = branch(words.next())?;
+    let place = number(words.next())?;
+    let process = number(words.next())?;
+    words.is_end().then_some((branch, place, process))
+}
+
+/// Reads the name of a branch, 1 to 16 bytes.
+pub(crate) fn branch(word: &[u8]) -> Option<Name>
+    ensures { result ≡ spec.branch word.now }
+{
+    if word.is_empty() {
+        return None;
+    }
+    Name::new(word)
+}
