@@ -12,7 +12,7 @@ ghost use Rattle.sessions.specs.World.{opening};
 ghost use Rattle.sessions.specs.Logs.{IsLegal};
 ghost use Rattle.sessions.specs.Logs as spec;
 ghost use Rattle.sessions.specs.Looks.{looked, shown_in};
-ghost use Rattle.sessions.specs.Held.{Acts, Wants, opening_of, world_of};
+ghost use Rattle.sessions.specs.Held.{Acts, IsHeld, Wants, opening_of, world_of};
 
 use crate::command::Command;
 use crate::log::{Entry, Log};
@@ -151,9 +151,10 @@ impl<R: Register> Book<R> {
         self.stage.install(key, run)
     }
 
-    /// How many commands are logged.
+    /// How many commands are logged. A book is kept by its type: its log is legal, and its world is the one after it.
     pub fn len(&self) -> u32
-        ensures { result ≡ length self.now.log }
+        ensures count { result ≡ length self.now.log }
+        ensures kept { IsHeld R.is self.now }
     {
         self.log.len() as u32
     }

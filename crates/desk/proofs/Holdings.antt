@@ -1,0 +1,96 @@
+-- What a holding of a desk's turn tells its chair.
+use Rattle.std.proofs.Common.{◌≡◌, ℕ, ◌+◌, ◌≤◌, Bool, List, [], ◌∷◌, ◌++◌, length, Option, Result, refl, sym, ap, subst, ◌∙◌, arith, append-nil}
+use Rattle.std.proofs.lemmas.List.{append_cancel_left}
+use Rattle.frames.specs.Behaviour.{Behaviour}
+use Rattle.schedule_trie.specs.declared.refusal.Refusal.{Refusal}
+use Rattle.schedule_trie.specs.declared.refusal.Refusal.TheVariants.{LogFull}
+use Rattle.views.specs.declared.page.Page.{Page}
+use Rattle.views.specs.declared.query.Query.{Query}
+use Rattle.turn.specs.declared.view.View.{View}
+use Rattle.turn.specs.Entries.{AtMostOne}
+use Rattle.turn.specs.Shares.{HasAll, number}
+use Rattle.turn.specs.Histories.{StartsWith, Holding, grabbed, published, released}
+use Rattle.sessions.specs.declared.command.Command.{Command}
+use Rattle.sessions.specs.declared.log.Entry.{Entry}
+use Rattle.sessions.specs.declared.reply.Reply.TheVariants.{No}
+use Rattle.sessions.specs.Held.{Held, opening_of}
+use Rattle.sessions.specs.Logs.{IsLegal, entry, is_logged, logged, world_after}
+use Rattle.desk.specs.declared.item.Item.{Item}
+use Rattle.desk.specs.declared.receipt.Receipt.{Receipt}
+use Rattle.desk.specs.declared.receipt.Answer.{Answer}
+use Rattle.desk.specs.Items.{made_under, calls_in, as_items, items}
+use Rattle.desk.specs.Histories.{IsHistory, seen, own}
+use Rattle.desk.specs.Works.{IsAct, IsLook, IsAnswer, IsPaged}
+use Rattle.desk.specs.Chairs.{Finds, Received, Looked}
+use Rattle.desk.proofs.Lists.{calls_as, calls_append, items_more, length_items, same_first, calls_begin}
+use Rattle.desk.proofs.Works.{paged_so}
+use Rattle.desk.proofs.Logged.{put, put_under, logged_last}
+
+module _ {R P : Type 0} (is : R → Behaviour P) (first : Held R P) (v w : View (Item R P)) where
+  -- a list of items that a chair finds
+  finds_so : (before : List (Item R P)) (found : List Entry) → StartsWith before v.seen → v.told ≤ length before → (HasAll v.shares → before ≡ v.seen) → before ≡ items first found → Finds v found
+  finds_so before found starts told whole is_found =
+      let long = ap length is_found ∙ length_items first found in
+      record {
+        begins = calls_begin first found v.seen (subst (λ l. StartsWith l v.seen) is_found starts);
+        whole = λ all. sym (calls_as R P found) ∙ ap calls_in (sym is_found ∙ whole all);
+        told = omega arith;
+      }
+
+  history_so : (list : List (Item R P)) (calls : List Entry) → list ≡ items first calls → IsLegal (opening_of is first) calls → IsHistory is first list
+  history_so list calls is_list legal =
+      let same : calls_in list ≡ calls = ap calls_in is_list ∙ calls_as R P calls in
+      record { whole = is_list ∙ ap (items first) (sym same); legal = subst (IsLegal (opening_of is first)) (sym same) legal }
+
+  module _ (who : ℕ) (guard : Option ℕ) (command : Command) (receipt : Receipt) where
+    pub received : IsHistory is first v.seen → Holding made_under (λ before after. IsAct is who guard command before after receipt) v w
+        → Received is first who guard command v w receipt × IsHistory is first w.seen
+    received h (before, added, starts, told, one, after, act, whole) =
+        let found = act.found in
+        let one_first : first ≡ act.first = same_first first act.first (calls_in v.seen) found v.seen h.whole (subst (λ l. StartsWith l v.seen) act.finds starts) in
+        let is_found : before ≡ items first found = act.finds ∙ ap (λ o. items o found) (sym one_first) in
+        let call : ℕ → Entry = λ k. entry k who guard command receipt.reply in
+        let n = number v.shares in
+        let t = is_logged receipt.reply in
+        let put_is : items first found ++ added ≡ items first (put t (call act.chair) found) =
+        ap (λ l. l ++ added) (sym is_found) ∙ (act.leaves ∙ ap (λ o. items o (logged (call act.chair) found)) (sym one_first)) in
+        let both = put_under t first found call act.chair n added (λ k. refl) put_is one in
+        let list : w.seen ≡ items first (logged (call n) found) =
+        ap (λ x. x.seen) after ∙ (act.leaves ∙ (ap (λ o. items o (logged (call act.chair) found)) (sym one_first) ∙ ap (items first) both.1)) in
+        let sees : seen w ≡ logged (call n) found = ap calls_in list ∙ calls_as R P (logged (call n) found) in
+        let legal : IsLegal (opening_of is first) (logged (call n) found) =
+        subst (λ o. IsLegal (opening_of is o) (logged (call n) found)) (sym one_first) (subst (IsLegal (opening_of is act.first)) both.1 act.legal) in
+        (record {
+          found = found;
+          finds = finds_so before found starts told whole is_found;
+          legal = legal;
+          sees = sees;
+          owns = ap (λ x. own x) after ∙ (calls_append v.calls added ∙ (ap (λ l. own v ++ calls_in l) both.0 ∙ (ap (λ l. own v ++ l) (calls_as R P (logged (call n) [])) ∙ sym (logged_last (call n) (own v)))));
+          at = act.at ∙ (ap length both.1 ∙ ap length (sym sees));
+          full = λ e. act.full e ∙ ap (λ o. (opening_of is o).limits.log) (sym one_first);
+          shares = ap (λ x. x.shares) after;
+          told = ap (λ x. x.told) after;
+        }, history_so w.seen (logged (call n) found) list legal)
+
+  module _ (query : Query) (at : ℕ) (slip : Result Page Refusal) where
+    pub looked_so : IsHistory is first v.seen → Holding made_under (λ before after. IsLook is query before after at slip) v w → (result : Result Page Refusal)
+        → IsPaged slip result → Looked is first query v w (record { at = at; result = result }) × IsHistory is first w.seen
+    looked_so h (before, added, starts, told, one, after, look, whole) result paged =
+        let found = look.found in
+        let one_first : first ≡ look.first = same_first first look.first (calls_in v.seen) found v.seen h.whole (subst (λ l. StartsWith l v.seen) look.finds starts) in
+        let is_found : before ≡ items first found = look.finds ∙ ap (λ o. items o found) (sym one_first) in
+        let nothing : added ≡ [] = append_cancel_left before added [] (look.leaves ∙ sym (append-nil before)) in
+        let list : w.seen ≡ items first found = ap (λ x. x.seen) after ∙ (look.leaves ∙ is_found) in
+        let sees : seen w ≡ found = ap calls_in list ∙ calls_as R P found in
+        let legal : IsLegal (opening_of is first) found = subst (λ o. IsLegal (opening_of is o) found) (sym one_first) look.legal in
+        (record {
+          found = found;
+          finds = finds_so before found starts told whole is_found;
+          legal = legal;
+          answers = paged_so (world_after (opening_of is first) found) query slip result paged (subst (λ o. IsAnswer (world_after (opening_of is o) found) query slip) (sym one_first) look.answers);
+          sees = sees;
+          at = look.long;
+          calls = ap (λ x. x.calls) after ∙ (ap (λ l. v.calls ++ l) nothing ∙ append-nil v.calls);
+          shares = ap (λ x. x.shares) after;
+          told = ap (λ x. x.told) after;
+        }, history_so w.seen found list legal)

@@ -1,0 +1,4 @@
+pub mod Lists
+pub mod Logged
+pub mod Works
+pub mod Holdings

@@ -1,0 +1,49 @@
+-- Logs with a call that may be logged, and their fronts.
+use Rattle.std.proofs.Common.{◌≡◌, ℕ, Bool, true, false, cond, List, [], ◌∷◌, ◌++◌, refl, sym, ap, ◌∙◌, ⊎_elim, append-nil}
+use Rattle.std.proofs.lemmas.List.{append_cancel_left}
+use Rattle.turn.specs.Entries.{AtMostOne}
+use Rattle.sessions.specs.declared.log.Entry.{Entry}
+use Rattle.sessions.specs.Held.{Held}
+use Rattle.sessions.specs.World.{World}
+use Rattle.sessions.specs.Logs.{IsLegal, acted_by, is_logged, logged}
+use Rattle.desk.specs.declared.item.Item.{Item}
+use Rattle.desk.specs.declared.item.Item.TheVariants.{Call}
+use Rattle.desk.specs.Items.{made_under, as_items, items}
+use Rattle.desk.proofs.Lists.{items_more}
+
+pub legal_front : {P : Type 0} (w : World P) (xs ys : List Entry) → IsLegal w (xs ++ ys) → IsLegal w xs
+legal_front w [] ys h = tt
+legal_front w (e ∷ xs) ys h = (h.0, h.1, legal_front (acted_by e w).world xs ys h.2)
+
+-- a log with a call that is logged or not
+abbrev pub put : Bool → Entry → List Entry → List Entry
+put t e log = cond t (log ++ e ∷ []) log
+
+legal_before : {P : Type 0} (t : Bool) (w : World P) (e : Entry) (log : List Entry) → IsLegal w (put t e log) → IsLegal w log
+legal_before true w e log h = legal_front w log (e ∷ []) h
+legal_before false w e log h = h
+
+-- a log that is legal with a call is legal without it
+pub legal_found : {P : Type 0} (w : World P) (e : Entry) (log : List Entry) → IsLegal w (logged e log) → IsLegal w log
+legal_found w e log = legal_before (is_logged e.reply) w e log
+
+put_last : (t : Bool) (e : Entry) (log : List Entry) → put t e log ≡ log ++ put t e []
+put_last true e log = refl
+put_last false e log = sym (append-nil log)
+
+pub logged_last : (e : Entry) (log : List Entry) → logged e log ≡ log ++ logged e []
+logged_last e log = put_last (is_logged e.reply) e log
+
+module _ {R P : Type 0} where
+  -- What is added under a number, where a call of some chair is put or not: it is the call, made under that number
+  pub put_under : (t : Bool) (first : Held R P) (found : List Entry) (call : ℕ → Entry) (chair n : ℕ) (added : List (Item R P)) → ((k : ℕ) → (call k).chair ≡ k)
+      → items first found ++ added ≡ items first (put t (call chair) found) → AtMostOne made_under n added
+      → (added ≡ as_items (put t (call n) [])) × (put t (call chair) found ≡ put t (call n) found)
+  put_under true first found call chair n added by is one =
+      let new : added ≡ Call (call chair) ∷ [] = append_cancel_left (items first found) added (Call (call chair) ∷ []) (is ∙ items_more first found (call chair ∷ [])) in
+      ⊎_elim (λ (none : added ≡ []). absurd (let same : [] ≡ Call (call chair) ∷ [] = sym none ∙ new in cc))
+      (λ (some : (x : Item R P) × (added ≡ x ∷ []) × (made_under x ≡ n)).
+      let head : some.0 ≡ Call (call chair) = (let same : some.0 ∷ [] ≡ Call (call chair) ∷ [] = sym some.1 ∙ new in cc) in
+      let number : chair ≡ n = sym (by chair) ∙ (ap made_under (sym head) ∙ some.2) in
+      (new ∙ ap (λ k. Call (call k) ∷ []) number, ap (λ k. found ++ call k ∷ []) number)) one
+  put_under false first found call chair n added by is one = (append_cancel_left (items first found) added [] (is ∙ sym (append-nil (items first found))), refl)

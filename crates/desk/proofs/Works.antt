@@ -1,0 +1,122 @@
+-- What a book's calls do to the list behind the turn.
+use Rattle.std.proofs.Common.{◌≡◌, ◌⊎◌, ℕ, ◌≤◌, Bool, true, false, cond, nat_le, List, [], ◌∷◌, ◌++◌, length, Option, Some, Result, Ok, Err, IsOk, IfOk, OnOk, IfErr, refl, sym, ap, subst, ◌∙◌, ⊎_elim, arith, inl, inr}
+use Rattle.frames.specs.Behaviour.{Behaviour}
+use Rattle.schedule_trie.specs.declared.refusal.Refusal.{Refusal}
+use Rattle.schedule_trie.specs.declared.refusal.Refusal.TheVariants.{LogFull, Memory}
+use Rattle.schedule_trie.specs.Forest.{IsRefused}
+use Rattle.views.specs.declared.page.Page.{Page}
+use Rattle.views.specs.declared.query.Query.{Query}
+use Rattle.sessions.specs.declared.command.Command.{Command}
+use Rattle.sessions.specs.declared.log.Entry.{Entry}
+use Rattle.sessions.specs.declared.reply.Reply.{Reply}
+use Rattle.sessions.specs.declared.reply.Reply.TheVariants.{No}
+use Rattle.sessions.specs.World.{World}
+use Rattle.sessions.specs.Acts.{acted, is_full}
+use Rattle.sessions.specs.Looks.{looked, shown_in}
+use Rattle.sessions.specs.Held.{Held, IsHeld, Acts, Wants, opening_of, world_of}
+use Rattle.sessions.specs.Logs.{IsLegal, entry, logged, is_logged, world_after}
+use Rattle.turn.specs.Entries.{AtMostOne}
+use Rattle.sessions.proofs.Ordinary.{acted_logged, acted_full}
+use Rattle.desk.specs.declared.receipt.Receipt.{Receipt}
+use Rattle.desk.specs.declared.item.Item.{Item}
+use Rattle.desk.specs.declared.item.Item.TheVariants.{Call}
+use Rattle.desk.specs.Items.{made_under, as_items, items}
+use Rattle.desk.specs.Works.{IsAct, IsLook, IsAnswer, IsPaged}
+use Rattle.desk.proofs.Lists.{items_more}
+use Rattle.desk.proofs.Logged.{put, logged_last}
+
+reached : (a b : ℕ) (t : Bool) → nat_le a b ≡ t → t ≡ true → a ≤ b
+reached a b t e f = grind (arith, e, f)
+
+pub answer_of : {P : Type 0} (w : World P) (query : Query) (r : Result Page Refusal) → IfOk r (λ page. Some page ≡ shown_in w query) → OnOk r (looked w query ≡ Ok w.forest)
+    → IfErr r (IsRefused (looked w query)) → IsAnswer w query r
+answer_of w query (Ok page) shown found refused = (found, shown)
+answer_of w query (Err e) shown found refused = refused
+
+-- what is made of an answer's slip is the answer too
+pub paged_so : {P : Type 0} (w : World P) (query : Query) (slip result : Result Page Refusal) → IsPaged slip result → IsAnswer w query slip → IsAnswer w query result
+paged_so w query (Ok page) result (inl e) a = subst (IsAnswer w query) (sym e) a
+paged_so w query (Ok page) result (inr e) a = subst (IsAnswer w query) (sym e) (inr (refl, subst IsOk (sym a.0) refl))
+paged_so w query (Err r) result e a = subst (IsAnswer w query) (sym e) a
+
+module _ {R P : Type 0} (is : R → Behaviour P) where
+  -- where the reply is LogFull, the log is as long as its limit
+  module _ (old new : Held R P) (who : ℕ) (guard : Option ℕ) (command : Command) (held : IsHeld is new) (same_log : new.log ≡ old.log)
+      (acts : acted who guard command (world_of is old.now) ≡ record { world = world_of is new.now; reply = No LogFull }) where
+    by_room : (t : Bool) → is_full (world_of is old.now) ≡ t → length old.log ≡ new.now.limits.log
+    by_room true full =
+        let same : world_of is old.now ≡ world_of is new.now = ap (λ a. a.world) (sym (acted_full who (world_of is old.now) guard command full) ∙ acts) in
+        let most : new.now.limits.log ≤ new.now.logged = reached new.now.limits.log new.now.logged (is_full (world_of is new.now)) refl (ap is_full (sym same) ∙ full) in
+        let few = held.few in
+        let count : length old.log ≡ new.now.logged = ap length (sym same_log) ∙ held.count in
+        omega arith
+    by_room false room =
+        let told = (acted_logged who (world_of is old.now) guard command room).0 in
+        let none : false ≡ true = ap (λ a. is_logged a.reply) (sym acts) ∙ told in
+        absurd (cc)
+
+    pub full_log : length old.log ≡ new.now.limits.log
+    full_log = by_room (is_full (world_of is old.now)) refl
+
+  module _ (first old new : Held R P) (opened : opening_of is old ≡ opening_of is first) (same : opening_of is new ≡ opening_of is old) (held : IsHeld is new) where
+    module _ (chair who : ℕ) (guard : Option ℕ) (command : Command) (receipt : Receipt) where
+      call : Entry
+      call = entry chair who guard command receipt.reply
+
+      logs : Acts is old new call ⊎ Wants is old new receipt.reply → new.log ≡ logged call old.log
+      unfolding call
+      logs (inl a) = a.logs
+      logs (inr w) = w.log ∙ ap (λ r. cond (is_logged r) (old.log ++ call ∷ []) old.log) (sym w.replies)
+
+      full : Acts is old new call ⊎ Wants is old new receipt.reply → receipt.reply ≡ No LogFull → length old.log ≡ (opening_of is first).limits.log
+      unfolding call
+      full (inl a) is_log_full =
+          let same_log : new.log ≡ old.log = a.logs ∙ ap (λ r. cond (is_logged r) (old.log ++ call ∷ []) old.log) is_log_full in
+          full_log old new who guard command held same_log (a.acts ∙ ap (λ r. record { world = world_of is new.now; reply = r }) is_log_full)
+          ∙ ap (λ w. w.limits.log) (same ∙ opened)
+      full (inr w) is_log_full = absurd (let clash : No Memory ≡ No LogFull = sym w.replies ∙ is_log_full in cc)
+
+      pub acts_so : Acts is old new (entry chair who guard command receipt.reply) ⊎ Wants is old new receipt.reply → receipt.at ≡ length new.log
+          → IsAct is who guard command (items first old.log) (items first new.log) receipt
+      unfolding call
+      acts_so did at =
+          let more = logs did in
+          record {
+            first = first;
+            found = old.log;
+            chair = chair;
+            finds = refl;
+            leaves = ap (items first) more;
+            legal = subst (λ l. IsLegal (opening_of is first) l) more (subst (λ w. IsLegal w new.log) (same ∙ opened) held.legal);
+            at = at ∙ ap length more;
+            full = full did;
+          }
+
+      -- the call is added, or nothing
+      pub adds_so : Acts is old new (entry chair who guard command receipt.reply) ⊎ Wants is old new receipt.reply
+          → (added : List (Item R P)) × (items first new.log ≡ items first old.log ++ added) × AtMostOne made_under chair added
+      unfolding call
+      adds_so did = (as_items (logged call []),
+          ap (items first) (logs did ∙ logged_last call old.log) ∙ items_more first old.log (logged call []),
+          one_at_most (is_logged call.reply))
+        where
+          one_at_most : (t : Bool) → AtMostOne made_under chair (as_items {R = R} {P = P} (put t call []))
+          one_at_most true = inr (Call call, refl, refl)
+          one_at_most false = inl refl
+
+    pub looks_so : (query : Query) (at : ℕ) (r : Result Page Refusal) → IfOk r (λ page. Some page ≡ shown_in (world_of is old.now) query)
+        → OnOk r (looked (world_of is old.now) query ≡ Ok (world_of is old.now).forest) → IfErr r (IsRefused (looked (world_of is old.now) query))
+        → world_of is new.now ≡ world_of is old.now → new.log ≡ old.log → at ≡ length new.log
+        → IsLook is query (items first old.log) (items first new.log) at r
+    looks_so query at r shown found refused world log is_at =
+        let here : world_of is old.now ≡ world_after (opening_of is first) old.log =
+        sym world ∙ (held.after ∙ (ap (λ w. world_after w new.log) (same ∙ opened) ∙ ap (world_after (opening_of is first)) log)) in
+        record {
+          first = first;
+          found = old.log;
+          finds = refl;
+          leaves = ap (items first) log;
+          legal = subst (λ l. IsLegal (opening_of is first) l) log (subst (λ w. IsLegal w new.log) (same ∙ opened) held.legal);
+          long = is_at ∙ ap length log;
+          answers = subst (λ w. IsAnswer w query r) here (answer_of (world_of is old.now) query r shown found refused);
+        }

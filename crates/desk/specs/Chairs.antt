@@ -1,0 +1,59 @@
+-- Chairs of a desk, and what its calls do to what they know.
+use Rattle.std.specs.Prelude.{ℕ, ◌+◌, ◌≡◌, ◌≤◌, List, Option, length}
+use Rattle.frames.specs.Behaviour.{Behaviour}
+use Rattle.schedule_trie.specs.declared.refusal.Refusal.TheVariants.{LogFull}
+use Rattle.views.specs.declared.query.Query.{Query}
+use Rattle.turn.specs.declared.view.View.{View}
+use Rattle.turn.specs.declared.chair.Chair.{Chair}
+use Rattle.turn.specs.Shares.{HasAll, number}
+use Rattle.turn.specs.Histories.{StartsWith}
+use Rattle.turn.specs.Chairs.{IsOf, view}
+use Rattle.sessions.specs.declared.command.Command.{Command}
+use Rattle.sessions.specs.declared.log.Entry.{Entry}
+use Rattle.sessions.specs.declared.reply.Reply.TheVariants.{No}
+use Rattle.sessions.specs.Held.{Held, opening_of}
+use Rattle.sessions.specs.Logs.{IsLegal, entry, logged, world_after}
+use Rattle.desk.specs.declared.item.Item.{Item}
+use Rattle.desk.specs.declared.desk.Desk.{Desk}
+use Rattle.desk.specs.declared.receipt.Receipt.{Receipt}
+use Rattle.desk.specs.declared.receipt.Answer.{Answer}
+use Rattle.desk.specs.Histories.{IsHistory, seen, own}
+use Rattle.desk.specs.Works.{IsAnswer}
+
+module _ {R P : Type 0} where
+  -- a chair is one of a desk's: it is one of its turn, and has seen a legal history from the desk's opening on
+  abbrev pub IsAt : {g : _} → (R → Behaviour P) → Desk R P → Chair (List (Item R P)) (Item R P) g → Type 0
+  IsAt is desk chair = IsOf desk.turn chair × IsHistory is desk.first.value (view chair).seen
+
+  -- The history that a chair finds as it takes the turn: it begins with what the chair had seen, and is just that where the chair has every
+  -- share; it is no shorter than the chair was told
+  pub record Finds (v : View (Item R P)) (found : List Entry) : Type 0 where
+    pub begins : StartsWith found (seen v)
+    pub whole : HasAll v.shares → found ≡ seen v
+    pub told : v.told ≤ length found + 1
+
+  module _ (is : R → Behaviour P) (first : Held R P) where
+    -- A command makes a legal history: the one that was found, and this call under the chair's number with this reply, unless the reply isn't
+    -- logged. The chair has then seen it, and the call is its own. LogFull comes only where the history is as long as the limit
+    pub record Received (who : ℕ) (guard : Option ℕ) (command : Command) (v w : View (Item R P)) (receipt : Receipt) : Type 0 where
+      pub found : List Entry
+      pub finds : Finds v found
+      pub legal : IsLegal (opening_of is first) (logged (entry (number v.shares) who guard command receipt.reply) found)
+      pub sees : seen w ≡ logged (entry (number v.shares) who guard command receipt.reply) found
+      pub owns : own w ≡ logged (entry (number v.shares) who guard command receipt.reply) (own v)
+      pub at : receipt.at ≡ length (seen w)
+      pub full : receipt.reply ≡ No LogFull → length found ≡ (opening_of is first).limits.log
+      pub shares : w.shares ≡ v.shares
+      pub told : w.told ≡ v.told
+
+    -- A look answers of the world after the history that it found, which the chair has then seen; it adds no call
+    pub record Looked (query : Query) (v w : View (Item R P)) (answer : Answer) : Type 0 where
+      pub found : List Entry
+      pub finds : Finds v found
+      pub legal : IsLegal (opening_of is first) found
+      pub answers : IsAnswer (world_after (opening_of is first) found) query answer.result
+      pub sees : seen w ≡ found
+      pub at : answer.at ≡ length found
+      pub calls : w.calls ≡ v.calls
+      pub shares : w.shares ≡ v.shares
+      pub told : w.told ≡ v.told

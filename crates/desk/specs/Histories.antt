@@ -1,0 +1,22 @@
+-- Histories: the calls since a desk's opening, each with the reply that it comes to.
+use Rattle.std.specs.Prelude.{◌≡◌, List}
+use Rattle.frames.specs.Behaviour.{Behaviour}
+use Rattle.turn.specs.declared.view.View.{View}
+use Rattle.sessions.specs.declared.log.Entry.{Entry}
+use Rattle.sessions.specs.Held.{Held, opening_of}
+use Rattle.sessions.specs.Logs.{IsLegal}
+use Rattle.desk.specs.declared.item.Item.{Item}
+use Rattle.desk.specs.Items.{calls_in, items}
+
+module _ {R P : Type 0} where
+  -- the history that a chair has seen, and the calls of its own
+  abbrev pub seen : View (Item R P) → List Entry
+  seen v = calls_in v.seen
+
+  abbrev pub own : View (Item R P) → List Entry
+  own v = calls_in v.calls
+
+  -- a list is a book's opening and a legal history
+  pub record IsHistory (is : R → Behaviour P) (first : Held R P) (list : List (Item R P)) : Type 0 where
+    pub whole : list ≡ items first (calls_in list)
+    pub legal : IsLegal (opening_of is first) (calls_in list)

@@ -1,0 +1,4 @@
+pub mod Items
+pub mod Histories
+pub mod Works
+pub mod Chairs

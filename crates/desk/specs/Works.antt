@@ -1,0 +1,51 @@
+-- What the works at a desk's turn promise: of the list before and after, and of the answer.
+use Rattle.std.specs.Prelude.{ℕ, ◌≡◌, ◌⊎◌, List, Option, Some, Result, Ok, Err, length}
+use Rattle.frames.specs.Behaviour.{Behaviour}
+use Rattle.schedule_trie.specs.declared.refusal.Refusal.{Refusal}
+use Rattle.schedule_trie.specs.declared.refusal.Refusal.TheVariants.{LogFull, Memory}
+use Rattle.schedule_trie.specs.Forest.{IsRefused}
+use Rattle.views.specs.declared.page.Page.{Page}
+use Rattle.views.specs.declared.query.Query.{Query}
+use Rattle.sessions.specs.declared.command.Command.{Command}
+use Rattle.sessions.specs.declared.log.Entry.{Entry}
+use Rattle.sessions.specs.declared.reply.Reply.TheVariants.{No}
+use Rattle.sessions.specs.World.{World}
+use Rattle.sessions.specs.Looks.{looked, shown_in}
+use Rattle.sessions.specs.Held.{Held, opening_of}
+use Rattle.sessions.specs.Logs.{IsLegal, entry, logged, world_after}
+use Rattle.desk.specs.declared.item.Item.{Item}
+use Rattle.desk.specs.declared.receipt.Receipt.{Receipt}
+use Rattle.desk.specs.Items.{items}
+
+-- the answer to a look at a world: its page, the first refusal, or Memory
+abbrev pub IsAnswer : {P : Type 0} → World P → Query → Result Page Refusal → Type 0
+IsAnswer w query (Ok page) = (looked w query ≡ Ok w.forest) × (Some page ≡ shown_in w query)
+IsAnswer w query (Err r) = IsRefused (looked w query) r
+
+-- the page that a slip stands for is made, or memory is wanting
+abbrev pub IsPaged : Result Page Refusal → Result Page Refusal → Type 0
+IsPaged (Ok page) result = (result ≡ Ok page) ⊎ (result ≡ Err Memory)
+IsPaged (Err r) result = result ≡ Err r
+
+module _ {R P : Type 0} (is : R → Behaviour P) where
+  -- A command, brought by some chair, finds a legal history and leaves it with the call at its end, unless the call isn't logged; it is
+  -- then legal and as long as was told. LogFull comes where it is as long as the limit
+  pub record IsAct (who : ℕ) (guard : Option ℕ) (command : Command) (before after : List (Item R P)) (receipt : Receipt) : Type 0 where
+    pub first : Held R P
+    pub found : List Entry
+    pub chair : ℕ
+    pub finds : before ≡ items first found
+    pub leaves : after ≡ items first (logged (entry chair who guard command receipt.reply) found)
+    pub legal : IsLegal (opening_of is first) (logged (entry chair who guard command receipt.reply) found)
+    pub at : receipt.at ≡ length (logged (entry chair who guard command receipt.reply) found)
+    pub full : receipt.reply ≡ No LogFull → length found ≡ (opening_of is first).limits.log
+
+  -- A look finds a legal history, as long as is told, and answers of the world after it; the history stays
+  pub record IsLook (query : Query) (before after : List (Item R P)) (at : ℕ) (answer : Result Page Refusal) : Type 0 where
+    pub first : Held R P
+    pub found : List Entry
+    pub finds : before ≡ items first found
+    pub leaves : after ≡ before
+    pub legal : IsLegal (opening_of is first) found
+    pub long : at ≡ length found
+    pub answers : IsAnswer (world_after (opening_of is first) found) query answer

@@ -1,0 +1,32 @@
+//! A command at the turn.
+
+use crate::journal::Journal;
+use crate::receipt::Receipt;
+use frames::register::Register;
+use sessions::command::Command;
+use std::alloc::Global;
+use turn::Work;
+
+/// Answers a session's command.
+#[derive(Drop)]
+pub(crate) struct Act<'a> {
+    pub(crate) alloc: Global,
+    pub(crate) who: u32,
+    pub(crate) if_at: Option<u64>,
+    pub(crate) command: &'a Command,
+}
+
+impl<R: Register> Work<Journal<R>> for Act<'_> {
+    ghost use Rattle.desk.specs.Works.{IsAct};
+
+    type Out = Receipt;
+
+    ghost relation = { λ work before after receipt _. IsAct R.is work.who work.if_at work.command.now before after receipt };
+
+    fn work(&mut self, journal: &mut Journal<R>, number: u32) -> Receipt {
+        let book = &mut journal.book;
+        let reply = book.act(self.alloc, number, self.who, self.if_at, self.command);
+        let at = u64::from(book.len());
+        Receipt { at, reply }
+    }
+}

@@ -1,0 +1,68 @@
+//! The book behind a desk's turn.
+
+ghost use Rattle.std.specs.Prelude.{◌≡◌, ◌+◌, [], length, ◌↔◌};
+ghost use Rattle.sessions.specs.Logs.{IsLegal};
+ghost use Rattle.sessions.specs.Held.{opening_of};
+ghost use Rattle.desk.specs.Items.{calls_in, items, made_under};
+
+use crate::item::Item;
+use frames::register::Register;
+use sessions::book::Book;
+use sessions::log::Log;
+use std::marker::Model;
+use std::snapshot::Snapshot;
+use turn::Counted;
+
+/// A book, and how it opened. Contracts see it as the list of its items: the opening, and the logged calls.
+#[derive(Drop)]
+pub struct Journal<R: Register> {
+    first: Snapshot<Book<R>>,
+    pub(crate) book: Book<R>,
+}
+
+impl<R: Register> Model for Journal<R> {
+    ghost use Rattle.std.specs.Prelude.{◌≡◌, List};
+    ghost use Rattle.desk.specs.declared.item.Item.{Item};
+    ghost use Rattle.desk.specs.Items.{items};
+    ghost use Rattle.sessions.specs.Held.{opening_of};
+
+    ghost Value = { List (Item R R.Pending) };
+
+    ghost view = { λ j. items j.first.value j.book.log };
+
+    ghost invariant = { λ j. opening_of R.is j.book ≡ opening_of R.is j.first.value };
+}
+
+impl<R: Register> Journal<R> {
+    /// A book as it opens.
+    pub(crate) fn new(book: Book<R>) -> Journal<R>
+        ensures { result ≡ items book book.log }
+    {
+        Journal {
+            first: Snapshot::of(&book),
+            book,
+        }
+    }
+
+    /// The log of its book.
+    pub(crate) fn into_log(self) -> Log
+        ensures { result ≡ calls_in self }
+    {
+        let Self { first: _, book } = self;
+        book.into_log()
+    }
+}
+
+impl<R: Register> Counted for Journal<R> {
+    ghost use Rattle.desk.specs.Items.{made_under};
+
+    type Entry = Item<R>;
+
+    ghost entries = { λ items. items };
+
+    ghost by = { made_under };
+
+    fn len(&self) -> u64 {
+        u64::from(self.book.len()) + 1
+    }
+}

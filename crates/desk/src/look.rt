@@ -1,0 +1,30 @@
+//! A look at the turn.
+
+use crate::journal::Journal;
+use frames::register::Register;
+use schedule_trie::refusal::Refusal;
+use std::alloc::Global;
+use turn::Work;
+use views::query::Query;
+use views::slip::Slip;
+
+/// Looks. Its page is made later, from the slip.
+#[derive(Drop)]
+pub(crate) struct Look {
+    pub(crate) alloc: Global,
+    pub(crate) query: Query,
+}
+
+impl<R: Register> Work<Journal<R>> for Look {
+    ghost use Rattle.desk.specs.Works.{IsLook};
+
+    type Out = (u64, Result<Slip<R>, Refusal>);
+
+    ghost relation = { λ work before after out _. IsLook R.is work.query before after out.0 out.1 };
+
+    fn work(&mut self, journal: &mut Journal<R>, _number: u32) -> (u64, Result<Slip<R>, Refusal>) {
+        let book = &mut journal.book;
+        let slip = book.look(self.alloc, self.query);
+        (u64::from(book.len()), slip)
+    }
+}
