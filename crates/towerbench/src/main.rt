@@ -4,6 +4,7 @@
 pub mod ending;
 pub mod fault;
 pub mod run;
+pub mod serve;
 #[cfg(test)]
 mod tests;
 pub mod tool;

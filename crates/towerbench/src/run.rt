@@ -10,16 +10,16 @@ ghost use Rattle.command_line.specs.Ranges.{AreLimits, limits_of};
 ghost use Rattle.towerbench.specs.Opening.{answers_on, opening, EndsOver, Ran, RanInto};
 
 use crate::fault::Fault;
+use crate::serve::serve;
 use command_line::options::Options;
-use conversation::converse::converse;
+use desk::Desk;
 use frames::register::Register;
 use frames::safe::Safe;
 use frames::types::Step;
 use schedule_trie::limits::Limits;
-use script::room::Room;
-use sessions::book::Book;
 use std::alloc::Global;
 use std::io::{Read, Write};
+use std::sync::Wait;
 use tower_file::{TowerFile, TowerSpec, parse};
 use towers::{copies, matrix, regular, stamped, unary};
 
@@ -29,7 +29,8 @@ use towers::{copies, matrix, regular, stamped, unary};
 /// A fault of the file or a refusal of its steps comes before anything is read or written. After a fault of
 /// the streams a front of the output has gone out: after a read that failed and after a script too long,
 /// the answers to the whole lines that were read.
-pub fn run<R: Read, W: Write>(
+pub fn run<H: Wait, R: Read, W: Write>(
+    rt: &H,
     alloc: Global,
     file: Option<&[u8]>,
     options: Options,
@@ -42,16 +43,17 @@ pub fn run<R: Read, W: Write>(
 {
     let Some(bytes) = file else {
         let none = Vec::new(alloc);
-        return begin(alloc, Safe, 0, none, options.limits(), reader, writer);
+        return begin(rt, alloc, Safe, 0, none, options.limits(), reader, writer);
     };
     match parse(alloc, bytes) {
-        Ok(file) => run_file(alloc, file, options.limits(), reader, writer),
+        Ok(file) => run_file(rt, alloc, file, options.limits(), reader, writer),
         Err(fault) => Err(Fault::File(fault)),
     }
 }
 
 /// Answers a script on the tower and the steps of a file whose bytes are let go before anything is read.
-pub fn run_read<R: Read, W: Write>(
+pub fn run_read<H: Wait, R: Read, W: Write>(
+    rt: &H,
     alloc: Global,
     bytes: Vec<u8>,
     options: Options,
@@ -65,13 +67,14 @@ pub fn run_read<R: Read, W: Write>(
     let file = parse(alloc, bytes.as_slice());
     drop(bytes);
     match file {
-        Ok(file) => run_file(alloc, file, options.limits(), reader, writer),
+        Ok(file) => run_file(rt, alloc, file, options.limits(), reader, writer),
         Err(fault) => Err(Fault::File(fault)),
     }
 }
 
 /// Answers a script on the tower and the steps of a file, which is let go before anything is read.
-fn run_file<R: Read, W: Write>(
+fn run_file<H: Wait, R: Read, W: Write>(
+    rt: &H,
     alloc: Global,
     file: TowerFile,
     limits: Limits,
@@ -84,12 +87,30 @@ fn run_file<R: Read, W: Write>(
     let spec = file.spec();
     let steps = file.into_steps();
     match spec {
-        TowerSpec::Safe { init } => begin(alloc, Safe, init, steps, limits, reader, writer),
+        TowerSpec::Safe { init } => begin(rt, alloc, Safe, init, steps, limits, reader, writer),
         TowerSpec::Copies { readers, init } => {
-            begin(alloc, copies(readers), init, steps, limits, reader, writer)
+            begin(
+                rt,
+                alloc,
+                copies(readers),
+                init,
+                steps,
+                limits,
+                reader,
+                writer,
+            )
         }
         TowerSpec::Regular { readers, init } => {
-            begin(alloc, regular(readers), init, steps, limits, reader, writer)
+            begin(
+                rt,
+                alloc,
+                regular(readers),
+                init,
+                steps,
+                limits,
+                reader,
+                writer,
+            )
         }
         TowerSpec::Unary {
             values,
@@ -97,11 +118,11 @@ fn run_file<R: Read, W: Write>(
             init,
         } => {
             let register = unary(values, readers);
-            begin(alloc, register, init, steps, limits, reader, writer)
+            begin(rt, alloc, register, init, steps, limits, reader, writer)
         }
         TowerSpec::Stamped { values, last } => {
             let register = stamped(values, last);
-            begin(alloc, register, 0, steps, limits, reader, writer)
+            begin(rt, alloc, register, 0, steps, limits, reader, writer)
         }
         TowerSpec::Matrix {
             processes,
@@ -110,13 +131,14 @@ fn run_file<R: Read, W: Write>(
             last_stamp,
         } => {
             let register = matrix(processes, values, last_tag, last_stamp);
-            begin(alloc, register, 0, steps, limits, reader, writer)
+            begin(rt, alloc, register, 0, steps, limits, reader, writer)
         }
     }
 }
 
 /// Answers a script on a register at a value, and steps that fit it, which are let go before anything is read.
-fn begin<B: Register, R: Read, W: Write>(
+fn begin<B: Register, H: Wait, R: Read, W: Write>(
+    rt: &H,
     alloc: Global,
     register: B,
     value: u32,
@@ -130,13 +152,12 @@ fn begin<B: Register, R: Read, W: Write>(
     requires fit { AllFit (B.is register) steps.items }
     ensures { EndsOver limits steps.items (answers_to answer_line (opening (B.is register) value limits steps.items)) (R.remaining reader.old) (R.remaining reader.new) (W.contents writer.old) (W.contents writer.new) result }
 {
-    let opened = Book::new(alloc, register, value, limits, &steps);
+    let opened = Desk::open(alloc, register, value, limits, &steps);
     drop(steps);
-    let book = match opened {
-        Ok(book) => book,
+    let (desk, chair) = match opened {
+        Ok(opened) => opened,
         Err(refusal) => return Err(Fault::Refused(refusal)),
     };
-    let mut room = Room { book };
-    converse(alloc, &mut room, reader, writer)?;
+    serve(rt, alloc, desk, chair, reader, writer)?;
     Ok(())
 }

@@ -18,10 +18,11 @@ use conversation::streams::write_whole;
 use std::io;
 use std::io::{ErrorKind, Read, Write};
 use std::rt::Files;
+use std::sync::Wait;
 
 /// Does the program's work, and answers its exit status: 0 at the end of the script or after the
 /// help, 1 after a fault, 2 where the words are refused.
-pub fn tool<F: Files + AllocGlobal, R: Read, W: Write, E: Write>(
+pub fn tool<F: Files + AllocGlobal + Wait, R: Read, W: Write, E: Write>(
     files: &F,
     words: io::Result<Vec<String>>,
     reader: &mut R,
@@ -60,7 +61,7 @@ fn report<E: Write>(errors: &mut E, ending: Ending) -> u8
 }
 
 /// Does what the words ask for.
-fn follow<F: Files + AllocGlobal, R: Read, W: Write>(
+fn follow<F: Files + AllocGlobal + Wait, R: Read, W: Write>(
     files: &F,
     words: &[String],
     reader: &mut R,
@@ -77,7 +78,7 @@ fn follow<F: Files + AllocGlobal, R: Read, W: Write>(
 }
 
 /// Reads the tower file, if one is named, and answers the script.
-fn work<F: Files + AllocGlobal, R: Read, W: Write>(
+fn work<F: Files + AllocGlobal + Wait, R: Read, W: Write>(
     files: &F,
     file: Option<&str>,
     options: Options,
@@ -88,10 +89,10 @@ fn work<F: Files + AllocGlobal, R: Read, W: Write>(
     ensures { WorksOut (is_some file.entry) (limits_of options) (R.remaining reader.old) (R.remaining reader.new) (W.contents writer.old) (W.contents writer.new) result }
 {
     let Some(path) = file else {
-        return ending_of(run(files.alloc(), None, options, reader, writer));
+        return ending_of(run(files, files.alloc(), None, options, reader, writer));
     };
     match read_file(files, path) {
-        Ok(bytes) => ending_of(run_read(files.alloc(), bytes, options, reader, writer)),
+        Ok(bytes) => ending_of(run_read(files, files.alloc(), bytes, options, reader, writer)),
         Err(fault) => Ending::Faulted(ProgramFault::Source(fault)),
     }
 }

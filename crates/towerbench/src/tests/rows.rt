@@ -5,18 +5,19 @@ use crate::fault::Fault;
 use schedule_trie::refusal::Refusal;
 use std::alloc::{AllocError, Global};
 use std::process::Abort;
+use std::sync::Wait;
 use std::test::Fail;
 use tower_file::{FaultKind, FileFault};
 
 /// Asserts what a script answers over a file.
 pub(super) fn check(
-    rt: &impl Abort,
+    rt: &(impl Abort + Wait),
     alloc: Global,
     file: &str,
     script: &str,
     want: &str,
 ) -> Result<(), Fault> {
-    let answers = written(alloc, Some(file.as_bytes()), 65536, script)?;
+    let answers = written(rt, alloc, Some(file.as_bytes()), 65536, script)?;
     assert_eq!(rt; answers.as_slice(), want.as_bytes());
     Ok(())
 }
@@ -252,7 +253,7 @@ fn stopped_writer(rt: HostRuntime) -> Result<(), Fail> {
         line: 5,
     };
     assert_eq!(rt;
-        written(rt.alloc(), Some(older), 65536, "").err(),
+        written(&rt, rt.alloc(), Some(older), 65536, "").err(),
         Some(Fault::File(fault))
     );
     Ok(())
@@ -307,7 +308,7 @@ fn file_faults(rt: HostRuntime) {
             3,
         ),
     ] {
-        let fault = written(rt.alloc(), Some(file), 65536, "0 state main 0\n").err();
+        let fault = written(&rt, rt.alloc(), Some(file), 65536, "0 state main 0\n").err();
         assert_eq!(rt;
             fault,
             Some(Fault::File(FileFault { kind, line })),
@@ -315,7 +316,7 @@ fn file_faults(rt: HostRuntime) {
         );
     }
     let file = b"tower 1\nunary 512 1 0\nw 0 511\n";
-    assert!(rt; written(rt.alloc(), Some(file), 65536, "").is_ok());
+    assert!(rt; written(&rt, rt.alloc(), Some(file), 65536, "").is_ok());
 }
 
 /// A file of more steps than there may be cells isn't opened; its cells count as made.
@@ -323,11 +324,14 @@ fn file_faults(rt: HostRuntime) {
 fn steps_beyond_the_cells(rt: HostRuntime) -> Result<(), Fail> {
     let file = b"tower 1\nsafe 0\nr 1\ng 1 0\n";
     let full = Fault::Refused(Refusal::Full);
-    assert_eq!(rt; written(rt.alloc(), Some(file), 1, "").err(), Some(full));
+    assert_eq!(rt;
+        written(&rt, rt.alloc(), Some(file), 1, "").err(),
+        Some(full)
+    );
     let script = "0 insert main 0 r 1\n";
-    let answers = written(rt.alloc(), Some(file), 2, script)?;
+    let answers = written(&rt, rt.alloc(), Some(file), 2, script)?;
     assert_eq!(rt; answers.as_slice(), b"0: refused 24 Full\n".as_slice());
-    let answers = written(rt.alloc(), Some(file), 3, script)?;
+    let answers = written(&rt, rt.alloc(), Some(file), 3, script)?;
     assert_eq!(rt; answers.as_slice(), b"0: edit 1\n".as_slice());
     Ok(())
 }
@@ -343,9 +347,9 @@ fn thousand(alloc: Global) -> Result<Vec<u8>, AllocError> {
 }
 
 /// What a script answers over a thousand steps.
-fn over_thousand(alloc: Global, script: &str) -> Result<Vec<u8>, Fail> {
+fn over_thousand(rt: &impl Wait, alloc: Global, script: &str) -> Result<Vec<u8>, Fail> {
     let file = thousand(alloc)?;
-    Ok(written(alloc, Some(file.as_slice()), 65536, script)?)
+    Ok(written(rt, alloc, Some(file.as_slice()), 65536, script)?)
 }
 
 /// A choice that has no effect, and then a page that is the same.
@@ -356,7 +360,7 @@ fn thousand_steps(rt: HostRuntime) -> Result<(), Fail> {
         "0: state main 1000 of 1000\n  p0 write 0 next ws 0\n  p1 idle\n  bits 1\n  words -\n\
         0: edit 1\n\
         0: state main 1000 of 1000\n  p0 write 0 next ws 0\n  p1 idle\n  bits 1\n  words -\n";
-    let answers = over_thousand(rt.alloc(), script)?;
+    let answers = over_thousand(&rt, rt.alloc(), script)?;
     assert_eq!(rt; answers.as_slice(), want.as_bytes());
     Ok(())
 }
@@ -369,7 +373,7 @@ fn rejoined_suffix(rt: HostRuntime) -> Result<(), Fail> {
         0: edit 1\n\
         0: state main 6 of 1000\n  p0 idle\n  p1 idle\n  bits 1\n  words -\n\
         0: state main 1000 of 1000\n  p0 write 0 next ws 0\n  p1 idle\n  bits 1\n  words -\n";
-    let answers = over_thousand(rt.alloc(), script)?;
+    let answers = over_thousand(&rt, rt.alloc(), script)?;
     assert_eq!(rt; answers.as_slice(), want.as_bytes());
     Ok(())
 }

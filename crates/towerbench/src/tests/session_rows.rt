@@ -37,7 +37,7 @@ fn refusals(rt: HostRuntime) -> Result<(), Fail> {
     let mut reader = script.as_bytes();
     let mut writer = Vec::new(rt.alloc());
     let file = Some(READ.as_bytes());
-    run(rt.alloc(), file, options, &mut reader, &mut writer)?;
+    run(&rt, rt.alloc(), file, options, &mut reader, &mut writer)?;
     assert_eq!(&rt; writer.as_slice(), want.as_bytes());
     Ok(())
 }

@@ -7,6 +7,7 @@ use std::alloc::{AllocError, Global};
 use std::io::{ErrorKind, Read, Write};
 use std::process::Abort;
 use std::rt::Files;
+use std::sync::Wait;
 use std::test::Fail;
 use std::{fs, io};
 use tower_file::{FaultKind, FileFault};
@@ -85,7 +86,10 @@ impl Write for Stuck {
 }
 
 /// The program's status with no words, its answers and its fault lines.
-fn tool_over<F: Files + AllocGlobal, R: Read>(files: &F, reader: &mut R) -> (u8, Vec<u8>, Vec<u8>) {
+fn tool_over<F: Files + AllocGlobal + Wait, R: Read>(
+    files: &F,
+    reader: &mut R,
+) -> (u8, Vec<u8>, Vec<u8>) {
     let mut out = Vec::new(files.alloc());
     let mut errors = Vec::new(files.alloc());
     let words = Ok(Vec::new(files.alloc()));
@@ -94,7 +98,7 @@ fn tool_over<F: Files + AllocGlobal, R: Read>(files: &F, reader: &mut R) -> (u8,
 }
 
 /// Asserts what the program tells.
-fn check<F: Abort + Files + AllocGlobal, R: Read>(
+fn check<F: Abort + Files + AllocGlobal + Wait, R: Read>(
     rt: &F,
     reader: &mut R,
     status: u8,
@@ -396,7 +400,7 @@ fn words_before_the_script(rt: HostRuntime) -> Result<(), Fail> {
 }
 
 /// Asserts what the program tells on its words.
-fn check_words<F: Abort + Files + AllocGlobal>(
+fn check_words<F: Abort + Files + AllocGlobal + Wait>(
     rt: &F,
     texts: &[&str],
     script: &str,

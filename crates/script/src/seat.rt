@@ -1,0 +1,98 @@
+//! A seat at a desk: where a script's lines are answered.
+
+ghost use Rattle.std.specs.Prelude.{◌≡◌, ◌⊎◌, Some, Ok, OnOk, IfOk, IfErr, Err};
+ghost use Rattle.turn.specs.Shares.{HasAll};
+ghost use Rattle.turn.specs.Chairs.{view};
+ghost use Rattle.sessions.specs.Acts.{acted};
+ghost use Rattle.sessions.specs.Looks.{looked, shown_in};
+ghost use Rattle.desk.specs.Chairs.{IsAt};
+ghost use Rattle.desk.specs.Histories.{seen};
+ghost use Rattle.script.specs.Seats.{world_at};
+
+use desk::{Chair, Desk, Item, Journal};
+use frames::register::Register;
+use schedule_trie::refusal::Refusal;
+use sessions::command::Command;
+use sessions::reply::Reply;
+use std::alloc::Global;
+use std::marker::Model;
+use std::sync::Wait;
+use turn::Counted;
+use views::lens::Lens;
+use views::page::Page;
+use views::query::Query;
+
+/// A desk, and a chair at it that holds every share, so that each call finds just the history that the chair has seen.
+#[derive(Drop)]
+pub struct Seat<'a, R: Register, W>
+where
+    Journal<R>: Counted<Entry = Item<R>>,
+{
+    rt: &'a W,
+    desk: Desk<R>,
+    chair: Chair<R>,
+}
+
+impl<'a, R: Register, W> Model for Seat<'a, R, W>
+where
+    Journal<R>: Counted<Entry = Item<R>>,
+{
+    ghost use Rattle.turn.specs.Shares.{HasAll};
+    ghost use Rattle.turn.specs.Chairs as chairs;
+    ghost use Rattle.desk.specs.Chairs.{IsAt};
+    ghost use Rattle.desk.specs.Histories.{seen};
+    ghost use Rattle.script.specs.Seats.{Seated};
+
+    ghost Value = { Seated R R.Pending };
+
+    ghost view = { λ s. record { first = s.desk.first.value; seen = seen (chairs.view s.chair) } };
+
+    ghost invariant = { λ s. IsAt R.is s.desk s.chair × HasAll (chairs.view s.chair).shares };
+}
+
+impl<'a, R: Register, W: Wait> Seat<'a, R, W> {
+    /// The seat of a chair at its desk.
+    pub fn new(rt: &'a W, desk: Desk<R>, chair: Chair<R>) -> Seat<'a, R, W>
+        requires at { IsAt R.is desk chair }
+        requires whole { HasAll (view chair).shares }
+        ensures { result ≡ record { first = desk.first.value; seen = seen (view chair) } }
+    {
+        Seat { rt, desk, chair }
+    }
+
+    /// Answers a session's command with its guard.
+    pub(crate) fn act(
+        &mut self,
+        alloc: Global,
+        session: u32,
+        if_at: Option<u64>,
+        command: &Command,
+    ) -> Reply
+        ensures { let w = world_at R.is self.old in (acted session if_at command.now w ≡ record { world = world_at R.is self.new; reply = result }) ⊎ ((result ≡ Reply.No Refusal.Memory) × (world_at R.is self.new ≡ w)) }
+    {
+        let receipt = self
+            .desk
+            .act(self.rt, alloc, &mut self.chair, session, if_at, command);
+        receipt.reply
+    }
+
+    /// Looks at the branches, or at a session.
+    ///
+    /// # Errors
+    ///
+    /// NoSession for the cursor of a session that hasn't joined; NoBranch; NoPlace where the branch is shorter; Memory.
+    pub(crate) fn look(&mut self, alloc: Global, query: Query) -> Result<Page, Refusal>
+        ensures page { IfOk result (λ page. Some page ≡ shown_in (world_at R.is self.old) query) }
+        ensures found { let w = world_at R.is self.old in OnOk result (looked w query ≡ Ok w.forest) }
+        ensures err { IfErr result (λ r. (looked (world_at R.is self.old) query ≡ Err r) ⊎ (r ≡ Refusal.Memory)) }
+        ensures kept { world_at R.is self.new ≡ world_at R.is self.old }
+    {
+        let Ok(mut lens) = Lens::new(alloc) else {
+            return Err(Refusal::Memory);
+        };
+        let answer = self
+            .desk
+            .look(self.rt, alloc, &mut self.chair, &mut lens, query);
+        answer.result
+    }
+}
