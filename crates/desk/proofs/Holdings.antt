@@ -24,7 +24,8 @@ use Rattle.desk.specs.Works.{IsAct, IsLook, IsAnswer, IsPaged}
 use Rattle.desk.specs.Chairs.{Finds, Received, Looked}
 use Rattle.desk.proofs.Lists.{calls_as, calls_append, items_more, length_items, same_first, calls_begin}
 use Rattle.desk.proofs.Works.{paged_so}
-use Rattle.desk.proofs.Logged.{put, put_under, logged_last}
+use Rattle.desk.proofs.Logged.{put, put_under, legal_found, logged_last}
+use Rattle.desk.proofs.Answering.{replies_so}
 
 module _ {R P : Type 0} (is : R → Behaviour P) (first : Held R P) (v w : View (Item R P)) where
   -- a list of items that a chair finds
@@ -60,17 +61,21 @@ module _ {R P : Type 0} (is : R → Behaviour P) (first : Held R P) (v w : View 
         let sees : seen w ≡ logged (call n) found = ap calls_in list ∙ calls_as R P (logged (call n) found) in
         let legal : IsLegal (opening_of is first) (logged (call n) found) =
         subst (λ o. IsLegal (opening_of is o) (logged (call n) found)) (sym one_first) (subst (IsLegal (opening_of is act.first)) both.1 act.legal) in
-        (record {
-          found = found;
-          finds = finds_so before found starts told whole is_found;
-          legal = legal;
-          sees = sees;
-          owns = ap (λ x. own x) after ∙ (calls_append v.calls added ∙ (ap (λ l. own v ++ calls_in l) both.0 ∙ (ap (λ l. own v ++ l) (calls_as R P (logged (call n) [])) ∙ sym (logged_last (call n) (own v)))));
-          at = act.at ∙ (ap length both.1 ∙ ap length (sym sees));
-          full = λ e. act.full e ∙ ap (λ o. (opening_of is o).limits.log) (sym one_first);
-          shares = ap (λ x. x.shares) after;
-          told = ap (λ x. x.told) after;
-        }, history_so w.seen (logged (call n) found) list legal)
+        let full : receipt.reply ≡ No LogFull → length found ≡ (opening_of is first).limits.log = λ e. act.full e ∙ ap (λ o. (opening_of is o).limits.log) (sym one_first) in (
+          record {
+            found = found;
+            finds = finds_so before found starts told whole is_found;
+            legal = legal;
+            sees = sees;
+            owns = ap (λ x. own x) after ∙ (calls_append v.calls added ∙ (ap (λ l. own v ++ calls_in l) both.0 ∙ (ap (λ l. own v ++ l) (calls_as R P (logged (call n) [])) ∙ sym (logged_last (call n) (own v)))));
+            replies = replies_so (opening_of is first) n who guard command found refl receipt.reply (seen w) sees (legal_found (opening_of is first) (call n) found legal) legal full;
+            at = act.at ∙ (ap length both.1 ∙ ap length (sym sees));
+            full = full;
+            shares = ap (λ x. x.shares) after;
+            told = ap (λ x. x.told) after;
+          },
+          history_so w.seen (logged (call n) found) list legal,
+        )
 
   module _ (query : Query) (at : ℕ) (slip : Result Page Refusal) where
     pub looked_so : IsHistory is first v.seen → Holding made_under (λ before after. IsLook is query before after at slip) v w → (result : Result Page Refusal)
@@ -82,15 +87,17 @@ module _ {R P : Type 0} (is : R → Behaviour P) (first : Held R P) (v w : View 
         let nothing : added ≡ [] = append_cancel_left before added [] (look.leaves ∙ sym (append-nil before)) in
         let list : w.seen ≡ items first found = ap (λ x. x.seen) after ∙ (look.leaves ∙ is_found) in
         let sees : seen w ≡ found = ap calls_in list ∙ calls_as R P found in
-        let legal : IsLegal (opening_of is first) found = subst (λ o. IsLegal (opening_of is o) found) (sym one_first) look.legal in
-        (record {
-          found = found;
-          finds = finds_so before found starts told whole is_found;
-          legal = legal;
-          answers = paged_so (world_after (opening_of is first) found) query slip result paged (subst (λ o. IsAnswer (world_after (opening_of is o) found) query slip) (sym one_first) look.answers);
-          sees = sees;
-          at = look.long;
-          calls = ap (λ x. x.calls) after ∙ (ap (λ l. v.calls ++ l) nothing ∙ append-nil v.calls);
-          shares = ap (λ x. x.shares) after;
-          told = ap (λ x. x.told) after;
-        }, history_so w.seen found list legal)
+        let legal : IsLegal (opening_of is first) found = subst (λ o. IsLegal (opening_of is o) found) (sym one_first) look.legal in (
+          record {
+            found = found;
+            finds = finds_so before found starts told whole is_found;
+            legal = legal;
+            answers = paged_so (world_after (opening_of is first) found) query slip result paged (subst (λ o. IsAnswer (world_after (opening_of is o) found) query slip) (sym one_first) look.answers);
+            sees = sees;
+            at = look.long;
+            calls = ap (λ x. x.calls) after ∙ (ap (λ l. v.calls ++ l) nothing ∙ append-nil v.calls);
+            shares = ap (λ x. x.shares) after;
+            told = ap (λ x. x.told) after;
+          },
+          history_so w.seen found list legal,
+        )

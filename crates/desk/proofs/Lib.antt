@@ -1,4 +1,5 @@
 pub mod Lists
 pub mod Logged
+pub mod Answering
 pub mod Works
 pub mod Holdings

@@ -96,9 +96,11 @@ module _ {R P : Type 0} (is : R → Behaviour P) where
       pub adds_so : Acts is old new (entry chair who guard command receipt.reply) ⊎ Wants is old new receipt.reply
           → (added : List (Item R P)) × (items first new.log ≡ items first old.log ++ added) × AtMostOne made_under chair added
       unfolding call
-      adds_so did = (as_items (logged call []),
-          ap (items first) (logs did ∙ logged_last call old.log) ∙ items_more first old.log (logged call []),
-          one_at_most (is_logged call.reply))
+      adds_so did = (
+        as_items (logged call []),
+        ap (items first) (logs did ∙ logged_last call old.log) ∙ items_more first old.log (logged call []),
+        one_at_most (is_logged call.reply),
+      )
         where
           one_at_most : (t : Bool) → AtMostOne made_under chair (as_items {R = R} {P = P} (put t call []))
           one_at_most true = inr (Call call, refl, refl)

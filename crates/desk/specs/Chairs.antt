@@ -1,7 +1,7 @@
 -- Chairs of a desk, and what its calls do to what they know.
-use Rattle.std.specs.Prelude.{ℕ, ◌+◌, ◌≡◌, ◌≤◌, List, Option, length}
+use Rattle.std.specs.Prelude.{ℕ, ◌+◌, ◌≡◌, ◌≤◌, ◌⊎◌, List, Option, length}
 use Rattle.frames.specs.Behaviour.{Behaviour}
-use Rattle.schedule_trie.specs.declared.refusal.Refusal.TheVariants.{LogFull}
+use Rattle.schedule_trie.specs.declared.refusal.Refusal.TheVariants.{LogFull, Memory}
 use Rattle.views.specs.declared.query.Query.{Query}
 use Rattle.turn.specs.declared.view.View.{View}
 use Rattle.turn.specs.declared.chair.Chair.{Chair}
@@ -11,6 +11,7 @@ use Rattle.turn.specs.Chairs.{IsOf, view}
 use Rattle.sessions.specs.declared.command.Command.{Command}
 use Rattle.sessions.specs.declared.log.Entry.{Entry}
 use Rattle.sessions.specs.declared.reply.Reply.TheVariants.{No}
+use Rattle.sessions.specs.Acts.{acted}
 use Rattle.sessions.specs.Held.{Held, opening_of}
 use Rattle.sessions.specs.Logs.{IsLegal, entry, logged, world_after}
 use Rattle.desk.specs.declared.item.Item.{Item}
@@ -34,13 +35,16 @@ module _ {R P : Type 0} where
 
   module _ (is : R → Behaviour P) (first : Held R P) where
     -- A command makes a legal history: the one that was found, and this call under the chair's number with this reply, unless the reply isn't
-    -- logged. The chair has then seen it, and the call is its own. LogFull comes only where the history is as long as the limit
+    -- logged. The chair has then seen it, and the call is its own. The reply is that of the world after what was found, or Memory; LogFull
+    -- comes only where the history is as long as the limit
     pub record Received (who : ℕ) (guard : Option ℕ) (command : Command) (v w : View (Item R P)) (receipt : Receipt) : Type 0 where
       pub found : List Entry
       pub finds : Finds v found
       pub legal : IsLegal (opening_of is first) (logged (entry (number v.shares) who guard command receipt.reply) found)
       pub sees : seen w ≡ logged (entry (number v.shares) who guard command receipt.reply) found
       pub owns : own w ≡ logged (entry (number v.shares) who guard command receipt.reply) (own v)
+      pub replies : (acted who guard command (world_after (opening_of is first) found) ≡ record { world = world_after (opening_of is first) (seen w); reply = receipt.reply })
+          ⊎ (receipt.reply ≡ No Memory)
       pub at : receipt.at ≡ length (seen w)
       pub full : receipt.reply ≡ No LogFull → length found ≡ (opening_of is first).limits.log
       pub shares : w.shares ≡ v.shares

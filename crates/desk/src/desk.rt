@@ -42,7 +42,7 @@ pub type Chair<R> = turn::Chair<Journal<R>>;
 /// A book behind one turn, which chairs share by reference. Proofs remember how it opened.
 #[derive(Drop)]
 pub struct Desk<R: Register> {
-    turn: Turn<Journal<R>>,
+    pub(crate) turn: Turn<Journal<R>>,
     first: Snapshot<Book<R>>,
 }
 

@@ -10,6 +10,8 @@ mod item;
 mod journal;
 mod look;
 mod receipt;
+#[cfg(test)]
+mod tests;
 
 pub use desk::{Chair, Desk};
 pub use item::Item;

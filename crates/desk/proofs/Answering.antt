@@ -1,0 +1,61 @@
+-- What a legal history says of the reply to its last call.
+use Rattle.std.proofs.Common.{suc, subst, ◌≡◌, ◌⊎◌, ℕ, ◌+◌, ◌≤◌, Bool, true, false, nat_le, List, [], ◌∷◌, ◌++◌, length, Option, refl, sym, ap, ◌∙◌, arith, inl, inr}
+use Rattle.schedule_trie.specs.declared.refusal.Refusal.TheVariants.{LogFull, Memory}
+use Rattle.sessions.specs.declared.command.Command.{Command}
+use Rattle.sessions.specs.declared.log.Entry.{Entry}
+use Rattle.sessions.specs.declared.reply.Reply.{Reply}
+use Rattle.sessions.specs.declared.reply.Reply.TheVariants.{No}
+use Rattle.sessions.specs.World.{World}
+use Rattle.sessions.specs.Acts.{acted, is_full}
+use Rattle.sessions.specs.Logs.{IsLegal, acted_by, entry, is_logged, logged, world_after}
+use Rattle.sessions.proofs.LegalLogs.{after_more}
+use Rattle.sessions.proofs.Ordinary.{acted_logged, acted_full}
+
+reached : (a b : ℕ) (t : Bool) → nat_le a b ≡ t → a ≤ b → t ≡ true
+reached a b true e h = refl
+reached a b false e h = grind (arith, e, h)
+
+module _ {P : Type 0} where
+  legal_last : (w : World P) (log : List Entry) (e : Entry) → IsLegal w (log ++ e ∷ []) → (acted_by e (world_after w log)).reply ≡ e.reply
+  legal_last w [] e h = h.0
+  legal_last w (f ∷ log) e h = legal_last (acted_by f w).world log e h.2
+
+  -- a world and the one after its calls: these are counted, and the limits stay
+  abbrev IsCounted : World P → World P → ℕ → Type 0
+  IsCounted w after n = (after.logged ≡ w.logged + n) × (after.limits ≡ w.limits)
+
+  one_more : (t : Bool) (w : World P) (e : Entry) (n : ℕ) (after : World P) → is_full w ≡ t → (acted_by e w).reply ≡ e.reply → is_logged e.reply ≡ true
+      → IsCounted (acted_by e w).world after n → IsCounted w after (suc n)
+  one_more true w e n after full same told rest = absurd (let none : false ≡ true = ap (λ a. is_logged a.reply) (sym (acted_full e.who w e.if_at e.command full)) ∙ (ap is_logged same ∙ told) in cc)
+  one_more false w e n after room same told rest =
+      let a = acted_logged e.who w e.if_at e.command room in
+      let here : (acted_by e w).world.logged ≡ w.logged + 1 = a.1 in
+      let count = rest.0 in
+      (omega arith, rest.1 ∙ a.2)
+
+  counted_calls : (w : World P) (log : List Entry) → IsLegal w log → IsCounted w (world_after w log) (length log)
+  counted_calls w [] h = (omega arith, refl)
+  counted_calls w (e ∷ log) h = one_more (is_full w) w e (length log) (world_after w (e ∷ log)) refl h.0 h.1 (counted_calls (acted_by e w).world log h.2)
+
+  module _ (w : World P) (chair who : ℕ) (guard : Option ℕ) (command : Command) (found : List Entry) (fresh : w.logged ≡ 0) where
+    answers_so : (reply : Reply) → IsLegal w found → IsLegal w (logged (entry chair who guard command reply) found) → (reply ≡ No LogFull → length found ≡ w.limits.log)
+        → (acted who guard command (world_after w found) ≡ record { world = world_after w (logged (entry chair who guard command reply) found); reply = reply }) ⊎ (reply ≡ No Memory)
+    answers_so (No LogFull) before legal full =
+        let count = counted_calls w found before in
+        let many = count.0 in
+        let limit : (world_after w found).limits.log ≡ w.limits.log = ap (λ l. l.log) count.1 in
+        let long = full refl in
+        inl (acted_full who (world_after w found) guard command
+        (reached (world_after w found).limits.log (world_after w found).logged (is_full (world_after w found)) refl (omega arith)))
+    answers_so (No Memory) before legal full = inr refl
+    answers_so reply before legal full =
+        let e = entry chair who guard command reply in
+        let last = legal_last w found e legal in
+        let after = after_more w found e in
+        inl (λ i. record { world = sym after i; reply = last i })
+
+    -- the reply is the world's after the calls that were found, or Memory
+    pub replies_so : (reply : Reply) (after : List Entry) → after ≡ logged (entry chair who guard command reply) found → IsLegal w found → IsLegal w (logged (entry chair who guard command reply) found)
+        → (reply ≡ No LogFull → length found ≡ w.limits.log) → (acted who guard command (world_after w found) ≡ record { world = world_after w after; reply = reply }) ⊎ (reply ≡ No Memory)
+    replies_so reply after is before legal full =
+        subst (λ l. (acted who guard command (world_after w found) ≡ record { world = world_after w l; reply = reply }) ⊎ (reply ≡ No Memory)) (sym is) (answers_so reply before legal full)
