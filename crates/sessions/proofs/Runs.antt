@@ -3,15 +3,15 @@ use Rattle.std.proofs.Common.{◌≡◌, ℕ, zero, suc, ◌+◌, ◌-◌, ◌<�
 use Rattle.std.specs.List.{list_any}
 use Rattle.std.specs.declared.sync.Arc.{Arc}
 use Rattle.checkpoints.specs.Segment.{SegmentRun, IsRun}
-use Rattle.std.proofs.lemmas.List.{map-append, length-append, length-map, length-take, take-append-le}
+use Rattle.std.proofs.Math.Seq.{take-append-add}
+use Rattle.std.proofs.lemmas.List.{map-append, length-append, length-take, take-append-le, take-take, get_or-append-add, get_or_append_left, get_or-take}
 use Rattle.frames.specs.declared.types.Step.{Step}
+use Rattle.frames.specs.declared.types.StepEvents.{StepEvents}
 use Rattle.frames.specs.Behaviour.{Behaviour}
 use Rattle.frames.specs.Configuration.{Configuration, initial_configuration, stepped, replayed, history}
 use Rattle.frames.specs.Configuration.{events_of as events_of_step}
-use Rattle.std.specs.Option.{option_map, unwrap_or}
-use Rattle.schedule_trie.specs.Forest.{Forest, step_of, index_of, slots_in, path_by, len_of}
+use Rattle.schedule_trie.specs.Forest.{step_of}
 use Rattle.schedule_trie.specs.Cut.{Cut, piece_at, slots_of, line, forest}
-use Rattle.schedule_trie.proofs.Lines.{slots_in_on}
 use Rattle.cutoff.specs.Fitting.{StoredRun, RunPart, RunFits, Settles, steps_at, reached, counted, part_of}
 use Rattle.cutoff.specs.Held.{Charted, IsSettled, keys_named}
 use Rattle.cutoff.specs.Links.{alone}
@@ -19,26 +19,12 @@ use Rattle.cutoff.proofs.Fits.{register_kept, alone_same}
 use Rattle.views.specs.declared.breakpoint.Break.{Break}
 use Rattle.views.specs.Breaks.{is_met}
 use Rattle.views.specs.Shown.{Alone, first_configuration, shown}
+use Rattle.views.specs.Looks.{steps_in}
+use Rattle.views.proofs.Spots.{steps_named}
 use Rattle.views.proofs.Alone.{replayed_alone, history_alone, replayed-append, history-append}
-use Rattle.sessions.specs.Seeks.{no_events, events_before, is_hit, steps_of}
+use Rattle.sessions.specs.Seeks.{no_events, events_before, is_hit}
 use Rattle.sessions.specs.Walks.{Tells, TellAll, is_on_bit, records_any}
 use Rattle.sessions.proofs.Searches.{met_by_records}
-
--- the item at a place of two lists
-pub get_behind : {X : Type 0} (xs ys : List X) (m n : ℕ) (d : X) → m ≡ length xs + n → slice_index_or (xs ++ ys) m d ≡ slice_index_or ys n d
-get_behind [] ys m n d e = let same : m ≡ n = omega (arith, e) in ap (λ k. slice_index_or ys k d) same
-get_behind (x ∷ xs) ys zero n d e = absurd (omega (arith, e))
-get_behind (x ∷ xs) ys (suc m) n d e = get_behind xs ys m n d (omega (arith, e))
-
-pub get_within : {X : Type 0} (xs ys : List X) (n : ℕ) (d : X) → n < length xs → slice_index_or (xs ++ ys) n d ≡ slice_index_or xs n d
-get_within [] ys n d h = absurd (omega (arith, h))
-get_within (x ∷ xs) ys zero d h = refl
-get_within (x ∷ xs) ys (suc n) d h = get_within xs ys n d (omega (arith, h))
-
-take_behind : {X : Type 0} (xs ys : List X) (m n : ℕ) → m ≡ length xs + n → take m (xs ++ ys) ≡ xs ++ take n ys
-take_behind [] ys m n e = let same : m ≡ n = omega (arith, e) in ap (λ k. take k ys) same
-take_behind (x ∷ xs) ys zero n e = absurd (omega (arith, e))
-take_behind (x ∷ xs) ys (suc m) n e = ap (λ l. x ∷ l) (take_behind xs ys m n (omega (arith, e)))
 
 module _ {R P : Type 0} (b : Behaviour P) where
   pub length-history : (c : Configuration R P) (steps : List Step) → length (history b c steps) ≡ length steps
@@ -57,9 +43,10 @@ module _ {P : Type 0} (b : Behaviour P) (value : ℕ) (breaks : List Break) (bef
       let parted : history b first steps ≡ history b first before ++ (history b at segment ++ history b (replayed b at segment) behind) =
       ap (history b first) all ∙ history-append b first before (segment ++ behind) ∙ ap (λ l. history b first before ++ l) (history-append b at segment behind) in
       let long : length before + i ≡ length (history b first before) + i = ap (λ n. n + i) (sym (length-history b first before)) in
-      ap (λ l. slice_index_or l (length before + i) no_events) parted
-      ∙ get_behind (history b first before) (history b at segment ++ history b (replayed b at segment) behind) (length before + i) i no_events long
-      ∙ get_within (history b at segment) (history b (replayed b at segment) behind) i no_events (omega (arith, within, length-history b at segment))
+      let later : List StepEvents = history b at segment ++ history b (replayed b at segment) behind in
+      ap (λ l. get_or l (length before + i) no_events) parted ∙ ap (λ n. get_or (history b first before ++ later) n no_events) long
+      ∙ get_or-append-add (history b first before) later i no_events
+      ∙ get_or_append_left (history b at segment) (history b (replayed b at segment) behind) no_events i (omega (arith, within, length-history b at segment))
 
   shown_in : (i : ℕ) → i < length segment → shown b value (take (suc (length before + i)) steps) ≡ replayed b at (take (i + 1) segment)
   unfolding at
@@ -67,7 +54,7 @@ module _ {P : Type 0} (b : Behaviour P) (value : ℕ) (breaks : List Break) (bef
       let first = first_configuration b value in
       let next : suc (length before + i) ≡ length before + (i + 1) = omega arith in
       let taken : take (suc (length before + i)) steps ≡ before ++ take (i + 1) segment =
-      ap (take (suc (length before + i))) all ∙ take_behind before (segment ++ behind) (suc (length before + i)) (i + 1) next
+      ap (take (suc (length before + i))) all ∙ ap (λ n. take n (before ++ (segment ++ behind))) next ∙ take-append-add before (segment ++ behind) (i + 1)
       ∙ ap (λ l. before ++ l) (take-append-le (i + 1) segment behind (omega (arith, within))) in
       ap (replayed b first) taken ∙ replayed-append b first before (take (i + 1) segment)
 
@@ -147,24 +134,16 @@ module _ {R P : Type 0} (E : R → R → Bool) (is : R → Behaviour P) (alike :
       by later false [] s = absurd s
       by later false (part ∷ parts') s = some later part parts' s
 
--- the steps of the branch of a name are those along its keys
-steps_named : {R P : Type 0} (cut : Cut (StoredRun R P)) (name : List ℕ) → steps_of (forest cut) name ≡ map step_of (line (piece_at cut.pieces) (keys_named cut name))
-steps_named cut name = by (index_of (forest cut).branches name) refl
-  where
-    by : (o : Option ℕ) → index_of (forest cut).branches name ≡ o → steps_of (forest cut) name ≡ map step_of (line (piece_at cut.pieces) (keys_named cut name))
-    by None e = rw e refl
-    by (Some i) e = rw e (ap (map step_of) (slots_in_on (piece_at cut.pieces) cut.strands i))
-
 module _ {R P : Type 0} (E : R → R → Bool) (is : R → Behaviour P) (alike : (x y : R) → E x y ≡ true → is x ≡ is y) where
   -- what a settle of a whole branch answers
-  pub runs_tell : (old new : Charted R P) (name : List ℕ) (len : ℕ) (parts : List (RunPart R P)) (n : ℕ) (breaks : List Break) → len ≡ length (steps_of (forest old.cut) name)
+  pub runs_tell : (old new : Charted R P) (name : List ℕ) (len : ℕ) (parts : List (RunPart R P)) (n : ℕ) (breaks : List Break) → len ≡ length (steps_in (forest old.cut) name)
       → old.start ≡ initial_configuration (is old.start.register) old.start.register old.value
       → IsSettled E (is old.start.register) old new name len parts n
-      → TellAll is breaks (is_hit (is old.start.register) old.value (steps_of (forest old.cut) name) breaks) 0 parts
+      → TellAll is breaks (is_hit (is old.start.register) old.value (steps_in (forest old.cut) name) breaks) 0 parts
   runs_tell old new name len parts n breaks long begins h =
       let b = is old.start.register in
       let named = steps_named old.cut name in
-      told E is alike b old.cut new.cut old.value breaks (steps_of (forest old.cut) name) [] old.start (keys_named old.cut name) len parts n refl (ap alone begins) named
+      told E is alike b old.cut new.cut old.value breaks (steps_in (forest old.cut) name) [] old.start (keys_named old.cut name) len parts n refl (ap alone begins) named
       (long ∙ ap length named) h.settles
 
 -- one step of many
@@ -190,18 +169,6 @@ module _ {R P : Type 0} (b : Behaviour P) where
   recorded_front c (x ∷ steps) (suc count) zero h = refl
   recorded_front c (x ∷ steps) (suc count) (suc i) h = recorded_front (stepped b c x) steps count i (omega (arith, h))
 
-pub get_front : {X : Type 0} (xs : List X) (count i : ℕ) (d : X) → i < count → slice_index_or (take count xs) i d ≡ slice_index_or xs i d
-get_front xs zero i d h = absurd (omega (arith, h))
-get_front [] (suc count) i d h = refl
-get_front (x ∷ xs) (suc count) zero d h = refl
-get_front (x ∷ xs) (suc count) (suc i) d h = get_front xs count i d (omega (arith, h))
-
-pub take_front : {X : Type 0} (xs : List X) (count n : ℕ) → n ≤ count → take n (take count xs) ≡ take n xs
-take_front xs count zero h = refl
-take_front xs zero (suc n) h = absurd (omega (arith, h))
-take_front [] (suc count) (suc n) h = refl
-take_front (x ∷ xs) (suc count) (suc n) h = ap (λ l. x ∷ l) (take_front xs count n (omega (arith, h)))
-
 -- what a run tells of its places
 module _ {R P : Type 0} (is : R → Behaviour P) (breaks : List Break) (test : ℕ → Bool) (place : ℕ) (run : SegmentRun R P) (count : ℕ) (tells : Tells is breaks test place (record { run = run; count = count })) where
   pub events_tell : IsRun (is run.entry.register) run → list_any is_on_bit breaks ≡ false → (i : ℕ) → i < length (take count run.events)
@@ -212,7 +179,7 @@ module _ {R P : Type 0} (is : R → Behaviour P) (breaks : List Break) (test : �
       tells.each i within
       ∙ met_by_records breaks (slice_index_or (history b run.entry run.steps) i no_events) (replayed b run.entry (take (i + 1) run.steps)).memory none
       ∙ ap (λ events. records_any breaks (slice_index_or events i no_events)) (sym true_run.events)
-      ∙ ap (records_any breaks) (sym (get_front run.events count i no_events within))
+      ∙ ap (records_any breaks) (sym (get_or-take count run.events i no_events within))
 
   pub events_count : IsRun (is run.entry.register) run → length (take count run.events) ≡ count
   events_count true_run =
@@ -228,7 +195,7 @@ module _ {R P : Type 0} (is : R → Behaviour P) (breaks : List Break) (test : �
       tells.each i within
       ∙ ap (λ events. is_met breaks events (replayed b run.entry (take (i + 1) run.steps)).memory) (sym (recorded_front b run.entry run.steps count i within))
       ∙ ap (λ steps. is_met breaks (slice_index_or (history b run.entry (take count run.steps)) i no_events) (replayed b run.entry steps).memory)
-      (sym (take_front run.steps count (i + 1) (omega (arith, within))))
+      (sym (take-take (i + 1) count run.steps (omega (arith, within))))
 
   pub steps_count : length (take count run.steps) ≡ count
   steps_count = omega (arith, length-take count run.steps, tells.within)
@@ -258,19 +225,3 @@ module _ {R P Z : Type 0} where
   tells_at is breaks test place (y ∷ runs) (suc i) x h e t =
       let next : (place + y.1) + counted (map part_of (take i runs)) ≡ place + (y.1 + counted (map part_of (take i runs))) = omega arith in
       subst (λ n. Tells is breaks test n (part_of x)) next (tells_at is breaks test (place + y.1) runs i x (omega (arith, h)) e t.1)
-
--- how long a branch is
-pub length_told : (f : Forest) (name : List ℕ) (len : ℕ) → Some len ≡ len_of f name → len ≡ length (steps_of f name)
-length_told f name len e = by (index_of f.branches name) refl
-  where
-    Counts : Option ℕ → Type 0
-    Counts o = Some len ≡ option_map (λ i. length (slots_in f.branches i)) o
-
-    by : (o : Option ℕ) → index_of f.branches name ≡ o → len ≡ length (steps_of f name)
-    by None s =
-        let bad : ◌≡◌ {A = Option ℕ} (Some len) None = subst Counts s e in
-        cc
-    by (Some i) s =
-        let found : Some len ≡ Some (length (slots_in f.branches i)) = subst Counts s e in
-        let same : len ≡ length (slots_in f.branches i) = cc in
-        subst (λ (o : Option ℕ). len ≡ length (unwrap_or (path_by o f) [])) (sym s) (same ∙ sym (length-map (slots_in f.branches i) step_of))

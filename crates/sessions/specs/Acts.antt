@@ -10,6 +10,7 @@ use Rattle.schedule_trie.specs.Forest as forests
 use Rattle.schedule_trie.specs.Forest.{Forest}
 use Rattle.cutoff.specs.Held.{look}
 use Rattle.views.specs.declared.breakpoint.Break.{Break}
+use Rattle.views.specs.Looks.{steps_in}
 use Rattle.sessions.specs.declared.cursor.Cursor.{Cursor}
 use Rattle.sessions.specs.declared.cursor.Shift.TheVariants as shift
 use Rattle.sessions.specs.declared.way.Way.{Way}
@@ -20,7 +21,7 @@ use Rattle.sessions.specs.declared.reply.Reply.{Reply}
 use Rattle.sessions.specs.declared.reply.Reply.TheVariants.{Joined, Left, Edited, Moved, NoHit, BreakSet, BreakCleared, No}
 use Rattle.sessions.specs.Cursors.{cursor, cursor_at, first_cursor, shifted, each_cursor, is_occupied}
 use Rattle.sessions.specs.BreakLists.{breaks_at, has_break, with_break, without_break}
-use Rattle.sessions.specs.Seeks.{steps_of, hits, next_of}
+use Rattle.sessions.specs.Seeks.{hits, next_of}
 use Rattle.sessions.specs.World.{World}
 
 -- a command of a session that has joined; the others are any session's
@@ -107,7 +108,7 @@ module _ {P : Type 0} where
 
   -- where a seek takes a session's cursor, if there is a hit on its way
   abbrev pub hit_from : Way → World P → List Break → Cursor → Option Cursor
-  hit_from towards w breaks c = option_map (cursor c.branch) (next_of towards c.place (hits w.tower w.value (steps_of w.forest c.branch) breaks))
+  hit_from towards w breaks c = option_map (cursor c.branch) (next_of towards c.place (hits w.tower w.value (steps_in w.forest c.branch) breaks))
 
   abbrev pub hit_of : Way → World P → ℕ → Option Cursor
   hit_of towards w who = option_and_then (hit_from towards w (breaks_at w.breaks who)) (cursor_at w.cursors who)

@@ -1,21 +1,15 @@
 -- The places of a branch at which a break is met, and the one that a seek comes to.
 use Rattle.std.specs.Prelude.{ℕ, zero, suc, ◌+◌, ◌≡◌, ◌<◌, Bool, true, false, nat_lt, List, [], Option, None, length, filter, take, reverse, slice_index_or}
 use Rattle.std.specs.List.{find, range_with_len}
-use Rattle.std.specs.Option.{unwrap_or}
 use Rattle.frames.specs.declared.types.Step.{Step}
 use Rattle.frames.specs.declared.types.StepEvents.{StepEvents}
 use Rattle.frames.specs.Behaviour.{Behaviour}
 use Rattle.frames.specs.Configuration.{history}
-use Rattle.schedule_trie.specs.Forest.{Forest, path_of}
 use Rattle.views.specs.declared.breakpoint.Break.{Break}
 use Rattle.views.specs.Breaks.{is_met}
 use Rattle.views.specs.Shown.{first_configuration, shown}
 use Rattle.sessions.specs.declared.way.Way.{Way}
 use Rattle.sessions.specs.declared.way.Way.TheVariants.{Forth, Back}
-
--- the steps of a branch; none where there is no such branch
-abbrev pub steps_of : Forest → List ℕ → List Step
-steps_of f branch = unwrap_or (path_of f branch) []
 
 abbrev pub no_events : StepEvents
 no_events = record { first = None; second = None }

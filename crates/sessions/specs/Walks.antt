@@ -4,9 +4,7 @@ use Rattle.std.specs.List.{list_any}
 use Rattle.frames.specs.declared.types.StepEvents.{StepEvents}
 use Rattle.frames.specs.Behaviour.{Behaviour}
 use Rattle.frames.specs.Configuration.{replayed, history}
-use Rattle.schedule_trie.specs.Cut.{forest}
 use Rattle.cutoff.specs.Fitting.{RunPart}
-use Rattle.cutoff.specs.Held.{Charted}
 use Rattle.views.specs.declared.breakpoint.Break.{Break}
 use Rattle.views.specs.declared.breakpoint.Break.TheVariants.{Bit}
 use Rattle.views.specs.Breaks.{is_met, is_recorded}
@@ -32,10 +30,3 @@ module _ {R P : Type 0} (is : R → Behaviour P) (breaks : List Break) (test : �
   abbrev pub TellAll : ℕ → List (RunPart R P) → Type 0
   TellAll place [] = Unit {0}
   TellAll place (part ∷ parts) = Tells place part × TellAll (place + part.count) parts
-
--- a chart behind a seek: all but the stored runs is as before
-pub record IsKept {R P : Type 0} (old new : Charted R P) : Type 0 where
-  pub branches : forest new.cut ≡ forest old.cut
-  pub limits : new.cut.limits ≡ old.cut.limits
-  pub start : new.start ≡ old.start
-  pub value : new.value ≡ old.value

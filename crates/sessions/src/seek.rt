@@ -9,8 +9,9 @@ ghost use Rattle.checkpoints.specs.Segment.{AllFit};
 ghost use Rattle.schedule_trie.specs.Cut.{forest};
 ghost use Rattle.cutoff.specs.Fitting.{counted, part_of};
 ghost use Rattle.views.specs.Breaks as breaks_spec;
-ghost use Rattle.sessions.specs.Seeks.{hits, next_of, no_events, places_with, steps_of};
-ghost use Rattle.sessions.specs.Walks.{IsKept, Tells, TellAll};
+ghost use Rattle.views.specs.Looks.{IsKept, steps_in};
+ghost use Rattle.sessions.specs.Seeks.{hits, next_of, no_events, places_with};
+ghost use Rattle.sessions.specs.Walks.{Tells, TellAll};
 ghost use Rattle.sessions.specs.Seeks.{IsNextHit, is_hit};
 ghost use Rattle.sessions.specs.Walks as spec;
 
@@ -25,6 +26,7 @@ use schedule_trie::name::Name;
 use std::alloc::{AllocError, Global};
 use std::sync::Arc;
 use views::breakpoint::Break;
+use views::spot::front;
 
 /// A seek: its way, and the place from which it goes.
 #[derive(Clone, Copy)]
@@ -174,13 +176,6 @@ fn along_run<R: Register>(
     Ok(along_events(search, breaks, events, place, found))
 }
 
-/// The first `count` items.
-fn front<T>(items: &[T], count: u32) -> &[T]
-    ensures { result.now ≡ take count items.now }
-{
-    &items[..items.len().min(count as usize)]
-}
-
 /// Goes over the places of runs one after the other, and the beginning.
 fn along_runs<R: Register>(
     alloc: Global,
@@ -214,8 +209,8 @@ pub fn next_hit<R: Register>(
     breaks: &[Break],
     search: Search,
 ) -> Result<Option<u32>, AllocError>
-    ensures met { let b = R.is chart.old.start.register in let steps = steps_of (forest chart.old.cut) branch.now in IfOk result (λ place. IfSome place (IsNextHit search.way (is_hit b chart.old.value steps breaks.now) (length steps + 1) search.from)) }
-    ensures hit { let all = hits (R.is chart.old.start.register) chart.old.value (steps_of (forest chart.old.cut) branch.now) breaks.now in IfOk result (λ place. place ≡ next_of search.way search.from all) }
+    ensures met { let b = R.is chart.old.start.register in let steps = steps_in (forest chart.old.cut) branch.now in IfOk result (λ place. IfSome place (IsNextHit search.way (is_hit b chart.old.value steps breaks.now) (length steps + 1) search.from)) }
+    ensures hit { let all = hits (R.is chart.old.start.register) chart.old.value (steps_in (forest chart.old.cut) branch.now) breaks.now in IfOk result (λ place. place ≡ next_of search.way search.from all) }
     ensures kept { IsKept chart.old chart.new }
 {
     let runs = settled(alloc, chart, branch)?;
@@ -229,8 +224,8 @@ fn settled<R: Register>(
     chart: &mut Chart<R>,
     branch: &Name,
 ) -> Result<Vec<(Arc<Run<R>>, u32)>, AllocError>
-    ensures tells { let b = R.is chart.old.start.register in let steps = steps_of (forest chart.old.cut) branch.now in (breaks : List Break) → IfOk result (λ runs. TellAll R.is breaks (is_hit b chart.old.value steps breaks) 0 (map part_of runs.items)) }
-    ensures counts { IfOk result (λ runs. counted (map part_of runs.items) ≡ length (steps_of (forest chart.old.cut) branch.now)) }
+    ensures tells { let b = R.is chart.old.start.register in let steps = steps_in (forest chart.old.cut) branch.now in (breaks : List Break) → IfOk result (λ runs. TellAll R.is breaks (is_hit b chart.old.value steps breaks) 0 (map part_of runs.items)) }
+    ensures counts { IfOk result (λ runs. counted (map part_of runs.items) ≡ length (steps_in (forest chart.old.cut) branch.now)) }
     ensures room { IfOk result (λ runs. counted (map part_of runs.items) < 2 ^ 32) }
     ensures kept { IsKept chart.old chart.new }
 {

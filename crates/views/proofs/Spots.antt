@@ -6,7 +6,8 @@ use Rattle.std.specs.Arc.{arc_value}
 use Rattle.std.specs.declared.sync.Arc.{Arc}
 use Rattle.checkpoints.specs.Segment.{SegmentRun, IsRun}
 use Rattle.std.proofs.lemmas.Bool.{cases_lt}
-use Rattle.std.proofs.lemmas.List.{take_all, map-append, length-map}
+use Rattle.std.proofs.Math.Seq.{take-append-add}
+use Rattle.std.proofs.lemmas.List.{take_all, map-append, length-map, take-append-le}
 use Rattle.frames.specs.declared.types.Step.{Step}
 use Rattle.frames.specs.Behaviour.{Behaviour}
 use Rattle.frames.specs.Configuration.{Configuration, initial_configuration, stepped, replayed, history}
@@ -23,19 +24,6 @@ use Rattle.views.specs.Shown.{first_configuration}
 use Rattle.views.specs.Spots.{part_end, part_events, end_of, events_of, IsSpotOf}
 use Rattle.views.specs.Looks.{steps_in}
 use Rattle.views.proofs.Alone.{replayed_alone, history_alone, replayed-append, history-append, history_same}
-
--- the first n of two lists, one behind the other
-take_behind : {X : Type 0} (n : ℕ) (xs ys : List X) → length xs ≤ n → take n (xs ++ ys) ≡ xs ++ take (n - length xs) ys
-take_behind n [] ys h = let none : n ≡ n - 0 = omega arith in ap (λ m. take m ys) none
-take_behind zero (x ∷ xs) ys h = absurd (omega (arith, h))
-take_behind (suc n) (x ∷ xs) ys h =
-    let less : n - length xs ≡ suc n - length (x ∷ xs) = omega arith in
-    ap (λ l. x ∷ l) (take_behind n xs ys (omega (arith, h))) ∙ ap (λ m. x ∷ (xs ++ take m ys)) less
-
-take_within : {X : Type 0} (n : ℕ) (xs ys : List X) → n ≤ length xs → take n (xs ++ ys) ≡ take n xs
-take_within zero xs ys h = refl
-take_within (suc n) [] ys h = absurd (omega (arith, h))
-take_within (suc n) (x ∷ xs) ys h = ap (λ l. x ∷ l) (take_within n xs ys (omega (arith, h)))
 
 module _ {R P : Type 0} (E : R → R → Bool) (equal : IsEquivalence E) (is : R → Behaviour P) (alike : (x y : R) → E x y ≡ true → is x ≡ is y)
     (b : Behaviour P) (old new : Cut (StoredRun R P)) where
@@ -99,8 +87,9 @@ module _ {R P : Type 0} (E : R → R → Bool) (equal : IsEquivalence E) (is : R
       whole : (part : RunPart R P) (rest : List (RunPart R P)) → RunFits E c (steps_at old k) part.run → part.count ≡ len → len ≤ place
           → Comes next (part_end is part) rest (take (place - len) (along ks)) → Comes c d (part ∷ rest) (take place (along (k ∷ ks)))
       whole part rest fits count h later =
+          let behind : place ≡ len + (place - len) = omega (arith, h) in
           let all : take place (along (k ∷ ks)) ≡ steps_at old k ++ take (place - len) (along ks) =
-          ap (take place) (along_more k ks) ∙ take_behind place (steps_at old k) (along ks) h in
+          ap (take place) (along_more k ks) ∙ ap (λ m. take m (steps_at old k ++ along ks)) behind ∙ take-append-add (steps_at old k) (along ks) (place - len) in
           let every : take len (steps_at old k) ≡ steps_at old k = take_all len (steps_at old k) (omega arith) in
           subst (Comes c d (part ∷ rest)) (sym all)
           (record {
@@ -113,7 +102,7 @@ module _ {R P : Type 0} (E : R → R → Bool) (equal : IsEquivalence E) (is : R
           → Comes c d (part ∷ rest) (take place (along (k ∷ ks)))
       last part rest fits count h none =
           let all : take place (along (k ∷ ks)) ≡ take place (steps_at old k) =
-          ap (take place) (along_more k ks) ∙ take_within place (steps_at old k) (along ks) (omega (arith, h)) in
+          ap (take place) (along_more k ks) ∙ take-append-le place (steps_at old k) (along ks) (omega (arith, h)) in
           subst (Comes c d (part ∷ rest)) (sym all)
           (subst (λ ps. Comes c d (part ∷ ps) (take place (steps_at old k))) (sym none)
           (record {
@@ -168,12 +157,28 @@ events_more is (y ∷ runs) (suc i) x within e run =
     ∙ sym (append_assoc (part_events is (part_of y)) (events_of is (map part_of (take i runs))) (take x.1 (arc_value x.0).events))
 
 -- the steps of the branch of a name are those along its keys
-steps_named : {R P : Type 0} (cut : Cut (StoredRun R P)) (name : List ℕ) → steps_in (forest cut) name ≡ map step_of (line (piece_at cut.pieces) (keys_named cut name))
+pub steps_named : {R P : Type 0} (cut : Cut (StoredRun R P)) (name : List ℕ) → steps_in (forest cut) name ≡ map step_of (line (piece_at cut.pieces) (keys_named cut name))
 steps_named cut name = by (index_of (forest cut).branches name) refl
   where
     by : (o : Option ℕ) → index_of (forest cut).branches name ≡ o → steps_in (forest cut) name ≡ map step_of (line (piece_at cut.pieces) (keys_named cut name))
     by None e = rw e refl
     by (Some i) e = rw e (ap (map step_of) (slots_in_on (piece_at cut.pieces) cut.strands i))
+
+-- how long a branch is
+pub length_told : (f : Forest) (name : List ℕ) (len : ℕ) → Some len ≡ len_of f name → len ≡ length (steps_in f name)
+length_told f name len told = by (index_of f.branches name) refl
+  where
+    Counts : Option ℕ → Type 0
+    Counts o = Some len ≡ option_map (λ i. length (slots_in f.branches i)) o
+
+    by : (o : Option ℕ) → index_of f.branches name ≡ o → len ≡ length (steps_in f name)
+    by None e =
+        let bad : ◌≡◌ {A = Option ℕ} (Some len) None = subst Counts e told in
+        cc
+    by (Some i) e =
+        let found : Some len ≡ Some (length (slots_in f.branches i)) = subst Counts e told in
+        let same : len ≡ length (slots_in f.branches i) = cc in
+        subst (λ (o : Option ℕ). len ≡ length (unwrap_or (path_by o f) [])) (sym e) (same ∙ sym (length-map (slots_in f.branches i) step_of))
 
 module _ {R P : Type 0} (E : R → R → Bool) (equal : IsEquivalence E) (is : R → Behaviour P) (alike : (x y : R) → E x y ≡ true → is x ≡ is y) where
   -- what a settle of a place answers
@@ -189,25 +194,10 @@ module _ {R P : Type 0} (E : R → R → Bool) (equal : IsEquivalence E) (is : R
       let steps : whole ≡ steps_in (forest old.cut) name = sym (steps_named old.cut name) in
       let first : alone old.start ≡ first_configuration b old.value = ap alone begins in
       record {
-        counted = counted_by (index_of (forest old.cut).branches name) refl;
+        counted = length_told (forest old.cut) name len told;
         home = alike (end_of is old.start parts).register (replayed b old.start (take place whole)).register comes.end.register ∙ ap is (register_kept b old.start (take place whole));
         comes = alone_same E (end_of is old.start parts) (replayed b old.start (take place whole)) comes.end ∙ replayed_alone b old.start (take place whole)
             ∙ ap (λ xs. replayed b (alone old.start) (take place xs)) steps ∙ ap (λ c. replayed b c (take place (steps_in (forest old.cut) name))) first;
         records = comes.events ∙ history_alone b old.start (take place whole) ∙ ap (λ xs. history b (alone old.start) (take place xs)) steps
             ∙ ap (λ c. history b c (take place (steps_in (forest old.cut) name))) first;
       }
-    where
-      f : Forest
-      f = forest old.cut
-
-      Counts : Option ℕ → Type 0
-      Counts o = Some len ≡ option_map (λ i. length (slots_in f.branches i)) o
-
-      counted_by : (o : Option ℕ) → index_of f.branches name ≡ o → len ≡ length (steps_in f name)
-      counted_by None e =
-          let bad : ◌≡◌ {A = Option ℕ} (Some len) None = subst Counts e told in
-          cc
-      counted_by (Some i) e =
-          let found : Some len ≡ Some (length (slots_in f.branches i)) = subst Counts e told in
-          let same : len ≡ length (slots_in f.branches i) = cc in
-          subst (λ (o : Option ℕ). len ≡ length (unwrap_or (path_by o f) [])) (sym e) (same ∙ sym (length-map (slots_in f.branches i) step_of))

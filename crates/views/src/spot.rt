@@ -64,8 +64,8 @@ pub fn events_of<R: Register>(
     Ok(events)
 }
 
-/// The first `count` items.
-fn front<T>(items: &[T], count: u32) -> &[T]
+/// The first `count` items; all where there are fewer.
+pub fn front<T>(items: &[T], count: u32) -> &[T]
     ensures { result.now ≡ take count items.now }
 {
     &items[..items.len().min(count as usize)]

@@ -7,8 +7,8 @@ ghost use Rattle.sessions.specs.Held.{Does, Done, command_of, world_of};
 ghost use Rattle.std.specs.Option.{option_map};
 ghost use Rattle.sessions.specs.Acts.{hit_of, hit_reply};
 ghost use Rattle.sessions.specs.BreakLists.{breaks_at};
-ghost use Rattle.sessions.specs.Seeks.{hits, next_of, steps_of};
-ghost use Rattle.sessions.specs.Walks.{IsKept};
+ghost use Rattle.sessions.specs.Seeks.{hits, next_of};
+ghost use Rattle.views.specs.Looks.{IsKept, steps_in};
 
 use super::Stage;
 use crate::breaks::Breaks;
@@ -160,7 +160,7 @@ fn hit_from<R: Register>(
     breaks: &[Break],
     way: Way,
 ) -> Result<Option<Cursor>, AllocError>
-    ensures hit { let all = hits (R.is chart.old.start.register) chart.old.value (steps_of (forest chart.old.cut) cursor.now.branch) breaks.now in IfOk result (λ hit. hit ≡ option_map (spec.cursor cursor.now.branch) (next_of way cursor.now.place all)) }
+    ensures hit { let all = hits (R.is chart.old.start.register) chart.old.value (steps_in (forest chart.old.cut) cursor.now.branch) breaks.now in IfOk result (λ hit. hit ≡ option_map (spec.cursor cursor.now.branch) (next_of way cursor.now.place all)) }
     ensures kept { IsKept chart.old chart.new }
 {
     let search = Search {

@@ -3,7 +3,8 @@ use Rattle.std.proofs.lemmas.Result.{IfOk-weaker}
 use Rattle.schedule_trie.specs.Cut.{forest}
 use Rattle.cutoff.specs.Fitting.{counted, part_of}
 use Rattle.views.specs.Breaks.{is_met}
-use Rattle.sessions.specs.Seeks.{next_of, no_events, places_with, is_hit, steps_of}
+use Rattle.views.specs.Looks.{steps_in}
+use Rattle.sessions.specs.Seeks.{next_of, no_events, places_with, is_hit}
 use Rattle.sessions.specs.Walks.{TellAll}
 use Rattle.sessions.proofs.NextHits.{next_is_hit}
 use Rattle.sessions.proofs.seek.next_hit.Goals as goal
@@ -14,7 +15,7 @@ found g c =
     let old = c.args.chart.now in
     let b = is old.start.register in
     let breaks = c.args.breaks.now in
-    let steps = steps_of (forest old.cut) c.args.branch.now in
+    let steps = steps_in (forest old.cut) c.args.branch.now in
     let runs = c.in_ok-runs.runs.items in
     let kept = c.in_ok-runs.ensures.kept in
     let memory : c.in_ok-first.first.memory ≡ b.initial old.value =
@@ -36,7 +37,7 @@ returns-clause-hit g c = found g c
 pub returns-clause-met : goal.returns-clause-met
 returns-clause-met g c =
     let old = c.args.chart.now in
-    let steps = steps_of (forest old.cut) c.args.branch.now in
+    let steps = steps_in (forest old.cut) c.args.branch.now in
     let test = is_hit (g.R.Behaves.is old.start.register) old.value steps c.args.breaks.now in
     IfOk-weaker c.along_runs.result
     (λ place. place ≡ next_of c.args.search.way c.args.search.from (places_with test (length steps + 1)))

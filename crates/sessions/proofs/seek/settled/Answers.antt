@@ -1,7 +1,8 @@
 use Rattle.std.proofs.Common.{map}
 use Rattle.schedule_trie.specs.Cut.{forest}
 use Rattle.cutoff.specs.Fitting.{part_of}
-use Rattle.sessions.proofs.Runs.{length_told, runs_tell}
+use Rattle.views.proofs.Spots.{length_told}
+use Rattle.sessions.proofs.Runs.{runs_tell}
 use Rattle.sessions.proofs.seek.settled.Goals as goal
 
 pub returns-in-Ok-clause-tells : goal.returns-in-Ok-clause-tells
