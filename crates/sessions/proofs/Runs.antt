@@ -1,5 +1,5 @@
 -- What the runs of a branch tell of its places.
-use Rattle.std.proofs.Common.{◌≡◌, ℕ, zero, suc, ◌+◌, ◌-◌, ◌<◌, ◌≤◌, Bool, true, false, nat_eq, cond, List, [], ◌∷◌, ◌++◌, length, map, take, Option, Some, None, refl, sym, ap, subst, ◌∙◌, arith, append_assoc, get_or, slice_index_or}
+use Rattle.std.proofs.Common.{◌≡◌, ℕ, zero, suc, ◌+◌, ◌-◌, ◌<◌, ◌≤◌, Bool, true, false, nat_eq, cond, List, [], ◌∷◌, ◌++◌, length, map, take, refl, sym, ap, subst, ◌∙◌, arith, append_assoc, get_or, slice_index_or}
 use Rattle.std.specs.List.{list_any}
 use Rattle.std.specs.declared.sync.Arc.{Arc}
 use Rattle.checkpoints.specs.Segment.{SegmentRun, IsRun}

@@ -1,5 +1,5 @@
 -- The places of a branch at which a break is met, and the one that a seek comes to.
-use Rattle.std.specs.Prelude.{ℕ, zero, suc, ◌+◌, ◌≡◌, ◌<◌, Bool, true, false, nat_lt, List, [], Option, None, length, filter, take, reverse, slice_index_or}
+use Rattle.std.specs.Prelude.{ℕ, zero, suc, ◌+◌, ◌≡◌, ◌<◌, Bool, true, false, nat_lt, List, Option, None, length, filter, take, reverse, slice_index_or}
 use Rattle.std.specs.List.{find, range_with_len}
 use Rattle.frames.specs.declared.types.Step.{Step}
 use Rattle.frames.specs.declared.types.StepEvents.{StepEvents}

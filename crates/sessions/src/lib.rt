@@ -11,4 +11,6 @@ pub mod log;
 pub mod reply;
 pub mod seek;
 mod stage;
+#[cfg(test)]
+mod tests;
 pub mod way;
