@@ -1,10 +1,15 @@
 -- Registers of one writer: process 0 writes, and every other process reads.
-use Rattle.std.proofs.Common.{ℕ, Bool}
+use Rattle.std.proofs.Common.{◌≡◌, ℕ, Bool, true}
 use Rattle.std.specs.Prelude.{◌&&◌, ◌==◌, nat_lt, nat_le}
 use Rattle.frames.specs.declared.types.Op.{Op}
 use Rattle.frames.specs.declared.types.Op.TheVariants as op
+use Rattle.frames.specs.Behaviour.{Behaviour}
 
 -- which operations fit a process, of so many values and processes
 abbrev pub one_writer : ℕ → ℕ → ℕ → Op → Bool
 one_writer values processes who (op.Write v) = who == 0 && (nat_lt v values && nat_lt 0 processes)
 one_writer values processes who op.Read = nat_le 1 who && nat_lt who processes
+
+-- process 0 alone writes a register, and the others read it
+abbrev pub HasOneWriter : {P : Type 0} → Behaviour P → Type 0
+HasOneWriter b = (who : ℕ) (o : Op) → b.suits who o ≡ true → one_writer b.values b.processes who o ≡ true

@@ -1,1 +1,2 @@
 mod Neighbours
+mod OneWriters

@@ -5,9 +5,11 @@
 #[cfg(test)]
 mod tests;
 
-ghost use Rattle.std.specs.Prelude.{◌≡◌, ◌<◌, ◌≤◌, ◌+◌, ◌*◌};
+ghost use Rattle.std.specs.Prelude.{◌≡◌, ◌<◌, ◌≤◌, ◌+◌, ◌*◌, ℕ};
 ghost use Rattle.frames.specs.declared.limits.TheConstants.{LEAST_PROCESSES, LEAST_VALUES, MOST_READERS, MOST_VALUES, MOST_WRITERS};
 ghost use Rattle.frames.specs.declared.register.TheConstants.{MOST_CELLS};
+ghost use Rattle.frames.specs.OneWriter.{HasOneWriter};
+ghost use Rattle.frames.specs.SafeBit.{safe_behaviour};
 ghost use Rattle.towers.specs.Towers.{copies_tower, regular_tower, unary_tower, stamped_tower, matrix_tower};
 
 use frames::register::Behaves;
@@ -91,3 +93,12 @@ pub fn matrix(processes: u32, values: u32, tag: u32, stamp: u32) -> MatrixTower
     let part = stamped((tag + 1) * processes * values, stamp);
     Matrix::new(part, processes, values, tag).unwrap()
 }
+
+/// The five towers below the matrix have one writer, whatever their numbers: process 0 alone writes them, and the others read.
+pub fn have_one_writer()
+    ensures safe { HasOneWriter safe_behaviour }
+    ensures copies { (readers : ℕ) → HasOneWriter (copies_tower readers) }
+    ensures regular { (readers : ℕ) → HasOneWriter (regular_tower readers) }
+    ensures unary { (values : ℕ) (readers : ℕ) → HasOneWriter (unary_tower values readers) }
+    ensures stamped { (values : ℕ) (last : ℕ) → HasOneWriter (stamped_tower values last) }
+{}

@@ -23,6 +23,7 @@ use Rattle.frames.specs.declared.types.StepEvents.{StepEvents}
 use Rattle.frames.specs.declared.running.Running.{Running}
 use Rattle.frames.specs.Behaviour.{Behaviour, IsLawful, StandsWell, Answers}
 use Rattle.frames.specs.Fitting.{process_of}
+use Rattle.frames.specs.OneWriter.{HasOneWriter}
 use Rattle.frames.specs.Configuration.{Configuration, running_at, is_stopped, fits_step, stepped, history, events_of, acted_on, acting, acting_unless, invoking, going, return_of, still_running, chosen_of, in_order}
 use Rattle.frames.specs.Parked.{IsConfiguration}
 use Rattle.frames.specs.laws.Steps.{IsReached, initial_keeps, step_keeps}
@@ -30,7 +31,7 @@ use Rattle.frames.specs.laws.OneWriter.{writer_zero, reader_some}
 use Rattle.checkpoints.specs.Events.{at_index, indexed}
 use Rattle.checkpoints.specs.Segment.{AllFit}
 use Rattle.views.specs.Shown.{first_configuration, recorded}
-use Rattle.views.specs.VerdictWords.{is_turn, IsQuiet, InProgress, has_role, Follows, IsHistory, HasOneWriter, RecordsHistories, RecordsJudged}
+use Rattle.views.specs.VerdictWords.{is_turn, IsQuiet, InProgress, has_role, Follows, IsHistory, RecordsHistories, RecordsJudged}
 use Rattle.views.proofs.VerdictKnown.{}
 use Rattle.views.proofs.VerdictOverlaps.{parted_at, goes_on}
 use Rattle.views.proofs.VerdictWords.{judged_in_words}

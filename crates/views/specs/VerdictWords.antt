@@ -10,7 +10,6 @@ use Rattle.frames.specs.declared.types.Event.{Event}
 use Rattle.frames.specs.declared.types.Event.TheVariants.{Invoke, Got, Wrote, Refused, Void, Stop, Chosen}
 use Rattle.frames.specs.declared.types.Step.{Step}
 use Rattle.frames.specs.Behaviour.{Behaviour}
-use Rattle.frames.specs.OneWriter.{one_writer}
 use Rattle.checkpoints.specs.Segment.{AllFit}
 use Rattle.views.specs.declared.verdict.ReadVerdict.{ReadVerdict}
 use Rattle.views.specs.declared.verdict.Verdict.{Verdict}
@@ -159,10 +158,6 @@ pub record IsJudged (initial : ℕ) (history : List (ℕ × Event)) (r : Returne
 pub record AreJudged (initial : ℕ) (history : List (ℕ × Event)) : Type 0 where
   pub each : (r : ReturnedRead history) → IsJudged initial history r
   pub all : length (verdicts initial history) ≡ returned_reads history
-
--- process 0 alone writes a register, and the others read it
-abbrev pub HasOneWriter : {P : Type 0} → Behaviour P → Type 0
-HasOneWriter b = (who : ℕ) (o : Op) → b.suits who o ≡ true → one_writer b.values b.processes who o ≡ true
 
 -- what a register with one writer records, whatever steps are made of it from a value on
 abbrev pub RecordsHistories : {P : Type 0} → Behaviour P → Type 0

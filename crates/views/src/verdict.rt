@@ -2,8 +2,9 @@
 
 ghost use Rattle.std.specs.Prelude.{◌≡◌, ℕ, List, ◌++◌, drop, IfOk, OnOk};
 ghost use Rattle.frames.specs.declared.types.Event.{Event};
+ghost use Rattle.frames.specs.OneWriter.{HasOneWriter};
 ghost use Rattle.views.specs.Verdicts as spec;
-ghost use Rattle.views.specs.VerdictWords.{IsHistory, AreJudged, HasOneWriter, RecordsHistories, RecordsJudged};
+ghost use Rattle.views.specs.VerdictWords.{IsHistory, AreJudged, RecordsHistories, RecordsJudged};
 
 use frames::register::Register;
 use frames::types::{Event, Op};
