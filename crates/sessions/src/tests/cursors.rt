@@ -109,47 +109,36 @@ fn moved(
 /// Where no cursor moves.
 const STAY: [u32; 4] = [0, 1, 2, 3];
 
-#[test]
-fn inserts_raise_cursors(rt: HostRuntime) -> Result<(), Fail> {
-    let (main, a, b) = (name(&rt, b"main"), name(&rt, b"a"), name(&rt, b"b"));
-    let on = Branches {
-        main: &main,
-        a: &a,
-        b: &b,
-    };
-    let table = [
-        (insert(&main, 0, READ), ([0, 2, 3, 4], [0, 2, 3, 4], STAY)),
-        (insert(&main, 1, READ), ([0, 1, 3, 4], [0, 1, 3, 4], STAY)),
-        (insert(&main, 2, READ), ([0, 1, 2, 4], STAY, STAY)),
-        (insert(&main, 3, READ), (STAY, STAY, STAY)),
-        (insert(&a, 1, READ), ([0, 1, 3, 4], [0, 1, 3, 4], STAY)),
-        (insert(&a, 2, READ), (STAY, [0, 1, 2, 4], STAY)),
-        (insert(&b, 0, READ), (STAY, STAY, [0, 2, 3, 4])),
-        (replace(&main, 1, READ), (STAY, STAY, STAY)),
-    ];
-    for (edit, places) in &table {
-        assert_eq!(rt; moved(rt.alloc(), on, edit)?, *places);
-    }
-    Ok(())
+/// Edits, and where the cursors of the places 0 to 3 of each branch stand behind them: what is inserted raises those behind it, what
+/// is removed lowers them, and what is replaced moves none.
+fn moves(on: Branches<'_>) -> [(Command, ([u32; 4], [u32; 4], [u32; 4])); 14] {
+    [
+        (insert(on.main, 0, READ), ([0, 2, 3, 4], [0, 2, 3, 4], STAY)),
+        (insert(on.main, 1, READ), ([0, 1, 3, 4], [0, 1, 3, 4], STAY)),
+        (insert(on.main, 2, READ), ([0, 1, 2, 4], STAY, STAY)),
+        (insert(on.main, 3, READ), (STAY, STAY, STAY)),
+        (insert(on.a, 1, READ), ([0, 1, 3, 4], [0, 1, 3, 4], STAY)),
+        (insert(on.a, 2, READ), (STAY, [0, 1, 2, 4], STAY)),
+        (insert(on.b, 0, READ), (STAY, STAY, [0, 2, 3, 4])),
+        (replace(on.main, 1, READ), (STAY, STAY, STAY)),
+        (remove(on.main, 0), ([0, 0, 1, 2], [0, 0, 1, 2], STAY)),
+        (remove(on.main, 1), ([0, 1, 1, 2], [0, 1, 1, 2], STAY)),
+        (remove(on.main, 2), ([0, 1, 2, 2], STAY, STAY)),
+        (remove(on.a, 0), ([0, 0, 1, 2], [0, 0, 1, 2], STAY)),
+        (remove(on.a, 2), (STAY, [0, 1, 2, 2], STAY)),
+        (remove(on.b, 1), (STAY, STAY, [0, 1, 1, 2])),
+    ]
 }
 
 #[test]
-fn removes_lower_cursors(rt: HostRuntime) -> Result<(), Fail> {
+fn edits_move_cursors(rt: HostRuntime) -> Result<(), Fail> {
     let (main, a, b) = (name(&rt, b"main"), name(&rt, b"a"), name(&rt, b"b"));
     let on = Branches {
         main: &main,
         a: &a,
         b: &b,
     };
-    let table = [
-        (remove(&main, 0), ([0, 0, 1, 2], [0, 0, 1, 2], STAY)),
-        (remove(&main, 1), ([0, 1, 1, 2], [0, 1, 1, 2], STAY)),
-        (remove(&main, 2), ([0, 1, 2, 2], STAY, STAY)),
-        (remove(&a, 0), ([0, 0, 1, 2], [0, 0, 1, 2], STAY)),
-        (remove(&a, 2), (STAY, [0, 1, 2, 2], STAY)),
-        (remove(&b, 1), (STAY, STAY, [0, 1, 1, 2])),
-    ];
-    for (edit, places) in &table {
+    for (edit, places) in &moves(on) {
         assert_eq!(rt; moved(rt.alloc(), on, edit)?, *places);
     }
     Ok(())

@@ -23,7 +23,7 @@ use frames::types::Step;
 use schedule_trie::limits::Limits;
 use schedule_trie::name::Name;
 use schedule_trie::refusal::Refusal;
-use std::alloc::{AllocError, Global};
+use std::alloc::Global;
 use std::test::Fail;
 use views::breakpoint::Break;
 
