@@ -107,6 +107,7 @@ fn two_threads(rt: HostRuntime) -> Result<(), Fail> {
 }
 
 /// Whether the turn is held, and whether its holder was told to go on.
+#[derive(Drop)]
 struct Flags {
     held: AtomicU64,
     told: AtomicU64,
