@@ -61,7 +61,7 @@ is_at_branch Branches = false
 is_at_branch (Cursor who) = false
 is_at_branch query = true
 
--- a chart behind a look: all but the stored runs is as before
+-- a chart behind a look or a seek: all but the stored runs is as before
 pub record IsKept {R P : Type 0} (old new : Charted R P) : Type 0 where
   pub branches : forest new.cut ≡ forest old.cut
   pub limits : new.cut.limits ≡ old.cut.limits
