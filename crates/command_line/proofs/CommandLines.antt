@@ -1,23 +1,23 @@
 -- What a parse of the program's command line reads behind its options.
-use Rattle.std.proofs.Common.{◌≡◌, ◌∙◌, ◌<◌, ◌≤◌, ap, subst, refl, sym, arith, inl, inr, ℕ, Bool, true, false, not, zero, suc, List, [], ◌∷◌, length, map, is_some, Option, Some, None, codes, slice_index, eqb-true}
-use Rattle.std.specs.Prelude.{find, pos, unwrap_or, option_map, slice_get}
+use Rattle.std.proofs.Common.{◌≡◌, ◌∙◌, ◌<◌, ◌≤◌, ap, subst, refl, sym, arith, inl, inr, ℕ, Bool, true, false, not, zero, suc, List, [], ◌∷◌, length, map, is_some, Option, Some, None, codes, eqb-true}
+use Rattle.std.specs.Prelude.{find, pos, position, unwrap_or, option_map, slice_get, Result}
 use Rattle.std.specs.List.{All, slice_index_or}
 use Rattle.std.specs.Str.{bytes_eq}
 use Rattle.std.specs.Borrow.{Bor}
+use Rattle.std.proofs.lemmas.List.{get_or-map, length-map}
 use Rattle.std.proofs.lemmas.List.Elements.{All-get_or}
 use Rattle.std.proofs.lemmas.Slice.Eq.{bytes_eq-Decides}
-use Rattle.std.specs.Prelude.{Ok, Result}
-use Rattle.std.specs.Str.Parse.{ParsesUnsigned, digits_value, without_leading_plus}
-use Rattle.clap.specs.Words.{HasKind, IsAmong, Kinds, HasMatchesOf, ReadsOne, fault_of, first_of, first_value, is_simple, is_simple_and_free, kind_of, matches_of, one_of, rows_of}
+use Rattle.std.specs.Str.Parse.{ExplainsUnsignedError, HasUnsignedDigitsIfOk, ParsesUnsigned, digits_value, without_leading_plus}
+use Rattle.std.specs.declared.num.ParseIntError.{ParseIntError}
+use Rattle.clap.specs.Words.{HasKind, IsAmong, Kinds, HasMatchesOf, ReadsOne, fault_of, first_of, first_value, is_simple, is_simple_and_free, kind_of, matches_of, one_of, rows_of, App, Accepts, IsParsedFrom, Rule, Text, app_of, args_of, found_of, groups_of, items_of, matched_of, one_text, rule_of, without_minus, reading_of}
 use Rattle.clap.specs.declared.error.Error.{Error}
 use Rattle.clap.specs.declared.error.kind.ErrorKind.TheVariants.{DisplayHelp, OutOfMemory}
 use Rattle.clap.proofs.CallerReads.{signed_reads}
-use Rattle.clap.proofs.WalkLemmas.{first_value-rows, one_text-rows}
+use Rattle.clap.proofs.WalkLemmas.{first_value-rows, one_text-rows, both}
 use Rattle.clap.proofs.OnLiterals.{clap_on_literals}
 use Rattle.command_line.specs.declared.options.Options.{Options}
 use Rattle.command_line.specs.declared.invocation.Invocation.{Invocation}
 use Rattle.command_line.specs.declared.invocation.Invocation.TheVariants.{Run, Help, Refused, Memory}
-use Rattle.clap.specs.Words.{App, Accepts, IsParsedFrom, Rule, SameRules, Text, app_of, args_of, found_of, groups_of, items_of, matched_of, one_text, rule_of, without_minus, reading_of}
 use Rattle.clap.specs.Facts.{Entry, EntryPasses, HasReading, PassesArg, WantsDefault, least_values, parser_of, parser_of_value, unwrap_or_range, HasId}
 use Rattle.clap.specs.Values.{IsSignedIn}
 use Rattle.clap.specs.Walk.{is_empty, texts}
@@ -33,16 +33,15 @@ use Rattle.clap.specs.declared.parser.matches.ArgMatches.{ArgMatches}
 use Rattle.clap.specs.declared.parser.matches.Found.{Found}
 use Rattle.clap.specs.declared.parser.matches.MatchedArg.{MatchedArg}
 use Rattle.clap.proofs.CallerLemmas.{default_present, entry_by_id, same_rules_by_id}
-use Rattle.clap.proofs.WalkLemmas.{both}
-use Rattle.command_line.specs.CommandLine.{IsAskedBy, IsRunOf, Says, Tells, number_of, number_rule, cells_rule, branches_rule, default_options, faults_of, file_of, file_rule, options_of, program}
+use Rattle.command_line.specs.CommandLine.{IsAskedBy, IsRunOf, Says, Tells, number_of, number_rule, workers_rule, cells_rule, branches_rule, default_options, faults_of, file_of, file_rule, options_of, program}
 
 -- the parser of a number
-abbrev number : ℕ → ValueParser
-number most = value_parser.Signed (pos 1) (pos most)
+abbrev number : ℕ → ℕ → ValueParser
+number least most = value_parser.Signed (pos least) (pos most)
 
 -- what the text behind an option of this id is
-abbrev pub ReadsNumber : Text → ℕ → Found → Type 0
-ReadsNumber id most f = (t : Text) × (one_text f id ≡ Some (without_minus t)) × IsSignedIn (pos 1) (pos most) t
+abbrev ReadsNumber : Text → ℕ → ℕ → Found → Type 0
+ReadsNumber id least most f = (t : Text) × (one_text f id ≡ Some (without_minus t)) × IsSignedIn (pos least) (pos most) t
 
 first_read : (P : Bor Text → Type 0) (vs : List (Bor Text)) → All P vs → 0 < length vs
     → (v : Bor Text) × (option_map (λ s. without_minus s.now) (slice_get vs 0) ≡ Some (without_minus v.now)) × P v
@@ -50,29 +49,29 @@ first_read P [] all some = absurd (omega arith)
 first_read P (v ∷ vs) all some = (v, refl, All-get_or P (v ∷ vs) 0 v (omega arith) all)
 
 -- an option that takes a number
-module _ (id : Text) (most : ℕ) (named : 0 < length id) where
+module _ (id : Text) (least most : ℕ) (named : 0 < length id) where
   -- a parse keeps its rules
   abbrev KeepsNumber : Command → Type 0
   KeepsNumber c = (j : ℕ) (x : Arg) → j < length (args_of c) → slice_index_or (args_of c) j x ≡ x
       → bytes_eq x.id.now id ≡ true
-      → (x.action ≡ Some Set) × (x.value_parser ≡ Some (number most)) × (1 ≤ least_values x) × (x.val_delim ≡ None)
+      → (x.action ≡ Some Set) × (x.value_parser ≡ Some (number least most)) × (1 ≤ least_values x) × (x.val_delim ≡ None)
 
-  passes : (c : Command) (t : Text) → KeepsNumber c → PassesArg c id t → IsSignedIn (pos 1) (pos most) t
+  passes : (c : Command) (t : Text) → KeepsNumber c → PassesArg c id t → IsSignedIn (pos least) (pos most) t
   passes c t keeps p =
-      let is : parser_of p.1 ≡ number most = ap parser_of_value (keeps p.0 p.1 p.2 p.3 p.4.0).1 in
+      let is : parser_of p.1 ≡ number least most = ap parser_of_value (keeps p.0 p.1 p.2 p.3 p.4.0).1 in
       subst (λ (q : ValueParser). Accepts p.1.ignore_case q t) is p.4.1
 
-  reads : (c : Command) (r : Reading) → KeepsNumber c → HasReading c id r → r ≡ reading_of (number most)
+  reads : (c : Command) (r : Reading) → KeepsNumber c → HasReading c id r → r ≡ reading_of (number least most)
   reads c r keeps p =
-      let is : parser_of p.1 ≡ number most = ap parser_of_value (keeps p.0 p.1 p.2 p.3 p.4.0).1 in
+      let is : parser_of p.1 ≡ number least most = ap parser_of_value (keeps p.0 p.1 p.2 p.3 p.4.0).1 in
       sym p.4.1 ∙ ap reading_of is
 
-  text_of_entry : (f : Found) (x : MatchedArg) (t : Text) → matched_of f id ≡ Some x → x.reading ≡ reading_of (number most)
+  text_of_entry : (f : Found) (x : MatchedArg) (t : Text) → matched_of f id ≡ Some x → x.reading ≡ reading_of (number least most)
       → option_map (λ s. without_minus s.now) (slice_get x.vals.items 0) ≡ Some t → one_text f id ≡ Some t
   text_of_entry f x t found is v = rw (found, is) v
 
   entry_reads : (c : Command) (f : Found) (e : Entry) → KeepsNumber c → groups_of c ≡ [] → e.0.now ≡ id
-      → matched_of f id ≡ Some e.1 → EntryPasses c e → ReadsNumber id most f
+      → matched_of f id ≡ Some e.1 → EntryPasses c e → ReadsNumber id least most f
   entry_reads c f e keeps no_groups key found pass =
       let no_group : e.1.is_group ≡ true → ⊥ = λ g. elim (pass.3 g) [
         | inl empty ↦
@@ -86,7 +85,7 @@ module _ (id : Text) (most : ℕ) (named : 0 < length id) where
         | inl g ↦ absurd (no_group g)
         | inr vals ↦ subst (λ (w : Text). All (λ v. PassesArg c w v.now) e.1.vals.items) key vals
       ] in
-      let is : e.1.reading ≡ reading_of (number most) = elim pass.4 [
+      let is : e.1.reading ≡ reading_of (number least most) = elim pass.4 [
         | inl g ↦ absurd (no_group g)
         | inr h ↦ reads c e.1.reading keeps (subst (λ (w : Text). HasReading c w e.1.reading) key h)
       ] in
@@ -129,7 +128,7 @@ has_entry (e ∷ es) id i lt at = go (bytes_eq e.0.now id) refl i lt at (has_ent
         let got = rec j (omega (arith, lt)) at in
         (got.0, rw is got.1)
 
--- ---- the command
+-- ---- plain facts
 
 nothing : {X : Type 0} (xs : List X) → is_empty xs ≡ true → xs ≡ []
 nothing [] e = refl
@@ -147,25 +146,6 @@ some_text : (xs : List (Bor Text)) (t : Text) → texts xs ≡ t ∷ [] → 0 < 
 some_text [] t e = absurd (omega (arith, ap length e))
 some_text (x ∷ xs) t e = omega arith
 
-at_three : (P : Arg → Type 0) (x y z : Arg) → P x → P y → P z → All P (x ∷ y ∷ z ∷ [])
-at_three P x y z p q r zero d lt = p
-at_three P x y z p q r (suc zero) d lt = q
-at_three P x y z p q r (suc (suc zero)) d lt = r
-at_three P x y z p q r (suc (suc (suc k))) d lt = absurd (omega (arith, lt))
-
--- three rules come from three arguments
-three_args : (P : Type 0) (xs : List Arg) → map rule_of xs ≡ file_rule ∷ cells_rule ∷ branches_rule ∷ []
-    → ((x y z : Arg) → xs ≡ x ∷ y ∷ z ∷ [] → rule_of x ≡ file_rule → rule_of y ≡ cells_rule → rule_of z ≡ branches_rule → P) → P
-three_args P [] e next = absurd (omega (arith, ap length e))
-three_args P (x ∷ []) e next = absurd (omega (arith, ap length e))
-three_args P (x ∷ y ∷ []) e next = absurd (omega (arith, ap length e))
-three_args P (x ∷ y ∷ z ∷ w ∷ rest) e next = absurd (omega (arith, ap length e))
-three_args P (x ∷ y ∷ z ∷ []) e next =
-    next x y z refl
-    (ap (λ (rs : List Rule). slice_index_or rs 0 file_rule) e)
-    (ap (λ (rs : List Rule). slice_index_or rs 1 file_rule) e)
-    (ap (λ (rs : List Rule). slice_index_or rs 2 file_rule) e)
-
 no_arg_groups : (x : Arg) → (rule_of x).is_simple ≡ true → x.groups.items ≡ []
 no_arg_groups x e = nothing x.groups.items (both _ _ (both _ _ (both _ _ e).1).1).0
 
@@ -176,132 +156,59 @@ no_delimiter y e =
     let groups = both (is_empty y.groups.items) _ conditions.1 in
     none y.val_delim (both (not (is_some y.val_delim)) _ groups.1).0
 
--- the first byte of an id, which tells ids apart
-abbrev first_byte : Text → ℕ
-first_byte t = slice_index t 0
+-- a list that isn't empty has an element
+some : {X : Type 0} (xs : List X) → 0 < length xs → X
+some [] lt = absurd (omega (arith, lt))
+some (x ∷ xs) lt = x
 
--- both options are read
-abbrev ReadsBoth : ArgMatches → Type 0
-ReadsBoth m = ReadsNumber (codes "cells") 16777216 (found_of m) × ReadsNumber (codes "branches") 1024 (found_of m)
+-- ---- the options, each by its place among the arguments
 
-module _ (c : Command) (m : ArgMatches) (shape : app_of c ≡ program) (p : IsParsedFrom c m) where
-  fields : (app_of c).top.is_plain ≡ true
-  fields = ap (λ (a : App). a.top.is_plain) shape
+abbrev all_rules : List Rule
+all_rules = file_rule ∷ workers_rule ∷ cells_rule ∷ branches_rule ∷ []
 
-  no_globals : (out-Command c).has_globals ≡ false
-  no_globals = isnt _ (both _ _ (both _ _ (both _ _ fields).1).1).0
+-- the rule at a place
+abbrev rule_at : ℕ → Rule
+rule_at k = slice_index_or all_rules k file_rule
 
-  no_groups : groups_of c ≡ []
-  no_groups = nothing _ (both _ _ fields).0
+-- the first place with an id
+abbrev first_with : Text → Option ℕ
+first_with id = position (λ (r : Rule). bytes_eq r.id id) all_rules
 
-  -- the option at a place, whose id no other argument has
-  module _ (names_none : NamesNoGroup c) (id : Text) (most : ℕ) (default : Text) (named : 0 < length id) (k : ℕ) (y : Arg)
-      (rule : rule_of y ≡ number_rule id most default) (place : k < length (args_of c)) (here : (d : Arg) → slice_index_or (args_of c) k d ≡ y)
-      (alone : (j : ℕ) (e : Arg) → j < length (args_of c) → bytes_eq (slice_index_or (args_of c) j e).id.now id ≡ true → j ≡ k)
-      (own : (IsAuto y → ⊥)) where
-    simple : (rule_of y).is_simple ≡ true
-    simple = ap (λ (r : Rule). r.is_simple) rule
+all_simple : (k : ℕ) → k < length all_rules → (rule_at k).is_simple ≡ true
+all_simple zero lt = refl
+all_simple (suc zero) lt = refl
+all_simple (suc (suc zero)) lt = refl
+all_simple (suc (suc (suc zero))) lt = refl
+all_simple (suc (suc (suc (suc k)))) lt = absurd (omega (arith, lt))
 
-    id_is : y.id.now ≡ id
-    id_is = ap (λ (r : Rule). r.id) rule
+all_first : (k : ℕ) → k < length all_rules → first_with (rule_at k).id ≡ Some k
+all_first zero lt = refl
+all_first (suc zero) lt = refl
+all_first (suc (suc zero)) lt = refl
+all_first (suc (suc (suc zero))) lt = refl
+all_first (suc (suc (suc (suc k)))) lt = absurd (omega (arith, lt))
 
-    only : (d : Arg) (j : ℕ) (e : Arg) → j < length (args_of c)
-        → bytes_eq (slice_index_or (args_of c) j e).id.now (slice_index_or (args_of c) k d).id.now ≡ true → j ≡ k
-    only d j e lt same = alone j e lt (subst (λ (t : Text). bytes_eq (slice_index_or (args_of c) j e).id.now t ≡ true) (ap (λ (a : Arg). a.id.now) (here d) ∙ id_is) same)
+-- one of the options: its place, and that its id is neither empty nor the help's or the version's
+pub record IsOption (id : Text) (least most : ℕ) : Type 0 where
+  pub place : ℕ
+  pub default : Text
+  pub within : place < length all_rules
+  pub rule : rule_at place ≡ number_rule id least most default
+  pub named : 0 < length id
+  pub no_help : bytes_eq id (codes "help") ≡ false
+  pub no_version : bytes_eq id (codes "version") ≡ false
+  pub fits : most < 4294967296
 
-    keeps : KeepsNumber id most named p.built
-    keeps j z lt at key =
-        let same : bytes_eq z.id.now (slice_index_or (args_of c) k y).id.now ≡ true = rw (here y, id_is) key in
-        let kept = subst (λ (a : Arg). SameRules a z) (here y)
-        (same_rules_by_id c m p k y place (only y) (λ auto. own (subst IsAuto (here y) auto)) j z lt at same) in
-        let is_set : y.action ≡ Some Set = ap (λ (r : Rule). r.action) rule in
-        let is_number : y.value_parser ≡ Some (number most) = ap (λ (r : Rule). r.parser) rule in
-        let one : least_values y ≡ 1 = ap (λ (r : Rule). (unwrap_or_range r.range).start_inclusive) rule in
-        (kept.action Set is_set, kept.parser (number most) is_number, kept.least is_set (omega (arith, one)), kept.val_delim ∙ no_delimiter y simple)
+pub workers : IsOption (codes "workers") 0 4
+workers = record { place = 1; default = codes "0"; within = omega arith; rule = refl; named = omega arith; no_help = refl; no_version = refl; fits = omega arith }
 
-    wants : WantsDefault y
-    wants = (nothing y.default_vals_ifs.items (both _ _ (both _ _ simple).1).0, some_text (items_of y.default_vals) default (ap (λ (r : Rule). r.defaults) rule))
+pub cells : IsOption (codes "cells") 1 16777216
+cells = record { place = 2; default = codes "65536"; within = omega arith; rule = refl; named = omega arith; no_help = refl; no_version = refl; fits = omega arith }
 
-    found : HasId (found_of m) id
-    found =
-        let has = default_present c m p no_globals k y place (rw (here y) wants) in
-        rw (here y, id_is) at has
+pub branches : IsOption (codes "branches") 1 1024
+branches = record { place = 3; default = codes "64"; within = omega arith; rule = refl; named = omega arith; no_help = refl; no_version = refl; fits = omega arith }
 
-    read : ReadsNumber id most (found_of m)
-    read =
-        let entry = has_entry (found_of m).entries.items id found.0 found.1 found.2 in
-        let parsed = p.parsed (p.from.globals ∙ no_globals) in
-        let e = entry_by_id (EntryPasses p.built) (found_of m).entries.items id entry.0 parsed.values entry.1 in
-        let key : e.0.0.now ≡ id = (bytes_eq-Decides _ _).0 e.2 in
-        let groups : groups_of p.built ≡ [] = (p.from.same_groups names_none).1 ∙ no_groups in
-        entry_reads id most named p.built (found_of m) e.0 keeps groups key (entry.1 ∙ ap Some (sym e.1)) e.3
-
-  module _ (x y z : Arg) (args : args_of c ≡ x ∷ y ∷ z ∷ []) (file : rule_of x ≡ file_rule) (cells : rule_of y ≡ cells_rule)
-      (branches : rule_of z ≡ branches_rule) where
-    names_none : NamesNoGroup c
-    names_none = rw args (at_three (λ a. a.groups.items ≡ []) x y z
-        (no_arg_groups x (ap (λ (r : Rule). r.is_simple) file)) (no_arg_groups y (ap (λ (r : Rule). r.is_simple) cells)) (no_arg_groups z (ap (λ (r : Rule). r.is_simple) branches)))
-
-    -- the id of the argument at a place
-    id_at : (j : ℕ) (e : Arg) (a : Arg) (r : Rule) → slice_index_or (x ∷ y ∷ z ∷ []) j e ≡ a → rule_of a ≡ r → (slice_index_or (args_of c) j e).id.now ≡ r.id
-    id_at j e a r at is = ap (λ l. (slice_index_or l j e).id.now) args ∙ ap (λ (b : Arg). b.id.now) at ∙ ap (λ (s : Rule). s.id) is
-
-    beyond : (j : ℕ) → suc (suc (suc j)) < length (args_of c) → ⊥
-    beyond j lt =
-        let few : suc (suc (suc j)) < 3 = subst (λ l. suc (suc (suc j)) < length l) args lt in
-        omega (arith, few)
-
-    cells_alone : (j : ℕ) (e : Arg) → j < length (args_of c) → bytes_eq (slice_index_or (args_of c) j e).id.now (codes "cells") ≡ true → j ≡ 1
-    cells_alone zero e lt same =
-        let bad : false ≡ true = rw (id_at 0 e x file_rule refl file) at same in
-        cc
-    cells_alone (suc zero) e lt same = refl
-    cells_alone (suc (suc zero)) e lt same =
-        let bad : false ≡ true = rw (id_at 2 e z branches_rule refl branches) at same in
-        cc
-    cells_alone (suc (suc (suc j))) e lt same = absurd (beyond j lt)
-
-    branches_alone : (j : ℕ) (e : Arg) → j < length (args_of c) → bytes_eq (slice_index_or (args_of c) j e).id.now (codes "branches") ≡ true → j ≡ 2
-    branches_alone zero e lt same =
-        let bad : false ≡ true = rw (id_at 0 e x file_rule refl file) at same in
-        cc
-    branches_alone (suc zero) e lt same =
-        let bad : false ≡ true = rw (id_at 1 e y cells_rule refl cells) at same in
-        cc
-    branches_alone (suc (suc zero)) e lt same = refl
-    branches_alone (suc (suc (suc j))) e lt same = absurd (beyond j lt)
-
-    cells_own : IsAuto y → ⊥
-    cells_own auto =
-        let is : y.id.now ≡ codes "cells" = ap (λ (r : Rule). r.id) cells in
-        elim auto [
-          | inl h ↦ absurd (omega (arith, ap first_byte (sym is ∙ h)))
-          | inr h ↦ absurd (omega (arith, ap first_byte (sym is ∙ h)))
-        ]
-
-    branches_own : IsAuto z → ⊥
-    branches_own auto =
-        let is : z.id.now ≡ codes "branches" = ap (λ (r : Rule). r.id) branches in
-        elim auto [
-          | inl h ↦ absurd (omega (arith, ap first_byte (sym is ∙ h)))
-          | inr h ↦ absurd (omega (arith, ap first_byte (sym is ∙ h)))
-        ]
-
-    three : length (args_of c) ≡ 3
-    three = ap length args
-
-    reads_both : ReadsBoth m
-    reads_both = (
-      read names_none (codes "cells") 16777216 (codes "65536") (omega arith) 1 y cells (omega (arith, three)) (λ d. ap (λ l. slice_index_or l 1 d) args) cells_alone cells_own,
-      read names_none (codes "branches") 1024 (codes "64") (omega arith) 2 z branches (omega (arith, three)) (λ d. ap (λ l. slice_index_or l 2 d) args) branches_alone branches_own,
-    )
-
-both_read : (c : Command) (m : ArgMatches) → app_of c ≡ program → IsParsedFrom c m → ReadsBoth m
-both_read c m shape p =
-    three_args (ReadsBoth m) (args_of c) (ap (λ (a : App). a.top.rules) shape)
-    (λ x y z args file cells branches. reads_both c m shape p x y z args file cells branches)
-
--- ---- what is answered
+-- ---- the command
 
 is_plain_program : is_simple program ≡ true
 unfolding clap_on_literals
@@ -315,60 +222,154 @@ is_free_program = refl
 pub free : (c : Command) → app_of c ≡ program → is_simple_and_free (app_of c) ≡ true
 free c shape = ap is_simple_and_free shape ∙ is_free_program
 
-module _ {E : Type 0} (G : Text → Result ℕ E → Type 0) (only : (u : Text) (x : Result ℕ E) → G u x → ParsesUnsigned 32 10 u x)
-    (c : Command) (m : ArgMatches) (shape : app_of c ≡ program) (p : IsParsedFrom c m) where
-  module _ (id : Text) (most : ℕ) (fits : most < 4294967296) (option : ReadsNumber id most (found_of m)) where
-    -- a number is always read
-    never : ((t : Text) → one_text (found_of m) id ≡ Some t → ReadsOne G t None) → ⊥
+-- what a read of a number makes of a text
+abbrev pub ReadsU32 : Text → Result ℕ ParseIntError → Type 0
+ReadsU32 t r = ParsesUnsigned 32 10 t r × ExplainsUnsignedError 10 t r × HasUnsignedDigitsIfOk t r
+
+module _ (c : Command) (m : ArgMatches) (shape : app_of c ≡ program) (p : IsParsedFrom c m) where
+  plain : (app_of c).top.is_plain ≡ true
+  plain = ap (λ (a : App). a.top.is_plain) shape
+
+  no_globals : (out-Command c).has_globals ≡ false
+  no_globals = isnt _ (both _ _ (both _ _ (both _ _ plain).1).1).0
+
+  no_groups : groups_of c ≡ []
+  no_groups = nothing _ (both _ _ plain).0
+
+  -- the arguments have the rules, place by place
+  rules_are : map rule_of (args_of c) ≡ all_rules
+  rules_are = ap (λ (a : App). a.top.rules) shape
+
+  as_many : length (args_of c) ≡ length all_rules
+  as_many = sym (length-map (args_of c) rule_of) ∙ ap length rules_are
+
+  an_arg : Arg
+  an_arg = some (args_of c) (omega (arith, as_many))
+
+  has_rule : (k : ℕ) (d : Arg) → k < length all_rules → rule_of (slice_index_or (args_of c) k d) ≡ rule_at k
+  has_rule k d lt =
+      sym (get_or-map rule_of (args_of c) k d file_rule (rw as_many lt)) ∙ ap (λ (rs : List Rule). slice_index_or rs k file_rule) rules_are
+
+  names_none : NamesNoGroup c
+  names_none k d lt =
+      let low : k < length all_rules = rw as_many at lt in
+      no_arg_groups (slice_index_or (args_of c) k d) (ap (λ (r : Rule). r.is_simple) (has_rule k d low) ∙ all_simple k low)
+
+  -- what is answered where the option of an id is asked for
+  abbrev pub Gives : Text → Option ℕ → Type 0
+  Gives id r = (t : Text) → one_text (found_of m) id ≡ Some t → ReadsOne ReadsU32 t r
+
+  rows : (words : List Text) → HasMatchesOf (app_of c) words m → rows_of (found_of m) ≡ matches_of program words
+  rows words has = (has (ap is_simple shape ∙ is_plain_program)).0 ∙ ap (λ (a : App). matches_of a words) shape
+
+  -- the argument of an option, whose id no other argument has
+  module _ {id : Text} {least most : ℕ} (o : IsOption id least most) where
+    abbrev arg : Arg
+    arg = slice_index_or (args_of c) o.place an_arg
+
+    place : o.place < length (args_of c)
+    place = rw as_many o.within
+
+    rule : rule_of arg ≡ number_rule id least most o.default
+    rule = has_rule o.place an_arg o.within ∙ o.rule
+
+    simple : (rule_of arg).is_simple ≡ true
+    simple = ap (λ (r : Rule). r.is_simple) rule
+
+    id_is : arg.id.now ≡ id
+    id_is = ap (λ (r : Rule). r.id) rule
+
+    first : first_with id ≡ Some o.place
+    first = ap (λ (r : Rule). first_with r.id) (sym o.rule) ∙ all_first o.place o.within
+
+    only : (j : ℕ) (e : Arg) → j < length (args_of c) → bytes_eq (slice_index_or (args_of c) j e).id.now arg.id.now ≡ true → j ≡ o.place
+    only j e lt same =
+        let low : j < length all_rules = rw as_many at lt in
+        let is : (rule_at j).id ≡ id =
+        ap (λ (r : Rule). r.id) (sym (has_rule j e low)) ∙ (bytes_eq-Decides _ _).0 same ∙ id_is in
+        ap (λ o. unwrap_or o 0) (sym (all_first j low) ∙ ap first_with is ∙ first)
+
+    own : IsAuto arg → ⊥
+    own auto = elim auto [
+      | inl h ↦
+          let bad : true ≡ false = sym ((bytes_eq-Decides _ _).1 (sym id_is ∙ h)) ∙ o.no_help in
+          cc
+      | inr h ↦
+          let bad : true ≡ false = sym ((bytes_eq-Decides _ _).1 (sym id_is ∙ h)) ∙ o.no_version in
+          cc
+    ]
+
+    keeps : KeepsNumber id least most o.named p.built
+    keeps j z lt at key =
+        let same : bytes_eq z.id.now arg.id.now ≡ true = rw id_is key in
+        let kept = same_rules_by_id c m p o.place an_arg place only own j z lt at same in
+        let is_set : arg.action ≡ Some Set = ap (λ (r : Rule). r.action) rule in
+        let is_number : arg.value_parser ≡ Some (number least most) = ap (λ (r : Rule). r.parser) rule in
+        let one : least_values arg ≡ 1 = ap (λ (r : Rule). (unwrap_or_range r.range).start_inclusive) rule in
+        (kept.action Set is_set, kept.parser (number least most) is_number, kept.least is_set (omega (arith, one)), kept.val_delim ∙ no_delimiter arg simple)
+
+    wants : WantsDefault arg
+    wants = (nothing arg.default_vals_ifs.items (both _ _ (both _ _ simple).1).0, some_text (items_of arg.default_vals) o.default (ap (λ (r : Rule). r.defaults) rule))
+
+    found : HasId (found_of m) id
+    found =
+        let has = default_present c m p no_globals o.place an_arg place wants in
+        rw id_is at has
+
+    read : ReadsNumber id least most (found_of m)
+    read =
+        let entry = has_entry (found_of m).entries.items id found.0 found.1 found.2 in
+        let parsed = p.parsed (p.from.globals ∙ no_globals) in
+        let e = entry_by_id (EntryPasses p.built) (found_of m).entries.items id entry.0 parsed.values entry.1 in
+        let key : e.0.0.now ≡ id = (bytes_eq-Decides _ _).0 e.2 in
+        let groups : groups_of p.built ≡ [] = (p.from.same_groups names_none).1 ∙ no_groups in
+        entry_reads id least most o.named p.built (found_of m) e.0 keeps groups key (entry.1 ∙ ap Some (sym e.1)) e.3
+
+    -- a number is always read, in the option's range
+    in_range : (r : Option ℕ) → Gives id r → (n : ℕ) × (r ≡ Some n) × (least ≤ n) × (n ≤ most)
+    in_range r gives =
+        signed_reads ParseIntError ReadsU32 32 least most read.0 r (gives (without_minus read.0) read.1) (λ u x g. g.0) (omega (arith, o.fits)) read.2
+
+    pub never : Gives id None → ⊥
     never gives =
-        let got = signed_reads E G 32 1 most option.0 None (gives (without_minus option.0) option.1) only (omega (arith, fits)) option.2 in
-        let bad : None ≡ Some got.0 = got.1 in
+        let bad : None ≡ Some (in_range None gives).0 = (in_range None gives).1 in
         cc
 
     -- it lies in its range, and is the one that the words tell
-    told : (words : List Text) (n : ℕ) → HasMatchesOf (app_of c) words m → ((t : Text) → one_text (found_of m) id ≡ Some t → ReadsOne G t (Some n))
-        → (n ≡ number_of id words) × (1 ≤ n) × (n ≤ most)
+    told : (words : List Text) (n : ℕ) → HasMatchesOf (app_of c) words m → Gives id (Some n)
+        → (n ≡ number_of id words) × (least ≤ n) × (n ≤ most)
     told words n has gives =
-        let text = without_minus option.0 in
-        let rows : rows_of (found_of m) ≡ matches_of program words =
-        (has (ap is_simple shape ∙ is_plain_program)).0 ∙ ap (λ (a : App). matches_of a words) shape in
-        let got = signed_reads E G 32 1 most option.0 (Some n) (gives text option.1) only (omega (arith, fits)) option.2 in
+        let got = in_range (Some n) gives in
         let same : n ≡ got.0 = ap (λ o. unwrap_or o 0) got.1 in
-        let number_is : n ≡ digits_value 10 (without_leading_plus text) = (only text (Ok n) (gives text option.1)).1 in
-        let at : one_of id (matches_of program words) ≡ Some text =
-        ap (one_of id) (sym rows) ∙ sym (one_text-rows (found_of m) id) ∙ option.1 in
+        let digits = without_minus read.0 in
+        let number_is : n ≡ digits_value 10 (without_leading_plus digits) = (gives digits read.1).0.1 in
+        let at : one_of id (matches_of program words) ≡ Some digits =
+        ap (one_of id) (sym (rows words has)) ∙ sym (one_text-rows (found_of m) id) ∙ read.1 in
         let is : n ≡ number_of id words = rw at number_is in
         (is, omega (arith, same, got.2), omega (arith, same, got.3))
 
-  pub never_cells : ((t : Text) → one_text (found_of m) (codes "cells") ≡ Some t → ReadsOne G t None) → ⊥
-  never_cells = never (codes "cells") 16777216 (omega arith) (both_read c m shape p).0
-
-  pub never_branches : ((t : Text) → one_text (found_of m) (codes "branches") ≡ Some t → ReadsOne G t None) → ⊥
-  never_branches = never (codes "branches") 1024 (omega arith) (both_read c m shape p).1
-
-  pub says : (words : List Text) (file : Option Text) (n k : ℕ) → HasMatchesOf (app_of c) words m → fault_of (app_of c) words ≡ []
+  pub says : (words : List Text) (file : Option Text) (n k l : ℕ) → HasMatchesOf (app_of c) words m → fault_of (app_of c) words ≡ []
       → file ≡ first_value (found_of m) (codes "FILE")
-      → ((t : Text) → one_text (found_of m) (codes "cells") ≡ Some t → ReadsOne G t (Some n))
-      → ((t : Text) → one_text (found_of m) (codes "branches") ≡ Some t → ReadsOne G t (Some k))
-      → Says words file (record { workers = 0; cells = n; branches = k })
-  says words file n k has taken file_is reads_cells reads_branches =
-      let options = both_read c m shape p in
-      let cells = told (codes "cells") 16777216 (omega arith) options.0 words n has reads_cells in
-      let branches = told (codes "branches") 1024 (omega arith) options.1 words k has reads_branches in
-      let rows : rows_of (found_of m) ≡ matches_of program words =
-      (has (ap is_simple shape ∙ is_plain_program)).0 ∙ ap (λ (a : App). matches_of a words) shape in
+      → Gives (codes "workers") (Some n) → Gives (codes "cells") (Some k) → Gives (codes "branches") (Some l)
+      → Says words file (record { workers = n; cells = k; branches = l })
+  says words file n k l has taken file_is gives_workers gives_cells gives_branches =
+      let workers_are = told workers words n has gives_workers in
+      let cells_are = told cells words k has gives_cells in
+      let branches_are = told branches words l has gives_branches in
       record {
         taken = ap (λ (a : App). fault_of a words) (sym shape) ∙ taken;
-        file_is = file_is ∙ first_value-rows (found_of m) (codes "FILE") ∙ ap (first_of (codes "FILE")) rows;
-        options_are = λ i. record { workers = 0; cells = cells.0 i; branches = branches.0 i };
+        file_is = file_is ∙ first_value-rows (found_of m) (codes "FILE") ∙ ap (first_of (codes "FILE")) (rows words has);
+        options_are = λ i. record { workers = workers_are.0 i; cells = cells_are.0 i; branches = branches_are.0 i };
         limits = record {
-          few_workers = omega arith;
-          some_cells = cells.1;
-          few_cells = omega (arith, cells.2);
-          some_branches = branches.1;
-          few_branches = branches.2;
+          few_workers = workers_are.2;
+          some_cells = cells_are.1;
+          few_cells = omega (arith, cells_are.2);
+          some_branches = branches_are.1;
+          few_branches = branches_are.2;
         };
       }
+
+-- ---- what is answered
 
 told_of : (words : List Text) (kinds : Kinds) (e : Error) (r : Invocation) → kinds ≡ faults_of words → HasKind kinds e → Tells (kind_of e) r → IsAskedBy words r
 told_of words kinds e (Run file options) same has h = absurd h

@@ -1,4 +1,4 @@
--- What the words behind the program's name ask for: `[FILE] [--cells N] [--branches N]`.
+-- What the words behind the program's name ask for: `[FILE] [--workers N] [--cells N] [--branches N]`.
 use Rattle.std.specs.Prelude.{◌≡◌, ◌≢◌, ℕ, List, [], ◌∷◌, Option, Some, true, codes, pos, ⊤, option_map}
 use Rattle.std.specs.Option.{option_map_or}
 use Rattle.std.specs.Str.Parse.{digits_value, without_leading_plus}
@@ -28,21 +28,24 @@ option_rule id parser default = record (new_rule id) {
   parser = Some parser;
 }
 
--- one that takes a number from 1 to `most`
-abbrev pub number_rule : Text → ℕ → Text → Rule
-number_rule id most default = option_rule id (value_parser.Signed (pos 1) (pos most)) default
+-- one that takes a number from `least` to `most`
+abbrev pub number_rule : Text → ℕ → ℕ → Text → Rule
+number_rule id least most default = option_rule id (value_parser.Signed (pos least) (pos most)) default
 
--- --cells takes a number from 1 to 2^24, else 65536; --branches one from 1 to 1,024, else 64
+-- --workers takes a number from 0 to 4, else 0; --cells one from 1 to 2^24, else 65536; --branches one from 1 to 1,024, else 64
+abbrev pub workers_rule : Rule
+workers_rule = number_rule (codes "workers") 0 4 (codes "0")
+
 abbrev pub cells_rule : Rule
-cells_rule = number_rule (codes "cells") 16777216 (codes "65536")
+cells_rule = number_rule (codes "cells") 1 16777216 (codes "65536")
 
 abbrev pub branches_rule : Rule
-branches_rule = number_rule (codes "branches") 1024 (codes "64")
+branches_rule = number_rule (codes "branches") 1 1024 (codes "64")
 
 -- the program's command line, whose first word is no program's name
 abbrev pub program : App
-program = with_rule (with_rule (with_rule
-    (on_top (λ s. record s { no_binary_name = true }) (new_app (codes "towerbench"))) file_rule) cells_rule) branches_rule
+program = with_rule (with_rule (with_rule (with_rule
+    (on_top (λ s. record s { no_binary_name = true }) (new_app (codes "towerbench"))) file_rule) workers_rule) cells_rule) branches_rule
 
 -- what is wrong with the words; nothing where they are taken
 abbrev pub faults_of : List Text → Kinds
@@ -57,7 +60,11 @@ abbrev pub number_of : Text → List Text → ℕ
 number_of id words = option_map_or (λ t. digits_value 10 (without_leading_plus t)) (one_of id (matches_of program words)) 0
 
 abbrev pub options_of : List Text → Options
-options_of words = record { workers = 0; cells = number_of (codes "cells") words; branches = number_of (codes "branches") words }
+options_of words = record {
+  workers = number_of (codes "workers") words;
+  cells = number_of (codes "cells") words;
+  branches = number_of (codes "branches") words;
+}
 
 -- the words are taken, and say this
 pub record Says (words : List Text) (file : Option Text) (options : Options) : Type 0 where

@@ -14,6 +14,9 @@ use std::alloc::{AllocError, Global};
 /// The id of the word that names a tower file.
 const FILE: &str = "FILE";
 
+/// The id of the option that tells how many threads help to fill.
+const WORKERS: &str = "workers";
+
 /// The id of the option that limits the cells.
 const CELLS: &str = "cells";
 
@@ -48,6 +51,9 @@ pub fn parse<'a>(alloc: Global, words: &'a [String]) -> Invocation<'a>
         Ok(matches) => matches,
         Err(error) => return invocation_of(alloc, &error),
     };
+    let Some(workers) = matches.get_one::<u32>(WORKERS) else {
+        unreachable!();
+    };
     let Some(cells) = matches.get_one::<u32>(CELLS) else {
         unreachable!();
     };
@@ -57,7 +63,7 @@ pub fn parse<'a>(alloc: Global, words: &'a [String]) -> Invocation<'a>
     Invocation::Run {
         file: matches.get_str(FILE),
         options: Options {
-            workers: 0,
+            workers,
             cells,
             branches,
         },
@@ -69,6 +75,13 @@ fn command<'a>(alloc: Global) -> Result<Command<'a>, AllocError>
     ensures { IfOk result (λ c. app_of c ≡ program) }
 {
     let file = Arg::new(alloc, FILE).help("A tower and its steps; without it a safe bit");
+    let workers = number_option(
+        alloc,
+        WORKERS,
+        value_parser!(u32).range(0..=4),
+        "0",
+        "Threads that help to fill, 0 to 4",
+    );
     let cells = number_option(
         alloc,
         CELLS,
@@ -89,6 +102,7 @@ fn command<'a>(alloc: Global) -> Result<Command<'a>, AllocError>
         )
         .no_binary_name(true)
         .arg(file)?
+        .arg(workers)?
         .arg(cells)?
         .arg(branches)
 }

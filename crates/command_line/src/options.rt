@@ -11,7 +11,7 @@ const MOST_LOGGED: u32 = 1 << 20;
 /// The limits of a run.
 #[derive(Clone, Copy, Debug, PartialEq, Eq)]
 pub struct Options {
-    /// Threads that help to fill pages, at most 4.
+    /// Threads that help to fill, 0 to 4.
     pub workers: u32,
     /// The most cells that are ever made, 1 to 2^24.
     pub cells: u32,

@@ -15,21 +15,24 @@ fn split(alloc: Global, line: &str) -> Result<Vec<String>, Fail> {
     Ok(words)
 }
 
+/// The options of these limits, in the order of the help.
+fn limits(workers: u32, cells: u32, branches: u32) -> Options {
+    Options {
+        workers,
+        cells,
+        branches,
+    }
+}
+
 /// Asserts that a line asks for a run.
 fn check_run(
     rt: &impl Abort,
     alloc: Global,
     line: &str,
     want: Option<&str>,
-    cells: u32,
-    branches: u32,
+    wanted: Options,
 ) -> Result<(), Fail> {
     let words = split(alloc, line)?;
-    let wanted = Options {
-        workers: 0,
-        cells,
-        branches,
-    };
     match parse(alloc, words.as_slice()) {
         Invocation::Run { file, options } => {
             assert_eq!(rt; file, want, "{line}");
@@ -42,25 +45,36 @@ fn check_run(
 
 #[test]
 fn runs(rt: HostRuntime) -> Result<(), Fail> {
-    for (line, file, cells, branches) in [
-        ("", None, 65536, 64),
-        ("tower", Some("tower"), 65536, 64),
-        ("-", Some("-"), 65536, 64),
-        ("--cells 1", None, 1, 64),
-        ("--cells 16777216", None, 16777216, 64),
-        ("--cells=16777216", None, 16777216, 64),
-        ("--cells 65537 tower", Some("tower"), 65537, 64),
-        ("tower --cells 4", Some("tower"), 4, 64),
-        ("--cells=4 tower", Some("tower"), 4, 64),
-        ("-- tower", Some("tower"), 65536, 64),
-        ("-- --cells", Some("--cells"), 65536, 64),
-        ("--cells 4 -- --help", Some("--help"), 4, 64),
-        ("--branches 1", None, 65536, 1),
-        ("--branches=1024 tower", Some("tower"), 65536, 1024),
-        ("--branches 2 --cells 4 tower", Some("tower"), 4, 2),
-        ("--cells 4 tower --branches 2", Some("tower"), 4, 2),
+    for (line, file, options) in [
+        ("", None, limits(0, 65536, 64)),
+        ("tower", Some("tower"), limits(0, 65536, 64)),
+        ("-", Some("-"), limits(0, 65536, 64)),
+        ("--workers 0", None, limits(0, 65536, 64)),
+        ("--workers 1 tower", Some("tower"), limits(1, 65536, 64)),
+        ("tower --workers=4", Some("tower"), limits(4, 65536, 64)),
+        ("--cells 1", None, limits(0, 1, 64)),
+        ("--cells 16777216", None, limits(0, 16777216, 64)),
+        ("--cells=16777216", None, limits(0, 16777216, 64)),
+        ("--cells 65537 tower", Some("tower"), limits(0, 65537, 64)),
+        ("tower --cells 4", Some("tower"), limits(0, 4, 64)),
+        ("--cells=4 tower", Some("tower"), limits(0, 4, 64)),
+        ("-- tower", Some("tower"), limits(0, 65536, 64)),
+        ("-- --workers", Some("--workers"), limits(0, 65536, 64)),
+        ("--cells 4 -- --help", Some("--help"), limits(0, 4, 64)),
+        ("--branches 1", None, limits(0, 65536, 1)),
+        (
+            "--branches=1024 tower",
+            Some("tower"),
+            limits(0, 65536, 1024),
+        ),
+        ("--workers 3 --cells 4 --branches 2", None, limits(3, 4, 2)),
+        (
+            "--branches 2 tower --cells 4 --workers 3",
+            Some("tower"),
+            limits(3, 4, 2),
+        ),
     ] {
-        check_run(&rt, rt.alloc(), line, file, cells, branches)?;
+        check_run(&rt, rt.alloc(), line, file, options)?;
     }
     Ok(())
 }
@@ -87,8 +101,16 @@ fn refusals(rt: HostRuntime) -> Result<(), Fail> {
         "--cell 4",
         "--Cells 4",
         "-c 4",
-        "--workers 1",
         "--workers",
+        "--workers=",
+        "tower --workers",
+        "--workers 5",
+        "--workers -1",
+        "--workers=-1",
+        "--workers x",
+        "--workers 4 --workers 4",
+        "--workers 4 one two",
+        "--worker 4",
         "--branches",
         "--branches 0",
         "--branches 1025",
@@ -120,6 +142,7 @@ Arguments:
   [FILE]  A tower and its steps; without it a safe bit
 
 Options:
+      --workers <N>   Threads that help to fill, 0 to 4 [default: 0]
       --cells <N>     The most cells that are ever made, 1 to 16777216 [default: 65536]
       --branches <N>  The most branches that there are at a time, 1 to 1024 [default: 64]
   -h, --help          Print help
@@ -132,7 +155,8 @@ fn help(rt: HostRuntime) -> Result<(), Fail> {
         "-h",
         "tower --help",
         "--cells 4 -h",
-        "--help --workers 1",
+        "--workers 4 --help",
+        "--help --workers 5",
     ] {
         let words = split(rt.alloc(), line)?;
         match parse(rt.alloc(), words.as_slice()) {
@@ -147,6 +171,27 @@ fn help(rt: HostRuntime) -> Result<(), Fail> {
 #[test]
 fn what_is_wrong_is_named(rt: HostRuntime) -> Result<(), Fail> {
     for (line, want) in [
+        (
+            "--workers 5",
+            "error: invalid value '5' for '--workers <N>': 5 is not in 0..=4\n\n\
+             For more information, try '--help'.\n",
+        ),
+        (
+            "--workers=-1",
+            "error: invalid value '-1' for '--workers <N>': -1 is not in 0..=4\n\n\
+             For more information, try '--help'.\n",
+        ),
+        (
+            "--workers",
+            "error: a value is required for '--workers <N>' but none was supplied\n\n\
+             For more information, try '--help'.\n",
+        ),
+        (
+            "--workers 1 --workers 1",
+            "error: the argument '--workers <N>' cannot be used multiple times\n\n\
+             Usage: towerbench [OPTIONS] [FILE]\n\n\
+             For more information, try '--help'.\n",
+        ),
         (
             "--cells 0",
             "error: invalid value '0' for '--cells <N>': 0 is not in 1..=16777216\n\n\
