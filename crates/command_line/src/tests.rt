@@ -15,15 +15,6 @@ fn split(alloc: Global, line: &str) -> Result<Vec<String>, Fail> {
     Ok(words)
 }
 
-/// The options of these limits, in the order of the help.
-fn limits(workers: u32, cells: u32, branches: u32) -> Options {
-    Options {
-        workers,
-        cells,
-        branches,
-    }
-}
-
 /// Asserts that a line asks for a run.
 fn check_run(
     rt: &impl Abort,
@@ -45,36 +36,43 @@ fn check_run(
 
 #[test]
 fn runs(rt: HostRuntime) -> Result<(), Fail> {
-    for (line, file, options) in [
-        ("", None, limits(0, 65536, 64)),
-        ("tower", Some("tower"), limits(0, 65536, 64)),
-        ("-", Some("-"), limits(0, 65536, 64)),
-        ("--workers 0", None, limits(0, 65536, 64)),
-        ("--workers 1 tower", Some("tower"), limits(1, 65536, 64)),
-        ("tower --workers=4", Some("tower"), limits(4, 65536, 64)),
-        ("--cells 1", None, limits(0, 1, 64)),
-        ("--cells 16777216", None, limits(0, 16777216, 64)),
-        ("--cells=16777216", None, limits(0, 16777216, 64)),
-        ("--cells 65537 tower", Some("tower"), limits(0, 65537, 64)),
-        ("tower --cells 4", Some("tower"), limits(0, 4, 64)),
-        ("--cells=4 tower", Some("tower"), limits(0, 4, 64)),
-        ("-- tower", Some("tower"), limits(0, 65536, 64)),
-        ("-- --workers", Some("--workers"), limits(0, 65536, 64)),
-        ("--cells 4 -- --help", Some("--help"), limits(0, 4, 64)),
-        ("--branches 1", None, limits(0, 65536, 1)),
-        (
-            "--branches=1024 tower",
-            Some("tower"),
-            limits(0, 65536, 1024),
-        ),
-        ("--workers 3 --cells 4 --branches 2", None, limits(3, 4, 2)),
+    for (line, file, workers, cells, branches) in [
+        ("", None, 0, 65536, 64),
+        ("tower", Some("tower"), 0, 65536, 64),
+        ("-", Some("-"), 0, 65536, 64),
+        ("--workers 0", None, 0, 65536, 64),
+        ("--workers 1 tower", Some("tower"), 1, 65536, 64),
+        ("--workers 4", None, 4, 65536, 64),
+        ("tower --workers=4", Some("tower"), 4, 65536, 64),
+        ("--cells 1", None, 0, 1, 64),
+        ("--cells 16777216", None, 0, 16777216, 64),
+        ("--cells=16777216", None, 0, 16777216, 64),
+        ("--cells 65537 tower", Some("tower"), 0, 65537, 64),
+        ("tower --cells 4", Some("tower"), 0, 4, 64),
+        ("--cells=4 tower", Some("tower"), 0, 4, 64),
+        ("-- tower", Some("tower"), 0, 65536, 64),
+        ("-- --cells", Some("--cells"), 0, 65536, 64),
+        ("-- --workers", Some("--workers"), 0, 65536, 64),
+        ("--cells 4 -- --help", Some("--help"), 0, 4, 64),
+        ("--branches 1", None, 0, 65536, 1),
+        ("--branches=1024 tower", Some("tower"), 0, 65536, 1024),
+        ("--branches 2 --cells 4 tower", Some("tower"), 0, 4, 2),
+        ("--cells 4 tower --branches 2", Some("tower"), 0, 4, 2),
+        ("--workers 3 --cells 4 --branches 2", None, 3, 4, 2),
         (
             "--branches 2 tower --cells 4 --workers 3",
             Some("tower"),
-            limits(3, 4, 2),
+            3,
+            4,
+            2,
         ),
     ] {
-        check_run(&rt, rt.alloc(), line, file, options)?;
+        let wanted = Options {
+            workers,
+            cells,
+            branches,
+        };
+        check_run(&rt, rt.alloc(), line, file, wanted)?;
     }
     Ok(())
 }
