@@ -1,5 +1,5 @@
 -- What a holding of a desk's turn tells its chair.
-use Rattle.std.proofs.Common.{◌≡◌, ℕ, ◌+◌, ◌≤◌, Bool, List, [], ◌∷◌, ◌++◌, length, Option, Result, refl, sym, ap, subst, ◌∙◌, arith, append-nil}
+use Rattle.std.proofs.Common.{◌≡◌, ℕ, ◌≤◌, List, [], ◌++◌, length, Option, Result, refl, sym, ap, subst, ◌∙◌, arith, append-nil}
 use Rattle.std.proofs.lemmas.List.{append_cancel_left}
 use Rattle.frames.specs.Behaviour.{Behaviour}
 use Rattle.schedule_trie.specs.declared.refusal.Refusal.{Refusal}
@@ -7,9 +7,8 @@ use Rattle.schedule_trie.specs.declared.refusal.Refusal.TheVariants.{LogFull}
 use Rattle.views.specs.declared.page.Page.{Page}
 use Rattle.views.specs.declared.query.Query.{Query}
 use Rattle.turn.specs.declared.view.View.{View}
-use Rattle.turn.specs.Entries.{AtMostOne}
 use Rattle.turn.specs.Shares.{HasAll, number}
-use Rattle.turn.specs.Histories.{StartsWith, Holding, grabbed, published, released}
+use Rattle.turn.specs.Histories.{StartsWith, Holding}
 use Rattle.sessions.specs.declared.command.Command.{Command}
 use Rattle.sessions.specs.declared.log.Entry.{Entry}
 use Rattle.sessions.specs.declared.reply.Reply.TheVariants.{No}
@@ -17,12 +16,11 @@ use Rattle.sessions.specs.Held.{Held, opening_of}
 use Rattle.sessions.specs.Logs.{IsLegal, entry, is_logged, logged, world_after}
 use Rattle.desk.specs.declared.item.Item.{Item}
 use Rattle.desk.specs.declared.receipt.Receipt.{Receipt}
-use Rattle.desk.specs.declared.receipt.Answer.{Answer}
-use Rattle.desk.specs.Items.{made_under, calls_in, as_items, items}
+use Rattle.desk.specs.Items.{made_under, calls_in, items}
 use Rattle.desk.specs.Histories.{IsHistory, seen, own}
 use Rattle.desk.specs.Works.{IsAct, IsLook, IsAnswer, IsPaged}
 use Rattle.desk.specs.Chairs.{Finds, Received, Looked}
-use Rattle.desk.proofs.Lists.{calls_as, calls_append, items_more, length_items, same_first, calls_begin}
+use Rattle.desk.proofs.Lists.{calls_as, calls_append, length_items, same_first, calls_begin}
 use Rattle.desk.proofs.Works.{paged_so}
 use Rattle.desk.proofs.Logged.{put, put_under, legal_found, logged_last}
 use Rattle.desk.proofs.Answering.{replies_so}

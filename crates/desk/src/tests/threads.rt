@@ -144,12 +144,7 @@ fn comes(flag: &AtomicU64) -> bool {
 }
 
 /// Keeps the turn until it is told; the answer is whether it was.
-fn keep<R: Wait>(
-    rt: &R,
-    desk: &Desk<Safe>,
-    mut chair: Chair<Safe>,
-    flags: &Flags,
-) -> bool
+fn keep<R: Wait>(rt: &R, desk: &Desk<Safe>, mut chair: Chair<Safe>, flags: &Flags) -> bool
     requires { IsAt (λ _. safe_behaviour) desk.now chair }
 {
     desk.turn.with(rt, &mut chair, &mut Pause { flags })

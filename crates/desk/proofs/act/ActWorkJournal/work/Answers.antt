@@ -1,4 +1,4 @@
-use Rattle.std.proofs.Common.{◌≡◌, ◌∙◌, ◌++◌, List, subst, sym, ap}
+use Rattle.std.proofs.Common.{◌≡◌, ◌∙◌, ◌++◌, List, subst}
 use Rattle.turn.specs.Entries.{AtMostOne}
 use Rattle.desk.specs.declared.item.Item.{Item}
 use Rattle.desk.specs.Items.{made_under, items}
