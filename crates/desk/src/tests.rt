@@ -7,6 +7,8 @@ ghost use Rattle.turn.specs.Shares.{every_share};
 ghost use Rattle.turn.specs.Chairs.{view};
 ghost use Rattle.desk.specs.Chairs.{IsAt};
 
+mod growths;
+mod measured;
 mod rows;
 mod threads;
 

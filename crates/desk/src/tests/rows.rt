@@ -19,6 +19,10 @@ use views::lens::Lens;
 use views::page::page_text;
 use views::query::Query;
 
+/// The page of the state after an insert of a read.
+pub(super) const STATE: &[u8] =
+    b"0: state main 1 of 1\n  p0 idle\n  p1 read next rs 0\n  bits 0\n  words -\n";
+
 /// Each of two chairs inserts a read at the beginning, both guarded by no edit; the second is refused.
 fn two_inserts<R: Abort + Wait>(
     rt: &R,
@@ -67,7 +71,7 @@ fn state_text<R: Abort + Wait>(
     Ok((at, page_text(alloc, 0, &page)?))
 }
 
-fn asked(desk: &Desk<Safe>, chair: &mut Chair<Safe>) -> u64
+pub(super) fn asked(desk: &Desk<Safe>, chair: &mut Chair<Safe>) -> u64
     requires { IsAt (λ _. safe_behaviour) desk.now chair.old }
     ensures { IsAt (λ _. safe_behaviour) desk.now chair.new }
 {
@@ -80,8 +84,7 @@ fn two_chairs(rt: HostRuntime) -> Result<(), Fail> {
     assert_eq!(rt; asked(&desk, &mut first), 2);
     let (at, text) = state_text(&rt, rt.alloc(), &desk, &mut first)?;
     assert_eq!(rt; at, 2);
-    let wanted = b"0: state main 1 of 1\n  p0 idle\n  p1 read next rs 0\n  bits 0\n  words -\n";
-    assert!(rt; text.as_slice() == wanted.as_slice());
+    assert!(rt; text.as_slice() == STATE);
     assert!(rt; first.shares() == 8 && second.shares() == 8);
     Ok(())
 }

@@ -29,7 +29,7 @@ use views::query::Query;
 const LOOKS: u32 = 1 << 24;
 
 /// Inserts a read at place 0, then at place 1, and so on; the answer is whether each was accepted.
-fn insert_all<R: Abort + Wait>(
+pub(super) fn insert_all<R: Abort + Wait>(
     rt: &R,
     alloc: Global,
     desk: &Desk<Safe>,
@@ -48,7 +48,7 @@ fn insert_all<R: Abort + Wait>(
 }
 
 /// Two threads make so many inserts each; then the chairs join and the desk is closed.
-fn inserted_by_two<R: Abort + Threads + Wait + Sync>(
+pub(super) fn inserted_by_two<R: Abort + Threads + Wait + Sync>(
     rt: &R,
     alloc: Global,
     desk: Desk<Safe>,
