@@ -259,7 +259,7 @@ fn words_of(alloc: Global, texts: &[&str]) -> Result<Vec<String>, AllocError> {
 #[test]
 fn words_refused(rt: HostRuntime) -> Result<(), Fail> {
     for texts in [
-        ["--workers", "1"].as_slice(),
+        ["--workers", "5"].as_slice(),
         ["--branches", "0"].as_slice(),
         ["--cells", "0"].as_slice(),
         ["one", "two"].as_slice(),
