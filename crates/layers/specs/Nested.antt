@@ -42,8 +42,9 @@ pub record Table (Task : Type 0) : Type 0 where
   pub program : ℕ → Op → Program Task
   pub asks : Task → Ask
   pub rest : Task → Outcome → Program Task
-  -- the layer's own frame
+  -- the layer's own frame, and the task of a process whose layer's own frame is this
   pub frame : Task → Frame
+  pub find : ℕ → Frame → Task
 
 -- part j of parts of this size that lie one after the other
 abbrev pub part_place : Place → ℕ → Place

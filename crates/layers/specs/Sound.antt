@@ -50,6 +50,8 @@ pub record IsSoundTable {Task : Type 0} (t : Table Task) (Stands : ℕ → Op �
   pub asks_fit : (who : ℕ) (o : Op) (task : Task) → Stands who o task → ((t.asks task).part < t.parts) × FitsPart t.inner_values t.inner_processes (t.asks task).who (t.asks task).op
   -- a process stands only in operations that fit it
   pub stands_suits : (who : ℕ) (o : Op) (task : Task) → Stands who o task → t.suits who o ≡ true
+  -- a frame tells its task and the operation
+  pub frame_tells : (who : ℕ) (o : Op) (task : Task) → Stands who o task → (t.find who (t.frame task) ≡ task) × ((t.frame task).op ≡ o)
   pub begins_sound : (who : ℕ) (o : Op) → t.suits who o ≡ true → IsSound t (Stands who o) (Answers t.values o) (t.program who o)
   pub rest_sound : (who : ℕ) (o : Op) (task : Task) (outcome : Outcome) → Stands who o task → Answers t.inner_values (t.asks task).op outcome → IsNotSpent outcome
       → IsSound t (Stands who o) (Answers t.values o) (t.rest task outcome)

@@ -102,6 +102,10 @@ pub trait Construction: Rules + Copy + Eq {
         requires stands { (who : ℕ) × ((op : Op) × Stands self.now who op task) }
         ensures { result ≡ (Self.table self.now).frame task };
 
+    /// The task of process `who` whose layer's own frame is this, where the process stands in one.
+    fn find(&self, who: u32, frame: Frame) -> Self::Task
+        ensures { result ≡ (Self.table self.now).find who frame };
+
     ghost sound: { (l : Self) → IsSoundTable (Self.table l) (Stands l) (left l) };
 
     // Equal layers have one table.

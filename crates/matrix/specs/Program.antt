@@ -71,6 +71,10 @@ abbrev pub matrix_frame : MatrixTask → Frame
 matrix_frame (Column who o j greatest) = record { layer = MatrixRead; op = o; i = j; x = greatest }
 matrix_frame (Row who o j code) = record { layer = MatrixWrite; op = o; i = j; x = code }
 
+-- the layer tells the phase: a process reads its column, or writes its row
+abbrev pub matrix_find : ℕ → Frame → MatrixTask
+matrix_find who f = elim (f.layer) [ MatrixRead ↦ Column who f.op f.i f.x | _ ↦ Row who f.op f.i f.x ]
+
 -- each process reads, and writes each value
 abbrev pub matrix_suits : ℕ → ℕ → ℕ → Op → Bool
 matrix_suits n values who (op.Write v) = nat_lt who n && nat_lt v values
@@ -93,6 +97,7 @@ matrix_table n values last = record {
   asks = matrix_asks n;
   rest = matrix_rest n values last;
   frame = matrix_frame;
+  find = matrix_find;
 }
 
 -- a value that an operation writes is one of the values

@@ -1,5 +1,5 @@
 -- The matrix's table is sound, and its tasks are equal only to themselves.
-use Rattle.std.proofs.Common.{◌≡◌, ◌≢◌, ℕ, zero, suc, ◌+◌, ◌-◌, ◌*◌, ◌<◌, ◌≤◌, Bool, true, false, refl, ap, subst, arith, nat_eq}
+use Rattle.std.proofs.Common.{◌≡◌, ◌≢◌, ℕ, zero, suc, ◌+◌, ◌-◌, ◌*◌, ◌<◌, ◌≤◌, Bool, true, false, refl, sym, ap, subst, arith, nat_eq}
 use Rattle.std.specs.Bool.{Decides}
 use Rattle.std.specs.Prelude.{◌==◌, ◌&&◌, if◌then◌else◌}
 use Rattle.std.proofs.lemmas.Bool.{eqb-false}
@@ -18,7 +18,7 @@ use Rattle.layers.specs.Sound.{IsSound, IsSoundTable, IsNotSpent, Falls, FitsPar
 use Rattle.layers.specs.laws.Equality.{both_true, decides_like}
 use Rattle.matrix.specs.declared.task.MatrixTask.{MatrixTask}
 use Rattle.matrix.specs.declared.task.MatrixTask.TheVariants.{Column, Row}
-use Rattle.matrix.specs.Program.{codes, code_of, tag_of, greater, ended, row_from, behind_column, column_from, matrix_program, matrix_rest, matrix_asks, matrix_suits, matrix_table, ValueFits, InWork, RowFits, MatrixStands}
+use Rattle.matrix.specs.Program.{codes, code_of, tag_of, greater, ended, row_from, behind_column, column_from, matrix_program, matrix_rest, matrix_asks, matrix_frame, matrix_find, matrix_suits, matrix_table, ValueFits, InWork, RowFits, MatrixStands}
 use Rattle.matrix.specs.Bounds.{code_fits, value_fits, tag_fits}
 
 -- how many parts are still to be read or written behind a task
@@ -128,9 +128,14 @@ module _ (n values last : ℕ) (some : LEAST_PROCESSES ≤ n) (some_values : LEA
   stands_suits who o (Column p q j greatest) stands = work_suits who o p q j greatest stands
   stands_suits who o (Row p q j code) stands = work_suits who o p q j code stands.0
 
+  frame_tells : (who : ℕ) (o : Op) (task : MatrixTask) → MatrixStands n values last who o task → (matrix_find who (matrix_frame task) ≡ task) × ((matrix_frame task).op ≡ o)
+  frame_tells who o (Column p q j greatest) stands = (ap (λ r. Column r q j greatest) (sym stands.own), stands.same)
+  frame_tells who o (Row p q j code) stands = (ap (λ r. Row r q j code) (sym stands.0.own), stands.0.same)
+
   pub matrix_sound : IsSoundTable (matrix_table n values last) (MatrixStands n values last) (matrix_left n)
   matrix_sound = record {
     stands_suits = stands_suits;
+    frame_tells = frame_tells;
     zero_writes = λ v lt. zero_writes v lt;
     others_read = λ who above below. others_read who below;
     nobody_else = process_of;

@@ -278,6 +278,24 @@ impl Construction for Matrix {
         }
     }
 
+    fn find(&self, who: u32, frame: Frame) -> MatrixTask {
+        let Frame { layer, op, i: j, x } = frame;
+        match layer {
+            FrameLayer::MatrixRead => MatrixTask::Column {
+                who,
+                op,
+                j,
+                greatest: x,
+            },
+            _ => MatrixTask::Row {
+                who,
+                op,
+                j,
+                code: x,
+            },
+        }
+    }
+
     ghost sound = { λ l. matrix_sound l.n l.values l.last l.some l.some_values };
 
     ghost alike = { λ a b h. table_alike a.n b.n a.values b.values a.last b.last h };

@@ -42,6 +42,10 @@ abbrev pub copies_frame : CopiesTask → Frame
 copies_frame (Writing v reader) = record { layer = layer.Copies; op = op.Write v; i = reader; x = 0 }
 copies_frame (Reading reader) = record { layer = layer.Copies; op = op.Read; i = reader; x = 0 }
 
+-- the operation tells a write from a read, and the index whose copy it is
+abbrev pub copies_find : ℕ → Frame → CopiesTask
+copies_find who f = elim (f.op) [ op.Write v ↦ Writing v f.i | op.Read ↦ Reading f.i ]
+
 -- the layer for so many readers, over a register of so many values
 abbrev pub copies_table : ℕ → ℕ → Table CopiesTask
 copies_table readers values = record {
@@ -59,6 +63,7 @@ copies_table readers values = record {
   asks = copies_asks;
   rest = copies_rest readers;
   frame = copies_frame;
+  find = copies_find;
 }
 
 -- process 0 stands at some reader's copy, in the write of its value; a reader stands in the read of its own copy

@@ -1,5 +1,5 @@
 -- The table of copies is sound, and its tasks are equal only to themselves.
-use Rattle.std.proofs.Common.{◌≡◌, ℕ, zero, suc, ◌+◌, ◌-◌, ◌<◌, ◌≤◌, ◌^◌, Bool, true, false, refl, ap, arith, nat_eq}
+use Rattle.std.proofs.Common.{◌≡◌, ℕ, zero, suc, ◌+◌, ◌-◌, ◌<◌, ◌≤◌, Bool, true, false, refl, ap, arith, nat_eq}
 use mathlib.Core.Bool.{◌&&◌}
 use Rattle.std.specs.Bool.{Decides}
 use Rattle.std.proofs.lemmas.Bool.Decides.{Decides-and, Decides-eqb, Decides-like}
@@ -17,7 +17,7 @@ use Rattle.layers.specs.OneWriter.{one_writer}
 use Rattle.layers.specs.laws.OneWriter as writer
 use Rattle.reader_copies.specs.declared.task.CopiesTask.{CopiesTask}
 use Rattle.reader_copies.specs.declared.task.CopiesTask.TheVariants.{Writing, Reading}
-use Rattle.reader_copies.specs.Program.{write_from, copies_program, copies_rest, copies_table, copies_asks, CopiesStands}
+use Rattle.reader_copies.specs.Program.{write_from, copies_program, copies_rest, copies_table, copies_asks, copies_frame, copies_find, CopiesStands}
 
 -- how many copies are still to be written behind a task
 abbrev pub copies_left : ℕ → CopiesTask → ℕ
@@ -85,6 +85,12 @@ module _ (readers values : ℕ) (some : 1 ≤ readers) (few : readers ≤ MOST_R
   stands_suits who (op.Write w) (Reading reader) stands = absurd stands
   stands_suits who op.Read (Writing v reader) stands = absurd stands
 
+  frame_tells : (who : ℕ) (o : Op) (task : CopiesTask) → CopiesStands readers values who o task → (copies_find who (copies_frame task) ≡ task) × ((copies_frame task).op ≡ o)
+  frame_tells who (op.Write w) (Writing v reader) stands = (refl, ap op.Write stands.1)
+  frame_tells who op.Read (Reading reader) stands = (refl, refl)
+  frame_tells who (op.Write w) (Reading reader) stands = absurd stands
+  frame_tells who op.Read (Writing v reader) stands = absurd stands
+
   pub copies_sound : IsSoundTable (copies_table readers values) (CopiesStands readers values) (copies_left readers)
   copies_sound = record {
     zero_writes = λ v lt. writer.zero_writes values (readers + 1) v (omega arith) lt;
@@ -95,6 +101,7 @@ module _ (readers values : ℕ) (some : 1 ≤ readers) (few : readers ≤ MOST_R
     first_words = λ v k lt below. absurd (omega arith);
     asks_fit = asks_fit;
     stands_suits = stands_suits;
+    frame_tells = frame_tells;
     begins_sound = begins_sound;
     rest_sound = rest_sound;
     rest_falls = rest_falls;

@@ -155,6 +155,13 @@ impl Construction for Copies {
         }
     }
 
+    fn find(&self, _who: u32, frame: Frame) -> CopiesTask {
+        match frame.op {
+            Op::Write(v) => CopiesTask::Writing { v, reader: frame.i },
+            Op::Read => CopiesTask::Reading { reader: frame.i },
+        }
+    }
+
     ghost sound = { λ l. copies_sound l.readers l.values l.some l.few };
 
     ghost alike = { λ a b h. layers_alike a.readers b.readers a.values b.values h };

@@ -25,6 +25,10 @@ abbrev pub regular_frame : RegularTask → Frame
 regular_frame (Writing v) = record { layer = Regular; op = op.Write v; i = 0; x = 0 }
 regular_frame (Reading who) = record { layer = Regular; op = op.Read; i = 0; x = 0 }
 
+-- the operation tells a write and its value, or a read, which is the process's own
+abbrev pub regular_find : ℕ → Frame → RegularTask
+regular_find who f = elim (f.op) [ op.Write v ↦ Writing v | op.Read ↦ Reading who ]
+
 -- the layer over a register of so many processes
 abbrev pub regular_table : ℕ → Table RegularTask
 regular_table processes = record {
@@ -42,6 +46,7 @@ regular_table processes = record {
   asks = regular_asks;
   rest = λ task outcome. Ends outcome;
   frame = regular_frame;
+  find = regular_find;
 }
 
 -- process 0 stands in the write of its value, a reader in its own read

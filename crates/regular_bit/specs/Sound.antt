@@ -1,5 +1,5 @@
 -- The regular bit's table is sound, and its tasks are equal only to themselves.
-use Rattle.std.proofs.Common.{◌≡◌, ℕ, ◌<◌, ◌^◌, Bool, true, false, refl, ap, arith, nat_eq}
+use Rattle.std.proofs.Common.{◌≡◌, ℕ, ◌<◌, Bool, true, false, refl, sym, ap, arith, nat_eq}
 use Rattle.std.specs.Bool.{Decides}
 use Rattle.std.specs.Prelude.{◌==◌, if◌then◌else◌}
 use Rattle.std.proofs.lemmas.Bool.Decides.{Decides-eqb, Decides-like}
@@ -14,7 +14,7 @@ use Rattle.layers.specs.OneWriter.{one_writer}
 use Rattle.layers.specs.laws.OneWriter as writer
 use Rattle.regular_bit.specs.declared.task.RegularTask.{RegularTask}
 use Rattle.regular_bit.specs.declared.task.RegularTask.TheVariants.{Writing, Reading}
-use Rattle.regular_bit.specs.Program.{regular_program, regular_table, regular_asks, RegularStands}
+use Rattle.regular_bit.specs.Program.{regular_program, regular_table, regular_asks, regular_frame, regular_find, RegularStands}
 
 module _ (processes : ℕ) (some : 0 < processes) where
   write_sound : (who v last : ℕ) → who ≡ 0 → v < 2 → IsSound (regular_table processes) (RegularStands processes who (op.Write v)) (Answers 2 (op.Write v))
@@ -52,6 +52,12 @@ module _ (processes : ℕ) (some : 0 < processes) where
   stands_suits who (op.Write w) (Reading reader) stands = absurd stands
   stands_suits who op.Read (Writing v) stands = absurd stands
 
+  frame_tells : (who : ℕ) (o : Op) (task : RegularTask) → RegularStands processes who o task → (regular_find who (regular_frame task) ≡ task) × ((regular_frame task).op ≡ o)
+  frame_tells who (op.Write w) (Writing v) stands = (refl, ap op.Write stands.1)
+  frame_tells who op.Read (Reading reader) stands = (ap Reading (sym stands.0), refl)
+  frame_tells who (op.Write w) (Reading reader) stands = absurd stands
+  frame_tells who op.Read (Writing v) stands = absurd stands
+
   pub regular_sound : IsSoundTable (regular_table processes) (RegularStands processes) (λ _. 0)
   regular_sound = record {
     zero_writes = λ v lt. writer.zero_writes 2 processes v some lt;
@@ -62,6 +68,7 @@ module _ (processes : ℕ) (some : 0 < processes) where
     first_words = λ v k lt below. lt;
     asks_fit = asks_fit;
     stands_suits = stands_suits;
+    frame_tells = frame_tells;
     begins_sound = begins_sound;
     rest_sound = rest_sound;
     rest_falls = λ who o task outcome stands answers on. tt;

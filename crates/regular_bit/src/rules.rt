@@ -142,6 +142,13 @@ impl Construction for RegularBit {
         }
     }
 
+    fn find(&self, who: u32, frame: Frame) -> RegularTask {
+        match frame.op {
+            Op::Write(v) => RegularTask::Writing(v),
+            Op::Read => RegularTask::Reading(who),
+        }
+    }
+
     ghost sound = { λ l. regular_sound l.processes l.some };
 
     ghost alike = { λ a b h. table_alike a.processes b.processes h };

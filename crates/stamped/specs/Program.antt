@@ -37,6 +37,10 @@ abbrev pub stamped_frame : StampedTask → Frame
 stamped_frame (Writing v code) = record { layer = frame.Stamped; op = op.Write v; i = 0; x = code }
 stamped_frame Reading = record { layer = frame.Stamped; op = op.Read; i = 0; x = 0 }
 
+-- the operation tells a read from a write, whose code stands in the frame
+abbrev pub stamped_find : ℕ → Frame → StampedTask
+stamped_find who f = elim (f.op) [ op.Write v ↦ Writing v f.x | op.Read ↦ Reading ]
+
 -- how many codes there are
 abbrev pub codes : ℕ → ℕ → ℕ
 codes values last = (last + 1) * values
@@ -58,6 +62,7 @@ stamped_table values last = record {
   asks = stamped_asks;
   rest = stamped_rest values;
   frame = stamped_frame;
+  find = stamped_find;
 }
 
 -- process 0 stands in the write of a code of its value, whose stamp is 1 or more; process 1 in its read

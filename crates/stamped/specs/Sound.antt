@@ -1,5 +1,5 @@
 -- The stamped register's table is sound, and its tasks are equal only to themselves.
-use Rattle.std.proofs.Common.{◌%◌, ◌≡◌, ◌≢◌, ℕ, ◌+◌, ◌*◌, ◌<◌, ◌≤◌, max, Bool, true, false, refl, arith, nat_eq}
+use Rattle.std.proofs.Common.{◌%◌, ◌≡◌, ◌≢◌, ℕ, ◌+◌, ◌*◌, ◌<◌, ◌≤◌, max, Bool, true, false, refl, ap, arith, nat_eq}
 use Rattle.std.specs.Bool.{Decides}
 use Rattle.std.specs.Prelude.{◌==◌, if◌then◌else◌, ◌&&◌}
 use Rattle.std.proofs.lemmas.Bool.{eqb-false}
@@ -20,7 +20,7 @@ use Rattle.layers.specs.laws.OneWriter as writer
 use Rattle.layers.specs.laws.Equality.{both_true}
 use Rattle.stamped.specs.declared.task.StampedTask.{StampedTask}
 use Rattle.stamped.specs.declared.task.StampedTask.TheVariants.{Writing, Reading}
-use Rattle.stamped.specs.Program.{stamped_program, stamped_table, stamped_asks, stamped_rest, codes, StampedStands}
+use Rattle.stamped.specs.Program.{stamped_program, stamped_table, stamped_asks, stamped_rest, stamped_frame, stamped_find, codes, StampedStands}
 
 -- a code below the last stamp's
 pub code_fits : (values last stamp v : ℕ) → stamp < last → v < values → (stamp + 1) * values + v < codes values last
@@ -95,6 +95,12 @@ module _ (values last : ℕ) (some : LEAST_VALUES ≤ values) where
   stands_suits who (op.Write w) Reading stands = absurd stands
   stands_suits who op.Read (Writing v code) stands = absurd stands
 
+  frame_tells : (who : ℕ) (o : Op) (task : StampedTask) → StampedStands values last who o task → (stamped_find who (stamped_frame task) ≡ task) × ((stamped_frame task).op ≡ o)
+  frame_tells who (op.Write w) (Writing v code) stands = (refl, ap op.Write stands.1)
+  frame_tells who op.Read Reading stands = (refl, refl)
+  frame_tells who (op.Write w) Reading stands = absurd stands
+  frame_tells who op.Read (Writing v code) stands = absurd stands
+
   pub stamped_sound : IsSoundTable (stamped_table values last) (StampedStands values last) (λ _. 0)
   stamped_sound = record {
     zero_writes = λ v lt. writer.zero_writes values 2 v (omega arith) lt;
@@ -105,6 +111,7 @@ module _ (values last : ℕ) (some : LEAST_VALUES ≤ values) where
     first_words = first_words;
     asks_fit = asks_fit;
     stands_suits = stands_suits;
+    frame_tells = frame_tells;
     begins_sound = begins_sound;
     rest_sound = rest_sound;
     rest_falls = rest_falls;

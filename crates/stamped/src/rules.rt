@@ -164,6 +164,13 @@ impl Construction for Stamped {
         }
     }
 
+    fn find(&self, _who: u32, frame: Frame) -> StampedTask {
+        match frame.op {
+            Op::Write(v) => StampedTask::Writing(v, frame.x),
+            Op::Read => StampedTask::Reading,
+        }
+    }
+
     ghost sound = { λ l. stamped_sound l.values l.last l.some };
 
     ghost alike = { λ a b h. table_alike a.values b.values a.last b.last h };

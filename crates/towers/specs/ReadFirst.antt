@@ -1,6 +1,6 @@
 -- A register of 8 values that has to be read before it can be written: what the tests build a matrix of, to see a row that is spent
 -- at its second part.
-use Rattle.std.proofs.Common.{◌≡◌, ℕ, ◌<◌, Bool, true, false, refl, arith}
+use Rattle.std.proofs.Common.{◌≡◌, ℕ, ◌<◌, Bool, true, false, refl, sym, ap, arith}
 use Rattle.std.specs.Prelude.{◌==◌, if◌then◌else◌}
 use Rattle.frames.specs.declared.types.Op.{Op}
 use Rattle.frames.specs.declared.types.Op.TheVariants as op
@@ -40,6 +40,7 @@ read_first_table = record {
   asks = read_first_asks;
   rest = λ task outcome. Ends outcome;
   frame = λ task. record { layer = Regular; op = task; i = 0; x = 0 };
+  find = λ who f. f.op;
 }
 
 abbrev pub ReadFirstStands : ℕ → Op → Op → Type 0
@@ -81,6 +82,13 @@ stands_suits who op.Read op.Read stands = writer.others_read 8 2 who (omega arit
 stands_suits who (op.Write w) op.Read stands = absurd stands
 stands_suits who op.Read (op.Write v) stands = absurd stands
 
+-- the frame's operation is the task
+frame_tells : (who : ℕ) (o task : Op) → ReadFirstStands who o task → (task ≡ task) × (task ≡ o)
+frame_tells who (op.Write w) (op.Write v) stands = (refl, ap op.Write (sym stands.1))
+frame_tells who op.Read op.Read stands = (refl, refl)
+frame_tells who (op.Write w) op.Read stands = absurd stands
+frame_tells who op.Read (op.Write v) stands = absurd stands
+
 pub read_first_sound : IsSoundTable read_first_table ReadFirstStands (λ _. 0)
 read_first_sound = record {
   zero_writes = λ v lt. writer.zero_writes 8 2 v (omega arith) lt;
@@ -91,6 +99,7 @@ read_first_sound = record {
   first_words = λ v k lt below. omega arith;
   asks_fit = asks_fit;
   stands_suits = stands_suits;
+  frame_tells = frame_tells;
   begins_sound = begins_sound;
   rest_sound = rest_sound;
   rest_falls = λ who o task outcome stands answers on. tt;

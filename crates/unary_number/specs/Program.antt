@@ -56,6 +56,10 @@ unary_frame (Setting x) = record { layer = Unary; op = op.Write x; i = x; x = 0 
 unary_frame (Clearing x i) = record { layer = Unary; op = op.Write x; i = i; x = 0 }
 unary_frame (Looking who i left) = record { layer = Unary; op = op.Read; i = i; x = 0 }
 
+-- a write of x at bit x sets it, and at any other bit clears that; a read looks at its bit, behind which are all that follow
+abbrev pub unary_find : ℕ → ℕ → Frame → UnaryTask
+unary_find values who f = elim (f.op) [ op.Write x ↦ (if f.i == x then Setting x else Clearing x f.i) | op.Read ↦ Looking who f.i (values - 1 - f.i) ]
+
 -- the layer over registers of so many processes: `none` is the answer of a scan that finds no 1
 abbrev pub unary_table_with : Outcome → ℕ → ℕ → Table UnaryTask
 unary_table_with none values processes = record {
@@ -73,6 +77,7 @@ unary_table_with none values processes = record {
   asks = unary_asks;
   rest = unary_rest none;
   frame = unary_frame;
+  find = unary_find values;
 }
 
 -- the register's own table: a scan that finds none answers the greatest value

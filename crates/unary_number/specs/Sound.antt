@@ -1,9 +1,9 @@
 -- The unary number's table is sound, and its tasks are equal only to themselves.
-use Rattle.std.proofs.Common.{◌≡◌, ℕ, zero, suc, ◌+◌, ◌-◌, ◌<◌, ◌≤◌, ◌^◌, Bool, true, false, refl, ap, arith, nat_eq}
+use Rattle.std.proofs.Common.{◌≡◌, ℕ, zero, suc, ◌+◌, ◌-◌, ◌<◌, ◌≤◌, Bool, true, false, refl, sym, ap, arith, nat_eq}
 use mathlib.Core.Bool.{◌&&◌}
 use Rattle.std.specs.Bool.{Decides}
 use Rattle.std.specs.Prelude.{◌==◌, if◌then◌else◌}
-use Rattle.std.proofs.lemmas.Bool.Decides.{Decides-and, Decides-eqb, Decides-like}
+use Rattle.std.proofs.lemmas.Bool.Decides.{Decides-and, Decides-eqb, Decides-like, nat_tests}
 use Rattle.frames.specs.declared.types.Op.{Op}
 use Rattle.frames.specs.declared.types.Op.TheVariants as op
 use Rattle.frames.specs.declared.types.Outcome.{Outcome}
@@ -16,7 +16,7 @@ use Rattle.layers.specs.OneWriter.{one_writer}
 use Rattle.layers.specs.laws.OneWriter as writer
 use Rattle.unary_number.specs.declared.task.UnaryTask.{UnaryTask}
 use Rattle.unary_number.specs.declared.task.UnaryTask.TheVariants.{Setting, Clearing, Looking}
-use Rattle.unary_number.specs.Program.{clears_below, behind_look, looks_above, unary_program, unary_rest, unary_asks, unary_table_with, unary_table, UnaryStands}
+use Rattle.unary_number.specs.Program.{clears_below, behind_look, looks_above, unary_program, unary_rest, unary_asks, unary_frame, unary_find, unary_table_with, unary_table, UnaryStands}
 
 -- how many bits are still to be cleared or to be looked at behind a task
 abbrev pub unary_left : UnaryTask → ℕ
@@ -50,6 +50,12 @@ module _ (none : Outcome) (values processes : ℕ) (two : LEAST_VALUES ≤ value
           (if found then Ends (Value i) else looks_above none reader i left)
       by_test true = omega arith
       by_test false = looks_sound who reader i left same above below all
+
+  same_bit : (x : ℕ) → (x == x) ≡ true
+  same_bit x = grind (arith, nat_tests)
+
+  other_bit : (i x : ℕ) → i < x → (i == x) ≡ false
+  other_bit i x below = grind (arith, nat_tests)
 
   clears_fall : (w i n : ℕ) → i ≤ n → Falls unary_left n (clears_below w i)
   clears_fall w zero n le = tt
@@ -108,6 +114,16 @@ module _ (none : Outcome) (values processes : ℕ) (two : LEAST_VALUES ≤ value
   stands_suits who op.Read (Setting x) stands = absurd stands
   stands_suits who op.Read (Clearing x i) stands = absurd stands
 
+  frame_tells : (who : ℕ) (o : Op) (task : UnaryTask) → UnaryStands values processes who o task → (unary_find values who (unary_frame task) ≡ task) × ((unary_frame task).op ≡ o)
+  frame_tells who (op.Write w) (Setting x) stands = (ap (λ same. if same then Setting x else Clearing x x) (same_bit x), ap op.Write stands.1)
+  frame_tells who (op.Write w) (Clearing x i) stands = (ap (λ same. if same then Setting x else Clearing x i) (other_bit i x (omega (arith, stands.1, stands.2))), ap op.Write stands.1)
+  frame_tells who op.Read (Looking reader i left) stands =
+      let behind : values - 1 - i ≡ left = omega (arith, stands.3) in
+      (λ k. Looking (sym stands.0 k) i (behind k), refl)
+  frame_tells who (op.Write w) (Looking reader i left) stands = absurd stands
+  frame_tells who op.Read (Setting x) stands = absurd stands
+  frame_tells who op.Read (Clearing x i) stands = absurd stands
+
   pub table_sound : IsSoundTable (unary_table_with none values processes) (UnaryStands values processes) unary_left
   table_sound = record {
     zero_writes = λ v lt. writer.zero_writes values processes v some lt;
@@ -118,6 +134,7 @@ module _ (none : Outcome) (values processes : ℕ) (two : LEAST_VALUES ≤ value
     first_words = λ v k lt below. omega arith;
     asks_fit = asks_fit;
     stands_suits = stands_suits;
+    frame_tells = frame_tells;
     begins_sound = begins_sound;
     rest_sound = rest_sound;
     rest_falls = rest_falls;

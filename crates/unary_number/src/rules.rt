@@ -200,6 +200,23 @@ impl Construction for Unary {
         }
     }
 
+    fn find(&self, who: u32, frame: Frame) -> UnaryTask {
+        let i = frame.i;
+        match frame.op {
+            Op::Write(x) => {
+                if i == x {
+                    UnaryTask::Setting(x)
+                } else {
+                    UnaryTask::Clearing { x, i }
+                }
+            }
+            Op::Read => {
+                let left = (self.values - 1).saturating_sub(i);
+                UnaryTask::Looking { who, i, left }
+            }
+        }
+    }
+
     ghost sound = { λ l. unary_sound l.values l.processes l.two l.some };
 
     ghost alike = { λ a b h. table_alike a.values b.values a.processes b.processes h };

@@ -53,6 +53,10 @@ impl Construction for ReadFirst {
         }
     }
 
+    fn find(&self, _who: u32, frame: Frame) -> Op {
+        frame.op
+    }
+
     fn asks(&self, task: Op) -> Ask {
         match task {
             Op::Write(v) => Ask {
