@@ -1,1 +1,1 @@
-pub mod Parking
+pub mod Stacks

@@ -6,5 +6,6 @@ pub mod OneWriter
 pub mod Configuration
 pub mod Parked
 pub mod Equality
+pub mod Flat
 pub mod Beside
 pub mod laws

@@ -1,5 +1,5 @@
 -- The register of one safe bit: its programs are the two actions of a write and of a read (Lamport 1986).
-use Rattle.std.specs.Prelude.{◌≡◌, ℕ, ◌<◌, Bool, ◌&&◌, ◌==◌, nat_lt, [], ◌∷◌, Some, None, if◌then◌else◌}
+use Rattle.std.specs.Prelude.{◌≡◌, ℕ, ◌<◌, Bool, ◌&&◌, ◌==◌, nat_lt, List, [], ◌∷◌, Option, Some, None, if◌then◌else◌}
 use Rattle.safe_bit.specs.Memory.{Memory, cell_at, on_cell}
 use Rattle.safe_bit.specs.Actions.{idle_cell, start_write, end_write, start_read, end_read, read_gives}
 use Rattle.frames.specs.declared.types.Op.{Op}
@@ -51,6 +51,15 @@ safe_frame (at.WriteStart v) = record { layer = layer.Safe; op = op.Write (value
 safe_frame (at.WriteEnd v) = record { layer = layer.Safe; op = op.Write (value_of v); i = 1; x = 0 }
 safe_frame at.ReadStart = record { layer = layer.Safe; op = op.Read; i = 0; x = 0 }
 safe_frame at.ReadEnd = record { layer = layer.Safe; op = op.Read; i = 1; x = 0 }
+
+-- the point that a frame tells, and that of the frames of an operation
+abbrev pub point_at : Op → ℕ → SafePoint
+point_at (op.Write v) i = if i == 0 then at.WriteStart (bit_of v) else at.WriteEnd (bit_of v)
+point_at op.Read i = if i == 0 then at.ReadStart else at.ReadEnd
+
+abbrev pub safe_point : ℕ → List Frame → Option SafePoint
+safe_point who [] = None
+safe_point who (frame ∷ rest) = Some (point_at frame.op frame.i)
 
 abbrev pub safe_acts : SafePoint → Action
 safe_acts (at.WriteStart v) = record { kind = WriteStart; cell = 0 }

@@ -1,41 +1,43 @@
 //! Configurations of a register, and the steps of a schedule.
 
-ghost use Rattle.std.specs.Prelude.{◌≡◌, ℕ, ◌<◌, ◌+◌, Bool, true, false, Option, Some, None, IfOk, IsTrue, IfSome, MatchOption, ⊤, List, length, slice_index_or, slice_set, replicate};
+ghost use Rattle.std.specs.Prelude.{◌≡◌, ℕ, ◌<◌, ◌+◌, Bool, true, false, Option, Some, None, IfOk, IsTrue, IfSome, MatchOption, ⊤, List, length, IfNone, [], slice_index_or, slice_set, replicate};
 ghost use Rattle.std.specs.Bool.{Decides};
 ghost use Rattle.std.specs.Option.{option_map};
 ghost use Rattle.safe_bit.specs.Memory.{Memory};
 ghost use Rattle.frames.specs.Configuration.{running_at, is_stopped, initial_configuration, fits_step, events_of, stepped, put_acted, mark, only_records, acting, invoking, going};
 ghost use Rattle.frames.specs.Fitting.{process_of};
-ghost use Rattle.frames.specs.Configuration as spec;
 ghost use Rattle.frames.specs.Parked.{IsConfiguration};
+ghost use Rattle.frames.specs.Flat.{stack_of};
 
-use crate::own::{ORIGIN, begin_own, go_own, store_of};
+use crate::flat::FlatStack;
+use crate::own::{ORIGIN, alone, invoke, proceed, store_of};
 use crate::register::Register;
 use crate::roles::step_fits;
-use crate::running::Running;
-use crate::types::{Action, Event, Next, Op, Outcome, Reason, Stack, Step, StepEvents};
+use crate::types::{Action, Event, Op, Reason, Stack, Step, StepEvents};
 use safe_bit::Store;
 use std::alloc::{AllocError, Global};
 use std::marker::Model;
 
-/// A register, its cells and words, what each process has pending, and whether it has stopped.
+/// A register, its cells and words, the frames of what each process has pending, and whether it has stopped.
 #[derive(Drop)]
 pub struct Config<R: Register> {
     register: R,
     store: Store,
-    running: Vec<Option<Running<R::Pending>>>,
+    stacks: Vec<FlatStack>,
     stopped: Vec<bool>,
 }
 
 impl<R: Register> Model for Config<R> {
     ghost use Rattle.frames.specs.Configuration.{Configuration};
-    ghost use Rattle.frames.specs.Parked.{IsConfiguration};
+    ghost use Rattle.frames.specs.Flat.{running_from};
+    ghost use Rattle.frames.specs.Parked.{IsFlat};
 
     ghost Value = { Configuration R R.Pending };
 
-    ghost view = { λ c. record { register = c.register; memory = c.store; running = c.running.items; stopped = c.stopped.items } };
+    ghost view = { λ c. record { register = c.register; memory = c.store; running = running_from (R.point c.register) 0 c.stacks.items; stopped = c.stopped.items } };
 
-    ghost invariant = { λ c. IsConfiguration (R.is c.register) (R.Holds c.register) (R.Reaches c.register) (record { register = c.register; memory = c.store; running = c.running.items; stopped = c.stopped.items }) };
+    ghost invariant = { λ c. IsFlat (R.is c.register) (R.Holds c.register) (R.Reaches c.register)
+        (record { register = c.register; memory = c.store; running = running_from (R.point c.register) 0 c.stacks.items; stopped = c.stopped.items }) c.stacks.items };
 }
 
 /// Two configurations are equal where their registers are, and their cells, words, pending
@@ -55,7 +57,7 @@ impl<R: Register> PartialEq for Config<R> {
     {
         self.register == other.register
             && self.store == other.store
-            && self.running == other.running
+            && self.stacks == other.stacks
             && self.stopped == other.stopped
     }
 }
@@ -67,12 +69,12 @@ impl<R: Register> Config<R> {
         ensures { IfOk result (λ c. c ≡ initial_configuration (R.is register) register value) }
     {
         let store = store_of(alloc, &register, value)?;
-        let running = for_each_process(alloc, register.processes(), None)?;
-        let stopped = for_each_process(alloc, register.processes(), false)?;
+        let stacks = no_frames(alloc, register.processes())?;
+        let stopped = no_marks(alloc, register.processes())?;
         Ok(Config {
             register,
             store,
-            running,
+            stacks,
             stopped,
         })
     }
@@ -82,14 +84,13 @@ impl<R: Register> Config<R> {
         ensures { IfOk result (λ c. c ≡ self.now) }
     {
         let store = self.store.copy(alloc)?;
-        let mut running = Vec::new(alloc);
-        running.extend_from_slice(&self.running)?;
+        let stacks = copies(alloc, &self.stacks)?;
         let mut stopped = Vec::new(alloc);
         stopped.extend_from_slice(&self.stopped)?;
         Ok(Config {
             register: self.register,
             store,
-            running,
+            stacks,
             stopped,
         })
     }
@@ -120,7 +121,7 @@ impl<R: Register> Config<R> {
     pub fn op(&self, p: u32) -> Option<Op>
         ensures { result ≡ option_map (λ r. r.op) (running_at p self.now) }
     {
-        self.pending(p).map(|r| r.op)
+        self.frames(p)?.op()
     }
 
     /// The frames of a process's pending operation, outermost first; none where it is idle or not
@@ -129,16 +130,20 @@ impl<R: Register> Config<R> {
         ensures frames { option_map (λ s. s.items) result ≡ option_map (λ r. (R.is self.now.register).frames r.point) (running_at p self.now) }
         ensures inline { IfSome result (λ s. s.capacity ≡ 8) }
     {
-        let running = self.pending(p)?;
-        Some(self.register.stack(alloc, &running.point))
+        let frames = self.frames(p)?;
+        if frames.is_empty() {
+            return None;
+        }
+        Some(frames.to_stack(alloc))
     }
 
     /// The next bit action of a process; none where it is idle or not there.
     pub fn action(&self, p: u32) -> Option<Action>
         ensures { result ≡ option_map (λ r. (R.is self.now.register).acts r.point) (running_at p self.now) }
     {
-        let running = self.pending(p)?;
-        Some(self.register.action(&running.point, ORIGIN))
+        let frames = self.frames(p)?;
+        let point = self.register.pending(frames, 0, p)?;
+        Some(self.register.action(&point, ORIGIN))
     }
 
     /// Whether a process has stopped; false where it isn't there.
@@ -148,12 +153,13 @@ impl<R: Register> Config<R> {
         self.stopped.get(p as usize).copied().unwrap_or(false)
     }
 
-    /// What a process has pending.
-    fn pending(&self, p: u32) -> Option<Running<R::Pending>>
-        ensures found { result ≡ running_at p self.now }
-        ensures reached { MatchOption result ⊤ (λ r. R.Reaches self.now.register p r.op r.point) }
+    /// The frames of what a process has pending; none where it isn't there.
+    fn frames(&self, p: u32) -> Option<&FlatStack>
+        ensures there { IfSome result (λ s. s.now ≡ stack_of (R.is self.now.register) (running_at p self.now)) }
+        ensures beyond { IfNone result (running_at p self.now ≡ None) }
+        ensures reached { MatchOption (running_at p self.now) ⊤ (λ r. R.Reaches self.now.register p r.op r.point) }
     {
-        self.running.get(p as usize).copied().flatten()
+        self.stacks.get(p as usize)
     }
 
     /// Makes the step, and tells its events, at most two.
@@ -199,15 +205,8 @@ impl<R: Register> Config<R> {
         ensures events { result ≡ (invoking (R.is self.old.register) who op (running_at who self.old) self.old.memory).events }
         ensures after { self.new ≡ put_acted who (invoking (R.is self.old.register) who op (running_at who self.old) self.old.memory) self.old }
     {
-        if self.running[who as usize].is_some() {
-            return alone(Event::Void(who, Reason::Busy));
-        }
-        let next = begin_own(&self.register, &mut self.store, who, op);
-        self.running[who as usize] = still_running(op, next);
-        StepEvents {
-            first: Some(Event::Invoke(who, op)),
-            second: return_of(who, next),
-        }
+        let stack = &mut self.stacks[who as usize];
+        invoke(&self.register, &mut self.store, who, op, stack)
     }
 
     /// A process makes its next bit action, if it has an operation pending.
@@ -216,71 +215,38 @@ impl<R: Register> Config<R> {
         ensures events { result ≡ (going (R.is self.old.register) who choice (running_at who self.old) self.old.memory).events }
         ensures after { self.new ≡ put_acted who (going (R.is self.old.register) who choice (running_at who self.old) self.old.memory) self.old }
     {
-        let Some(running) = self.running[who as usize] else {
-            return alone(Event::Void(who, Reason::Idle));
-        };
-        let turned = go_own(&self.register, &mut self.store, running.point, choice);
-        self.running[who as usize] = still_running(running.op, turned.next);
-        let chosen = turned
-            .chosen
-            .map(|(bit, value)| Event::Chosen(who, bit, value));
-        in_order(chosen, return_of(who, turned.next))
+        let stack = &mut self.stacks[who as usize];
+        proceed(&self.register, &mut self.store, who, stack, choice)
     }
 }
 
-/// One item for each process, all alike.
-fn for_each_process<T: Copy>(alloc: Global, processes: u32, item: T) -> Result<Vec<T>, AllocError>
-    ensures { IfOk result (λ all. all.items ≡ replicate processes item) }
+/// A stack of no frame for each process.
+fn no_frames(alloc: Global, processes: u32) -> Result<Vec<FlatStack>, AllocError>
+    ensures { IfOk result (λ stacks. stacks.items ≡ replicate processes []) }
 {
-    let mut all = Vec::new(alloc);
-    all.resize(processes as usize, item)?;
-    Ok(all)
+    let mut stacks = Vec::new(alloc);
+    for _ in 0..processes {
+        stacks.push(FlatStack::new())?;
+    }
+    Ok(stacks)
 }
 
-/// The event of an operation's end, if it ends.
-fn return_of<P: Copy>(who: u32, next: Next<P>) -> Option<Event>
-    ensures { result ≡ spec.return_of who next }
+/// A mark of each process: none has stopped.
+fn no_marks(alloc: Global, processes: u32) -> Result<Vec<bool>, AllocError>
+    ensures { IfOk result (λ marks. marks.items ≡ replicate processes false) }
 {
-    match next {
-        Next::Pending(_) => None,
-        Next::Done(Outcome::Value(v)) => Some(Event::Got(who, v)),
-        Next::Done(Outcome::Written) => Some(Event::Wrote(who)),
-        Next::Done(Outcome::Spent(layer)) => Some(Event::Refused(who, layer)),
-    }
+    let mut marks = Vec::new(alloc);
+    marks.resize(processes as usize, false)?;
+    Ok(marks)
 }
 
-/// What stays pending.
-fn still_running<P: Copy>(op: Op, next: Next<P>) -> Option<Running<P>>
-    ensures { result ≡ spec.still_running op next }
+/// Equal stacks.
+fn copies(alloc: Global, stacks: &[FlatStack]) -> Result<Vec<FlatStack>, AllocError>
+    ensures { IfOk result (λ copied. copied.items ≡ stacks.now) }
 {
-    match next {
-        Next::Pending(point) => Some(Running { op, point }),
-        Next::Done(_) => None,
+    let mut copied = Vec::new(alloc);
+    for stack in stacks {
+        copied.push(stack.copy())?;
     }
-}
-
-/// One event, and no other.
-fn alone(event: Event) -> StepEvents
-    ensures { result ≡ spec.in_order (Some event) None }
-{
-    StepEvents {
-        first: Some(event),
-        second: None,
-    }
-}
-
-/// Two events that may be missing, in order.
-fn in_order(earlier: Option<Event>, later: Option<Event>) -> StepEvents
-    ensures { result ≡ spec.in_order earlier later }
-{
-    match earlier {
-        Some(_) => StepEvents {
-            first: earlier,
-            second: later,
-        },
-        None => StepEvents {
-            first: later,
-            second: None,
-        },
-    }
+    Ok(copied)
 }

@@ -2,6 +2,7 @@
 #![tactic(auto)]
 
 pub mod config;
+pub mod flat;
 pub mod laws;
 pub mod limits;
 mod own;

@@ -5,13 +5,12 @@ ghost use Rattle.std.specs.Bool.{Decides};
 ghost use Rattle.safe_bit.specs.Memory.{Memory};
 ghost use Rattle.safe_bit.specs.Parts.{HasSize, LiesIn, IsPlaced, part, with_part};
 ghost use Rattle.frames.specs.declared.types.Op.{Op};
-ghost use Rattle.frames.specs.SafeBit.{safe_behaviour, SafeReaches, safe_frame, bit_of, value_of};
+ghost use Rattle.frames.specs.SafeBit.{safe_behaviour, SafeReaches, safe_frame, point_at, safe_point, bit_of, value_of};
 
+use crate::flat::FlatStack;
 use crate::register::{Behaves, Register};
-use crate::types::{Action, ActionKind, Frame, FrameLayer, Next, Op, Outcome, Stack, Turned};
+use crate::types::{Action, ActionKind, Frame, FrameLayer, Op, Outcome, Progress};
 use safe_bit::{Place, Store};
-use smallvec::SmallVec;
-use std::alloc::Global;
 
 /// Where an operation of a safe bit stands: its next bit action, with the bit that a write writes.
 #[derive(Clone, Copy, Debug, PartialEq, Eq)]
@@ -34,12 +33,14 @@ impl Behaves for Safe {
 
 impl Register for Safe {
     ghost use Rattle.std.specs.Prelude.{refl};
-    ghost use Rattle.frames.specs.laws.Safe.{safe_lawful, point_decides};
+    ghost use Rattle.frames.specs.laws.Safe.{safe_lawful, safe_tells, point_decides};
     ghost use Rattle.frames.specs.declared.safe.SafePoint.TheVariants.{WriteStart, WriteEnd, ReadStart, ReadEnd};
 
     ghost Holds = { λ _. HasSize safe_behaviour.size };
 
     ghost Reaches = { λ _. SafeReaches };
+
+    ghost point = { λ _. safe_point };
 
     fn size(&self) -> Place {
         Place { cell: 1, word: 0 }
@@ -68,57 +69,77 @@ impl Register for Safe {
         store.set_value(at.cell, value == 1);
     }
 
-    fn begin(&self, _store: &mut Store, _at: Place, _who: u32, op: Op) -> Next<SafePoint> {
-        match op {
-            Op::Write(v) => Next::Pending(SafePoint::WriteStart(v == 1)),
-            Op::Read => Next::Pending(SafePoint::ReadStart),
-        }
+    #[inline(always)]
+    fn begin_on(
+        &self,
+        _store: &mut Store,
+        _at: Place,
+        _who: u32,
+        op: Op,
+        stack: &mut FlatStack,
+    ) -> Option<Outcome> {
+        stack.push(Frame {
+            layer: FrameLayer::Safe,
+            op,
+            i: 0,
+            x: 0,
+        });
+        None
     }
 
-    fn go(
+    #[inline(always)]
+    fn go_on(
         &self,
         store: &mut Store,
         at: Place,
-        pending: SafePoint,
+        _who: u32,
+        stack: &mut FlatStack,
+        first: usize,
         choice: bool,
-    ) -> Turned<SafePoint> {
-        match pending {
+    ) -> Progress {
+        let frame = stack.frame(first);
+        match point_of(frame) {
             SafePoint::WriteStart(bit) => {
                 store.start_write(at.cell, bit);
-                Turned {
-                    next: Next::Pending(SafePoint::WriteEnd(bit)),
+                stack.set(first, frame_of(SafePoint::WriteEnd(bit)));
+                Progress {
+                    end: None,
                     chosen: None,
                 }
             }
             SafePoint::WriteEnd(_) => {
                 store.end_write(at.cell);
-                Turned {
-                    next: Next::Done(Outcome::Written),
+                stack.cut(first);
+                Progress {
+                    end: Some(Outcome::Written),
                     chosen: None,
                 }
             }
             SafePoint::ReadStart => {
                 store.start_read(at.cell);
-                Turned {
-                    next: Next::Pending(SafePoint::ReadEnd),
+                stack.set(first, frame_of(SafePoint::ReadEnd));
+                Progress {
+                    end: None,
                     chosen: None,
                 }
             }
             SafePoint::ReadEnd => {
                 let hit = store.cell(at.cell).hit;
                 let value = store.end_read(at.cell, choice);
-                Turned {
-                    next: Next::Done(Outcome::Value(u32::from(value))),
+                stack.cut(first);
+                Progress {
+                    end: Some(Outcome::Value(u32::from(value))),
                     chosen: if hit { Some((at.cell, value)) } else { None },
                 }
             }
         }
     }
 
-    fn stack(&self, alloc: Global, pending: &SafePoint) -> Stack {
-        let mut stack = SmallVec::new(alloc);
-        stack.push_reserved(frame_of(*pending));
-        stack
+    fn pending(&self, stack: &FlatStack, first: usize, _who: u32) -> Option<SafePoint> {
+        if first >= stack.len() {
+            return None;
+        }
+        Some(point_of(stack.frame(first)))
     }
 
     fn action(&self, pending: &SafePoint, at: Place) -> Action {
@@ -134,14 +155,19 @@ impl Register for Safe {
         }
     }
 
+    ghost tells = { λ _. safe_tells };
+
     ghost lawful = { λ _. safe_lawful };
 
     ghost alike = { λ _ _ _. refl };
+
+    ghost finds_alike = { λ _ _ _. refl };
 
     ghost same_pending = { point_decides ⟦<SafePoint as PartialEq>⟧.eq (elim [ WriteStart _ ↦ elim [ WriteStart _ ↦ refl | WriteEnd _ ↦ refl | ReadStart ↦ refl | ReadEnd ↦ refl ] | WriteEnd _ ↦ elim [ WriteStart _ ↦ refl | WriteEnd _ ↦ refl | ReadStart ↦ refl | ReadEnd ↦ refl ] | ReadStart ↦ elim [ WriteStart _ ↦ refl | WriteEnd _ ↦ refl | ReadStart ↦ refl | ReadEnd ↦ refl ] | ReadEnd ↦ elim [ WriteStart _ ↦ refl | WriteEnd _ ↦ refl | ReadStart ↦ refl | ReadEnd ↦ refl ] ]) };
 }
 
 /// The frame of a pending operation: it tells whether the start is made.
+#[inline(always)]
 fn frame_of(point: SafePoint) -> Frame
     ensures { result ≡ safe_frame point }
 {
@@ -156,5 +182,18 @@ fn frame_of(point: SafePoint) -> Frame
         op,
         i: started,
         x: 0,
+    }
+}
+
+/// The point that a frame tells.
+#[inline(always)]
+fn point_of(frame: Frame) -> SafePoint
+    ensures { result ≡ point_at frame.op frame.i }
+{
+    match frame.op {
+        Op::Write(v) if frame.i == 0 => SafePoint::WriteStart(v == 1),
+        Op::Write(v) => SafePoint::WriteEnd(v == 1),
+        Op::Read if frame.i == 0 => SafePoint::ReadStart,
+        Op::Read => SafePoint::ReadEnd,
     }
 }

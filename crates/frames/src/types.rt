@@ -64,11 +64,11 @@ pub enum Next<P> {
     Done(Outcome),
 }
 
-/// What a step of a pending operation gives: where it stands, and the bit that a hit read chose,
+/// What a step of a pending operation gives: its end, if it ends, and the bit that a hit read chose,
 /// with the value given.
 #[derive(Clone, Copy, Debug, PartialEq, Eq)]
-pub struct Turned<P> {
-    pub next: Next<P>,
+pub struct Progress {
+    pub end: Option<Outcome>,
     pub chosen: Option<(u32, bool)>,
 }
 

@@ -1,14 +1,16 @@
 -- The register of one safe bit is lawful.
-use Rattle.std.proofs.Common.{◌≡◌, ℕ, ◌<◌, Bool, true, false, List, [], ◌∷◌, length, set, add-zero, ◌∙◌, Some, None, refl, sym, ap, arith}
+use Rattle.std.proofs.Common.{◌≡◌, ℕ, zero, suc, ◌+◌, ◌<◌, Bool, true, false, List, [], ◌∷◌, ◌++◌, length, set, take, drop, add-zero, ◌∙◌, Option, Some, None, refl, sym, ap, subst, arith, append-nil, length-drop, length-set, take_all}
+use Rattle.std.proofs.lemmas.List.{take_more_set}
 use Rattle.std.proofs.lemmas.Bool.Decides.{nat_tests, Decides-at, Decides-like}
 use Rattle.std.specs.Bool.{Decides, if◌then◌else◌, ⊤}
 use Rattle.std.specs.Option.{MatchOption}
 use Rattle.std.specs.Cmp.{booleans_Decides}
 use mathlib.Core.Bool.{beq}
+use mir.Val.{bool_byte}
 use Rattle.safe_bit.specs.Memory.{Memory, on_cell, cell_at}
 use Rattle.safe_bit.specs.Actions.{idle_cell, start_write, end_write, start_read, end_read, read_gives}
 use Rattle.safe_bit.specs.Parts.{HasSize, LiesIn, part, with_part}
-use Rattle.safe_bit.specs.laws.Parts.{HasSize-on_cell, HasSize-part, on_cell-part, same_memory}
+use Rattle.safe_bit.specs.laws.Parts.{HasSize-on_cell, HasSize-part, on_cell-part, same_memory, with_part-own}
 use Rattle.safe_bit.specs.declared.Cell.{Cell}
 use Rattle.safe_bit.specs.declared.Place.{Place}
 use Rattle.std.proofs.lemmas.List.{nil_from_length}
@@ -16,8 +18,14 @@ use Rattle.frames.specs.declared.types.Op.{Op}
 use Rattle.frames.specs.declared.types.Op.TheVariants as op
 use Rattle.frames.specs.declared.safe.SafePoint.{SafePoint}
 use Rattle.frames.specs.declared.safe.SafePoint.TheVariants as at
+use Rattle.frames.specs.declared.types.Outcome.{Outcome}
+use Rattle.frames.specs.declared.types.Next.TheVariants.{Pending, Done}
+use Rattle.frames.specs.declared.types.Frame.{Frame}
+use Rattle.frames.specs.declared.types.FrameLayer.TheVariants as layer
 use Rattle.frames.specs.Behaviour.{IsLawful, GoesOn}
-use Rattle.frames.specs.SafeBit.{safe_behaviour, SafeReaches, safe_suits, safe_begins, safe_goes, safe_acts, value_of}
+use Rattle.frames.specs.Flat.{ended, left_frames, outermost, Lands, StandsOn, FramesTell}
+use Rattle.frames.specs.Placed.{placed_bit}
+use Rattle.frames.specs.SafeBit.{safe_behaviour, SafeReaches, safe_suits, safe_begins, safe_goes, safe_acts, safe_frame, point_at, safe_point, bit_of, value_of}
 
 value_below : (b : Bool) → value_of b < 2
 value_below false = omega arith
@@ -140,3 +148,101 @@ safe_lawful = record {
   frames_fit = λ who o p r. omega arith;
   acts_own = λ who o p r. acts p;
 }
+
+-- a bit as a number
+pub byte_value : (b : Bool) → bool_byte b ≡ value_of b
+byte_value false = refl
+byte_value true = refl
+
+-- a frame tells its point
+told_bit : (b : Bool) → bit_of (value_of b) ≡ b
+told_bit false = refl
+told_bit true = refl
+
+point_told : (p : SafePoint) → point_at (safe_frame p).op (safe_frame p).i ≡ p
+point_told (at.WriteStart b) = ap at.WriteStart (told_bit b)
+point_told (at.WriteEnd b) = ap at.WriteEnd (told_bit b)
+point_told at.ReadStart = refl
+point_told at.ReadEnd = refl
+
+-- and the operation
+told_value : (v : ℕ) → v < 2 → value_of (bit_of v) ≡ v
+told_value zero lt = refl
+told_value (suc zero) lt = refl
+told_value (suc (suc v)) lt = absurd (omega (arith, lt))
+
+op_told : (who : ℕ) (o : Op) (p : SafePoint) → SafeReaches who o p → outermost (safe_behaviour.frames p) ≡ Some o
+op_told who (op.Write v) (at.WriteStart b) r = ap (λ x. Some (op.Write x)) (ap value_of r.2 ∙ told_value v r.1)
+op_told who (op.Write v) (at.WriteEnd b) r = ap (λ x. Some (op.Write x)) (ap value_of r.2 ∙ told_value v r.1)
+op_told who op.Read at.ReadStart r = refl
+op_told who op.Read at.ReadEnd r = refl
+op_told who (op.Write v) at.ReadStart r = absurd r
+op_told who (op.Write v) at.ReadEnd r = absurd r
+op_told who op.Read (at.WriteStart b) r = absurd r
+op_told who op.Read (at.WriteEnd b) r = absurd r
+
+pub safe_tells : FramesTell safe_behaviour SafeReaches safe_point
+safe_tells = record { point = λ who o p r. ap Some (point_told p); op = op_told; none = λ who. refl }
+
+-- what is invoked stands behind the frames that were there
+pub begin_lands : (at : Place) (m : Memory) (who : ℕ) (o : Op) (stack : List Frame) → LiesIn at safe_size m → safe_suits who o ≡ true
+    → Lands safe_behaviour.frames at (safe_begins who o (part at safe_size m)).next (safe_begins who o (part at safe_size m)).memory stack m None
+    (stack ++ record { layer = layer.Safe; op = o; i = 0; x = 0 } ∷ []) m
+begin_lands at m who (op.Write v) stack lies fits =
+    let low : v < 2 = grind (arith, nat_tests) in
+    record {
+      answer = refl;
+      stack = ap (λ x. stack ++ record { layer = layer.Safe; op = op.Write x; i = 0; x = 0 } ∷ []) (sym (told_value v low));
+      memory = sym (with_part-own at safe_size m lies);
+    }
+begin_lands at m who op.Read stack lies fits = record { answer = refl; stack = refl; memory = sym (with_part-own at safe_size m lies) }
+
+-- the one frame of an operation that stands at an index of a stack
+one_left : {A : Type 0} (first : ℕ) (xs : List A) (x : A) → drop first xs ≡ x ∷ [] → length xs ≡ first + 1
+one_left first xs x e = let l = ap length e in omega (arith, l, length-drop first xs)
+
+set_last : {A : Type 0} (first : ℕ) (xs : List A) (x y : A) → drop first xs ≡ x ∷ [] → set xs first y ≡ take first xs ++ y ∷ []
+set_last first xs x y e =
+    let l = one_left first xs x e in
+    sym (take_all (first + 1) (set xs first y) (omega (arith, l, length-set xs first y))) ∙ take_more_set xs first y (omega (arith, l))
+
+pub stands_there : (who first : ℕ) (stack : List Frame) (o : Op) (p : SafePoint) → StandsOn safe_behaviour.frames SafeReaches who first stack o p → first < length stack
+stands_there who first stack o p on = let l = one_left first stack (safe_frame p) on.there in omega (arith, l)
+
+module _ (at : Place) (m : Memory) (who first : ℕ) (stack : List Frame) (choice : Bool) (frame : Frame) (q : SafePoint)
+    (found : drop first stack ≡ frame ∷ drop (first + 1) stack) (is : q ≡ point_at frame.op frame.i) where
+  -- whoever stands there stands at the point that the frame tells
+  same_point : (o : Op) (p : SafePoint) → StandsOn safe_behaviour.frames SafeReaches who first stack o p → q ≡ p
+  same_point o p on =
+      let e : frame ∷ drop (first + 1) stack ≡ safe_frame p ∷ [] = sym found ∙ on.there in
+      let f : frame ≡ safe_frame p = cc in
+      is ∙ ap (λ x. point_at x.op x.i) f ∙ point_told p
+
+  -- an operation that goes on has its frame changed, and one that ends has it cut
+  pub stands_on : (q' : SafePoint) (m' : Memory) → (safe_goes q choice (part at safe_size m)).next ≡ Pending q' → m' ≡ with_part at (safe_goes q choice (part at safe_size m)).memory m
+      → (o : Op) (p : SafePoint) → StandsOn safe_behaviour.frames SafeReaches who first stack o p
+      → Lands safe_behaviour.frames at (safe_goes p choice (part at safe_size m)).next (safe_goes p choice (part at safe_size m)).memory (take first stack) m None (set stack first (safe_frame q')) m'
+  stands_on q' m' next memory o p on =
+      subst (λ x. Lands safe_behaviour.frames at (safe_goes x choice (part at safe_size m)).next (safe_goes x choice (part at safe_size m)).memory (take first stack) m None (set stack first (safe_frame q')) m')
+      (same_point o p on)
+      (record {
+        answer = sym (ap ended next);
+        stack = set_last first stack (safe_frame p) (safe_frame q') on.there ∙ ap (λ n. take first stack ++ left_frames safe_behaviour.frames n) (sym next);
+        memory = memory;
+      })
+
+  pub ends_there : (outcome : Outcome) (m' : Memory) → (safe_goes q choice (part at safe_size m)).next ≡ Done outcome → m' ≡ with_part at (safe_goes q choice (part at safe_size m)).memory m
+      → (o : Op) (p : SafePoint) → StandsOn safe_behaviour.frames SafeReaches who first stack o p
+      → Lands safe_behaviour.frames at (safe_goes p choice (part at safe_size m)).next (safe_goes p choice (part at safe_size m)).memory (take first stack) m (Some outcome) (take first stack) m'
+  ends_there outcome m' next memory o p on =
+      subst (λ x. Lands safe_behaviour.frames at (safe_goes x choice (part at safe_size m)).next (safe_goes x choice (part at safe_size m)).memory (take first stack) m (Some outcome) (take first stack) m')
+      (same_point o p on)
+      (record {
+        answer = sym (ap ended next);
+        stack = sym (append-nil (take first stack)) ∙ ap (λ n. take first stack ++ left_frames safe_behaviour.frames n) (sym next);
+        memory = memory;
+      })
+
+  pub chooses_there : (chosen : Option (ℕ × Bool)) → chosen ≡ placed_bit at (safe_goes q choice (part at safe_size m)).chosen
+      → (o : Op) (p : SafePoint) → StandsOn safe_behaviour.frames SafeReaches who first stack o p → chosen ≡ placed_bit at (safe_goes p choice (part at safe_size m)).chosen
+  chooses_there chosen e o p on = e ∙ ap (λ x. placed_bit at (safe_goes x choice (part at safe_size m)).chosen) (same_point o p on)

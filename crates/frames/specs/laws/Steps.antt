@@ -1,7 +1,7 @@
 -- What every step of every register keeps: a step that isn't enabled leaves the configuration, a process
 -- that has stopped stays so, and a fitting step leaves pending operations at points that can be reached.
-use Rattle.std.proofs.Common.{◌≡◌, ℕ, zero, suc, ◌<◌, Bool, true, false, Option, Some, None, List, length, set, get_or, replicate, MatchOption, refl, sym, ◌∙◌, ap, subst, inl, inr, length-set}
-use Rattle.std.specs.Prelude.{⊤, is_none, is_some, not, ◌&&◌, nat_lt, ◌==◌, [], ◌∷◌}
+use Rattle.std.proofs.Common.{◌≡◌, ℕ, zero, suc, ◌<◌, Bool, true, false, Option, Some, None, List, length, set, get_or, replicate, refl, sym, ◌∙◌, ap, subst, inl, inr, length-set}
+use Rattle.std.specs.Prelude.{is_none, is_some, not, ◌&&◌, nat_lt, ◌==◌, [], ◌∷◌}
 use Rattle.std.proofs.lemmas.Bool.{cases_eq, and_parts, ltb-true}
 use Rattle.std.proofs.lemmas.List.{get_or-set_same, get_or-set_other, set-get_or, length-replicate}
 use Rattle.safe_bit.specs.Memory.{Memory}
@@ -21,6 +21,7 @@ use Rattle.frames.specs.Behaviour.{Behaviour, IsLawful, GoesOn, StandsWell}
 use Rattle.frames.specs.Fitting.{process_of}
 use Rattle.frames.specs.Configuration.{Configuration, Acted, running_at, is_stopped, fits_step, is_ready, is_enabled, mark, stepped, replayed, events_of, acted, acted_on, acting, acting_unless, put_acted, only_records, invoking, going, still_running, chosen_of, in_order}
 use Rattle.frames.specs.Parked.{IsConfiguration}
+pub use Rattle.frames.specs.Flat.{IsReached}
 
 -- a step that changes nothing, and records that it is void
 pub record IsVoid {R P : Type 0} (b : Behaviour P) (c : Configuration R P) (s : Step) : Type 0 where
@@ -114,12 +115,8 @@ stopped_for_good b p c (s ∷ steps) h =
     let later = stopped_for_good b p (stepped b c s) steps first.stopped in
     record { stopped = later.stopped; pending = later.pending ∙ first.pending }
 
--- what a process has pending can be reached
-abbrev pub IsReached : {P : Type 0} → (ℕ → Op → P → Type 0) → ℕ → Option (Running P) → Type 0
-IsReached Reaches p slot = MatchOption slot ⊤ (λ r. Reaches p r.op r.point)
-
 -- what a step leaves of its process, and of the memory, is well
-record LeavesWell {P : Type 0} (Holds : Memory → Type 0) (Reaches : ℕ → Op → P → Type 0) (p : ℕ) (done : Acted P) : Type 0 where
+pub record LeavesWell {P : Type 0} (Holds : Memory → Type 0) (Reaches : ℕ → Op → P → Type 0) (p : ℕ) (done : Acted P) : Type 0 where
   pub holds : Holds done.memory
   pub reached : IsReached Reaches p done.running
 
@@ -144,12 +141,12 @@ nothing_reached {P} Reaches (suc n) (suc p) = subst (IsReached Reaches (suc p)) 
     nothing_there (suc n) (suc p) = nothing_there n p
 
 module _ {P : Type 0} (b : Behaviour P) (Holds : Memory → Type 0) (Reaches : ℕ → Op → P → Type 0) (lawful : IsLawful b Holds Reaches) where
-  invoking_well : (p : ℕ) (o : Op) (x : Option (Running P)) (m : Memory) → Holds m → IsReached Reaches p x → b.suits p o ≡ true
+  pub invoking_well : (p : ℕ) (o : Op) (x : Option (Running P)) (m : Memory) → Holds m → IsReached Reaches p x → b.suits p o ≡ true
       → LeavesWell Holds Reaches p (invoking b p o x m)
   invoking_well p o None m h r fits = acted_well b Holds Reaches p o (Some (Invoke p o)) (b.begins p o m).next (b.begins p o m).memory (lawful.begins_well p o m h fits)
   invoking_well p o (Some x) m h r fits = record { holds = h; reached = r }
 
-  going_well : (p : ℕ) (choice : Bool) (x : Option (Running P)) (m : Memory) → Holds m → IsReached Reaches p x → LeavesWell Holds Reaches p (going b p choice x m)
+  pub going_well : (p : ℕ) (choice : Bool) (x : Option (Running P)) (m : Memory) → Holds m → IsReached Reaches p x → LeavesWell Holds Reaches p (going b p choice x m)
   going_well p choice None m h r = record { holds = h; reached = r }
   going_well p choice (Some x) m h r =
       acted_well b Holds Reaches p x.op (chosen_of p (b.goes x.point choice m).chosen) (b.goes x.point choice m).next (b.goes x.point choice m).memory (lawful.goes_well p x.op x.point choice m h r)

@@ -1,0 +1,138 @@
+-- A configuration's stacks, before and after a step of one process.
+use Rattle.std.proofs.Common.{◌≡◌, ℕ, ◌<◌, List, [], length, get_or, set, Option, Some, None, option_map, refl, sym, ap, subst, ◌∙◌, inl, inr, arith, zero-add, zero, suc, true, false, replicate}
+use Rattle.std.specs.Prelude.{Bool, ◌&&◌}
+use Rattle.std.specs.Bool.{Decides}
+use Rattle.std.specs.Cmp.Lexicographic.{pointwise}
+use mathlib.Core.Bool.{beq}
+use Rattle.std.proofs.lemmas.Bool.{cases_eq}
+use Rattle.std.proofs.lemmas.Bool.Decides.{Decides-and, Decides-like}
+use Rattle.std.proofs.lemmas.Slice.Eq.{slice_eq-Decides}
+use Rattle.std.proofs.lemmas.List.{get_or-set_same, get_or-set_other, get_or_default, same_lists}
+use Rattle.safe_bit.specs.laws.Equality.{memory_eq, memory_decides}
+use Rattle.frames.specs.Equality.{SameConfiguration, marks_decide}
+use Rattle.safe_bit.specs.Memory.{Memory}
+use Rattle.safe_bit.specs.Parts.{origin}
+use Rattle.frames.specs.declared.types.Action.{Action}
+use Rattle.frames.specs.Placed.{placed_action}
+use Rattle.frames.specs.declared.types.Op.{Op}
+use Rattle.frames.specs.declared.types.Frame.{Frame}
+use Rattle.frames.specs.declared.types.StepEvents.{StepEvents}
+use Rattle.frames.specs.declared.running.Running.{Running}
+use Rattle.frames.specs.Behaviour.{Behaviour, IsLawful}
+use Rattle.frames.specs.Configuration.{Configuration, Acted, initial_configuration, running_at, put_acted}
+use Rattle.frames.specs.Parked.{IsConfiguration, IsFlat}
+use Rattle.frames.specs.Flat.{FramesTell, Acts, IsReached, running_from, running_of, stack_of}
+use Rattle.frames.specs.laws.Steps.{initial_keeps, put_keeps}
+use Rattle.frames.specs.laws.Flat.{set_running, length_running, none_running, slot_point, stack_eq, stack_decides, tells_slot}
+
+-- what lies in a configuration's fields
+abbrev pub shown : {R P : Type 0} → (ℕ → List Frame → Option P) → R → Memory → List (List Frame) → List Bool → Configuration R P
+shown find r m stacks stopped = record { register = r; memory = m; running = running_from find 0 stacks; stopped = stopped }
+
+module _ {R P : Type 0} (b : Behaviour P) (Holds : Memory → Type 0) (Reaches : ℕ → Op → P → Type 0) (find : ℕ → List Frame → Option P)
+    (lawful : IsLawful b Holds Reaches) (tell : FramesTell b Reaches find)
+    (r : R) (m : Memory) (stacks : List (List Frame)) (stopped : List Bool) (was : IsFlat b Holds Reaches (shown find r m stacks stopped) stacks) where
+  -- a process that is there has a stack
+  pub stack_there : (who : ℕ) → who < b.processes → who < length stacks
+  stack_there who lt = let e = was.configuration.each in omega (arith, lt, e, length_running find 0 stacks)
+
+  -- and on it the frames of what the process has pending
+  pub found_there : (who : ℕ) (x : List Frame) → who < b.processes → x ≡ get_or stacks who x → x ≡ stack_of b (running_at who (shown find r m stacks stopped))
+  found_there who x lt is = is ∙ sym (get_or_default stacks who [] x (stack_there who lt)) ∙ was.flat who
+
+  -- a stack that is put in tells what its process has pending
+  put_running : (who : ℕ) (slot : Option (Running P)) (stack : List Frame) → IsReached Reaches who slot → stack ≡ stack_of b slot
+      → running_from find 0 (set stacks who stack) ≡ set (running_from find 0 stacks) who slot
+  put_running who slot stack there is =
+      set_running find 0 stacks who stack
+      ∙ ap (λ n. set (running_from find 0 stacks) who (running_of (find n) stack)) (zero-add who)
+      ∙ ap (λ x. set (running_from find 0 stacks) who (running_of (find who) x)) is
+      ∙ ap (λ x. set (running_from find 0 stacks) who x) (tells_slot b Reaches find tell who slot there)
+
+  module _ (who : ℕ) (done : Acted P) (told : StepEvents) (stack : List Frame) (m' : Memory) (acts : Acts b done told stack m') (there : IsReached Reaches who done.running) where
+    -- the configuration behind what the step did
+    pub put_shown : shown find r m' (set stacks who stack) stopped ≡ put_acted who done (shown find r m stacks stopped)
+    put_shown = λ i. record { register = r; memory = acts.memory i; running = put_running who done.running stack there acts.stack i; stopped = stopped }
+
+    pub put_flat : who < b.processes → Holds done.memory → IsFlat b Holds Reaches (shown find r m' (set stacks who stack) stopped) (set stacks who stack)
+    put_flat lt holds = record {
+      configuration = subst (IsConfiguration b Holds Reaches) (sym put_shown) (put_keeps b Holds Reaches lawful (shown find r m stacks stopped) who done was.configuration lt holds there);
+      flat = λ q. elim (cases_eq q who) as (λ _. get_or (set stacks who stack) q [] ≡ stack_of b (running_at q (shown find r m' (set stacks who stack) stopped))) [
+        | inl same ↦ rw (same, get_or-set_same stacks who stack [] (stack_there who lt))
+            (acts.stack ∙ ap (stack_of b) (sym (ap (λ l. get_or l who None) (put_running who done.running stack there acts.stack)
+            ∙ get_or-set_same (running_from find 0 stacks) who done.running None (subst (λ n. who < n) (sym was.configuration.each) lt))))
+        | inr other ↦ rw (get_or-set_other stacks who q stack [] other)
+            (was.flat q ∙ ap (stack_of b) (sym (ap (λ l. get_or l q None) (put_running who done.running stack there acts.stack)
+            ∙ get_or-set_other (running_from find 0 stacks) who q done.running None other)))
+      ];
+    }
+
+-- at first nobody has a frame
+module _ {R P : Type 0} (b : Behaviour P) (Holds : Memory → Type 0) (Reaches : ℕ → Op → P → Type 0) (find : ℕ → List Frame → Option P)
+    (lawful : IsLawful b Holds Reaches) (r : R) (v : ℕ) (lt : v < b.values) (m : Memory) (stacks : List (List Frame)) (stopped : List Bool)
+    (at_m : m ≡ b.initial v) (at_stacks : stacks ≡ replicate b.processes []) (at_stopped : stopped ≡ replicate b.processes false) where
+  first_running : running_from find 0 stacks ≡ replicate b.processes None
+  first_running = ap (running_from find 0) at_stacks ∙ none_running find 0 b.processes
+
+  pub first_shown : shown find r m stacks stopped ≡ initial_configuration b r v
+  first_shown = λ i. record { register = r; memory = at_m i; running = first_running i; stopped = at_stopped i }
+
+  nobody : (n p : ℕ) → get_or (replicate n []) p [] ≡ stack_of b (get_or (replicate n None) p None)
+  nobody zero p = refl
+  nobody (suc n) zero = refl
+  nobody (suc n) (suc p) = nobody n p
+
+  pub first_flat : IsFlat b Holds Reaches (shown find r m stacks stopped) stacks
+  first_flat = record {
+    configuration = initial_keeps b Holds Reaches lawful r v m (running_from find 0 stacks) stopped lt at_m first_running at_stopped;
+    flat = λ p. ap (λ l. get_or l p []) at_stacks ∙ nobody b.processes p ∙ sym (ap (λ l. stack_of b (get_or l p None)) first_running);
+  }
+
+-- what a stack tells is what its process has pending
+pub pointed : {P : Type 0} (b : Behaviour P) (Reaches : ℕ → Op → P → Type 0) (find : ℕ → List Frame → Option P) → FramesTell b Reaches find
+    → (who : ℕ) (slot : Option (Running P)) (stack : List Frame) (p : P) → IsReached Reaches who slot → stack ≡ stack_of b slot → find who stack ≡ Some p
+    → ((o : Op) × Reaches who o p) × (option_map (λ r. r.point) slot ≡ Some p)
+pointed {P} b Reaches find tell who slot stack p there is found =
+    let e : option_map (λ r. r.point) slot ≡ Some p = sym (slot_point b Reaches find tell who slot there) ∙ ap (find who) (sym is) ∙ found in (reached_at slot there e, e)
+  where
+    reached_at : (slot : Option (Running P)) → IsReached Reaches who slot → option_map (λ r. r.point) slot ≡ Some p → (o : Op) × Reaches who o p
+    reached_at None h e = cc
+    reached_at (Some r) h e = let same : r.point ≡ p = cc in (r.op, subst (Reaches who r.op) same h)
+
+-- what is asked of the point of what is pending
+pub of_point : {P X : Type 0} (slot : Option (Running P)) (p : P) (f : P → X) → option_map (λ r. r.point) slot ≡ Some p → option_map (λ r. f r.point) slot ≡ Some (f p)
+of_point None p f e = cc
+of_point (Some r) p f e = let same : r.point ≡ p = cc in ap (λ q. Some (f q)) same
+
+-- an action at the first of all places
+pub at_origin : (a : Action) → placed_action origin a ≡ a
+at_origin a = λ i. record a { cell = zero-add a.cell i }
+
+-- configurations are equal where their stacks are
+pub same_flat : {R P : Type 0} (is : R → Behaviour P) (Holds : R → Memory → Type 0) (Reaches : R → ℕ → Op → P → Type 0) (find : R → ℕ → List Frame → Option P)
+    (E : R → R → Bool) (alike : (a b : R) → E a b ≡ true → is a ≡ is b) (finds_alike : (a b : R) → E a b ≡ true → find a ≡ find b)
+    (r r' : R) (m m' : Memory) (stacks stacks' : List (List Frame)) (stopped stopped' : List Bool)
+    → IsFlat (is r) (Holds r) (Reaches r) (shown (find r) r m stacks stopped) stacks → IsFlat (is r') (Holds r') (Reaches r') (shown (find r') r' m' stacks' stopped') stacks'
+    → Decides (E r r' && (memory_eq m m' && (pointwise stack_eq stacks stacks' && pointwise beq stopped stopped')))
+    (SameConfiguration E (shown (find r) r m stacks stopped) (shown (find r') r' m' stacks' stopped'))
+same_flat is Holds Reaches find E alike finds_alike r r' m m' stacks stacks' stopped stopped' was was' =
+    Decides-like _
+    (λ p. record { register = p.0; memory = p.1.0; running = λ i. running_from (finds_alike r r' p.0 i) 0 (p.1.1.0 i); stopped = p.1.1.1 })
+    (λ s. (s.register, (s.memory, (same_stacks s.register s.running, s.stopped))))
+    (Decides-and (E r r') _ (λ h. h, λ h. h)
+    (Decides-and (memory_eq m m') _ (memory_decides m m')
+    (Decides-and (pointwise stack_eq stacks stacks') _ (slice_eq-Decides stack_decides stacks stacks' _ refl) (marks_decide stopped stopped'))))
+  where
+    at_place : E r r' ≡ true → running_from (find r) 0 stacks ≡ running_from (find r') 0 stacks' → length stacks ≡ length stacks'
+        → (k : ℕ) (x : List Frame) → k < length stacks → get_or stacks k x ≡ get_or stacks' k x
+    at_place e s as_many k x lt =
+        sym (get_or_default stacks k [] x lt) ∙ was.flat k ∙ (λ i. stack_of (alike r r' e i) (get_or (s i) k None)) ∙ sym (was'.flat k)
+        ∙ get_or_default stacks' k [] x (subst (λ n. k < n) as_many lt)
+
+    same_stacks : E r r' ≡ true → running_from (find r) 0 stacks ≡ running_from (find r') 0 stacks' → stacks ≡ stacks'
+    same_stacks e s =
+        let long : length (running_from (find r) 0 stacks) ≡ length (running_from (find r') 0 stacks') = ap length s in
+        let each = length_running (find r) 0 stacks in
+        let each' = length_running (find r') 0 stacks' in
+        let as_many : length stacks ≡ length stacks' = omega (arith, long, each, each') in
+        same_lists stacks stacks' as_many (λ k x lt. at_place e s as_many k x lt)
