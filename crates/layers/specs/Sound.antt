@@ -18,6 +18,12 @@ IsNotSpent (Value v) = ⊤
 IsNotSpent Written = ⊤
 IsNotSpent (Spent layer) = ⊥
 
+-- an end that ends the whole
+abbrev pub IsSpent : Outcome → Type 0
+IsSpent (Value v) = ⊥
+IsSpent Written = ⊥
+IsSpent (Spent layer) = ⊤
+
 -- a program is sound: each task stands, with the table's rest behind it; own words are there and stay in range;
 -- and its end answers the operation
 abbrev pub IsSound : {Task : Type 0} → Table Task → (Task → Type 0) → (Outcome → Type 0) → Program Task → Type 0

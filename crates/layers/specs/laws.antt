@@ -9,3 +9,4 @@ pub mod InPlace
 pub mod Running
 pub mod Initial
 pub mod Equality
+pub mod Flat

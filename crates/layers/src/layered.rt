@@ -9,10 +9,11 @@ use crate::construction::{Construction, Rules};
 use crate::drive;
 use crate::fit::{LayerError, fits_below};
 use crate::nested::Nested;
+use frames::flat::FlatStack;
 use frames::register::{Behaves, Register};
-use frames::types::{Action, Next, Op, Stack, Turned};
+use frames::types::{Action, Op, Outcome, Progress};
 use safe_bit::{Place, Store};
-use std::alloc::{AllocError, Global};
+use std::alloc::AllocError;
 
 /// A construction over a register: each of its parts is the register below, at a place of its own.
 #[derive(Debug, PartialEq, Eq)]
@@ -67,6 +68,8 @@ impl<L: Rules, S: Behaves> Behaves for Layered<L, S> {
 
 impl<L: Construction, S: Register> Register for Layered<L, S> {
     ghost use Rattle.layers.specs.Sound.{LayerHolds, LayerReaches};
+    ghost use Rattle.layers.specs.Flat.{layered_point};
+    ghost use Rattle.layers.specs.laws.Flat.{layered_tells, points_alike};
     ghost use Rattle.layers.specs.laws.Over.{over};
     ghost use Rattle.layers.specs.laws.Layered.{layer_lawful};
     ghost use Rattle.layers.specs.laws.Equality.{nested_decides, layered_alike, both_true};
@@ -74,6 +77,8 @@ impl<L: Construction, S: Register> Register for Layered<L, S> {
     ghost Holds = { λ r. LayerHolds (L.table r.layer) (S.is r.below) (S.Holds r.below) };
 
     ghost Reaches = { λ r. LayerReaches (L.table r.layer) (L.Stands r.layer) (S.Reaches r.below) };
+
+    ghost point = { λ r. layered_point (L.table r.layer) (S.point r.below) };
 
     fn size(&self) -> Place {
         drive::size(&self.layer, &self.below)
@@ -99,32 +104,57 @@ impl<L: Construction, S: Register> Register for Layered<L, S> {
         drive::init(&self.layer, &self.below, store, at, value);
     }
 
-    fn begin(&self, store: &mut Store, at: Place, who: u32, op: Op) -> Next<Self::Pending> {
-        drive::begin(&self.layer, &self.below, store, at, who, op)
-    }
-
-    fn go(
+    #[inline(always)]
+    fn begin_on(
         &self,
         store: &mut Store,
         at: Place,
-        pending: Self::Pending,
-        choice: bool,
-    ) -> Turned<Self::Pending> {
-        drive::go(&self.layer, &self.below, store, at, pending, choice)
+        who: u32,
+        op: Op,
+        stack: &mut FlatStack,
+    ) -> Option<Outcome> {
+        drive::begin_on(&self.layer, &self.below, store, at, who, op, stack)
     }
 
-    fn stack(&self, alloc: Global, pending: &Self::Pending) -> Stack {
-        drive::stack(&self.layer, &self.below, alloc, pending)
+    #[inline(always)]
+    fn go_on(
+        &self,
+        store: &mut Store,
+        at: Place,
+        who: u32,
+        stack: &mut FlatStack,
+        first: usize,
+        choice: bool,
+    ) -> Progress {
+        drive::go_on(
+            &self.layer,
+            &self.below,
+            store,
+            at,
+            who,
+            stack,
+            first,
+            choice,
+        )
+    }
+
+    fn pending(&self, stack: &FlatStack, first: usize, who: u32) -> Option<Self::Pending> {
+        drive::pending(&self.layer, &self.below, stack, first, who)
     }
 
     fn action(&self, pending: &Self::Pending, at: Place) -> Action {
         drive::action(&self.layer, &self.below, pending, at)
     }
 
+    ghost tells = { λ r. layered_tells (over (S.lawful r.below) (L.sound r.layer) r.fit) (S.point r.below) (S.tells r.below) };
+
     ghost lawful = { λ r. layer_lawful (over (S.lawful r.below) (L.sound r.layer) r.fit) };
 
     ghost alike = { λ a b h. let both = both_true (S.PartialEq.eq a.below b.below) (L.PartialEq.eq a.layer b.layer) h in
         layered_alike (L.table a.layer) (L.table b.layer) (S.is a.below) (S.is b.below) (L.alike a.layer b.layer both.1) (S.alike a.below b.below both.0) };
+
+    ghost finds_alike = { λ a b h. let both = both_true (S.PartialEq.eq a.below b.below) (L.PartialEq.eq a.layer b.layer) h in
+        points_alike (L.table a.layer) (L.table b.layer) (S.point a.below) (S.point b.below) (L.alike a.layer b.layer both.1) (S.finds_alike a.below b.below both.0) };
 
     ghost same_pending = { nested_decides L.Task.PartialEq.eq S.Pending.PartialEq.eq L.same_task S.same_pending };
 }

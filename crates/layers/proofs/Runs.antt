@@ -1,0 +1,199 @@
+-- A layer that runs on a flat stack, from one part to the next.
+use Rattle.std.proofs.Common.{◌≡◌, ℕ, ◌+◌, List, ◌∷◌, ◌++◌, arith, length-drop, Option, Some, None, refl, sym, ap, subst, ◌∙◌, append-nil}
+use Rattle.std.specs.Prelude.{⊤, length, drop, ◌<◌}
+use Rattle.safe_bit.specs.declared.Place.{Place}
+use Rattle.safe_bit.specs.Memory.{Memory}
+use Rattle.safe_bit.specs.Parts.{with_part}
+use Rattle.safe_bit.specs.laws.Parts.{with_part-own}
+use Rattle.frames.specs.declared.types.Op.{Op}
+use Rattle.frames.specs.declared.types.Outcome.{Outcome}
+use Rattle.frames.specs.declared.types.Outcome.TheVariants.{Value, Written, Spent}
+use Rattle.frames.specs.declared.types.Next.{Next}
+use Rattle.frames.specs.declared.types.Next.TheVariants.{Pending, Done}
+use Rattle.frames.specs.declared.types.Frame.{Frame}
+use Rattle.layers.specs.declared.nested.Nested.{Nested}
+use Rattle.layers.specs.declared.nested.Continuation.{Continuation}
+use Rattle.layers.specs.declared.nested.Continuation.TheVariants as continuation
+use Rattle.frames.specs.Behaviour.{Behaviour, Begun, Answers, StandsWell}
+use Rattle.frames.specs.declared.running.Running.{Running}
+use Rattle.frames.specs.Flat.{Lands, StandsOn, IsReached, ended, left_frames, stack_of}
+use Rattle.layers.specs.Nested.{Table, layer_size, own_words, asked, layered}
+use Rattle.layers.specs.Sound.{IsNotSpent, IsSpent, LayerHolds, LayerReaches}
+use Rattle.layers.specs.Settled.{settled, ContinuationStands, run_on, follow_on}
+use Rattle.layers.specs.InPlace.{own, LayerLies}
+use Rattle.layers.specs.Flat.{task_frames}
+use Rattle.layers.specs.laws.Flat.{parts_there}
+use Rattle.layers.specs.laws.InPlace.{own_with}
+use Rattle.layers.specs.laws.Running.{ask_holds, ask_stands, rest_stands, rest_holds, run_well, follow_ended, put_again, lies_after}
+use Rattle.layers.specs.laws.Over.{LayerOver}
+
+-- an end at which no program goes on: the part waits, or is spent
+abbrev pub Stops : Option Outcome → Type 0
+Stops None = ⊤
+Stops (Some outcome) = IsSpent outcome
+
+-- work has come to c and m, from where it was to come to a register's `aim`
+pub record ComesTo {Task P : Type 0} (t : Table Task) (b : Behaviour P) (Holds : Memory → Type 0) (Stands : ℕ → Op → Task → Type 0) (at : Place) (aim : Begun (Nested Task P)) (before : Memory)
+    (c : Continuation Task) (m : Memory) : Type 0 where
+  pub who : ℕ
+  pub op : Op
+  pub stands : ContinuationStands (Stands who op) (Answers t.values op) c
+  pub lies : LayerLies t b Holds at m
+  pub aims : run_on t b c (own t b at m) ≡ aim
+  pub puts : (late : Memory) → LayerHolds t b Holds late → with_part at late m ≡ with_part at late before
+
+-- an operation that has ended so
+pub done_of : {P : Type 0} (next : Next P) (outcome : Outcome) → ended next ≡ Some outcome → next ≡ Done outcome
+done_of (Pending p) outcome e = cc
+done_of (Done o) outcome e = let same : o ≡ outcome = cc in ap Done same
+
+-- a part that has ended leaves the stack in front of it
+pub ended_leaves : {P : Type 0} (frames : P → List Frame) (next : Next P) (given : Option Outcome) (outcome : Outcome) (front left : List Frame) → given ≡ ended next → given ≡ Some outcome
+    → left ≡ front ++ left_frames frames next → left ≡ front
+ended_leaves frames next given outcome front left answer e leaves = leaves ∙ ap (λ n. front ++ left_frames frames n) (done_of next outcome (sym answer ∙ e)) ∙ append-nil front
+
+module _ {Task P : Type 0} (l : LayerOver Task P) where
+  -- who has frames from an index on stands there
+  pub stands_where : (who first : ℕ) (stack : List Frame) (slot : Option (Running (Nested Task P))) → IsReached (LayerReaches l.table l.Stands l.Reaches) who slot
+      → drop first stack ≡ stack_of (layered l.table l.below) slot → first < length stack
+      → (o : Op) × ((n : Nested Task P) × StandsOn (layered l.table l.below).frames (LayerReaches l.table l.Stands l.Reaches) who first stack o n)
+  stands_where who first stack None h is lt = let none : length (drop first stack) ≡ 0 = ap length is in absurd (omega (arith, none, length-drop first stack, lt))
+  stands_where who first stack (Some r) h is lt = (r.op, (r.point, record { reached = h; there = is }))
+
+  -- the task that is found by a frame is that in which a process stands
+  pub found_task : (who first : ℕ) (stack : List Frame) (frame : Frame) → drop first stack ≡ frame ∷ drop (first + 1) stack
+      → (o : Op) (n : Nested Task P) → StandsOn (layered l.table l.below).frames (LayerReaches l.table l.Stands l.Reaches) who first stack o n → l.table.find who frame ≡ n.task
+  found_task who first stack frame found o n on =
+      ap (l.table.find who) (parts_there first stack (l.below.frames n.below) (l.table.frame n.task) frame on.there found).0 ∙ (l.sound.frame_tells who o n.task on.reached.stands).0
+
+module _ {Task P : Type 0} (l : LayerOver Task P) (at : Place) where
+  -- an operation that stops where its part does
+  stops : (task : Task) (next : Next P) (inner : Memory) (given : Option Outcome) (front left : List Frame) (before after : Memory)
+      → Lands (task_frames l.table l.below task) at next inner front before given left after → Stops given
+      → Lands (layered l.table l.below).frames at (follow_on l.table l.below task next inner).next (follow_on l.table l.below task next inner).memory front before given left after
+  stops task (Pending p) inner given front left before after lands h = record { answer = lands.answer; stack = lands.stack; memory = lands.memory }
+  stops task (Done (Spent layer)) inner given front left before after lands h = record { answer = lands.answer; stack = lands.stack; memory = lands.memory }
+  stops task (Done Written) inner given front left before after lands h = absurd (subst Stops lands.answer h)
+  stops task (Done (Value v)) inner given front left before after lands h = absurd (subst Stops lands.answer h)
+
+  -- the same, for a stack and a memory that were there before
+  pub stops_there : (task : Task) (next : Next P) (inner : Memory) (given : Option Outcome) (front left : List Frame) (before after : Memory)
+      → Lands (task_frames l.table l.below task) at next inner front before given left after → Stops given → (aim : Begun (Nested Task P)) → follow_on l.table l.below task next inner ≡ aim
+      → Lands (layered l.table l.below).frames at aim.next aim.memory front before given left after
+  stops_there task next inner given front left before after lands h aim e =
+      subst (λ a. Lands (layered l.table l.below).frames at a.next a.memory front before given left after) e (stops task next inner given front left before after lands h)
+
+  module _ (aim : Begun (Nested Task P)) (before : Memory) (c : Continuation Task) (m : Memory) (come : ComesTo l.table l.below l.Holds l.Stands at aim before c m) where
+    -- a program that ends
+    pub ends : (outcome : Outcome) (stack : List Frame) → c ≡ continuation.Ends outcome → Lands (layered l.table l.below).frames at aim.next aim.memory stack before (Some outcome) stack m
+    ends outcome stack is =
+        let here = own l.table l.below at m in
+        let e = ap (λ d. run_on l.table l.below d here) (sym is) ∙ come.aims in
+        subst (λ a. Lands (layered l.table l.below).frames at a.next a.memory stack before (Some outcome) stack m) e
+        (record {
+          answer = refl;
+          stack = sym (append-nil stack);
+          memory = sym (with_part-own at (layer_size l.table l.below.size) m come.lies.inside) ∙ come.puts here come.lies.holds;
+        })
+
+    module _ (task : Task) (is : c ≡ continuation.Asks task) (given : Option Outcome) (stack left : List Frame) (m1 : Memory)
+        (lands : Lands (task_frames l.table l.below task) at (asked l.below (l.table.asks task) (own l.table l.below at m)).next (asked l.below (l.table.asks task) (own l.table l.below at m)).memory stack m given left m1) where
+      task_stands : l.Stands come.who come.op task
+      task_stands = subst (ContinuationStands (l.Stands come.who come.op) (Answers l.table.values come.op)) is come.stands
+
+      asked_well : LayerHolds l.table l.below l.Holds (asked l.below (l.table.asks task) (own l.table l.below at m)).memory
+      asked_well = ask_holds l come.who come.op task (own l.table l.below at m) come.lies.holds task_stands
+
+      asked_aims : follow_on l.table l.below task (asked l.below (l.table.asks task) (own l.table l.below at m)).next (asked l.below (l.table.asks task) (own l.table l.below at m)).memory ≡ aim
+      asked_aims = ap (λ d. run_on l.table l.below d (own l.table l.below at m)) (sym is) ∙ come.aims
+
+      asked_puts : m1 ≡ with_part at (asked l.below (l.table.asks task) (own l.table l.below at m)).memory before
+      asked_puts = lands.memory ∙ come.puts _ asked_well
+
+      -- a part that is asked, and waits or is spent
+      pub asks_and_stops : Stops given → Lands (layered l.table l.below).frames at aim.next aim.memory stack before given left m1
+      asks_and_stops h =
+          stops_there task _ _ given stack left before m1 (record { answer = lands.answer; stack = lands.stack; memory = asked_puts }) h aim asked_aims
+
+      -- the layer lies there behind it
+      pub asked_lies : LayerLies l.table l.below l.Holds at m1
+      asked_lies = lies_after l at m come.lies _ m1 lands.memory asked_well
+
+      -- and a part that has ended has left its answer
+      pub asked_answers : (outcome : Outcome) → given ≡ Some outcome → Answers l.below.values (l.table.asks task).op outcome
+      asked_answers outcome e =
+          subst (StandsWell (l.Reaches (l.table.asks task).who (l.table.asks task).op) (Answers l.below.values (l.table.asks task).op)) (done_of _ outcome (sym lands.answer ∙ e))
+          (ask_stands l come.who come.op task (own l.table l.below at m) come.lies.holds task_stands)
+
+      -- the program goes on behind it
+      pub turns : (outcome : Outcome) → given ≡ Some outcome → IsNotSpent outcome → (c2 : Continuation Task) (m2 : Memory)
+          → c2 ≡ (settled (own_words l.table l.below.size) (l.table.rest task outcome) (own l.table l.below at m1)).continuation
+          → m2 ≡ with_part at (settled (own_words l.table l.below.size) (l.table.rest task outcome) (own l.table l.below at m1)).memory m1
+          → ComesTo l.table l.below l.Holds l.Stands at aim before c2 m2
+      turns outcome e goes_on c2 m2 ec em =
+          let here = own l.table l.below at m1 in
+          let asked_memory = (asked l.below (l.table.asks task) (own l.table l.below at m)).memory in
+          let settled_memory = (settled (own_words l.table l.below.size) (l.table.rest task outcome) here).memory in
+          let answers = asked_answers outcome e in
+          let well = rest_holds l come.who come.op task outcome here asked_lies.holds task_stands answers goes_on in
+          let own_2 : own l.table l.below at m2 ≡ settled_memory = ap (own l.table l.below at) em ∙ own_with l at m1 asked_lies settled_memory well in
+          let own_1 : here ≡ asked_memory = ap (own l.table l.below at) lands.memory ∙ own_with l at m come.lies asked_memory asked_well in
+          let done : Done outcome ≡ (asked l.below (l.table.asks task) (own l.table l.below at m)).next = sym (done_of _ outcome (sym lands.answer ∙ e)) in
+          record {
+            who = come.who;
+            op = come.op;
+            stands = subst (ContinuationStands (l.Stands come.who come.op) (Answers l.table.values come.op)) (sym ec)
+                (rest_stands l come.who come.op task outcome here asked_lies.holds task_stands answers goes_on);
+            lies = lies_after l at m1 asked_lies settled_memory m2 em well;
+            aims = (λ i. run_on l.table l.below (ec i) (own_2 i))
+                ∙ sym (follow_ended l come.who come.op task outcome here asked_lies.holds task_stands answers goes_on)
+                ∙ (λ i. follow_on l.table l.below task (done i) (own_1 i)) ∙ asked_aims;
+            puts = λ late h. ap (with_part at late) em ∙ put_again l at m1 asked_lies settled_memory late well h
+                ∙ ap (with_part at late) lands.memory ∙ put_again l at m come.lies asked_memory late asked_well h ∙ come.puts late h;
+          }
+
+  -- what lands behind a first stretch of work lands behind the whole
+  pub again : (m : Memory) → LayerLies l.table l.below l.Holds at m → (mid m1 : Memory) → m1 ≡ with_part at mid m → LayerHolds l.table l.below l.Holds mid
+      → (r aim : Begun (Nested Task P)) → r ≡ aim → LayerHolds l.table l.below l.Holds r.memory → (front : List Frame) (given : Option Outcome) (left : List Frame) (m2 : Memory)
+      → Lands (layered l.table l.below).frames at r.next r.memory front m1 given left m2 → Lands (layered l.table l.below).frames at aim.next aim.memory front m given left m2
+  again m lies mid m1 e well r aim same late front given left m2 lands =
+      subst (λ a. Lands (layered l.table l.below).frames at a.next a.memory front m given left m2) same
+      (record {
+        answer = lands.answer;
+        stack = lands.stack;
+        memory = lands.memory ∙ ap (with_part at r.memory) e ∙ put_again l at m lies mid r.memory well late;
+      })
+
+  -- a spent part ends the whole
+  pub follows_spent : (task : Task) (outcome : Outcome) (stack : List Frame) (m : Memory) → LayerLies l.table l.below l.Holds at m → IsSpent outcome
+      → Lands (layered l.table l.below).frames at (follow_on l.table l.below task (Done outcome) (own l.table l.below at m)).next (follow_on l.table l.below task (Done outcome) (own l.table l.below at m)).memory stack m (Some outcome) stack m
+  follows_spent task (Spent layer) stack m lies h =
+      record { answer = refl; stack = sym (append-nil stack); memory = sym (with_part-own at (layer_size l.table l.below.size) m lies.inside) }
+  follows_spent task Written stack m lies h = absurd h
+  follows_spent task (Value v) stack m lies h = absurd h
+
+  module _ (who : ℕ) (o : Op) (task : Task) (outcome : Outcome) (m : Memory) (lies : LayerLies l.table l.below l.Holds at m) (stands : l.Stands who o task)
+      (answers : Answers l.below.values (l.table.asks task).op outcome) (goes_on : IsNotSpent outcome)
+      (c1 : Continuation Task) (m1 : Memory)
+      (ec : c1 ≡ (settled (own_words l.table l.below.size) (l.table.rest task outcome) (own l.table l.below at m)).continuation)
+      (em : m1 ≡ with_part at (settled (own_words l.table l.below.size) (l.table.rest task outcome) (own l.table l.below at m)).memory m) where
+    -- what follows a part that has ended stands, lies there, and runs on
+    pub follow_stands : ContinuationStands (l.Stands who o) (Answers l.table.values o) c1
+    follow_stands =
+        subst (ContinuationStands (l.Stands who o) (Answers l.table.values o)) (sym ec) (rest_stands l who o task outcome (own l.table l.below at m) lies.holds stands answers goes_on)
+
+    pub follow_lies : LayerLies l.table l.below l.Holds at m1
+    follow_lies = lies_after l at m lies _ m1 em (rest_holds l who o task outcome (own l.table l.below at m) lies.holds stands answers goes_on)
+
+    pub follows : (stack : List Frame) (given : Option Outcome) (left : List Frame) (m2 : Memory)
+        → Lands (layered l.table l.below).frames at (run_on l.table l.below c1 (own l.table l.below at m1)).next (run_on l.table l.below c1 (own l.table l.below at m1)).memory stack m1 given left m2
+        → Lands (layered l.table l.below).frames at (follow_on l.table l.below task (Done outcome) (own l.table l.below at m)).next (follow_on l.table l.below task (Done outcome) (own l.table l.below at m)).memory stack m given left m2
+    follows stack given left m2 lands =
+        let here = own l.table l.below at m in
+        let mid = (settled (own_words l.table l.below.size) (l.table.rest task outcome) here).memory in
+        let well = rest_holds l who o task outcome here lies.holds stands answers goes_on in
+        let own_1 : own l.table l.below at m1 ≡ mid = ap (own l.table l.below at) em ∙ own_with l at m lies mid well in
+        let same : run_on l.table l.below c1 (own l.table l.below at m1) ≡ follow_on l.table l.below task (Done outcome) here =
+        (λ i. run_on l.table l.below (ec i) (own_1 i)) ∙ sym (follow_ended l who o task outcome here lies.holds stands answers goes_on) in
+        again m lies mid m1 em well (run_on l.table l.below c1 (own l.table l.below at m1)) (follow_on l.table l.below task (Done outcome) here) same
+        (run_well l who o c1 (own l.table l.below at m1) follow_stands follow_lies.holds).holds stack given left m2 lands
