@@ -1,13 +1,13 @@
 //! A safe bit that counts the calls which make steps.
 
+use frames::flat::FlatStack;
 use frames::register::{Behaves, Register};
 use frames::safe::{Safe, SafePoint};
-use frames::types::{Action, Next, Op, Stack, Turned};
+use frames::types::{Action, Op, Outcome, Progress};
 use safe_bit::{Place, Store};
-use std::alloc::Global;
 use std::cell::Cell;
 
-/// A safe bit, with a count of the calls of `begin` and `go` that lies outside of every store. All of them are equal.
+/// A safe bit, with a count of the calls of `begin_on` and `go_on` that lies outside of every store. All of them are equal.
 #[derive(Clone, Copy)]
 pub(crate) struct Counting<'a> {
     calls: &'a Cell<u32>,
@@ -57,13 +57,15 @@ impl Behaves for Counting<'_> {
 impl Register for Counting<'_> {
     ghost use Rattle.std.specs.Prelude.{refl};
     ghost use Rattle.safe_bit.specs.Parts.{HasSize};
-    ghost use Rattle.frames.specs.SafeBit.{safe_behaviour, SafeReaches};
-    ghost use Rattle.frames.specs.laws.Safe.{safe_lawful, point_decides};
+    ghost use Rattle.frames.specs.SafeBit.{safe_behaviour, SafeReaches, safe_point};
+    ghost use Rattle.frames.specs.laws.Safe.{safe_lawful, safe_tells, point_decides};
     ghost use Rattle.frames.specs.declared.safe.SafePoint.TheVariants.{WriteStart, WriteEnd, ReadStart, ReadEnd};
 
     ghost Holds = { λ _. HasSize safe_behaviour.size };
 
     ghost Reaches = { λ _. SafeReaches };
+
+    ghost point = { λ _. safe_point };
 
     fn size(&self) -> Place {
         Safe.size()
@@ -89,33 +91,46 @@ impl Register for Counting<'_> {
         Safe.init(store, at, value);
     }
 
-    fn begin(&self, store: &mut Store, at: Place, who: u32, op: Op) -> Next<SafePoint> {
-        self.count();
-        Safe.begin(store, at, who, op)
-    }
-
-    fn go(
+    fn begin_on(
         &self,
         store: &mut Store,
         at: Place,
-        pending: SafePoint,
-        choice: bool,
-    ) -> Turned<SafePoint> {
+        who: u32,
+        op: Op,
+        stack: &mut FlatStack,
+    ) -> Option<Outcome> {
         self.count();
-        Safe.go(store, at, pending, choice)
+        Safe.begin_on(store, at, who, op, stack)
     }
 
-    fn stack(&self, alloc: Global, pending: &SafePoint) -> Stack {
-        Safe.stack(alloc, pending)
+    fn go_on(
+        &self,
+        store: &mut Store,
+        at: Place,
+        who: u32,
+        stack: &mut FlatStack,
+        first: usize,
+        choice: bool,
+    ) -> Progress {
+        self.count();
+        Safe.go_on(store, at, who, stack, first, choice)
+    }
+
+    fn pending(&self, stack: &FlatStack, first: usize, who: u32) -> Option<SafePoint> {
+        Safe.pending(stack, first, who)
     }
 
     fn action(&self, pending: &SafePoint, at: Place) -> Action {
         Safe.action(pending, at)
     }
 
+    ghost tells = { λ _. safe_tells };
+
     ghost lawful = { λ _. safe_lawful };
 
     ghost alike = { λ _ _ _. refl };
+
+    ghost finds_alike = { λ _ _ _. refl };
 
     ghost same_pending = { point_decides ⟦<SafePoint as PartialEq>⟧.eq (elim [ WriteStart _ ↦ elim [ WriteStart _ ↦ refl | WriteEnd _ ↦ refl | ReadStart ↦ refl | ReadEnd ↦ refl ] | WriteEnd _ ↦ elim [ WriteStart _ ↦ refl | WriteEnd _ ↦ refl | ReadStart ↦ refl | ReadEnd ↦ refl ] | ReadStart ↦ elim [ WriteStart _ ↦ refl | WriteEnd _ ↦ refl | ReadStart ↦ refl | ReadEnd ↦ refl ] | ReadEnd ↦ elim [ WriteStart _ ↦ refl | WriteEnd _ ↦ refl | ReadStart ↦ refl | ReadEnd ↦ refl ] ]) };
 }
