@@ -1,10 +1,11 @@
 -- A safe bit that asks for room for 7 frames: what the tests build the deepest layer of.
-use Rattle.std.proofs.Common.{◌≡◌, ◌≤◌, length, arith}
+use Rattle.std.proofs.Common.{arith}
 use Rattle.safe_bit.specs.Parts.{HasSize}
 use Rattle.frames.specs.declared.safe.SafePoint.{SafePoint}
 use Rattle.frames.specs.Behaviour.{Behaviour, IsLawful}
-use Rattle.frames.specs.SafeBit.{safe_behaviour, SafeReaches}
-use Rattle.frames.specs.laws.Safe.{safe_lawful}
+use Rattle.frames.specs.Flat.{FramesTell}
+use Rattle.frames.specs.SafeBit.{safe_behaviour, SafeReaches, safe_point}
+use Rattle.frames.specs.laws.Safe.{safe_lawful, safe_tells}
 
 abbrev pub deep_behaviour : Behaviour SafePoint
 deep_behaviour = record safe_behaviour { depth = 7 }
@@ -28,3 +29,6 @@ deep_lawful = record {
   frames_fit = λ who o p there. let few = safe_lawful.frames_fit who o p there in omega arith;
   acts_own = safe_lawful.acts_own;
 }
+
+pub deep_tells : FramesTell deep_behaviour SafeReaches safe_point
+deep_tells = record { point = safe_tells.point; op = safe_tells.op; none = safe_tells.none }

@@ -1,12 +1,12 @@
 //! How deep layers can stand on each other.
 
+use frames::flat::FlatStack;
 use frames::register::{Behaves, Register};
 use frames::safe::{Safe, SafePoint};
-use frames::types::{Action, Next, Op, Stack, Turned};
+use frames::types::{Action, Op, Outcome, Progress};
 use layers::fit::LayerError;
 use reader_copies::Copies;
 use safe_bit::{Place, Store};
-use std::alloc::Global;
 use std::test::Fail;
 
 /// A safe bit that asks for room for 7 frames.
@@ -24,14 +24,16 @@ impl Behaves for Deep {
 impl Register for Deep {
     ghost use Rattle.std.specs.Prelude.{refl};
     ghost use Rattle.safe_bit.specs.Parts.{HasSize};
-    ghost use Rattle.frames.specs.SafeBit.{SafeReaches};
+    ghost use Rattle.frames.specs.SafeBit.{SafeReaches, safe_point};
     ghost use Rattle.frames.specs.laws.Safe.{point_decides};
     ghost use Rattle.frames.specs.declared.safe.SafePoint.TheVariants.{WriteStart, WriteEnd, ReadStart, ReadEnd};
-    ghost use Rattle.towers.specs.Deep.{deep_behaviour, deep_lawful};
+    ghost use Rattle.towers.specs.Deep.{deep_behaviour, deep_lawful, deep_tells};
 
     ghost Holds = { λ _. HasSize deep_behaviour.size };
 
     ghost Reaches = { λ _. SafeReaches };
+
+    ghost point = { λ _. safe_point };
 
     fn size(&self) -> Place {
         Safe.size()
@@ -57,31 +59,44 @@ impl Register for Deep {
         Safe.init(store, at, value);
     }
 
-    fn begin(&self, store: &mut Store, at: Place, who: u32, op: Op) -> Next<SafePoint> {
-        Safe.begin(store, at, who, op)
-    }
-
-    fn go(
+    fn begin_on(
         &self,
         store: &mut Store,
         at: Place,
-        pending: SafePoint,
-        choice: bool,
-    ) -> Turned<SafePoint> {
-        Safe.go(store, at, pending, choice)
+        who: u32,
+        op: Op,
+        stack: &mut FlatStack,
+    ) -> Option<Outcome> {
+        Safe.begin_on(store, at, who, op, stack)
     }
 
-    fn stack(&self, alloc: Global, pending: &SafePoint) -> Stack {
-        Safe.stack(alloc, pending)
+    fn go_on(
+        &self,
+        store: &mut Store,
+        at: Place,
+        who: u32,
+        stack: &mut FlatStack,
+        first: usize,
+        choice: bool,
+    ) -> Progress {
+        Safe.go_on(store, at, who, stack, first, choice)
+    }
+
+    fn pending(&self, stack: &FlatStack, first: usize, who: u32) -> Option<SafePoint> {
+        Safe.pending(stack, first, who)
     }
 
     fn action(&self, pending: &SafePoint, at: Place) -> Action {
         Safe.action(pending, at)
     }
 
+    ghost tells = { λ _. deep_tells };
+
     ghost lawful = { λ _. deep_lawful };
 
     ghost alike = { λ _ _ _. refl };
+
+    ghost finds_alike = { λ _ _ _. refl };
 
     ghost same_pending = { point_decides ⟦<SafePoint as PartialEq>⟧.eq (elim [ WriteStart _ ↦ elim [ WriteStart _ ↦ refl | WriteEnd _ ↦ refl | ReadStart ↦ refl | ReadEnd ↦ refl ] | WriteEnd _ ↦ elim [ WriteStart _ ↦ refl | WriteEnd _ ↦ refl | ReadStart ↦ refl | ReadEnd ↦ refl ] | ReadStart ↦ elim [ WriteStart _ ↦ refl | WriteEnd _ ↦ refl | ReadStart ↦ refl | ReadEnd ↦ refl ] | ReadEnd ↦ elim [ WriteStart _ ↦ refl | WriteEnd _ ↦ refl | ReadStart ↦ refl | ReadEnd ↦ refl ] ]) };
 }

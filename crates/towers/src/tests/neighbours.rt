@@ -1,12 +1,13 @@
 //! Two unary numbers side by side in one store: work on one leaves the other as it was.
 
-ghost use Rattle.std.specs.Prelude.{◌≡◌, ◌⊎◌, true};
+ghost use Rattle.std.specs.Prelude.{◌≡◌, ◌⊎◌, [], true};
 ghost use Rattle.safe_bit.specs.Parts.{LiesIn, part, origin};
-ghost use Rattle.frames.specs.Behaviour.{Answers, StandsWell};
+ghost use Rattle.towers.specs.Neighbours.{Stands, StandsUnlessEnded};
 
 use crate::unary;
+use frames::flat::FlatStack;
 use frames::register::Register;
-use frames::types::{Next, Op, Outcome};
+use frames::types::{Op, Outcome};
 use safe_bit::{Cell, Place, Store};
 use std::alloc::{AllocError, Global};
 use std::marker::Model;
@@ -65,24 +66,28 @@ impl<R: Register> Neighbours<R> {
         }
     }
 
-    /// A process invokes an operation of one of them.
-    fn begin(&mut self, side: Side, who: u32, op: Op) -> Next<R::Pending>
-        requires { (R.is self.old.register).suits who op ≡ true }
+    /// A process invokes an operation of one of them, on a stack of no frame.
+    fn begin(&mut self, side: Side, who: u32, op: Op, stack: &mut FlatStack) -> Option<Outcome>
+        requires fits { (R.is self.old.register).suits who op ≡ true }
+        requires idle { stack.old ≡ [] }
         ensures register { self.new.register ≡ self.old.register }
-        ensures stands { StandsWell (R.Reaches self.old.register who op) (Answers (R.is self.old.register).values op) result }
+        ensures stands { StandsUnlessEnded (R.is self.old.register) (R.Reaches self.old.register) who stack.new result }
     {
         let at = self.place(side);
-        self.register.begin(&mut self.store, at, who, op)
+        self.register.begin_on(&mut self.store, at, who, op, stack)
     }
 
     /// A pending operation of one of them makes its next bit action.
-    fn go(&mut self, side: Side, who: u32, op: Op, pending: R::Pending) -> Next<R::Pending>
-        requires { R.Reaches self.old.register who op pending }
+    fn go(&mut self, side: Side, who: u32, stack: &mut FlatStack) -> Option<Outcome>
+        requires { Stands (R.is self.old.register) (R.Reaches self.old.register) who stack.old }
         ensures register { self.new.register ≡ self.old.register }
-        ensures stands { StandsWell (R.Reaches self.old.register who op) (Answers (R.is self.old.register).values op) result }
+        ensures stands { StandsUnlessEnded (R.is self.old.register) (R.Reaches self.old.register) who stack.new result }
     {
         let at = self.place(side);
-        self.register.go(&mut self.store, at, pending, false).next
+        let progress = self
+            .register
+            .go_on(&mut self.store, at, who, stack, 0, false);
+        progress.end
     }
 
     /// The cells of one of them.
@@ -108,22 +113,24 @@ impl<R: Register> Neighbours<R> {
     /// An operation of one of them that stays pending behind its first bit action.
     fn leave_pending(&mut self, rt: &impl Abort, side: Side, who: u32, op: Op) {
         assert!(rt; self.register.fits(who, op));
-        if let Next::Pending(pending) = self.begin(side, who, op) {
-            self.go(side, who, op, pending);
+        let mut stack = FlatStack::new();
+        if self.begin(side, who, op, &mut stack).is_none() {
+            self.go(side, who, &mut stack);
         }
     }
 
     /// A whole operation of one of them, if it ends within 100 bit actions.
     fn whole(&mut self, rt: &impl Abort, side: Side, who: u32, op: Op) -> Option<Outcome> {
         assert!(rt; self.register.fits(who, op));
-        let mut next = self.begin(side, who, op);
+        let mut stack = FlatStack::new();
+        let mut end = self.begin(side, who, op, &mut stack);
         for _ in 0..100 {
-            match next {
-                Next::Done(outcome) => return Some(outcome),
-                Next::Pending(pending) => next = self.go(side, who, op, pending),
+            if end.is_some() {
+                return end;
             }
+            end = self.go(side, who, &mut stack);
         }
-        None
+        end
     }
 }
 

@@ -1,10 +1,10 @@
 use Rattle.std.proofs.Common.{◌≡◌}
-use Rattle.frames.specs.Behaviour.{Answers, StandsWell}
+use Rattle.towers.specs.Neighbours.{StandsUnlessEnded}
 use Rattle.towers.proofs.tests.neighbours.Neighbours.whole.Given as goal
 
--- the register is the same, and the operation stands well
+-- the register is the same, and the process stands in its operation unless that has ended
 abbrev pub invariant-loop : goal.invariant-loop
 invariant-loop g l = record {
   register : l.self.register ≡ l.initial.self.register;
-  stands : StandsWell (g.R.Register.Reaches l.self.register l.who l.op) (Answers (g.R.Behaves.is l.self.register).values l.op) l.next;
+  stands : StandsUnlessEnded (g.R.Behaves.is l.self.register) (g.R.Register.Reaches l.self.register) l.who l.stack l.end;
 }
