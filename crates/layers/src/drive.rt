@@ -98,7 +98,7 @@ fn init_words<L: Construction>(layer: &L, store: &mut Store, base: u32, value: u
 }
 
 /// A process invokes an operation of the layer.
-#[inline(always)]
+#[inline]
 pub(crate) fn begin_on<L: Construction, S: Register>(
     layer: &L,
     below: &S,
