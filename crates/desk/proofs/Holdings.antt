@@ -1,9 +1,11 @@
 -- What a holding of a desk's turn tells its chair.
-use Rattle.std.proofs.Common.{◌≡◌, ℕ, ◌≤◌, List, [], ◌++◌, length, Option, Result, refl, sym, ap, subst, ◌∙◌, arith, append-nil}
+use Rattle.std.proofs.Common.{◌≡◌, ℕ, ◌≤◌, List, [], ◌++◌, length, Option, Some, None, Result, Ok, Err, IsSome, refl, sym, ap, subst, ◌∙◌, arith, append-nil, append_assoc}
 use Rattle.std.proofs.lemmas.List.{append_cancel_left}
 use Rattle.frames.specs.Behaviour.{Behaviour}
 use Rattle.schedule_trie.specs.declared.refusal.Refusal.{Refusal}
-use Rattle.schedule_trie.specs.declared.refusal.Refusal.TheVariants.{LogFull}
+use Rattle.schedule_trie.specs.declared.refusal.Refusal.TheVariants.{LogFull, Memory}
+use Rattle.schedule_trie.specs.Cut.{if_lacks}
+use Rattle.schedule_trie.specs.Forest.{index_of}
 use Rattle.views.specs.declared.page.Page.{Page}
 use Rattle.views.specs.declared.query.Query.{Query}
 use Rattle.turn.specs.declared.view.View.{View}
@@ -12,14 +14,16 @@ use Rattle.turn.specs.Histories.{StartsWith, Holding}
 use Rattle.sessions.specs.declared.command.Command.{Command}
 use Rattle.sessions.specs.declared.log.Entry.{Entry}
 use Rattle.sessions.specs.declared.reply.Reply.TheVariants.{No}
+use Rattle.sessions.specs.World.{World}
 use Rattle.sessions.specs.Held.{Held, opening_of}
 use Rattle.sessions.specs.Logs.{IsLegal, entry, is_logged, logged, world_after}
 use Rattle.desk.specs.declared.item.Item.{Item}
 use Rattle.desk.specs.declared.receipt.Receipt.{Receipt}
+use Rattle.desk.specs.declared.report.Report.{Report}
 use Rattle.desk.specs.Items.{made_under, calls_in, items}
 use Rattle.desk.specs.Histories.{IsHistory, seen, own}
-use Rattle.desk.specs.Works.{IsAct, IsLook, IsAnswer, IsPaged}
-use Rattle.desk.specs.Chairs.{Finds, Received, Looked}
+use Rattle.desk.specs.Works.{IsAct, IsReading, IsLook, IsAnswer, IsPaged, NeedsBranch}
+use Rattle.desk.specs.Chairs.{Finds, Stays, Received, Reads, Looked, Filled}
 use Rattle.desk.proofs.Lists.{calls_as, calls_append, length_items, same_first, calls_begin}
 use Rattle.desk.proofs.Works.{paged_so}
 use Rattle.desk.proofs.Logged.{put, put_under, legal_found, logged_last}
@@ -75,27 +79,91 @@ module _ {R P : Type 0} (is : R → Behaviour P) (first : Held R P) (v w : View 
           history_so w.seen (logged (call n) found) list legal,
         )
 
-  module _ (query : Query) (at : ℕ) (slip : Result Page Refusal) where
-    pub looked_so : IsHistory is first v.seen → Holding made_under (λ before after. IsLook is query before after at slip) v w → (result : Result Page Refusal)
-        → IsPaged slip result → Looked is first query v w (record { at = at; result = result }) × IsHistory is first w.seen
-    looked_so h (before, added, starts, told, one, after, look, whole) result paged =
-        let found = look.found in
-        let one_first : first ≡ look.first = same_first first look.first (calls_in v.seen) found v.seen h.whole (subst (λ l. StartsWith l v.seen) look.finds starts) in
-        let is_found : before ≡ items first found = look.finds ∙ ap (λ o. items o found) (sym one_first) in
-        let nothing : added ≡ [] = append_cancel_left before added [] (look.leaves ∙ sym (append-nil before)) in
-        let list : w.seen ≡ items first found = ap (λ x. x.seen) after ∙ (look.leaves ∙ is_found) in
+  module _ (tells : ℕ → World P → Type 0) where
+    pub reads_on : IsHistory is first v.seen → Holding made_under (λ before after. IsReading is tells before after) v w → Reads is first tells v w × IsHistory is first w.seen
+    reads_on h (before, added, starts, told, one, after, reading, whole) =
+        let found = reading.found in
+        let one_first : first ≡ reading.first = same_first first reading.first (calls_in v.seen) found v.seen h.whole (subst (λ l. StartsWith l v.seen) reading.finds starts) in
+        let is_found : before ≡ items first found = reading.finds ∙ ap (λ o. items o found) (sym one_first) in
+        let nothing : added ≡ [] = append_cancel_left before added [] (reading.leaves ∙ sym (append-nil before)) in
+        let list : w.seen ≡ items first found = ap (λ x. x.seen) after ∙ (reading.leaves ∙ is_found) in
         let sees : seen w ≡ found = ap calls_in list ∙ calls_as R P found in
-        let legal : IsLegal (opening_of is first) found = subst (λ o. IsLegal (opening_of is o) found) (sym one_first) look.legal in (
+        let legal : IsLegal (opening_of is first) found = subst (λ o. IsLegal (opening_of is o) found) (sym one_first) reading.legal in (
           record {
             found = found;
             finds = finds_so before found starts told whole is_found;
             legal = legal;
-            answers = paged_so (world_after (opening_of is first) found) query slip result paged (subst (λ o. IsAnswer (world_after (opening_of is o) found) query slip) (sym one_first) look.answers);
+            answers = subst (λ o. tells (length found) (world_after (opening_of is o) found)) (sym one_first) reading.answers;
             sees = sees;
-            at = look.long;
             calls = ap (λ x. x.calls) after ∙ (ap (λ l. v.calls ++ l) nothing ∙ append-nil v.calls);
             shares = ap (λ x. x.shares) after;
             told = ap (λ x. x.told) after;
           },
           history_so w.seen found list legal,
         )
+
+    -- what is told may be more than was asked
+    reads_more : (more : ℕ → World P → Type 0) → ((n : ℕ) (world : World P) → tells n world → more n world) → Reads is first tells v w → Reads is first more v w
+    reads_more more on r = record {
+      found = r.found;
+      finds = r.finds;
+      legal = r.legal;
+      answers = on (length r.found) (world_after (opening_of is first) r.found) r.answers;
+      sees = r.sees;
+      calls = r.calls;
+      shares = r.shares;
+      told = r.told;
+    }
+
+    -- what was seen stays
+    pub reads_stay : Reads is first tells v w → Stays v w
+    reads_stay r = record {
+      begins = subst (λ l. StartsWith l (seen v)) (sym r.sees) r.finds.begins;
+      whole = λ all. r.sees ∙ r.finds.whole all;
+      calls = r.calls;
+      shares = r.shares;
+      told = r.told;
+    }
+
+  module _ (query : Query) (at : ℕ) (slip : Result Page Refusal) where
+    pub looked_so : IsHistory is first v.seen → Holding made_under (λ before after. IsLook is query before after at slip) v w → (result : Result Page Refusal)
+        → IsPaged slip result → Looked is first query v w (record { at = at; result = result }) × IsHistory is first w.seen
+    looked_so h held result paged =
+        let asked : ℕ → World P → Type 0 = λ n world. (at ≡ n) × IsAnswer world query slip in
+        let reads = reads_on asked h held in
+        (reads_more asked (λ n world. (at ≡ n) × IsAnswer world query result) (λ n world told. (told.0, paged_so world query slip result paged told.1)) reads.0, reads.1)
+
+-- what is read first needs a branch, and what was seen stays then
+pub filled_so : {R P A : Type 0} (is : R → Behaviour P) (first : Held R P) (v u w : View (Item R P)) (branch : List ℕ) (planned : Result A Refusal) (result : Result Report Refusal)
+    → ((world : World P) → NeedsBranch branch world planned → NeedsBranch branch world result) → Reads is first (λ n world. NeedsBranch branch world planned) v u → Stays u w
+    → Filled is first branch v w result
+filled_so is first v u w branch planned result on reads stays =
+    (u, reads_more is first v u (λ n world. NeedsBranch branch world planned) (λ n world. NeedsBranch branch world result) (λ n world. on world) reads, stays)
+
+-- a branch that is there, though memory is wanting then
+pub wants_memory : {P A : Type 0} (B : Type 0) (world : World P) (branch : List ℕ) (x : A) → NeedsBranch {A = A} branch world (Ok x) → NeedsBranch {A = B} branch world (Err Memory)
+wants_memory B world branch x there = by (index_of world.forest.branches branch) there
+  where
+    by : (found : Option ℕ) → IsSome found → if_lacks found ≡ Memory
+    by (Some i) there = refl
+    by None there = absurd (cc)
+
+module _ {R P : Type 0} where
+  pub stays_here : (v : View (Item R P)) → Stays v v
+  stays_here v = record { begins = ([], append-nil (seen v)); whole = λ all. refl; calls = refl; shares = refl; told = refl }
+
+  pub stays_on : (u v w : View (Item R P)) → Stays u v → Stays v w → Stays u w
+  stays_on u v w a b = record {
+    begins = (
+      a.begins.0 ++ b.begins.0,
+      sym (append_assoc (seen u) a.begins.0 b.begins.0) ∙ (ap (λ l. l ++ b.begins.0) a.begins.1 ∙ b.begins.1),
+    );
+    whole = λ all. b.whole (subst HasAll (sym a.shares) all) ∙ a.whole all;
+    calls = b.calls ∙ a.calls;
+    shares = b.shares ∙ a.shares;
+    told = b.told ∙ a.told;
+  }
+
+-- what was seen before a reading stays after it
+pub stays_read : {R P : Type 0} (is : R → Behaviour P) (first : Held R P) (u v w : View (Item R P)) (tells : ℕ → World P → Type 0) → Stays u v → Reads is first tells v w → Stays u w
+stays_read is first u v w tells stays reads = stays_on u v w stays (reads_stay is first v w tells reads)

@@ -1,9 +1,10 @@
 -- What a book's calls do to the list behind the turn.
-use Rattle.std.proofs.Common.{◌≡◌, ◌⊎◌, ℕ, ◌≤◌, Bool, true, false, cond, nat_le, List, [], ◌∷◌, ◌++◌, length, Option, Some, Result, Ok, Err, IsOk, IfOk, OnOk, IfErr, refl, sym, ap, subst, ◌∙◌, arith, inl, inr}
+use Rattle.std.proofs.Common.{◌≡◌, ◌⊎◌, ℕ, ◌≤◌, Bool, true, false, cond, nat_le, List, [], ◌∷◌, ◌++◌, length, Option, Some, Result, Ok, Err, IsOk, IfOk, OnOk, IfErr, IsSome, refl, sym, ap, subst, ◌∙◌, arith, inl, inr}
 use Rattle.frames.specs.Behaviour.{Behaviour}
 use Rattle.schedule_trie.specs.declared.refusal.Refusal.{Refusal}
 use Rattle.schedule_trie.specs.declared.refusal.Refusal.TheVariants.{LogFull, Memory}
-use Rattle.schedule_trie.specs.Forest.{IsRefused}
+use Rattle.schedule_trie.specs.Cut.{if_lacks}
+use Rattle.schedule_trie.specs.Forest.{IsRefused, index_of}
 use Rattle.views.specs.declared.page.Page.{Page}
 use Rattle.views.specs.declared.query.Query.{Query}
 use Rattle.sessions.specs.declared.command.Command.{Command}
@@ -20,7 +21,7 @@ use Rattle.desk.specs.declared.receipt.Receipt.{Receipt}
 use Rattle.desk.specs.declared.item.Item.{Item}
 use Rattle.desk.specs.declared.item.Item.TheVariants.{Call}
 use Rattle.desk.specs.Items.{made_under, as_items, items}
-use Rattle.desk.specs.Works.{IsAct, IsLook, IsAnswer, IsPaged}
+use Rattle.desk.specs.Works.{IsAct, IsReading, IsLook, IsAnswer, IsPaged, NeedsBranch}
 use Rattle.desk.proofs.Lists.{items_more}
 use Rattle.desk.proofs.Logged.{put, logged_last}
 
@@ -31,6 +32,11 @@ pub answer_of : {P : Type 0} (w : World P) (query : Query) (r : Result Page Refu
     → IfErr r (IsRefused (looked w query)) → IsAnswer w query r
 answer_of w query (Ok page) shown found refused = (found, shown)
 answer_of w query (Err e) shown found refused = refused
+
+needs : {P A : Type 0} (w : World P) (branch : List ℕ) (r : Result A Refusal) → OnOk r (IsSome (index_of w.forest.branches branch))
+    → IfErr r (λ e. if_lacks (index_of w.forest.branches branch) ≡ e) → NeedsBranch branch w r
+needs w branch (Ok x) found refused = found
+needs w branch (Err e) found refused = refused
 
 -- what is made of an answer's slip is the answer too
 pub paged_so : {P : Type 0} (w : World P) (query : Query) (slip result : Result Page Refusal) → IsPaged slip result → IsAnswer w query slip → IsAnswer w query result
@@ -105,11 +111,10 @@ module _ {R P : Type 0} (is : R → Behaviour P) where
           one_at_most true = inr (Call call, refl, refl)
           one_at_most false = inl refl
 
-    pub looks_so : (query : Query) (at : ℕ) (r : Result Page Refusal) → IfOk r (λ page. Some page ≡ shown_in (world_of is old.now) query)
-        → OnOk r (looked (world_of is old.now) query ≡ Ok (world_of is old.now).forest) → IfErr r (IsRefused (looked (world_of is old.now) query))
-        → world_of is new.now ≡ world_of is old.now → new.log ≡ old.log → at ≡ length new.log
-        → IsLook is query (items first old.log) (items first new.log) at r
-    looks_so query at r shown found refused world log is_at =
+    -- what leaves world and log tells of the history that it found
+    pub reads_so : (tells : ℕ → World P → Type 0) → world_of is new.now ≡ world_of is old.now → new.log ≡ old.log → tells (length old.log) (world_of is old.now)
+        → IsReading is tells (items first old.log) (items first new.log)
+    reads_so tells world log told =
         let here : world_of is old.now ≡ world_after (opening_of is first) old.log =
         sym world ∙ (held.after ∙ (ap (λ w. world_after w new.log) (same ∙ opened) ∙ ap (world_after (opening_of is first)) log)) in
         record {
@@ -118,6 +123,17 @@ module _ {R P : Type 0} (is : R → Behaviour P) where
           finds = refl;
           leaves = ap (items first) log;
           legal = subst (λ l. IsLegal (opening_of is first) l) log (subst (λ w. IsLegal w new.log) (same ∙ opened) held.legal);
-          long = is_at ∙ ap length log;
-          answers = subst (λ w. IsAnswer w query r) here (answer_of (world_of is old.now) query r shown found refused);
+          answers = subst (tells (length old.log)) here told;
         }
+
+    pub looks_so : (query : Query) (at : ℕ) (r : Result Page Refusal) → IfOk r (λ page. Some page ≡ shown_in (world_of is old.now) query)
+        → OnOk r (looked (world_of is old.now) query ≡ Ok (world_of is old.now).forest) → IfErr r (IsRefused (looked (world_of is old.now) query))
+        → world_of is new.now ≡ world_of is old.now → new.log ≡ old.log → at ≡ length new.log
+        → IsLook is query (items first old.log) (items first new.log) at r
+    looks_so query at r shown found refused world log is_at =
+        reads_so (λ n w. (at ≡ n) × IsAnswer w query r) world log (is_at ∙ ap length log, answer_of (world_of is old.now) query r shown found refused)
+
+    pub plans_so : {A : Type 0} (branch : List ℕ) (r : Result A Refusal) → OnOk r (IsSome (index_of (world_of is old.now).forest.branches branch))
+        → IfErr r (λ e. if_lacks (index_of (world_of is old.now).forest.branches branch) ≡ e) → world_of is new.now ≡ world_of is old.now → new.log ≡ old.log
+        → IsReading is (λ n w. NeedsBranch branch w r) (items first old.log) (items first new.log)
+    plans_so branch r found refused world log = reads_so (λ n w. NeedsBranch branch w r) world log (needs (world_of is old.now) branch r found refused)

@@ -1,6 +1,7 @@
 -- Chairs of a desk, and what its calls do to what they know.
-use Rattle.std.specs.Prelude.{ℕ, ◌+◌, ◌≡◌, ◌≤◌, ◌⊎◌, List, Option, length}
+use Rattle.std.specs.Prelude.{ℕ, ◌+◌, ◌≡◌, ◌≤◌, ◌⊎◌, List, Option, Result, length}
 use Rattle.frames.specs.Behaviour.{Behaviour}
+use Rattle.schedule_trie.specs.declared.refusal.Refusal.{Refusal}
 use Rattle.schedule_trie.specs.declared.refusal.Refusal.TheVariants.{LogFull, Memory}
 use Rattle.views.specs.declared.query.Query.{Query}
 use Rattle.turn.specs.declared.view.View.{View}
@@ -11,6 +12,7 @@ use Rattle.turn.specs.Chairs.{IsOf, view}
 use Rattle.sessions.specs.declared.command.Command.{Command}
 use Rattle.sessions.specs.declared.log.Entry.{Entry}
 use Rattle.sessions.specs.declared.reply.Reply.TheVariants.{No}
+use Rattle.sessions.specs.World.{World}
 use Rattle.sessions.specs.Acts.{acted}
 use Rattle.sessions.specs.Held.{Held, opening_of}
 use Rattle.sessions.specs.Logs.{IsLegal, entry, logged, world_after}
@@ -18,8 +20,9 @@ use Rattle.desk.specs.declared.item.Item.{Item}
 use Rattle.desk.specs.declared.desk.Desk.{Desk}
 use Rattle.desk.specs.declared.receipt.Receipt.{Receipt}
 use Rattle.desk.specs.declared.receipt.Answer.{Answer}
+use Rattle.desk.specs.declared.report.Report.{Report}
 use Rattle.desk.specs.Histories.{IsHistory, seen, own}
-use Rattle.desk.specs.Works.{IsAnswer}
+use Rattle.desk.specs.Works.{IsAnswer, NeedsBranch}
 
 module _ {R P : Type 0} where
   -- a chair is one of a desk's: it is one of its turn, and has seen a legal history from the desk's opening on
@@ -32,6 +35,14 @@ module _ {R P : Type 0} where
     pub begins : StartsWith found (seen v)
     pub whole : HasAll v.shares → found ≡ seen v
     pub told : v.told ≤ length found + 1
+
+  -- What was seen stays: what is then seen begins with it, and is just that where the chair has every share; no call is added
+  pub record Stays (v w : View (Item R P)) : Type 0 where
+    pub begins : StartsWith (seen w) (seen v)
+    pub whole : HasAll v.shares → seen w ≡ seen v
+    pub calls : w.calls ≡ v.calls
+    pub shares : w.shares ≡ v.shares
+    pub told : w.told ≡ v.told
 
   module _ (is : R → Behaviour P) (first : Held R P) where
     -- A command makes a legal history: the one that was found, and this call under the chair's number with this reply, unless the reply isn't
@@ -50,14 +61,21 @@ module _ {R P : Type 0} where
       pub shares : w.shares ≡ v.shares
       pub told : w.told ≡ v.told
 
-    -- A look answers of the world after the history that it found, which the chair has then seen; it adds no call
-    pub record Looked (query : Query) (v w : View (Item R P)) (answer : Answer) : Type 0 where
+    -- A reading tells of the history that it found, of its length and of the world after it. The chair has then seen it; no call is added
+    pub record Reads (tells : ℕ → World P → Type 0) (v w : View (Item R P)) : Type 0 where
       pub found : List Entry
       pub finds : Finds v found
       pub legal : IsLegal (opening_of is first) found
-      pub answers : IsAnswer (world_after (opening_of is first) found) query answer.result
+      pub answers : tells (length found) (world_after (opening_of is first) found)
       pub sees : seen w ≡ found
-      pub at : answer.at ≡ length found
       pub calls : w.calls ≡ v.calls
       pub shares : w.shares ≡ v.shares
       pub told : w.told ≡ v.told
+
+    -- a look answers of the world after the history that it found, and tells how long that is
+    abbrev pub Looked : Query → View (Item R P) → View (Item R P) → Answer → Type 0
+    Looked query v w answer = Reads (λ n world. (answer.at ≡ n) × IsAnswer world query answer.result) v w
+
+    -- A fill reads at first whether its branch is there, and what was then seen stays
+    abbrev pub Filled : List ℕ → View (Item R P) → View (Item R P) → Result Report Refusal → Type 0
+    Filled branch v w result = (u : View (Item R P)) × Reads (λ n world. NeedsBranch branch world result) v u × Stays u w

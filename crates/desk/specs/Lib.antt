@@ -1,4 +1,5 @@
 pub mod Items
 pub mod Histories
 pub mod Works
+pub mod Reports
 pub mod Chairs

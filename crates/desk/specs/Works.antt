@@ -1,9 +1,10 @@
 -- What the works at a desk's turn promise: of the list before and after, and of the answer.
-use Rattle.std.specs.Prelude.{ℕ, ◌≡◌, ◌⊎◌, List, Option, Some, Result, Ok, Err, length}
+use Rattle.std.specs.Prelude.{ℕ, ◌≡◌, ◌⊎◌, List, Option, Some, IsSome, Result, Ok, Err, length}
 use Rattle.frames.specs.Behaviour.{Behaviour}
 use Rattle.schedule_trie.specs.declared.refusal.Refusal.{Refusal}
 use Rattle.schedule_trie.specs.declared.refusal.Refusal.TheVariants.{LogFull, Memory}
-use Rattle.schedule_trie.specs.Forest.{IsRefused}
+use Rattle.schedule_trie.specs.Cut.{if_lacks}
+use Rattle.schedule_trie.specs.Forest.{IsRefused, index_of}
 use Rattle.views.specs.declared.page.Page.{Page}
 use Rattle.views.specs.declared.query.Query.{Query}
 use Rattle.sessions.specs.declared.command.Command.{Command}
@@ -27,6 +28,11 @@ abbrev pub IsPaged : Result Page Refusal → Result Page Refusal → Type 0
 IsPaged (Ok page) result = (result ≡ Ok page) ⊎ (result ≡ Err Memory)
 IsPaged (Err r) result = result ≡ Err r
 
+-- what needs a branch comes to something only where the branch is there, and is refused as NoBranch only where it isn't, or as Memory
+abbrev pub NeedsBranch : {P A : Type 0} → List ℕ → World P → Result A Refusal → Type 0
+NeedsBranch branch w (Ok x) = IsSome (index_of w.forest.branches branch)
+NeedsBranch branch w (Err r) = if_lacks (index_of w.forest.branches branch) ≡ r
+
 module _ {R P : Type 0} (is : R → Behaviour P) where
   -- A command, brought by some chair, finds a legal history and leaves it with the call at its end, unless the call isn't logged; it is
   -- then legal and as long as was told. LogFull comes where it is as long as the limit
@@ -40,12 +46,15 @@ module _ {R P : Type 0} (is : R → Behaviour P) where
     pub at : receipt.at ≡ length (logged (entry chair who guard command receipt.reply) found)
     pub full : receipt.reply ≡ No LogFull → length found ≡ (opening_of is first).limits.log
 
-  -- A look finds a legal history, as long as is told, and answers of the world after it; the history stays
-  pub record IsLook (query : Query) (before after : List (Item R P)) (at : ℕ) (answer : Result Page Refusal) : Type 0 where
+  -- A reading finds a legal history and leaves it. It tells of its length, and of the world after it
+  pub record IsReading (tells : ℕ → World P → Type 0) (before after : List (Item R P)) : Type 0 where
     pub first : Held R P
     pub found : List Entry
     pub finds : before ≡ items first found
     pub leaves : after ≡ before
     pub legal : IsLegal (opening_of is first) found
-    pub long : at ≡ length found
-    pub answers : IsAnswer (world_after (opening_of is first) found) query answer
+    pub answers : tells (length found) (world_after (opening_of is first) found)
+
+  -- a look is told how long the history is, and answers of the world
+  abbrev pub IsLook : Query → List (Item R P) → List (Item R P) → ℕ → Result Page Refusal → Type 0
+  IsLook query before after at answer = IsReading (λ n w. (at ≡ n) × IsAnswer w query answer) before after

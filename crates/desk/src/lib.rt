@@ -6,10 +6,15 @@
 
 mod act;
 mod desk;
+mod fill;
+mod install;
 mod item;
 mod journal;
 mod look;
+mod plan;
 mod receipt;
+mod report;
+mod segment_job;
 #[cfg(test)]
 mod tests;
 
@@ -17,3 +22,4 @@ pub use desk::{Chair, Desk};
 pub use item::Item;
 pub use journal::Journal;
 pub use receipt::{Answer, Receipt};
+pub use report::Report;

@@ -1,6 +1,6 @@
 //! The book: the world of a desk, and the log that tells how it came to be.
 
-ghost use Rattle.std.specs.Prelude.{◌≡◌, ◌<◌, ◌⊎◌, Some, Ok, OnOk, IfOk, IfErr, [], ◌∷◌, ◌++◌, length, vec_capacity};
+ghost use Rattle.std.specs.Prelude.{◌≡◌, ◌<◌, ◌⊎◌, Some, Ok, OnOk, IfOk, IfErr, IsSome, [], ◌∷◌, ◌++◌, length, vec_capacity};
 ghost use Rattle.std.specs.Arc.{arc_value};
 ghost use Rattle.checkpoints.specs.Segment.{AllFit};
 ghost use Rattle.schedule_trie.specs.Forest.{IsRefused, index_of, opened};
@@ -135,6 +135,7 @@ impl<R: Register> Book<R> {
     /// NoBranch; Memory.
     pub fn plan(&self, alloc: Global, branch: &Name) -> Result<Vec<Job<R>>, Refusal>
         ensures ok { let chart = self.now.now.chart in IfOk result (λ jobs. IsPlan R.PartialEq.eq (R.is chart.start.register) chart branch.now jobs.items) }
+        ensures found { OnOk result (IsSome (index_of (forest self.now.now.chart.cut).branches branch.now)) }
         ensures err { IfErr result (λ e. if_lacks (index_of (forest self.now.now.chart.cut).branches branch.now) ≡ e) }
     {
         self.stage.chart().plan(alloc, branch)
@@ -157,6 +158,14 @@ impl<R: Register> Book<R> {
         ensures kept { IsHeld R.is self.now }
     {
         self.log.len() as u32
+    }
+
+    /// What a book keeps by its type: its log is legal, and its world is the one after it. It does nothing: callers learn this by
+    /// its contract.
+    pub fn held(&self)
+        ensures { IsHeld R.is self.now }
+    {
+        let _log = &self.log;
     }
 
     /// How many edits were accepted.

@@ -1,0 +1,26 @@
+use Rattle.std.proofs.Common.{length, ap, arith, rules}
+use Rattle.turn.specs.Chairs.{view}
+use Rattle.desk.proofs.Holdings.{stays_here, stays_on}
+use Rattle.desk.proofs.desk.Desk.install_all.Goals as goal
+
+pub loop-done-init : goal.loop-done-init
+loop-done-init g c = record {
+  at = c.requires.at;
+  stays = stays_here (view c.args.chair.now);
+  owns = c.requires.owns;
+  sum = c.new-report.ensures.sum;
+  count = let none = c.new-report.ensures.none in omega arith;
+  len = search rules;
+}
+
+pub loop-done-preserved : goal.loop-done-preserved
+loop-done-preserved g c =
+    let was = c.loop-done.invariant in
+    let steps = c.in-Some.ensures.steps in record {
+      at = c.install-answer.ensures.chair;
+      stays = stays_on (view c.args.chair.now) (view c.loop-done.chair) (view c.install-answer.new.chair) was.stays c.install-answer.ensures.stays;
+      owns = c.install-answer.ensures.owns;
+      sum = c.count.ensures.sum;
+      count = let all = was.count in let gone = steps.1 in let one = c.count.ensures.planned in omega arith;
+      len = let len = was.len in let gone = steps.1 in let short = ap length steps.0 in omega arith;
+    }

@@ -1,0 +1,30 @@
+//! A plan at the turn.
+
+use crate::journal::Journal;
+use cutoff::plan::Job;
+use frames::register::Register;
+use schedule_trie::name::Name;
+use schedule_trie::refusal::Refusal;
+use std::alloc::Global;
+use turn::Work;
+
+/// Plans the jobs that a branch and the others have left.
+#[derive(Drop)]
+pub(crate) struct Plan<'a> {
+    pub(crate) alloc: Global,
+    pub(crate) branch: &'a Name,
+}
+
+impl<R: Register> Work<Journal<R>> for Plan<'_> {
+    ghost use Rattle.desk.specs.Works.{IsReading, NeedsBranch};
+
+    type Out = Result<Vec<Job<R>>, Refusal>;
+
+    ghost relation = { λ work before after out _. IsReading R.is (λ _ world. NeedsBranch work.branch.now world out) before after };
+
+    fn work(&mut self, journal: &mut Journal<R>, _number: u32) -> Result<Vec<Job<R>>, Refusal> {
+        let book = &journal.book;
+        book.held();
+        book.plan(self.alloc, self.branch)
+    }
+}
