@@ -20,7 +20,7 @@ step-events-requires g c =
 pub is_met-hit-requires : goal.is_met-hit-requires
 is_met-hit-requires g c =
     subst (λ d. HasSize (g.R.Behaves.is d.register).size d.memory) c.config.view_is
-    ((g.met.R.Register.lawful c.config.inside.register).size_holds c.config.inside.store c.config.invariant.holds)
+    ((g.met.R.Register.lawful c.config.inside.register).size_holds c.config.inside.store c.config.invariant.configuration.holds)
 
 pub loop-i-preserved : goal.loop-i-preserved
 loop-i-preserved g c =
