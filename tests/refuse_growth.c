@@ -12,8 +12,9 @@ __attribute__((constructor)) static void read_number(void) {
     growths_left = number ? atol(number) : 0;
 }
 
+/* Threads grow side by side, and one of them is refused. */
 static int is_refused(void) {
-    return growths_left > 0 && --growths_left == 0;
+    return __atomic_fetch_sub(&growths_left, 1, __ATOMIC_SEQ_CST) == 1;
 }
 
 void *malloc(size_t size) {

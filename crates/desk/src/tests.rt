@@ -7,6 +7,7 @@ ghost use Rattle.turn.specs.Shares.{every_share};
 ghost use Rattle.turn.specs.Chairs.{view};
 ghost use Rattle.desk.specs.Chairs.{IsAt};
 
+mod fills;
 mod growths;
 mod measured;
 mod rows;

@@ -48,4 +48,4 @@ module _ {R P : Type 0} (is : R → Behaviour P) (first : Held R P) (v w : View 
 
   -- a look by such a chair answers of that world
   pub looked_answers : (query : Query) (answer : Answer) → Looked is first query v w answer → HasAll v.shares → IsAnswer (world_after (opening_of is first) (seen v)) query answer.result
-  looked_answers query answer r all = subst (λ (before : List Entry). IsAnswer (world_after (opening_of is first) before) query answer.result) (r.finds.whole all) r.answers
+  looked_answers query answer r all = subst (λ (before : List Entry). IsAnswer (world_after (opening_of is first) before) query answer.result) (r.finds.whole all) r.answers.1
