@@ -41,7 +41,7 @@ module _ (T T' : RattleType) (r : register.Ghosts T.Denot T'.Denot) (b : behaves
   book_send : IsSend (book.the_row T T' r b e' e)
   book_send = view_send (book_inside.the_row T T' r b e' e) _ _ _ _
       (recorded_send (book_inside.the_field T T' r b e' e).row _ _ (book_inside.the_type T T' r b e' e).to_one
-      (struct_send (declared.shape (book_inside.the_type T T' r b e' e)) (search crosses, (stages.the_send T T' r b e' e send send' sync sync', (Vec-send _ entries.the_send, tt)))))
+      (struct_send (declared.shape (book_inside.the_type T T' r b e' e)) (search crosses, (stages.the_send T T' r b e' e send sync, (Vec-send _ entries.the_send, tt)))))
 
   journal_send : IsSend (journal.the_row T T' r b e' e)
   journal_send = view_send (journal_inside.the_row T T' r b e' e) _ _ _ _
