@@ -1,6 +1,6 @@
 -- A layer that runs on a flat stack, from one part to the next.
-use Rattle.std.proofs.Common.{◌≡◌, ℕ, ◌+◌, List, ◌∷◌, ◌++◌, arith, length-drop, Option, Some, None, refl, sym, ap, subst, ◌∙◌, append-nil}
-use Rattle.std.specs.Prelude.{⊤, length, drop, ◌<◌}
+use Rattle.std.proofs.Common.{◌≡◌, ℕ, Bool, ◌+◌, List, ◌∷◌, ◌++◌, arith, length-drop, Option, Some, None, refl, sym, ap, subst, ◌∙◌, append-nil}
+use Rattle.std.specs.Prelude.{⊤, length, drop, take, ◌<◌}
 use Rattle.safe_bit.specs.declared.Place.{Place}
 use Rattle.safe_bit.specs.Memory.{Memory}
 use Rattle.safe_bit.specs.Parts.{with_part}
@@ -14,17 +14,18 @@ use Rattle.frames.specs.declared.types.Frame.{Frame}
 use Rattle.layers.specs.declared.nested.Nested.{Nested}
 use Rattle.layers.specs.declared.nested.Continuation.{Continuation}
 use Rattle.layers.specs.declared.nested.Continuation.TheVariants as continuation
-use Rattle.frames.specs.Behaviour.{Behaviour, Begun, Answers, StandsWell}
+use Rattle.frames.specs.Placed.{placed_bit}
+use Rattle.frames.specs.Behaviour.{Behaviour, Begun, Moved, Answers, StandsWell}
 use Rattle.frames.specs.declared.running.Running.{Running}
 use Rattle.frames.specs.Flat.{Lands, StandsOn, IsReached, ended, left_frames, stack_of}
-use Rattle.layers.specs.Nested.{Table, layer_size, own_words, asked, layered}
+use Rattle.layers.specs.Nested.{Table, layer_size, own_words, asked, pushed, resume, layered}
 use Rattle.layers.specs.Sound.{IsNotSpent, IsSpent, LayerHolds, LayerReaches}
 use Rattle.layers.specs.Settled.{settled, ContinuationStands, run_on, follow_on}
 use Rattle.layers.specs.InPlace.{own, LayerLies}
 use Rattle.layers.specs.Flat.{task_frames}
 use Rattle.layers.specs.laws.Flat.{parts_there}
 use Rattle.layers.specs.laws.InPlace.{own_with}
-use Rattle.layers.specs.laws.Running.{ask_holds, ask_stands, rest_stands, rest_holds, run_well, follow_ended, put_again, lies_after}
+use Rattle.layers.specs.laws.Running.{push_holds, push_stands, follow_well, ask_holds, ask_stands, rest_stands, rest_holds, run_well, follow_ended, put_again, lies_after}
 use Rattle.layers.specs.laws.Over.{LayerOver}
 
 -- an end at which no program goes on: the part waits, or is spent
@@ -197,3 +198,81 @@ module _ {Task P : Type 0} (l : LayerOver Task P) (at : Place) where
         (λ i. run_on l.table l.below (ec i) (own_1 i)) ∙ sym (follow_ended l who o task outcome here lies.holds stands answers goes_on) in
         again m lies mid m1 em well (run_on l.table l.below c1 (own l.table l.below at m1)) (follow_on l.table l.below task (Done outcome) here) same
         (run_well l who o c1 (own l.table l.below at m1) follow_stands follow_lies.holds).holds stack given left m2 lands
+
+-- a layer whose operation goes on: its frame tells the task in which it stands, and its part makes a bit action
+module _ {Task P : Type 0} (l : LayerOver Task P) (at : Place) (m : Memory) (lies : LayerLies l.table l.below l.Holds at m) (who first : ℕ) (stack : List Frame) (choice : Bool)
+    (frame : Frame) (found : drop first stack ≡ frame ∷ drop (first + 1) stack) (task : Task) (finds : task ≡ l.table.find who frame) where
+  -- what the part's action comes to
+  abbrev moved : P → Moved P
+  moved p = pushed l.below (l.table.asks task).part p choice (own l.table l.below at m)
+
+  abbrev StandsAt : Op → Nested Task P → Type 0
+  StandsAt o n = StandsOn (layered l.table l.below).frames (LayerReaches l.table l.Stands l.Reaches) who first stack o n
+
+  in_task : (o : Op) (n : Nested Task P) → StandsAt o n → task ≡ n.task
+  in_task o n on = finds ∙ found_task l who first stack frame found o n on
+
+  pub stands_at : (o : Op) (n : Nested Task P) → StandsAt o n → StandsAt o (record { task = task; below = n.below })
+  stands_at o n on = subst (λ x. StandsAt o (record { task = x; below = n.below })) (sym (in_task o n on)) on
+
+  pub chooses : (chosen : Option (ℕ × Bool)) → ((o : Op) (p : P) → StandsAt o (record { task = task; below = p }) → chosen ≡ placed_bit at (moved p).chosen)
+      → (o : Op) (n : Nested Task P) → StandsAt o n → chosen ≡ placed_bit at (resume l.table l.below n choice (own l.table l.below at m)).chosen
+  chooses chosen e o n on =
+      e o n.below (stands_at o n on) ∙ ap (λ x. placed_bit at (pushed l.below (l.table.asks x).part n.below choice (own l.table l.below at m)).chosen) (in_task o n on)
+
+  module _ (end : Option Outcome) (left : List Frame) (m1 : Memory)
+      (pushes : (o : Op) (p : P) → StandsAt o (record { task = task; below = p }) → Lands (task_frames l.table l.below task) at (moved p).next (moved p).memory (take first stack) m end left m1)
+      (o : Op) (n : Nested Task P) (on : StandsAt o n) where
+    lands : Lands (task_frames l.table l.below task) at (moved n.below).next (moved n.below).memory (take first stack) m end left m1
+    lands = pushes o n.below (stands_at o n on)
+
+    -- what lands for the task that is found lands for that in which the process stands
+    for_task : (front : List Frame) (given : Option Outcome) (after : List Frame) (m2 : Memory)
+        → Lands (layered l.table l.below).frames at (follow_on l.table l.below task (moved n.below).next (moved n.below).memory).next (follow_on l.table l.below task (moved n.below).next (moved n.below).memory).memory front m given after m2
+        → Lands (layered l.table l.below).frames at (resume l.table l.below n choice (own l.table l.below at m)).next (resume l.table l.below n choice (own l.table l.below at m)).memory front m given after m2
+    for_task front given after m2 it =
+        subst (λ x. Lands (layered l.table l.below).frames at (resume l.table l.below (record { task = x; below = n.below }) choice (own l.table l.below at m)).next
+        (resume l.table l.below (record { task = x; below = n.below }) choice (own l.table l.below at m)).memory front m given after m2) (in_task o n on) it
+
+    -- a part that waits
+    pub waits : end ≡ None → Lands (layered l.table l.below).frames at (resume l.table l.below n choice (own l.table l.below at m)).next (resume l.table l.below n choice (own l.table l.below at m)).memory
+        (take first stack) m end left m1
+    waits none =
+        for_task (take first stack) end left m1
+        (stops_there l at task (moved n.below).next (moved n.below).memory end (take first stack) left m m1 lands (subst Stops (sym none) tt)
+        (follow_on l.table l.below task (moved n.below).next (moved n.below).memory) refl)
+
+    module _ (outcome : Outcome) (is : end ≡ Some outcome) where
+      pushed_well : LayerHolds l.table l.below l.Holds (moved n.below).memory
+      pushed_well = let there = stands_at o n on in push_holds l who o task n.below choice (own l.table l.below at m) lies.holds there.reached.stands there.reached.below
+
+      ended_so : (moved n.below).next ≡ Done outcome
+      ended_so = done_of (moved n.below).next outcome (sym lands.answer ∙ is)
+
+      -- a part that has ended: the layer lies there, the part has answered, and the stack is that in front of it
+      pub ended_lies : LayerLies l.table l.below l.Holds at m1
+      ended_lies = lies_after l at m lies (moved n.below).memory m1 lands.memory pushed_well
+
+      pub ended_stands : l.Stands who o task × Answers l.below.values (l.table.asks task).op outcome
+      ended_stands =
+          let there = stands_at o n on in (
+            there.reached.stands,
+            subst (StandsWell (l.Reaches (l.table.asks task).who (l.table.asks task).op) (Answers l.below.values (l.table.asks task).op)) ended_so
+                (push_stands l who o task n.below choice (own l.table l.below at m) lies.holds there.reached.stands there.reached.below),
+          )
+
+      pub ended_left : left ≡ take first stack
+      ended_left = ended_leaves (task_frames l.table l.below task) (moved n.below).next end outcome (take first stack) left lands.answer is lands.stack
+
+      -- and the program runs on behind it
+      pub ended_goes_on : (given : Option Outcome) (after : List Frame) (m2 : Memory)
+          → Lands (layered l.table l.below).frames at (follow_on l.table l.below task (Done outcome) (own l.table l.below at m1)).next (follow_on l.table l.below task (Done outcome) (own l.table l.below at m1)).memory left m1 given after m2
+          → Lands (layered l.table l.below).frames at (resume l.table l.below n choice (own l.table l.below at m)).next (resume l.table l.below n choice (own l.table l.below at m)).memory (take first stack) m given after m2
+      ended_goes_on given after m2 it =
+          let here : own l.table l.below at m1 ≡ (moved n.below).memory = ap (own l.table l.below at) lands.memory ∙ own_with l at m lies (moved n.below).memory pushed_well in
+          let late = (follow_well l who o task (Done outcome) (own l.table l.below at m1) ended_lies.holds ended_stands.0 ended_stands.1).holds in
+          for_task (take first stack) given after m2
+          (again l at m lies (moved n.below).memory m1 lands.memory pushed_well (follow_on l.table l.below task (Done outcome) (own l.table l.below at m1))
+          (follow_on l.table l.below task (moved n.below).next (moved n.below).memory) (λ i. follow_on l.table l.below task (sym ended_so i) (here i)) late (take first stack) given after m2
+          (subst (λ s. Lands (layered l.table l.below).frames at (follow_on l.table l.below task (Done outcome) (own l.table l.below at m1)).next
+          (follow_on l.table l.below task (Done outcome) (own l.table l.below at m1)).memory s m1 given after m2) ended_left it))
