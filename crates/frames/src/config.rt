@@ -163,6 +163,7 @@ impl<R: Register> Config<R> {
     }
 
     /// Makes the step, and tells its events, at most two.
+    #[inline(always)]
     pub fn step(&mut self, step: Step) -> StepEvents
         requires { fits_step (R.is self.old.register) step ≡ true }
         ensures events { result ≡ events_of (R.is self.old.register) self.old step }
@@ -176,6 +177,7 @@ impl<R: Register> Config<R> {
     }
 
     /// Makes the step of a process that hasn't stopped.
+    #[inline(always)]
     fn act(&mut self, step: Step) -> StepEvents
         requires { fits_step (R.is self.old.register) step ≡ true }
         ensures events { result ≡ (acting (R.is self.old.register) step (running_at (process_of step) self.old) self.old.memory).events }
@@ -210,6 +212,7 @@ impl<R: Register> Config<R> {
     }
 
     /// A process makes its next bit action, if it has an operation pending.
+    #[inline(always)]
     fn proceed(&mut self, who: u32, choice: bool) -> StepEvents
         requires { who < (R.is self.old.register).processes }
         ensures events { result ≡ (going (R.is self.old.register) who choice (running_at who self.old) self.old.memory).events }

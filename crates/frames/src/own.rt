@@ -114,6 +114,7 @@ pub fn proceed<R: Register>(
 }
 
 /// The event of an operation's end, if it has ended.
+#[inline(always)]
 fn end_of(who: u32, end: Option<Outcome>) -> Option<Event>
     ensures { result ≡ end_of who end }
 {
@@ -125,6 +126,7 @@ fn end_of(who: u32, end: Option<Outcome>) -> Option<Event>
 }
 
 /// One event, and no other.
+#[inline(always)]
 pub fn alone(event: Event) -> StepEvents
     ensures { result ≡ spec.in_order (Some event) None }
 {
@@ -135,6 +137,7 @@ pub fn alone(event: Event) -> StepEvents
 }
 
 /// Two events that may be missing, in order.
+#[inline(always)]
 fn in_order(earlier: Option<Event>, later: Option<Event>) -> StepEvents
     ensures { result ≡ spec.in_order earlier later }
 {
