@@ -2,7 +2,7 @@
 
 ghost use Rattle.std.specs.Prelude.{◌≡◌, ◌++◌, ◌∷◌, [], ◌<◌, ◌≤◌, ◌+◌, ◌^◌, ℕ, List, Option, OnOk, OnErr, IfOk, IfErr, IfSome, length, nat_lt, if◌then◌else◌};
 ghost use Rattle.std.specs.Io.KnownBytes.{Appends, IsAtEnd};
-ghost use Rattle.conversation.specs.Scripts.{answers_to, IsAnswer};
+ghost use Rattle.conversation.specs.Scripts.{answers_to, AnswersBy, IsAnswer};
 ghost use Rattle.conversation.specs.Told.{Told, Reached, Turned, Finished};
 ghost use Rattle.conversation.specs.Conversations.{IsAnswered, Breaks, IsFront};
 
@@ -47,52 +47,63 @@ impl Conversation {
     }
 
     /// Takes a piece of the script, and adds the answers to the lines that end in it.
-    fn take<A: Answers>(
+    fn take<A: Answers, F: Fn(&mut A, u32, &[u8]) -> Result<Vec<u8>, AllocError>>(
         &mut self,
-        alloc: Global,
         answers: &mut A,
+        answer: &F,
         piece: &[u8],
     ) -> Result<(), AllocError>
-        requires { self.old.lines + length piece.now < 2 ^ 32 }
+        requires few { self.old.lines + length piece.now < 2 ^ 32 }
+        requires callable { F.IsAlwaysCallable answer.now }
+        requires answers { AnswersBy A.define A.world (F.post answer.now) }
         ensures told { OnOk result ((start : A.Worlds) (seen front : List ℕ)
             → Told A.define start seen (A.world answers.old) self.old.lines self.old.line.items (front ++ self.old.out.items)
             → Told A.define start (seen ++ piece.now) (A.world answers.new) self.new.lines self.new.line.items (front ++ self.new.out.items)) }
         ensures lines { self.new.lines ≤ self.old.lines + length piece.now }
     {
         for byte in piece {
-            self.take_byte(alloc, answers, *byte)?;
+            self.take_byte(answers, answer, *byte)?;
         }
         Ok(())
     }
 
     /// Takes a byte of the script, and adds the answer to the line that it ends.
-    fn take_byte<A: Answers>(
+    fn take_byte<A: Answers, F: Fn(&mut A, u32, &[u8]) -> Result<Vec<u8>, AllocError>>(
         &mut self,
-        alloc: Global,
         answers: &mut A,
+        answer: &F,
         byte: u8,
     ) -> Result<(), AllocError>
-        requires { self.old.lines + 1 < 2 ^ 32 }
+        requires few { self.old.lines + 1 < 2 ^ 32 }
+        requires callable { F.IsAlwaysCallable answer.now }
+        requires answers { AnswersBy A.define A.world (F.post answer.now) }
         ensures told { OnOk result ((start : A.Worlds) (seen front : List ℕ)
             → Told A.define start seen (A.world answers.old) self.old.lines self.old.line.items (front ++ self.old.out.items)
             → Told A.define start (seen ++ byte ∷ []) (A.world answers.new) self.new.lines self.new.line.items (front ++ self.new.out.items)) }
         ensures lines { self.new.lines ≤ self.old.lines + 1 }
     {
         if byte == b'\n' {
-            return self.end_line(alloc, answers);
+            return self.end_line(answers, answer);
         }
         self.keep(byte)
     }
 
     /// Adds the answer to the line, which ends here.
-    fn end_line<A: Answers>(&mut self, alloc: Global, answers: &mut A) -> Result<(), AllocError>
-        requires { self.old.lines + 1 < 2 ^ 32 }
+    fn end_line<A: Answers, F: Fn(&mut A, u32, &[u8]) -> Result<Vec<u8>, AllocError>>(
+        &mut self,
+        answers: &mut A,
+        answer: &F,
+    ) -> Result<(), AllocError>
+        requires few { self.old.lines + 1 < 2 ^ 32 }
+        requires callable { F.IsAlwaysCallable answer.now }
+        requires answers { AnswersBy A.define A.world (F.post answer.now) }
         ensures lines { self.new.lines ≡ self.old.lines + 1 }
         ensures line { OnOk result (self.new.line.items ≡ []) }
         ensures answer { OnOk result (IsAnswer A.define (self.old.lines + 1) self.old.line.items (A.world answers.old) (A.world answers.new) self.old.out.items self.new.out.items) }
     {
         self.lines += 1;
-        answers.answer(alloc, &mut self.out, self.lines, &self.line)?;
+        let text = answer(answers, self.lines, &self.line)?;
+        self.out.extend_from_slice(&text)?;
         self.line.clear();
         Ok(())
     }
@@ -131,10 +142,15 @@ impl Conversation {
 
     /// Reads once, and sends the answers to the lines that end in what was read. Nothing is answered
     /// at the end; else how many bytes were read, 0 where the read was interrupted.
-    fn turn<A: Answers, R: Read, W: Write>(
+    fn turn<
+        A: Answers,
+        F: Fn(&mut A, u32, &[u8]) -> Result<Vec<u8>, AllocError>,
+        R: Read,
+        W: Write,
+    >(
         &mut self,
-        alloc: Global,
         answers: &mut A,
+        answer: &F,
         room: u32,
         reader: &mut R,
         writer: &mut W,
@@ -142,6 +158,8 @@ impl Conversation {
         requires some { 0 < room }
         requires few { self.old.lines + room < 2 ^ 32 }
         requires sent { self.old.out.items ≡ [] }
+        requires callable { F.IsAlwaysCallable answer.now }
+        requires answers { AnswersBy A.define A.world (F.post answer.now) }
         ensures out { OnOk result (self.new.out.items ≡ []) }
         ensures lines { IfOk result (λ taken. IfSome taken (λ n. self.new.lines ≤ self.old.lines + n)) }
         ensures last { IfOk result (λ taken. taken ≡ None → self.new.lines ≡ self.old.lines) }
@@ -157,7 +175,7 @@ impl Conversation {
         let Some(n) = taken else {
             return Ok(None);
         };
-        let Ok(()) = self.take(alloc, answers, &buffer[..n]) else {
+        let Ok(()) = self.take(answers, answer, &buffer[..n]) else {
             return Err(StreamFault::Memory);
         };
         let Ok(()) = self.send(writer) else {
@@ -167,19 +185,21 @@ impl Conversation {
     }
 
     /// Answers the last line, if the script doesn't end with a line's end.
-    fn finish<A: Answers, W: Write>(
+    fn finish<A: Answers, F: Fn(&mut A, u32, &[u8]) -> Result<Vec<u8>, AllocError>, W: Write>(
         &mut self,
-        alloc: Global,
         answers: &mut A,
+        answer: &F,
         writer: &mut W,
     ) -> Result<(), StreamFault>
         requires few { self.old.lines + 1 < 2 ^ 32 }
         requires sent { self.old.out.items ≡ [] }
+        requires callable { F.IsAlwaysCallable answer.now }
+        requires answers { AnswersBy A.define A.world (F.post answer.now) }
         ensures { (start : A.Worlds) (old now before : Option (List ℕ)) (count : ℕ) → count < 2 ^ 24 → IsAtEnd now
             → Reached A.define start old now before (W.contents writer.old) count (A.world answers.old) self.old.lines self.old.line.items
             → Finished A.define start old now before (W.contents writer.new) result }
     {
-        let Ok(()) = self.end_line(alloc, answers) else {
+        let Ok(()) = self.end_line(answers, answer) else {
             return Err(StreamFault::Memory);
         };
         let Ok(()) = self.send(writer) else {
@@ -189,21 +209,29 @@ impl Conversation {
     }
 }
 
-/// Answers a script, the lines of each read before the next one.
-pub fn converse<A: Answers, R: Read, W: Write>(
+/// Answers a script by what is called for each line, the lines of each read before the next one.
+pub fn converse<
+    A: Answers,
+    F: Fn(&mut A, u32, &[u8]) -> Result<Vec<u8>, AllocError>,
+    R: Read,
+    W: Write,
+>(
     alloc: Global,
     answers: &mut A,
+    answer: &F,
     reader: &mut R,
     writer: &mut W,
 ) -> Result<(), StreamFault>
+    requires callable { F.IsAlwaysCallable answer.now }
+    requires answers { AnswersBy A.define A.world (F.post answer.now) }
     ensures done { OnOk result (IsAnswered (answers_to A.define (A.world answers.old)) (R.remaining reader.old) (R.remaining reader.new) (W.contents writer.old) (W.contents writer.new)) }
     ensures fault { IfErr result (λ e. Breaks (answers_to A.define (A.world answers.old)) e (R.remaining reader.old) (R.remaining reader.new) (W.contents writer.old) (W.contents writer.new)) }
 {
     let mut conversation = Conversation::new(alloc);
     let mut room = MOST_BYTES;
     for _ in 0..MOST_READS {
-        let Some(taken) = conversation.turn(alloc, answers, room, reader, writer)? else {
-            return conversation.finish(alloc, answers, writer);
+        let Some(taken) = conversation.turn(answers, answer, room, reader, writer)? else {
+            return conversation.finish(answers, answer, writer);
         };
         room -= taken;
         if room == 0 {

@@ -1,5 +1,7 @@
 //! When answers go out, by a writer that counts and a reader that looks at it.
 
+ghost use Rattle.std.specs.Prelude.{◌≡◌, IfOk, codes};
+
 use crate::answering::Answers;
 use crate::converse::converse;
 use std::alloc::{AllocError, Global};
@@ -22,17 +24,13 @@ impl Answers for Nodding {
     ghost define = { λ memory number line w. record { world = w; text = codes "yes" } };
 
     ghost reads_front = { λ memory number line w. refl };
+}
 
-    fn answer(
-        &mut self,
-        _alloc: Global,
-        out: &mut Vec<u8>,
-        _number: u32,
-        _line: &[u8],
-    ) -> Result<(), AllocError> {
-        out.extend_from_slice("yes".as_bytes())?;
-        Ok(())
-    }
+/// Answers each line alike.
+fn nod(alloc: Global) -> Result<Vec<u8>, AllocError>
+    ensures { IfOk result (λ text. text.items ≡ codes "yes") }
+{
+    Vec::from_slice(alloc, "yes".as_bytes())
 }
 
 /// Counts the writes, and the bytes that came by them.
@@ -95,7 +93,9 @@ fn answers_go_out_together(rt: HostRuntime) {
         writes: &writes,
         bytes: &bytes,
     };
-    let ended = converse(rt.alloc(), &mut Nodding, &mut reader, &mut writer);
+    let alloc = rt.alloc();
+    let nodding = |_: &mut Nodding, _: u32, _: &[u8]| nod(alloc);
+    let ended = converse(rt.alloc(), &mut Nodding, &nodding, &mut reader, &mut writer);
     assert!(rt; ended.is_ok());
     assert_eq!(rt;
         reader.seen.as_slice(),
@@ -114,7 +114,9 @@ fn many_short_lines(rt: HostRuntime) -> Result<(), Fail> {
         writes: &writes,
         bytes: &bytes,
     };
-    let ended = converse(rt.alloc(), &mut Nodding, &mut reader, &mut writer);
+    let alloc = rt.alloc();
+    let nodding = |_: &mut Nodding, _: u32, _: &[u8]| nod(alloc);
+    let ended = converse(rt.alloc(), &mut Nodding, &nodding, &mut reader, &mut writer);
     assert!(rt; ended.is_ok());
     assert!(rt; writes.get() <= 11);
     assert_eq!(rt; bytes.get(), 3 * 40_001);

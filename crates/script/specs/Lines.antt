@@ -14,7 +14,7 @@ use Rattle.sessions.specs.declared.command.Command.TheVariants as command
 use Rattle.words.specs.Words.{◌>>=◌, words, next, after_next, is_end, number, one_number, two_numbers}
 use Rattle.words.specs.Steps.{step_of}
 use Rattle.script.specs.declared.call.Request.{Request}
-use Rattle.script.specs.declared.call.Request.TheVariants.{Act, Look}
+use Rattle.script.specs.declared.call.Request.TheVariants.{Act, Look, Fill}
 use Rattle.script.specs.declared.call.Call.{Call}
 use Rattle.script.specs.declared.call.Line.{Line}
 use Rattle.script.specs.declared.call.Line.TheVariants as line
@@ -164,9 +164,12 @@ abbrev pub act_of : List ℕ → List (List ℕ) → Option Request
 act_of [] ws = unguarded [] ws
 act_of (b ∷ bs) ws = if b == 64 then guarded bs ws else unguarded (b ∷ bs) ws
 
--- a look, or a command
+-- a look, `fill B`, or a command
 abbrev pub request_of : ℕ → List ℕ → List (List ℕ) → Option Request
-request_of session word ws = if is_look word then option_map Look (look_of session word ws) else act_of word ws
+request_of session word ws =
+    if is_look word then option_map Look (look_of session word ws)
+    else (if bytes_eq word (codes "fill") then option_map Fill (branch_of ws)
+    else act_of word ws)
 
 -- a call: the number of a session, and what it asks for
 abbrev pub call_of : List (List ℕ) → Option Call

@@ -34,6 +34,10 @@ reply_text (No r) = refusal_text r
 abbrev pub answer_text : ℕ → Reply → List ℕ
 answer_text session reply = decimal session ++ codes ": " ++ reply_text reply ++ line_end
 
+-- the answer to a fill that isn't refused
+abbrev pub filled_text : ℕ → List ℕ
+filled_text session = decimal session ++ codes ": filled" ++ line_end
+
 -- the refusal of a line that calls nothing
 abbrev pub bad_line_text : ℕ → List ℕ
 bad_line_text line = codes "line " ++ decimal line ++ codes ": " ++ refusal_text BadLine ++ line_end

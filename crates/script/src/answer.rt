@@ -1,6 +1,7 @@
 //! Answers to the lines of a script.
 
 ghost use Rattle.std.specs.Prelude.{◌≡◌, ◌⊎◌, Bool, Ok, Err, OnOk, IfOk, IfErr, []};
+ghost use Rattle.schedule_trie.specs.Forest.{index_of};
 ghost use Rattle.sessions.specs.Looks.{looked};
 ghost use Rattle.script.specs.Answers.{page_of};
 ghost use Rattle.script.specs.Answers as spec;
@@ -9,13 +10,15 @@ ghost use Rattle.script.specs.Seats.{world_at};
 use crate::call::{Call, Line, Request};
 use crate::line::read_line;
 use crate::seat::Seat;
-use crate::text::{push_bad_line, push_reply};
+use crate::text::{push_bad_line, push_filled, push_reply};
 use conversation::answering::Answers;
 use frames::register::Register;
+use schedule_trie::name::Name;
 use schedule_trie::refusal::Refusal;
 use sessions::reply::Reply;
 use std::alloc::{AllocError, Global};
 use std::sync::Wait;
+use std::thread::Threads;
 use views::page::page_text;
 use views::query::Query;
 
@@ -32,34 +35,40 @@ impl<R: Register, W: Wait> Answers for Seat<'_, R, W> {
     ghost define = { answer_line };
 
     ghost reads_front = { answer_line-front };
-
-    // Each answer is made apart, so that a page that memory is refused for leaves nothing behind.
-    fn answer(
-        &mut self,
-        alloc: Global,
-        out: &mut Vec<u8>,
-        number: u32,
-        line: &[u8],
-    ) -> Result<(), AllocError> {
-        let mut text = Vec::new(alloc);
-        answer_line(&mut text, alloc, self, number, line)?;
-        out.extend_from_slice(&text)?;
-        Ok(())
-    }
 }
 
-/// Answers line `number`, in place of what `out` held. An error comes only where there is no memory
-/// for a line of the answer.
-fn answer_line<R: Register, W: Wait>(
+/// A line's answer, unless there is no memory for a line of it.
+pub type LineAnswer = Result<Vec<u8>, AllocError>;
+
+/// Answers line `number`.
+pub fn answer<R: Register + Send + Sync, W: Threads + Wait + Sync>(
+    alloc: Global,
+    seat: &mut Seat<'_, R, W>,
+    number: u32,
+    line: &[u8],
+) -> LineAnswer
+where
+    R::Pending: Send + Sync,
+    ensures { IfOk result (λ text. (memory : Bool) × (spec.answer_line memory number line.now (world_at R.is seat.old) ≡ record { world = world_at R.is seat.new; text = text.items })) }
+{
+    let mut text = Vec::new(alloc);
+    push_answer(&mut text, alloc, seat, number, line)?;
+    Ok(text)
+}
+
+/// Answers line `number`, where nothing is written yet.
+fn push_answer<R: Register + Send + Sync, W: Threads + Wait + Sync>(
     out: &mut Vec<u8>,
     alloc: Global,
     seat: &mut Seat<'_, R, W>,
     number: u32,
     line: &[u8],
 ) -> Result<(), AllocError>
+where
+    R::Pending: Send + Sync,
+    requires { out.old.items ≡ [] }
     ensures { OnOk result ((memory : Bool) × (spec.answer_line memory number line.now (world_at R.is seat.old) ≡ record { world = world_at R.is seat.new; text = out.new.items })) }
 {
-    out.clear();
     match read_line(line) {
         Line::Blank => Ok(()),
         Line::Bad => push_bad_line(out, number),
@@ -68,12 +77,14 @@ fn answer_line<R: Register, W: Wait>(
 }
 
 /// Answers a call.
-fn answer_call<R: Register, W: Wait>(
+fn answer_call<R: Register + Send + Sync, W: Threads + Wait + Sync>(
     out: &mut Vec<u8>,
     alloc: Global,
     seat: &mut Seat<'_, R, W>,
     call: &Call,
 ) -> Result<(), AllocError>
+where
+    R::Pending: Send + Sync,
     requires { out.old.items ≡ [] }
     ensures { OnOk result ((memory : Bool) × (spec.answer_call memory call.now (world_at R.is seat.old) ≡ record { world = world_at R.is seat.new; text = out.new.items })) }
 {
@@ -84,6 +95,7 @@ fn answer_call<R: Register, W: Wait>(
             push_reply(out, session, &reply)
         }
         Request::Look(query) => answer_look(out, alloc, seat, session, *query),
+        Request::Fill(branch) => answer_fill(out, alloc, seat, session, branch),
     }
 }
 
@@ -121,5 +133,25 @@ fn page_in<R: Register, W: Wait>(
     match page_text(alloc, session, &page) {
         Ok(text) => Ok(text),
         Err(AllocError) => Err(Refusal::Memory),
+    }
+}
+
+/// Answers a fill.
+fn answer_fill<R: Register + Send + Sync, W: Threads + Wait + Sync>(
+    out: &mut Vec<u8>,
+    alloc: Global,
+    seat: &mut Seat<'_, R, W>,
+    session: u32,
+    branch: &Name,
+) -> Result<(), AllocError>
+where
+    R::Pending: Send + Sync,
+    requires { out.old.items ≡ [] }
+    ensures text { let w = world_at R.is seat.old in OnOk result ((memory : Bool) × (out.new.items ≡ spec.fill_text memory session (index_of w.forest.branches branch.now))) }
+    ensures kept { world_at R.is seat.new ≡ world_at R.is seat.old }
+{
+    match seat.fill(alloc, branch) {
+        Ok(()) => push_filled(out, session),
+        Err(refusal) => push_reply(out, session, &Reply::No(refusal)),
     }
 }

@@ -1,5 +1,6 @@
 //! What a line of a script says.
 
+use schedule_trie::name::Name;
 use sessions::command::Command;
 use views::query::Query;
 
@@ -13,6 +14,8 @@ pub enum Request {
     },
     /// A look, which is not logged.
     Look(Query),
+    /// A fill of a branch, which is not logged.
+    Fill(Name),
 }
 
 /// What a session asks for, and its number.

@@ -65,6 +65,10 @@ fn request_of(session: u32, word: &[u8], words: &mut Parts<'_>) -> Option<Reques
         let query = look_of(session, word, words)?;
         return Some(Request::Look(query));
     }
+    if is(word, "fill") {
+        let branch = branch_of(words)?;
+        return Some(Request::Fill(branch));
+    }
     match word.split_first() {
         Some((b'@', guard)) => guarded(guard, words),
         _ => unguarded(word, words),

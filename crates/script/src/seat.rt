@@ -1,28 +1,32 @@
 //! A seat at a desk: where a script's lines are answered.
 
-ghost use Rattle.std.specs.Prelude.{◌≡◌, ◌⊎◌, Some, Ok, OnOk, IfOk, IfErr, Err};
+ghost use Rattle.std.specs.Prelude.{◌≡◌, ◌≤◌, ◌⊎◌, Some, Ok, OnOk, IfOk, IfErr, Err};
 ghost use Rattle.turn.specs.Shares.{HasAll};
 ghost use Rattle.turn.specs.Chairs.{view};
 ghost use Rattle.sessions.specs.Acts.{acted};
 ghost use Rattle.sessions.specs.Looks.{looked, shown_in};
+ghost use Rattle.desk.specs.Works.{NeedsBranch};
 ghost use Rattle.desk.specs.Chairs.{IsAt};
 ghost use Rattle.desk.specs.Histories.{seen};
 ghost use Rattle.script.specs.Seats.{world_at};
 
 use desk::{Chair, Desk, Item, Journal};
 use frames::register::Register;
+use schedule_trie::name::Name;
 use schedule_trie::refusal::Refusal;
 use sessions::command::Command;
 use sessions::reply::Reply;
 use std::alloc::Global;
 use std::marker::Model;
 use std::sync::Wait;
+use std::thread::Threads;
 use turn::Counted;
 use views::lens::Lens;
 use views::page::Page;
 use views::query::Query;
 
-/// A desk, and a chair at it that holds every share, so that each call finds just the history that the chair has seen.
+/// A desk, and a chair at it that holds every share, so that each call finds just the history that the chair has seen. So many thieves help
+/// with its fills.
 #[derive(Drop)]
 pub struct Seat<'a, R: Register, W>
 where
@@ -31,14 +35,17 @@ where
     rt: &'a W,
     desk: Desk<R>,
     chair: Chair<R>,
+    thieves: u32,
 }
 
 impl<'a, R: Register, W> Model for Seat<'a, R, W>
 where
     Journal<R>: Counted<Entry = Item<R>>,
 {
+    ghost use Rattle.std.specs.Prelude.{◌≤◌};
     ghost use Rattle.turn.specs.Shares.{HasAll};
     ghost use Rattle.turn.specs.Chairs as chairs;
+    ghost use Rattle.desk.specs.Works.{NeedsBranch};
     ghost use Rattle.desk.specs.Chairs.{IsAt};
     ghost use Rattle.desk.specs.Histories.{seen};
     ghost use Rattle.script.specs.Seats.{Seated};
@@ -47,17 +54,23 @@ where
 
     ghost view = { λ s. record { first = s.desk.first.value; seen = seen (chairs.view s.chair) } };
 
-    ghost invariant = { λ s. IsAt R.is s.desk s.chair × HasAll (chairs.view s.chair).shares };
+    ghost invariant = { λ s. IsAt R.is s.desk s.chair × HasAll (chairs.view s.chair).shares × (s.thieves ≤ 4) };
 }
 
 impl<'a, R: Register, W: Wait> Seat<'a, R, W> {
-    /// The seat of a chair at its desk.
-    pub fn new(rt: &'a W, desk: Desk<R>, chair: Chair<R>) -> Seat<'a, R, W>
+    /// The seat of a chair at its desk, with so many thieves for its fills.
+    pub fn new(rt: &'a W, desk: Desk<R>, chair: Chair<R>, thieves: u32) -> Seat<'a, R, W>
         requires at { IsAt R.is desk chair }
         requires whole { HasAll (view chair).shares }
+        requires thieves { thieves ≤ 4 }
         ensures { result ≡ record { first = desk.first.value; seen = seen (view chair) } }
     {
-        Seat { rt, desk, chair }
+        Seat {
+            rt,
+            desk,
+            chair,
+            thieves,
+        }
     }
 
     /// Answers a session's command with its guard.
@@ -94,5 +107,28 @@ impl<'a, R: Register, W: Wait> Seat<'a, R, W> {
             .desk
             .look(self.rt, alloc, &mut self.chair, &mut lens, query);
         answer.result
+    }
+}
+
+impl<R: Register + Send + Sync, W: Threads + Wait + Sync> Seat<'_, R, W>
+where
+    R::Pending: Send + Sync,
+{
+    /// Stores runs for a branch and the others, as far as memory goes.
+    ///
+    /// # Errors
+    ///
+    /// NoBranch; Memory.
+    pub(crate) fn fill(&mut self, alloc: Global, branch: &Name) -> Result<(), Refusal>
+        ensures found { NeedsBranch branch.now (world_at R.is self.old) result }
+        ensures kept { world_at R.is self.new ≡ world_at R.is self.old }
+    {
+        match self
+            .desk
+            .fill(self.rt, alloc, &mut self.chair, branch, self.thieves)
+        {
+            Ok(_) => Ok(()),
+            Err(refusal) => Err(refusal),
+        }
     }
 }

@@ -17,6 +17,13 @@ pub fn push_reply(out: &mut Vec<u8>, session: u32, reply: &Reply) -> Result<(), 
     push_line(out, session, reply).map_err(|_| AllocError)
 }
 
+/// Adds the answer to a fill that isn't refused.
+pub fn push_filled(out: &mut Vec<u8>, session: u32) -> Result<(), AllocError>
+    ensures { OnOk result (out.new.items ≡ out.old.items ++ spec.filled_text session) }
+{
+    writeln!(out, "{session}: filled").map_err(|_| AllocError)
+}
+
 /// Adds the refusal of a line that calls nothing.
 pub fn push_bad_line(out: &mut Vec<u8>, line: u32) -> Result<(), AllocError>
     ensures { OnOk result (out.new.items ≡ out.old.items ++ spec.bad_line_text line) }

@@ -3,7 +3,6 @@
 ghost use Rattle.std.specs.Prelude.{◌≡◌, ◌<◌, Some, OnOk, IfErr};
 ghost use Rattle.std.specs.Option.{option_map};
 ghost use Rattle.checkpoints.specs.Segment.{AllFit};
-ghost use Rattle.schedule_trie.specs.Cut.{AreLimits as AreTrieLimits};
 ghost use Rattle.conversation.specs.Scripts.{answers_to};
 ghost use Rattle.script.specs.Answers.{answer_line};
 ghost use Rattle.command_line.specs.Ranges.{AreLimits, limits_of};
@@ -16,10 +15,10 @@ use desk::Desk;
 use frames::register::Register;
 use frames::safe::Safe;
 use frames::types::Step;
-use schedule_trie::limits::Limits;
 use std::alloc::Global;
 use std::io::{Read, Write};
 use std::sync::Wait;
+use std::thread::Threads;
 use tower_file::{TowerFile, TowerSpec, parse};
 use towers::{copies, matrix, regular, stamped, unary};
 
@@ -29,7 +28,7 @@ use towers::{copies, matrix, regular, stamped, unary};
 /// A fault of the file or a refusal of its steps comes before anything is read or written. After a fault of
 /// the streams a front of the output has gone out: after a read that failed and after a script too long,
 /// the answers to the whole lines that were read.
-pub fn run<H: Wait, R: Read, W: Write>(
+pub fn run<H: Threads + Wait + Sync, R: Read, W: Write>(
     rt: &H,
     alloc: Global,
     file: Option<&[u8]>,
@@ -43,16 +42,16 @@ pub fn run<H: Wait, R: Read, W: Write>(
 {
     let Some(bytes) = file else {
         let none = Vec::new(alloc);
-        return begin(rt, alloc, Safe, 0, none, options.limits(), reader, writer);
+        return begin(rt, alloc, Safe, 0, none, options, reader, writer);
     };
     match parse(alloc, bytes) {
-        Ok(file) => run_file(rt, alloc, file, options.limits(), reader, writer),
+        Ok(file) => run_file(rt, alloc, file, options, reader, writer),
         Err(fault) => Err(Fault::File(fault)),
     }
 }
 
 /// Answers a script on the tower and the steps of a file whose bytes are let go before anything is read.
-pub fn run_read<H: Wait, R: Read, W: Write>(
+pub fn run_read<H: Threads + Wait + Sync, R: Read, W: Write>(
     rt: &H,
     alloc: Global,
     bytes: Vec<u8>,
@@ -67,27 +66,27 @@ pub fn run_read<H: Wait, R: Read, W: Write>(
     let file = parse(alloc, bytes.as_slice());
     drop(bytes);
     match file {
-        Ok(file) => run_file(rt, alloc, file, options.limits(), reader, writer),
+        Ok(file) => run_file(rt, alloc, file, options, reader, writer),
         Err(fault) => Err(Fault::File(fault)),
     }
 }
 
 /// Answers a script on the tower and the steps of a file, which is let go before anything is read.
-fn run_file<H: Wait, R: Read, W: Write>(
+fn run_file<H: Threads + Wait + Sync, R: Read, W: Write>(
     rt: &H,
     alloc: Global,
     file: TowerFile,
-    limits: Limits,
+    options: Options,
     reader: &mut R,
     writer: &mut W,
 ) -> Result<(), Fault>
-    requires { AreTrieLimits limits }
-    ensures { EndsOver limits file.steps (answers_on file limits) (R.remaining reader.old) (R.remaining reader.new) (W.contents writer.old) (W.contents writer.new) result }
+    requires { AreLimits options }
+    ensures { EndsOver (limits_of options) file.steps (answers_on file (limits_of options)) (R.remaining reader.old) (R.remaining reader.new) (W.contents writer.old) (W.contents writer.new) result }
 {
     let spec = file.spec();
     let steps = file.into_steps();
     match spec {
-        TowerSpec::Safe { init } => begin(rt, alloc, Safe, init, steps, limits, reader, writer),
+        TowerSpec::Safe { init } => begin(rt, alloc, Safe, init, steps, options, reader, writer),
         TowerSpec::Copies { readers, init } => {
             begin(
                 rt,
@@ -95,7 +94,7 @@ fn run_file<H: Wait, R: Read, W: Write>(
                 copies(readers),
                 init,
                 steps,
-                limits,
+                options,
                 reader,
                 writer,
             )
@@ -107,7 +106,7 @@ fn run_file<H: Wait, R: Read, W: Write>(
                 regular(readers),
                 init,
                 steps,
-                limits,
+                options,
                 reader,
                 writer,
             )
@@ -118,11 +117,11 @@ fn run_file<H: Wait, R: Read, W: Write>(
             init,
         } => {
             let register = unary(values, readers);
-            begin(rt, alloc, register, init, steps, limits, reader, writer)
+            begin(rt, alloc, register, init, steps, options, reader, writer)
         }
         TowerSpec::Stamped { values, last } => {
             let register = stamped(values, last);
-            begin(rt, alloc, register, 0, steps, limits, reader, writer)
+            begin(rt, alloc, register, 0, steps, options, reader, writer)
         }
         TowerSpec::Matrix {
             processes,
@@ -131,33 +130,35 @@ fn run_file<H: Wait, R: Read, W: Write>(
             last_stamp,
         } => {
             let register = matrix(processes, values, last_tag, last_stamp);
-            begin(rt, alloc, register, 0, steps, limits, reader, writer)
+            begin(rt, alloc, register, 0, steps, options, reader, writer)
         }
     }
 }
 
 /// Answers a script on a register at a value, and steps that fit it, which are let go before anything is read.
-fn begin<B: Register, H: Wait, R: Read, W: Write>(
+fn begin<B: Register + Send + Sync, H: Threads + Wait + Sync, R: Read, W: Write>(
     rt: &H,
     alloc: Global,
     register: B,
     value: u32,
     steps: Vec<Step>,
-    limits: Limits,
+    options: Options,
     reader: &mut R,
     writer: &mut W,
 ) -> Result<(), Fault>
+where
+    B::Pending: Send + Sync,
     requires value { value < (B.is register).values }
-    requires limits { AreTrieLimits limits }
+    requires limits { AreLimits options }
     requires fit { AllFit (B.is register) steps.items }
-    ensures { EndsOver limits steps.items (answers_to answer_line (opening (B.is register) value limits steps.items)) (R.remaining reader.old) (R.remaining reader.new) (W.contents writer.old) (W.contents writer.new) result }
+    ensures { EndsOver (limits_of options) steps.items (answers_to answer_line (opening (B.is register) value (limits_of options) steps.items)) (R.remaining reader.old) (R.remaining reader.new) (W.contents writer.old) (W.contents writer.new) result }
 {
-    let opened = Desk::open(alloc, register, value, limits, &steps);
+    let opened = Desk::open(alloc, register, value, options.limits(), &steps);
     drop(steps);
     let (desk, chair) = match opened {
         Ok(opened) => opened,
         Err(refusal) => return Err(Fault::Refused(refusal)),
     };
-    serve(rt, alloc, desk, chair, reader, writer)?;
+    serve(rt, alloc, desk, chair, options.workers, reader, writer)?;
     Ok(())
 }

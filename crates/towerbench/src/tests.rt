@@ -15,10 +15,11 @@ use command_line::options::Options;
 use std::alloc::Global;
 use std::process::Abort;
 use std::sync::Wait;
+use std::thread::Threads;
 
 /// What a run writes over a file or none, where at most so many cells may be made, or its fault.
 fn written(
-    rt: &impl Wait,
+    rt: &(impl Threads + Wait + Sync),
     alloc: Global,
     file: Option<&[u8]>,
     cells: u32,
@@ -27,8 +28,24 @@ fn written(
     requires some { 1 ≤ cells }
     requires few { cells ≤ 2 ^ 24 }
 {
+    written_by(rt, alloc, file, 0, cells, script)
+}
+
+/// What a run with so many workers writes, or its fault.
+fn written_by(
+    rt: &(impl Threads + Wait + Sync),
+    alloc: Global,
+    file: Option<&[u8]>,
+    workers: u32,
+    cells: u32,
+    script: &str,
+) -> Result<Vec<u8>, Fault>
+    requires helped { workers ≤ 4 }
+    requires some { 1 ≤ cells }
+    requires few { cells ≤ 2 ^ 24 }
+{
     let options = Options {
-        workers: 0,
+        workers,
         cells,
         branches: 64,
     };
@@ -38,9 +55,9 @@ fn written(
     Ok(writer)
 }
 
-/// Asserts what a script answers, where at most so many cells may be made.
+/// Asserts what a script answers by any number of workers, where at most so many cells may be made.
 fn check(
-    rt: &(impl Abort + Wait),
+    rt: &(impl Abort + Threads + Wait + Sync),
     alloc: Global,
     cells: u32,
     script: &str,
@@ -49,7 +66,9 @@ fn check(
     requires some { 1 ≤ cells }
     requires few { cells ≤ 2 ^ 24 }
 {
-    let answers = written(rt, alloc, None, cells, script)?;
-    assert_eq!(rt; answers.as_slice(), want.as_bytes());
+    for workers in [0, 1, 4] {
+        let answers = written_by(rt, alloc, None, workers, cells, script)?;
+        assert_eq!(rt; answers.as_slice(), want.as_bytes());
+    }
     Ok(())
 }

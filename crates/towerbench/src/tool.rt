@@ -19,10 +19,11 @@ use std::io;
 use std::io::{ErrorKind, Read, Write};
 use std::rt::Files;
 use std::sync::Wait;
+use std::thread::Threads;
 
 /// Does the program's work, and answers its exit status: 0 at the end of the script or after the
 /// help, 1 after a fault, 2 where the words are refused.
-pub fn tool<F: Files + AllocGlobal + Wait, R: Read, W: Write, E: Write>(
+pub fn tool<F: Files + AllocGlobal + Threads + Wait + Sync, R: Read, W: Write, E: Write>(
     files: &F,
     words: io::Result<Vec<String>>,
     reader: &mut R,
@@ -61,7 +62,7 @@ fn report<E: Write>(errors: &mut E, ending: Ending) -> u8
 }
 
 /// Does what the words ask for.
-fn follow<F: Files + AllocGlobal + Wait, R: Read, W: Write>(
+fn follow<F: Files + AllocGlobal + Threads + Wait + Sync, R: Read, W: Write>(
     files: &F,
     words: &[String],
     reader: &mut R,
@@ -78,7 +79,7 @@ fn follow<F: Files + AllocGlobal + Wait, R: Read, W: Write>(
 }
 
 /// Reads the tower file, if one is named, and answers the script.
-fn work<F: Files + AllocGlobal + Wait, R: Read, W: Write>(
+fn work<F: Files + AllocGlobal + Threads + Wait + Sync, R: Read, W: Write>(
     files: &F,
     file: Option<&str>,
     options: Options,

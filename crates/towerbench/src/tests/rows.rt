@@ -1,24 +1,27 @@
 //! Tower files with scripts and their answers, worked by hand.
 
-use super::written;
+use super::{written, written_by};
 use crate::fault::Fault;
 use schedule_trie::refusal::Refusal;
 use std::alloc::{AllocError, Global};
 use std::process::Abort;
 use std::sync::Wait;
 use std::test::Fail;
+use std::thread::Threads;
 use tower_file::{FaultKind, FileFault};
 
-/// Asserts what a script answers over a file.
+/// Asserts what a script answers over a file, by any number of workers.
 pub(super) fn check(
-    rt: &(impl Abort + Wait),
+    rt: &(impl Abort + Threads + Wait + Sync),
     alloc: Global,
     file: &str,
     script: &str,
     want: &str,
 ) -> Result<(), Fault> {
-    let answers = written(rt, alloc, Some(file.as_bytes()), 65536, script)?;
-    assert_eq!(rt; answers.as_slice(), want.as_bytes());
+    for workers in [0, 1, 4] {
+        let answers = written_by(rt, alloc, Some(file.as_bytes()), workers, 65536, script)?;
+        assert_eq!(rt; answers.as_slice(), want.as_bytes());
+    }
     Ok(())
 }
 
@@ -346,10 +349,33 @@ fn thousand(alloc: Global) -> Result<Vec<u8>, AllocError> {
     Ok(file)
 }
 
-/// What a script answers over a thousand steps.
-fn over_thousand(rt: &impl Wait, alloc: Global, script: &str) -> Result<Vec<u8>, Fail> {
+/// Asserts what a script answers over a thousand steps, by any number of workers.
+fn check_thousand(
+    rt: &(impl Abort + Threads + Wait + Sync),
+    alloc: Global,
+    script: &str,
+    want: &str,
+) -> Result<(), Fail> {
     let file = thousand(alloc)?;
-    Ok(written(rt, alloc, Some(file.as_slice()), 65536, script)?)
+    for workers in [0, 1, 4] {
+        let answers = written_by(rt, alloc, Some(file.as_slice()), workers, 65536, script)?;
+        assert_eq!(rt; answers.as_slice(), want.as_bytes());
+    }
+    Ok(())
+}
+
+/// A fill before the page, one behind the edit, and then a page that is the same.
+#[test]
+fn thousand_steps_filled(rt: HostRuntime) -> Result<(), Fail> {
+    let script =
+        "0 fill main\n0 state main 1000\n0 replace main 10 g 0 1\n7 fill main\n0 state main 1000\n\
+        0 fill zed\n";
+    let want = "0: filled\n\
+        0: state main 1000 of 1000\n  p0 write 0 next ws 0\n  p1 idle\n  bits 1\n  words -\n\
+        0: edit 1\n7: filled\n\
+        0: state main 1000 of 1000\n  p0 write 0 next ws 0\n  p1 idle\n  bits 1\n  words -\n\
+        0: refused 20 NoBranch\n";
+    check_thousand(&rt, rt.alloc(), script, want)
 }
 
 /// A choice that has no effect, and then a page that is the same.
@@ -360,9 +386,7 @@ fn thousand_steps(rt: HostRuntime) -> Result<(), Fail> {
         "0: state main 1000 of 1000\n  p0 write 0 next ws 0\n  p1 idle\n  bits 1\n  words -\n\
         0: edit 1\n\
         0: state main 1000 of 1000\n  p0 write 0 next ws 0\n  p1 idle\n  bits 1\n  words -\n";
-    let answers = over_thousand(&rt, rt.alloc(), script)?;
-    assert_eq!(rt; answers.as_slice(), want.as_bytes());
-    Ok(())
+    check_thousand(&rt, rt.alloc(), script, want)
 }
 
 /// A write of 1 in the place of one of 0: pages up to the next write differ, and those behind it are the same.
@@ -373,9 +397,7 @@ fn rejoined_suffix(rt: HostRuntime) -> Result<(), Fail> {
         0: edit 1\n\
         0: state main 6 of 1000\n  p0 idle\n  p1 idle\n  bits 1\n  words -\n\
         0: state main 1000 of 1000\n  p0 write 0 next ws 0\n  p1 idle\n  bits 1\n  words -\n";
-    let answers = over_thousand(&rt, rt.alloc(), script)?;
-    assert_eq!(rt; answers.as_slice(), want.as_bytes());
-    Ok(())
+    check_thousand(&rt, rt.alloc(), script, want)
 }
 
 /// A branch in the place of one that was dropped, whose steps were settled, shows its own.

@@ -26,14 +26,9 @@ fn cells_full(rt: HostRuntime) -> Result<(), Fail> {
 
 #[test]
 fn script_lines(rt: HostRuntime) -> Result<(), Fail> {
-    let script = "# x\n\n0 stat main 0\n";
-    check(
-        &rt,
-        rt.alloc(),
-        65536,
-        script,
-        "line 3: refused 36 BadLine\n",
-    )?;
+    let script = "# x\n\n0 stat main 0\n0 fill main";
+    let want = "line 3: refused 36 BadLine\n0: filled\n";
+    check(&rt, rt.alloc(), 65536, script, want)?;
     Ok(())
 }
 
@@ -134,6 +129,10 @@ fn bad_lines(rt: HostRuntime) -> Result<(), Fail> {
         "0 detach main 0",
         "0 drop",
         "0 drop main 0",
+        "0 fill",
+        "0 fill main 0",
+        "0 fill abcdefghijklmnopq",
+        "0 @0 fill main",
         "0 branches main",
         "0 bits main",
         "0 bits main 0 0",

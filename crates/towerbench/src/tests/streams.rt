@@ -9,6 +9,7 @@ use std::process::Abort;
 use std::rt::Files;
 use std::sync::Wait;
 use std::test::Fail;
+use std::thread::Threads;
 use std::{fs, io};
 use tower_file::{FaultKind, FileFault};
 
@@ -86,7 +87,7 @@ impl Write for Stuck {
 }
 
 /// The program's status with no words, its answers and its fault lines.
-fn tool_over<F: Files + AllocGlobal + Wait, R: Read>(
+fn tool_over<F: Files + AllocGlobal + Threads + Wait + Sync, R: Read>(
     files: &F,
     reader: &mut R,
 ) -> (u8, Vec<u8>, Vec<u8>) {
@@ -98,7 +99,7 @@ fn tool_over<F: Files + AllocGlobal + Wait, R: Read>(
 }
 
 /// Asserts what the program tells.
-fn check<F: Abort + Files + AllocGlobal + Wait, R: Read>(
+fn check<F: Abort + Files + AllocGlobal + Threads + Wait + Sync, R: Read>(
     rt: &F,
     reader: &mut R,
     status: u8,
@@ -400,7 +401,7 @@ fn words_before_the_script(rt: HostRuntime) -> Result<(), Fail> {
 }
 
 /// Asserts what the program tells on its words.
-fn check_words<F: Abort + Files + AllocGlobal + Wait>(
+fn check_words<F: Abort + Files + AllocGlobal + Threads + Wait + Sync>(
     rt: &F,
     texts: &[&str],
     script: &str,

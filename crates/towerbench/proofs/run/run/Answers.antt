@@ -6,7 +6,6 @@ use Rattle.tower_file.specs.Files.{file_of}
 use Rattle.command_line.specs.Ranges.{limits_of}
 use Rattle.frames.specs.declared.types.Step.{Step}
 use Rattle.frames.specs.SafeBit.{safe_behaviour}
-use Rattle.schedule_trie.specs.declared.limits.Limits.{Limits}
 use Rattle.conversation.specs.Scripts.{answers_to}
 use Rattle.script.specs.Answers.{answer_line}
 use Rattle.towerbench.specs.Opening.{opening, opened, answers_on, EndsOver}
@@ -21,9 +20,8 @@ returns-in_default g c =
     let after = g.W.Write.contents c.begin.new.writer in
     with_file old now before after (option_map (λ bytes. bytes.now) c.args.file) (limits_of c.args.options) (file_of One (Safe 0) [])
     (ap (λ file. opened (option_map (λ bytes. bytes.now) file)) c.in_default.is) c.begin.result
-    (subst (λ (limits : Limits). EndsOver limits [] (answers_to answer_line (opening safe_behaviour 0 limits [])) old now before after c.begin.result) c.limits.ensures
-    (subst (λ (steps : List Step). EndsOver c.limits.result steps (answers_to answer_line (opening safe_behaviour 0 c.limits.result steps)) old now before after c.begin.result) c.new-none.ensures.items
-    c.begin.ensures))
+    (subst (λ (steps : List Step). EndsOver (limits_of c.args.options) steps (answers_to answer_line (opening safe_behaviour 0 (limits_of c.args.options) steps)) old now before after c.begin.result) c.new-none.ensures.items
+    c.begin.ensures)
 
 pub returns-in-Ok : goal.returns-in-Ok
 returns-in-Ok g c =
@@ -33,7 +31,7 @@ returns-in-Ok g c =
     let after = g.W.Write.contents c.run_file.new.writer in
     with_file old now before after (option_map (λ bytes. bytes.now) c.args.file) (limits_of c.args.options) c.in-Ok.file
     (ap (λ file. opened (option_map (λ bytes. bytes.now) file)) c.in-Some.is ∙ c.in-Ok.ensures.exact) c.run_file.result
-    (subst (λ (limits : Limits). EndsOver limits c.in-Ok.file.steps (answers_on c.in-Ok.file limits) old now before after c.run_file.result) c.limits-in-Ok.ensures c.run_file.ensures)
+    c.run_file.ensures
 
 pub returns-in-Err : goal.returns-in-Err
 returns-in-Err g c = record {

@@ -1,8 +1,7 @@
 use Rattle.std.proofs.Common.{refl, Some, ap, sym, subst, ◌∙◌}
-use Rattle.schedule_trie.specs.declared.limits.Limits.{Limits}
 use Rattle.tower_file.specs.Reading.{reading}
 use Rattle.command_line.specs.Ranges.{limits_of}
-use Rattle.towerbench.specs.Opening.{answers_on, EndsOver, IsFileFault}
+use Rattle.towerbench.specs.Opening.{IsFileFault}
 use Rattle.towerbench.proofs.Opened.{with_file}
 use Rattle.towerbench.proofs.run.run_read.Goals as goal
 
@@ -13,7 +12,7 @@ returns-in-Ok g c =
     let before = g.W.Write.contents c.args.writer.now in
     let after = g.W.Write.contents c.run_file.new.writer in
     with_file old now before after (Some c.args.bytes.items) (limits_of c.args.options) c.in-Ok.file (ap reading (sym c.as_slice.ensures.value) ∙ c.in-Ok.ensures.exact) c.run_file.result
-    (subst (λ (limits : Limits). EndsOver limits c.in-Ok.file.steps (answers_on c.in-Ok.file limits) old now before after c.run_file.result) c.limits.ensures c.run_file.ensures)
+    c.run_file.ensures
 
 pub returns-in-Err : goal.returns-in-Err
 returns-in-Err g c = record {

@@ -10,8 +10,8 @@ returns-in_default g c = λ start old now before count short ended r.
 pub returns-in_default-send : goal.returns-in_default-send
 returns-in_default-send g c = λ start old now before count short ended r.
     let front = c.in_default-send.ensures.front in
-    breaks_last g.A.Answers.define start old now before _ count _ _ _ r g.met.A.Answers.reads_front ended short _ c.args.self.now.out.items _ c.requires.sent c.in-Ok.ensures.answer _ front.0 front.1 front.2
+    breaks_last g.A.Answers.define start old now before _ count _ _ _ r g.A.Answers.reads_front ended short _ c.args.self.now.out.items _ c.requires.sent c.in-Ok.ensures.answer _ front.0 front.1 front.2
 
 pub returns : goal.returns
 returns g c = λ start old now before count short ended r.
-    all_answered g.A.Answers.define start old now before _ count _ _ _ r g.met.A.Answers.reads_front ended short _ c.args.self.now.out.items _ c.requires.sent c.in-Ok.ensures.answer _ c.in-Ok-send.ensures.sent
+    all_answered g.A.Answers.define start old now before _ count _ _ _ r g.A.Answers.reads_front ended short _ c.args.self.now.out.items _ c.requires.sent c.in-Ok.ensures.answer _ c.in-Ok-send.ensures.sent

@@ -11,7 +11,7 @@ returns-then-byte-eq10-clause-told g c =
     let new = c.end_line.new.self in
     on_ok_both c.end_line.result
     (λ empty answer start seen front t. rw c.if-byte-eq10.true
-    (told_line A.define g.met.A.Answers.reads_front start seen (A.world c.args.answers.now) old.lines old.line.items (front ++ old.out.items) t
+    (told_line A.define g.A.Answers.reads_front start seen (A.world c.args.answers.now) old.lines old.line.items (front ++ old.out.items) t
     (A.world c.end_line.new.answers) new.lines new.line.items (front ++ new.out.items)
     (behind A.define _ _ _ _ _ _ front answer) c.end_line.ensures.lines empty))
     c.end_line.ensures.line c.end_line.ensures.answer
