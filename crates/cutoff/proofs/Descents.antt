@@ -25,6 +25,7 @@ pub record IsDescending {R P : Type 0} (E : R → R → Bool) (b : Behaviour P) 
   pub home : at.register ≡ start.register
   pub same : SameConfiguration E config at
   pub linked : (next : ℕ) × IsLinked E start.register next above (alone config) cut
+  pub moved : (next : ℕ) → IsLinked E start.register next None (alone start) cut → IsLinked E start.register next above (alone config) cut
   pub ends : (missed : Option ℕ) (end : Configuration R P) → Descends E b cut at left missed end → Descends E b cut start keys missed end
 
 module _ {R P : Type 0} (E : R → R → Bool) (equal : IsEquivalence E) (per : IsPartialEquivalence E) (is : R → Behaviour P) (alike : (x y : R) → E x y ≡ true → is x ≡ is y) where
@@ -35,6 +36,7 @@ module _ {R P : Type 0} (E : R → R → Bool) (equal : IsEquivalence E) (per : 
     home = refl;
     same = record { register = equal.refl start.register; memory = refl; running = refl; stopped = refl };
     linked = linked;
+    moved = λ next l. l;
     ends = λ missed end d. d;
   }
 
@@ -65,6 +67,9 @@ module _ {R P : Type 0} (E : R → R → Bool) (equal : IsEquivalence E) (per : 
           home = register_kept (is start.register) w.at (steps_at cut k) ∙ w.home;
           same = exit_same E is alike (is start.register) w.at (steps_at cut k) s.run (ap is w.home) true_run fits_at;
           linked = (w.linked.0, record { exits = w.linked.1.exits; as_many = w.linked.1.as_many; each = w.linked.1.each; came = told.id });
+          moved = λ next l.
+              let m = w.moved next l in
+              record { exits = m.exits; as_many = m.as_many; each = m.each; came = (stored_at E start.register m.exits cut k s (m.each k) noted).id };
           ends = λ missed end d. w.ends missed end (inl (fits_to_note E cut w.at k s noted fits_at, d));
         })
 

@@ -3,16 +3,21 @@ use Rattle.std.proofs.Common.{◌≡◌, ℕ, ◌+◌, Bool, true, List, [], ◌
 use Rattle.std.specs.Option.{option_map}
 use Rattle.frames.specs.Behaviour.{Behaviour}
 use Rattle.frames.specs.Configuration.{Configuration, replayed}
+use Rattle.frames.specs.Equality.{SameConfiguration}
 use Rattle.checkpoints.specs.Segment.{SegmentRun}
 use Rattle.schedule_trie.specs.Cut.{Cut, piece_at, IsNoted}
 use Rattle.cutoff.specs.Fitting.{StoredRun, KeepsRuns, steps_at, slots_at}
-use Rattle.cutoff.specs.Links.{alone}
+use Rattle.cutoff.specs.Links.{alone, IsLinked}
 use Rattle.cutoff.specs.Held.{Charted, IsCharted}
 use Rattle.cutoff.specs.Plans.{FitsDown}
 use Rattle.cutoff.proofs.Fits.{register_kept}
 use Rattle.cutoff.proofs.Links.{linked_none, new_linked}
 use Rattle.cutoff.proofs.Walks.{by_key, noted_slots}
 use Rattle.cutoff.proofs.Kept.{charted_kept}
+
+-- equal configurations are the same but for their registers
+pub alone_same : {R P : Type 0} {E : R → R → Bool} {c d : Configuration R P} → SameConfiguration E c d → alone c ≡ alone d
+alone_same s = λ i. record { register = tt; memory = s.memory i; running = s.running i; stopped = s.stopped i }
 
 module _ {R P : Type 0} (E : R → R → Bool) (b : Behaviour P) where
   -- a run that fits is of the chart's register, and of the segment's steps
@@ -36,13 +41,15 @@ module _ {R P : Type 0} (E : R → R → Bool) (b : Behaviour P) where
   }
 
   pub charted_installed : (next after : ℕ) (c : Charted R P) (new : Cut (StoredRun R P)) (key : ℕ) (s : StoredRun R P) (run seen : SegmentRun R P) (keys : List ℕ) (id : Option ℕ)
-      → IsCharted E b next c → FitsDown E b c.cut key seen c.start keys → seen ≡ run → s.run ≡ run → s.id ≡ id → s.link ≡ None → IsNoted c.cut new key (Some s)
+      → IsCharted E b next c → FitsDown E b c.cut key seen c.start keys → seen ≡ run → s.run ≡ run → s.id ≡ id → (above : Option ℕ) → s.link ≡ above
+      → (IsLinked E c.start.register next None (alone c.start) c.cut → IsLinked E c.start.register next above (alone seen.entry) c.cut) → IsNoted c.cut new key (Some s)
       → ((id ≡ None) × (after ≡ next)) ⊎ ((id ≡ Some next) × (after ≡ next + 1))
       → IsCharted E b after (record { cut = new; start = c.start; value = c.value })
-  charted_installed next after c new key s run seen keys id was fits same is_run number no_link noted given =
+  charted_installed next after c new key s run seen keys id was fits same is_run number above link moved noted given =
       let owns = down_owns c.cut key s.run c.start keys (subst (λ r. FitsDown E b c.cut key r c.start keys) (same ∙ sym is_run) fits) in
       let linked =
-      new_linked E c.start.register c.cut new key next None s.run.entry (linked_none E c.start.register next None (alone c.start) (alone s.run.entry) c.cut was.linked) s noted after
-      owns.0 owns.1 no_link refl (subst (λ n. ((n ≡ None) × (after ≡ next)) ⊎ ((n ≡ Some next) × (after ≡ next + 1))) (sym number) given) in
+      new_linked E c.start.register c.cut new key next above s.run.entry
+      (subst (λ (r : SegmentRun R P). IsLinked E c.start.register next above (alone r.entry) c.cut) (same ∙ sym is_run) (moved was.linked)) s noted after
+      owns.0 owns.1 link refl (subst (λ n. ((n ≡ None) × (after ≡ next)) ⊎ ((n ≡ Some next) × (after ≡ next + 1))) (sym number) given) in
       charted_kept E b next after c new (λ k. Unit {0}) (noted_keeps c.cut new key s noted)
       (linked_none E c.start.register after s.id (alone s.run.exit) (alone c.start) new linked) was

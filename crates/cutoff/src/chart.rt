@@ -217,11 +217,12 @@ impl<R: Register> Chart<R> {
         let Some(index) = branch_with(&self.trie, key) else {
             return Installation::Gone;
         };
-        if !fits_down(&self.trie, &self.start, self.trie.keys_at(index), key, &run) {
+        let (fits, above) = fits_down(&self.trie, &self.start, self.trie.keys_at(index), key, &run);
+        if !fits {
             return Installation::Stale;
         }
         let id = take_number(&mut self.next);
-        self.trie.set_note(key, Some(Stored::new(run, id, None)));
+        self.trie.set_note(key, Some(Stored::new(run, id, above)));
         Installation::Installed
     }
 }

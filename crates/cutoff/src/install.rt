@@ -29,22 +29,25 @@ pub enum Installation {
     Gone,
 }
 
-/// Whether a run fits the segment of a key on a path, and stored runs fit all segments above.
+/// Whether a run fits the segment of a key on a path, and stored runs fit all segments above; and the number of the run right above it, if
+/// that has one.
 pub(crate) fn fits_down<R: Register>(
     trie: &Trie<Stored<R>>,
     start: &Config<R>,
     keys: &[SegKey],
     key: SegKey,
     run: &Run<R>,
-) -> bool
+) -> (bool, Option<u64>)
     requires linked { (next : ℕ) × IsLinked R.PartialEq.eq start.now.register next None (alone start.now) trie.now }
     requires member { has key keys.now ≡ true }
-    ensures { Decides result (FitsDown R.PartialEq.eq (R.is start.now.register) trie.now key run.now start.now keys.now) }
+    ensures fits { Decides result.0 (FitsDown R.PartialEq.eq (R.is start.now.register) trie.now key run.now start.now keys.now) }
+    ensures moved { result.0 ≡ true → (next : ℕ) → IsLinked R.PartialEq.eq start.now.register next None (alone start.now) trie.now
+        → IsLinked R.PartialEq.eq start.now.register next result.1 (alone run.now.entry) trie.now }
 {
-    let (missed, config) = descend(trie, start, keys_before(keys, key));
+    let (missed, config, above) = descend(trie, start, keys_before(keys, key));
     match missed {
-        Some(_) => false,
-        None => run_fits(trie, key, config, run),
+        Some(_) => (false, None),
+        None => (run_fits(trie, key, config, run), above),
     }
 }
 

@@ -75,7 +75,7 @@ fn plan_branch<R: Register>(
     requires fits { AllFit (R.is start.now.register) (map step_of (line (piece_at trie.now.pieces) keys.now)) }
     ensures { OnOk result ((missed : Option ℕ) × (end : Configuration R R.Pending) × Descends R.PartialEq.eq (R.is start.now.register) trie.now start.now keys.now missed end × (jobs.new.items ≡ with_job jobs.old.items (job_of trie.now missed end))) }
 {
-    let (missed, config) = descend(trie, start, keys);
+    let (missed, config, _) = descend(trie, start, keys);
     match missed {
         Some(key) => plan_segment(alloc, trie, key, config, jobs),
         None => Ok(()),

@@ -5,6 +5,7 @@
 mod copies_tower;
 #[cfg(test)]
 mod tests;
+mod unary_tower;
 
 ghost use Rattle.std.specs.Prelude.{◌≡◌, ◌<◌, ◌≤◌, ◌+◌, ◌*◌, ℕ};
 ghost use Rattle.frames.specs.declared.limits.TheConstants.{LEAST_PROCESSES, LEAST_VALUES, MOST_READERS, MOST_VALUES, MOST_WRITERS};
@@ -22,12 +23,10 @@ use reader_copies::Copies;
 use regular_bit::RegularBit;
 use stamped::Stamped;
 use unary_number::Unary;
+pub use unary_tower::UnaryTower;
 
 /// A regular bit over copies.
 pub type RegularTower = Layered<RegularBit, CopiesTower>;
-
-/// A unary number over regular bits.
-pub type UnaryTower = Layered<Unary, RegularTower>;
 
 /// A stamped register over a unary number.
 pub type StampedTower = Layered<Stamped, UnaryTower>;
@@ -63,7 +62,9 @@ pub fn unary(values: u32, readers: u32) -> UnaryTower
     requires few { readers ≤ MOST_READERS }
     ensures { ⟦<UnaryTower as Behaves>⟧.is result ≡ unary_tower values readers }
 {
-    Unary::new(regular(readers), values).unwrap()
+    UnaryTower {
+        layers: Unary::new(regular(readers), values).unwrap(),
+    }
 }
 
 /// A stamped register of 2 to 512 values and a last stamp of at most 511, with at most 512 codes.

@@ -7,21 +7,21 @@ use Rattle.cutoff.proofs.Paths.{can_told, cannot_told}
 use Rattle.cutoff.proofs.Installed.{charted_installed}
 use Rattle.cutoff.proofs.chart.Chart.install.Goals as goal
 
-pub returns-then-not-fits_down : goal.returns-then-not-fits_down
-returns-then-not-fits_down g c =
+pub returns-then-not-fits : goal.returns-then-not-fits
+returns-then-not-fits g c =
     let E = g.R.PartialEq.eq in
     let b = g.R.Behaves.is c.self.inside.start.register in
     let was : Charted g.row.R.Denot g.row.R-Pending.Denot = record { cut = c.self.inside.trie; start = c.self.inside.start; value = c.self.inside.value } in
     let refused = cannot_told E b was c.args.key (arc_value c.args.run) c.deref.result.now c.in-Some.index c.keys_at.result.now c.keys_at.ensures.keys c.in-Some.ensures.found c.deref.ensures
-    c.self.invariant.whole (λ f. true≢false (sym (c.fits_down.ensures.1 f) ∙ c.if-not-fits_down.true)) in
+    c.self.invariant.whole (λ f. true≢false (sym (c.fits_down-fits.ensures.fits.1 f) ∙ c.if-not-fits.true)) in
     subst (λ v. IsSome (piece_at v.cut.pieces c.args.key) × CannotInstall E (g.R.Behaves.is v.start.register) v c.args.key (arc_value c.args.run) × (v ≡ v)) c.self.view_is
     (c.in-Some.ensures.there, refused, refl)
 
 pub invariant_of-self : goal.invariant_of-self
 invariant_of-self g c =
     charted_installed g.R.PartialEq.eq (g.R.Behaves.is c.self.inside.start.register) c.self.inside.next c.take_number-id.new.next _ c.set_note.new.self c.args.key c.new.result
-    (arc_value c.args.run) c.deref.result.now c.keys_at.result.now c.take_number-id.result c.self.invariant (c.fits_down.ensures.0 c.if-not-fits_down.false) c.deref.ensures
-    c.new.ensures.run c.new.ensures.id c.new.ensures.link c.set_note.ensures c.take_number-id.ensures
+    (arc_value c.args.run) c.deref.result.now c.keys_at.result.now c.take_number-id.result c.self.invariant (c.fits_down-fits.ensures.fits.0 c.if-not-fits.false) c.deref.ensures
+    c.new.ensures.run c.new.ensures.id c.fits_down-fits.result.1 c.new.ensures.link (c.fits_down-fits.ensures.moved c.if-not-fits.false c.self.inside.next) c.set_note.ensures c.take_number-id.ensures
 
 pub returns : goal.returns
 returns g c =
@@ -30,6 +30,6 @@ returns g c =
     let was : Charted g.row.R.Denot g.row.R-Pending.Denot = record { cut = c.self.inside.trie; start = c.self.inside.start; value = c.self.inside.value } in
     let now : Charted g.row.R.Denot g.row.R-Pending.Denot = record { cut = c.set_note.new.self; start = c.self.inside.start; value = c.self.inside.value } in
     let can = can_told E b was c.args.key (arc_value c.args.run) c.deref.result.now c.in-Some.index c.keys_at.result.now c.keys_at.ensures.keys c.in-Some.ensures.found c.deref.ensures
-    c.self.invariant.whole (c.fits_down.ensures.0 c.if-not-fits_down.false) in
+    c.self.invariant.whole (c.fits_down-fits.ensures.fits.0 c.if-not-fits.false) in
     subst (λ v. IsSome (piece_at v.cut.pieces c.args.key) × CanInstall E (g.R.Behaves.is v.start.register) v c.args.key (arc_value c.args.run) × IsInstalled v now c.args.key (arc_value c.args.run)) c.self.view_is
     (c.in-Some.ensures.there, can, record { noted = (c.new.result, c.new.ensures.run, c.set_note.ensures); start = refl; value = refl })
