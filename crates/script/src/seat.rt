@@ -57,7 +57,7 @@ where
     ghost invariant = { λ s. IsAt R.is s.desk s.chair × HasAll (chairs.view s.chair).shares × (s.thieves ≤ 4) };
 }
 
-impl<'a, R: Register, W: Wait> Seat<'a, R, W> {
+impl<'a, R: Register, W> Seat<'a, R, W> {
     /// The seat of a chair at its desk, with so many thieves for its fills.
     pub fn new(rt: &'a W, desk: Desk<R>, chair: Chair<R>, thieves: u32) -> Seat<'a, R, W>
         requires at { IsAt R.is desk chair }
@@ -72,7 +72,9 @@ impl<'a, R: Register, W: Wait> Seat<'a, R, W> {
             thieves,
         }
     }
+}
 
+impl<R: Register, W: Wait> Seat<'_, R, W> {
     /// Answers a session's command with its guard.
     pub(crate) fn act(
         &mut self,

@@ -347,14 +347,29 @@ fn two_branches(alloc: Global, main: &Name, a: &Name, b: &Name) -> Result<Late, 
     })
 }
 
-#[test]
-fn late_run(rt: HostRuntime) -> Result<(), Fail> {
-    let main = name(&rt, b"main");
-    let (a, b) = (name(&rt, b"a"), name(&rt, b"b"));
-    let late = two_branches(rt.alloc(), &main, &a, &b)?;
+/// Asserts what a late run is answered.
+fn check_late(rt: &impl Abort, late: Late) {
     assert!(rt; late.old != Installation::Installed);
     assert_eq!(rt; late.new, Installation::Installed);
     assert_eq!(rt; late.settled, (1, 1));
     assert_eq!(rt; late.others, [0; 7]);
+}
+
+#[test]
+fn late_run(rt: HostRuntime) -> Result<(), Fail> {
+    let main = name(&rt, b"main");
+    let (a, b) = (name(&rt, b"a"), name(&rt, b"b"));
+    check_late(&rt, two_branches(rt.alloc(), &main, &a, &b)?);
     Ok(())
+}
+
+/// Where memory may be refused, each call answers as it does with ample memory, or Memory.
+#[test]
+fn late_run_wanting_memory(rt: HostRuntime) {
+    let main = name(&rt, b"main");
+    let (a, b) = (name(&rt, b"a"), name(&rt, b"b"));
+    match two_branches(rt.alloc(), &main, &a, &b) {
+        Ok(late) => check_late(&rt, late),
+        Err(refusal) => assert!(rt; refusal == Refusal::Memory),
+    }
 }

@@ -54,7 +54,7 @@ fn write_at(index: u32) -> Step
 }
 
 /// A desk of 1,000 steps, and its first chair.
-fn thousand(alloc: Global) -> Result<(Desk<Safe>, Chair<Safe>), Refusal>
+pub(super) fn thousand(alloc: Global) -> Result<(Desk<Safe>, Chair<Safe>), Refusal>
     ensures { IfOk result (λ r. IsAt (λ _. safe_behaviour) r.0 r.1 × ((view r.1).shares ≡ every_share)) }
 {
     let Ok(steps) = writes(alloc) else {
@@ -64,7 +64,7 @@ fn thousand(alloc: Global) -> Result<(Desk<Safe>, Chair<Safe>), Refusal>
 }
 
 /// Fills a branch; what the call promises of histories is forgotten.
-fn filled<R: Threads + Wait + Sync>(
+pub(super) fn filled<R: Threads + Wait + Sync>(
     rt: &R,
     alloc: Global,
     desk: &Desk<Safe>,

@@ -1,9 +1,11 @@
-//! The row of two chairs where memory may be refused: each call answers as it does with ample memory, or Memory; the calls behind it then
-//! answer as without it.
+//! Rows where memory may be refused. Of two chairs: each call answers as it does with ample memory, or Memory; the calls behind it then
+//! answer as without it. Of a thousand steps: a fill is refused, or tells of the jobs that it had to leave.
 
+ghost use Rattle.std.specs.Prelude.{◌≤◌};
 ghost use Rattle.frames.specs.SafeBit.{safe_behaviour};
 ghost use Rattle.desk.specs.Chairs.{IsAt};
 
+use super::fills::{filled, thousand};
 use super::rows::{STATE, asked};
 use super::{bring, insert_at, name, opened};
 use crate::{Chair, Desk, Receipt};
@@ -13,6 +15,7 @@ use sessions::reply::Reply;
 use std::alloc::Global;
 use std::process::Abort;
 use std::sync::Wait;
+use std::thread::Threads;
 use views::lens::Lens;
 use views::page::page_text;
 use views::query::Query;
@@ -72,5 +75,47 @@ fn two_chairs_wanting_memory(rt: HostRuntime) {
     assert_eq!(rt; asked(&desk, &mut first), late.at);
     if let Some(text) = shown(&rt, alloc, &desk, &mut first) {
         assert!(rt; text.as_slice() == STATE);
+    }
+}
+
+/// Fills `main`, of which each run fits: every job of it is installed or left for want of memory, one of them at most. Answers how many are
+/// installed; none where the fill is refused.
+fn installed<R: Abort + Threads + Wait + Sync>(
+    rt: &R,
+    alloc: Global,
+    desk: &Desk<Safe>,
+    chair: &mut Chair<Safe>,
+    thieves: u32,
+) -> Option<u64>
+    requires at { IsAt (λ _. safe_behaviour) desk.now chair.old }
+    requires thieves { thieves ≤ 4 }
+    ensures { IsAt (λ _. safe_behaviour) desk.now chair.new }
+{
+    match filled(rt, alloc, desk, chair, &name(rt, b"main"), thieves) {
+        Ok(report) => {
+            assert!(rt; report.stale == 0 && report.gone == 0 && report.memory <= 1);
+            Some(report.installed)
+        }
+        Err(refusal) => {
+            assert!(rt; refusal == Refusal::Memory);
+            None
+        }
+    }
+}
+
+#[test]
+fn thousand_steps_wanting_memory(rt: HostRuntime) {
+    let alloc = rt.alloc();
+    let (desk, mut chair) = match thousand(alloc) {
+        Ok(opened) => opened,
+        Err(refusal) => {
+            assert!(rt; refusal == Refusal::Memory);
+            return;
+        }
+    };
+    let first = installed(&rt, alloc, &desk, &mut chair, 2);
+    let second = installed(&rt, alloc, &desk, &mut chair, 0);
+    if let (Some(first), Some(second)) = (first, second) {
+        assert!(rt; first <= 8 && second <= 8 && first.wrapping_add(second) <= 8);
     }
 }
