@@ -1,26 +1,20 @@
 -- What follows of flat stacks: they tell what is pending, and are equal only to themselves.
-use Rattle.std.proofs.Common.{◌≡◌, ℕ, zero, suc, ◌+◌, ◌<◌, ◌≤◌, Bool, nat_eq, List, [], ◌∷◌, length, get_or, set, take, drop, replicate, Option, Some, None, option_map, refl, sym, ap, ◌∙◌, arith}
+use Rattle.std.proofs.Common.{◌≡◌, ℕ, zero, suc, ◌+◌, Bool, nat_eq, List, [], ◌∷◌, length, set, take, replicate, Option, Some, None, option_map, refl, sym, ap, ◌∙◌, arith}
 use Rattle.std.specs.Bool.{Decides}
 use mathlib.Core.Bool.{◌&&◌}
 use Rattle.std.specs.Cmp.{IsPartialEquivalence}
 use Rattle.std.specs.Cmp.Lexicographic.{pointwise}
 use Rattle.std.proofs.lemmas.Bool.Decides.{Decides-and, Decides-eqb, Decides-like}
-use Rattle.std.proofs.lemmas.List.{drop_more, get_or-take, length-take}
 use Rattle.std.proofs.lemmas.Slice.Eq.{slice_eq-Decides}
-use Rattle.frames.specs.declared.types.TheConstants.{STACK_FRAMES}
 use Rattle.safe_bit.specs.laws.Equality.{per_from_decides}
 use Rattle.frames.specs.declared.types.Op.{Op}
-use Rattle.frames.specs.declared.types.Outcome.TheVariants.{Value, Written, Spent}
-use Rattle.frames.specs.declared.types.Next.{Next}
-use Rattle.frames.specs.declared.types.Next.TheVariants.{Pending, Done}
 use Rattle.frames.specs.declared.types.Frame.{Frame}
 use Rattle.frames.specs.declared.types.FrameLayer.{FrameLayer}
 use Rattle.frames.specs.declared.types.FrameLayer.TheVariants as layer
 use Rattle.frames.specs.declared.running.Running.{Running}
 use Rattle.frames.specs.Behaviour.{Behaviour}
-use Rattle.frames.specs.Configuration.{still_running, return_of}
 use Rattle.frames.specs.Equality.{op_eq, op_decides}
-use Rattle.frames.specs.Flat.{ended, left_frames, outermost, end_of, FramesTell, IsReached, running_of, running_from, stack_of}
+use Rattle.frames.specs.Flat.{outermost, FramesTell, IsReached, running_of, running_from, stack_of}
 
 -- layers, numbered in the order in which they are declared
 abbrev pub layer_number : FrameLayer → ℕ
@@ -81,30 +75,11 @@ pub agrees : (L : FrameLayer → FrameLayer → Bool) (O : Op → Op → Bool) �
     → (xs ys : List Frame) → pointwise (λ a b. L a.layer b.layer && (O a.op b.op && (nat_eq a.i b.i && nat_eq a.x b.x))) xs ys ≡ stack_eq xs ys
 agrees L O layers ops xs ys = λ i. pointwise (λ a b. layers a.layer b.layer i && (ops a.op b.op i && (nat_eq a.i b.i && nat_eq a.x b.x))) xs ys
 
--- an index of a stack of at most so many frames
-pub index_below : (index count : ℕ) (frames : List Frame) → index < length (take count frames) → count ≤ STACK_FRAMES → length frames ≡ STACK_FRAMES → (index < count) × (index < STACK_FRAMES)
-index_below index count frames lt few long = let l = length-take count frames in (omega (arith, lt, few, long, l), omega (arith, lt, few, long, l))
-
-pub frame_at : (index count : ℕ) (frames : List Frame) (frame : Frame) → index < length (take count frames) → count ≤ STACK_FRAMES → length frames ≡ STACK_FRAMES
-    → frame ≡ get_or frames index frame → drop index (take count frames) ≡ frame ∷ drop (index + 1) (take count frames)
-frame_at index count frames frame lt few long is =
-    let low = (index_below index count frames lt few long).0 in
-    drop_more (take count frames) index frame lt ∙ ap (λ x. x ∷ drop (index + 1) (take count frames)) (get_or-take count frames index frame low ∙ sym is)
-
 pub set_at : (index count : ℕ) (frames : List Frame) (frame : Frame) → take count (set frames index frame) ≡ set (take count frames) index frame
 set_at index zero frames frame = refl
 set_at index (suc count) [] frame = refl
 set_at zero (suc count) (x ∷ xs) frame = refl
 set_at (suc index) (suc count) (x ∷ xs) frame = ap (λ l. x ∷ l) (set_at index count xs frame)
-
--- process `who` counted from process k on
-pub get_running : {P : Type 0} (point : ℕ → List Frame → Option P) (k : ℕ) (stacks : List (List Frame)) (who : ℕ)
-    → get_or (running_from point k stacks) who None ≡ running_of (point (k + who)) (get_or stacks who [])
-get_running point k [] who = refl
-get_running point k (s ∷ ss) zero = let e : k ≡ k + zero = omega arith in ap (λ n. running_of (point n) s) e
-get_running point k (s ∷ ss) (suc who) =
-    let e : k + 1 + who ≡ k + suc who = omega arith in
-    get_running point (k + 1) ss who ∙ ap (λ n. running_of (point n) (get_or ss who [])) e
 
 pub set_running : {P : Type 0} (point : ℕ → List Frame → Option P) (k : ℕ) (stacks : List (List Frame)) (who : ℕ) (stack : List Frame)
     → running_from point k (set stacks who stack) ≡ set (running_from point k stacks) who (running_of (point (k + who)) stack)
@@ -122,13 +97,6 @@ pub none_running : {P : Type 0} (point : ℕ → List Frame → Option P) (k n :
 none_running point k zero = refl
 none_running point k (suc n) = ap (λ l. None ∷ l) (none_running point (k + 1) n)
 
--- the event of an end, where there is one
-pub end_told : {P : Type 0} (who : ℕ) (next : Next P) → end_of who (ended next) ≡ return_of who next
-end_told who (Pending p) = refl
-end_told who (Done (Value v)) = refl
-end_told who (Done Written) = refl
-end_told who (Done (Spent layer)) = refl
-
 module _ {P : Type 0} (b : Behaviour P) (Reaches : ℕ → Op → P → Type 0) (point : ℕ → List Frame → Option P) (tell : FramesTell b Reaches point) where
   -- a stack whose outermost frame is of operation o, and which tells the point p
   told : (who : ℕ) (stack : List Frame) (o : Op) (p : P) → outermost stack ≡ Some o → point who stack ≡ Some p → running_of (point who) stack ≡ Some (record { op = o; point = p })
@@ -140,11 +108,6 @@ module _ {P : Type 0} (b : Behaviour P) (Reaches : ℕ → Op → P → Type 0) 
   pub tells_slot : (who : ℕ) (slot : Option (Running P)) → IsReached Reaches who slot → running_of (point who) (stack_of b slot) ≡ slot
   tells_slot who None h = refl
   tells_slot who (Some r) h = told who (b.frames r.point) r.op r.point (tell.op who r.op r.point h) (tell.point who r.op r.point h)
-
-  -- so do the frames that a step leaves
-  pub left_slot : (o : Op) (next : Next P) → left_frames b.frames next ≡ stack_of b (still_running o next)
-  left_slot o (Pending p) = refl
-  left_slot o (Done outcome) = refl
 
   -- what is pending has frames, and what has none is idle
   pub slot_op : (who : ℕ) (slot : Option (Running P)) → IsReached Reaches who slot → outermost (stack_of b slot) ≡ option_map (λ r. r.op) slot

@@ -1,5 +1,5 @@
 -- The register of one safe bit is lawful.
-use Rattle.std.proofs.Common.{◌≡◌, ℕ, zero, suc, ◌+◌, ◌<◌, Bool, true, false, List, [], ◌∷◌, ◌++◌, length, set, take, drop, add-zero, ◌∙◌, Option, Some, None, refl, sym, ap, subst, arith, append-nil, length-drop, length-set, take_all}
+use Rattle.std.proofs.Common.{◌≡◌, ℕ, zero, suc, ◌+◌, ◌<◌, Bool, true, false, List, [], ◌∷◌, ◌++◌, length, set, take, drop, add-zero, ◌∙◌, Some, None, refl, sym, ap, subst, arith, append-nil, length-drop, length-set, take_all}
 use Rattle.std.proofs.lemmas.List.{take_more_set}
 use Rattle.std.proofs.lemmas.Bool.Decides.{nat_tests, Decides-at, Decides-like}
 use Rattle.std.specs.Bool.{Decides, if◌then◌else◌, ⊤}
@@ -24,7 +24,6 @@ use Rattle.frames.specs.declared.types.Frame.{Frame}
 use Rattle.frames.specs.declared.types.FrameLayer.TheVariants as layer
 use Rattle.frames.specs.Behaviour.{IsLawful, GoesOn}
 use Rattle.frames.specs.Flat.{ended, left_frames, outermost, Lands, StandsOn, FramesTell}
-use Rattle.frames.specs.Placed.{placed_bit}
 use Rattle.frames.specs.SafeBit.{safe_behaviour, SafeReaches, safe_suits, safe_begins, safe_goes, safe_acts, safe_frame, point_at, safe_point, bit_of, value_of}
 
 value_below : (b : Bool) → value_of b < 2
@@ -206,9 +205,6 @@ set_last first xs x y e =
     let l = one_left first xs x e in
     sym (take_all (first + 1) (set xs first y) (omega (arith, l, length-set xs first y))) ∙ take_more_set xs first y (omega (arith, l))
 
-pub stands_there : (who first : ℕ) (stack : List Frame) (o : Op) (p : SafePoint) → StandsOn safe_behaviour.frames SafeReaches who first stack o p → first < length stack
-stands_there who first stack o p on = let l = one_left first stack (safe_frame p) on.there in omega (arith, l)
-
 module _ (at : Place) (m : Memory) (who first : ℕ) (stack : List Frame) (choice : Bool) (frame : Frame) (q : SafePoint)
     (found : drop first stack ≡ frame ∷ drop (first + 1) stack) (is : q ≡ point_at frame.op frame.i) where
   -- whoever stands there stands at the point that the frame tells
@@ -242,7 +238,3 @@ module _ (at : Place) (m : Memory) (who first : ℕ) (stack : List Frame) (choic
         stack = sym (append-nil (take first stack)) ∙ ap (λ n. take first stack ++ left_frames safe_behaviour.frames n) (sym next);
         memory = memory;
       })
-
-  pub chooses_there : (chosen : Option (ℕ × Bool)) → chosen ≡ placed_bit at (safe_goes q choice (part at safe_size m)).chosen
-      → (o : Op) (p : SafePoint) → StandsOn safe_behaviour.frames SafeReaches who first stack o p → chosen ≡ placed_bit at (safe_goes p choice (part at safe_size m)).chosen
-  chooses_there chosen e o p on = e ∙ ap (λ x. placed_bit at (safe_goes x choice (part at safe_size m)).chosen) (same_point o p on)
