@@ -2,7 +2,6 @@
 //! unary number, a stamped register, and a matrix of stamped registers for many writers.
 #![tactic(auto)]
 
-mod copies_tower;
 #[cfg(test)]
 mod tests;
 mod unary_tower;
@@ -14,7 +13,6 @@ ghost use Rattle.frames.specs.OneWriter.{HasOneWriter};
 ghost use Rattle.frames.specs.SafeBit.{safe_behaviour};
 ghost use Rattle.towers.specs.Towers.{copies_tower, regular_tower, unary_tower, stamped_tower, matrix_tower};
 
-pub use copies_tower::CopiesTower;
 use frames::register::Behaves;
 use frames::safe::Safe;
 use layers::layered::Layered;
@@ -24,6 +22,9 @@ use regular_bit::RegularBit;
 use stamped::Stamped;
 use unary_number::Unary;
 pub use unary_tower::UnaryTower;
+
+/// Copies of a safe bit.
+pub type CopiesTower = Layered<Copies, Safe>;
 
 /// A regular bit over copies.
 pub type RegularTower = Layered<RegularBit, CopiesTower>;
@@ -40,9 +41,7 @@ pub fn copies(readers: u32) -> CopiesTower
     requires few { readers ≤ MOST_READERS }
     ensures { ⟦<CopiesTower as Behaves>⟧.is result ≡ copies_tower readers }
 {
-    CopiesTower {
-        copies: Copies::new(Safe, readers).unwrap(),
-    }
+    Copies::new(Safe, readers).unwrap()
 }
 
 /// A regular bit for 1 to 4 readers.

@@ -115,7 +115,7 @@ impl Register for UnaryTower {
     }
 
     ghost tells = { λ r.
-        let c = r.layers.below.below.copies in
+        let c = r.layers.below.below in
         let b = r.layers.below in
         let u = r.layers in
         let on_bits = over safe_lawful (copies.copies_sound c.layer.readers c.layer.values c.layer.some c.layer.few) c.fit in
@@ -126,7 +126,7 @@ impl Register for UnaryTower {
         (layered_tells on_copies copies_point (layered_tells on_bits safe_point safe_tells)) };
 
     ghost lawful = { λ r.
-        let c = r.layers.below.below.copies in
+        let c = r.layers.below.below in
         let b = r.layers.below in
         let u = r.layers in
         let on_bits = over safe_lawful (copies.copies_sound c.layer.readers c.layer.values c.layer.some c.layer.few) c.fit in
@@ -139,8 +139,8 @@ impl Register for UnaryTower {
         let y = b.layers in
         let over_regular = both_true (⟦<RegularTower as PartialEq>⟧.eq x.below y.below) (⟦<Unary as PartialEq>⟧.eq x.layer y.layer) h in
         let over_copies = both_true (⟦<CopiesTower as PartialEq>⟧.eq x.below.below y.below.below) (⟦<RegularBit as PartialEq>⟧.eq x.below.layer y.below.layer) over_regular.0 in
-        let p = x.below.below.copies in
-        let q = y.below.below.copies in
+        let p = x.below.below in
+        let q = y.below.below in
         let over_bits = both_true (⟦<Safe as PartialEq>⟧.eq p.below q.below) (⟦<Copies as PartialEq>⟧.eq p.layer q.layer) over_copies.0 in
         layered_alike (unary_table x.layer.values x.layer.processes) (unary_table y.layer.values y.layer.processes) _ _
         (unary.table_alike x.layer.values y.layer.values x.layer.processes y.layer.processes over_regular.1)
@@ -153,8 +153,8 @@ impl Register for UnaryTower {
         let y = b.layers in
         let over_regular = both_true (⟦<RegularTower as PartialEq>⟧.eq x.below y.below) (⟦<Unary as PartialEq>⟧.eq x.layer y.layer) h in
         let over_copies = both_true (⟦<CopiesTower as PartialEq>⟧.eq x.below.below y.below.below) (⟦<RegularBit as PartialEq>⟧.eq x.below.layer y.below.layer) over_regular.0 in
-        let p = x.below.below.copies in
-        let q = y.below.below.copies in
+        let p = x.below.below in
+        let q = y.below.below in
         let over_bits = both_true (⟦<Safe as PartialEq>⟧.eq p.below q.below) (⟦<Copies as PartialEq>⟧.eq p.layer q.layer) over_copies.0 in
         points_alike (unary_table x.layer.values x.layer.processes) (unary_table y.layer.values y.layer.processes) _ _
         (unary.table_alike x.layer.values y.layer.values x.layer.processes y.layer.processes over_regular.1)
