@@ -23,8 +23,10 @@ PARTS = ("src", "specs", "proofs")
 MEMORY_OF_A_CHECK = 3 * 10**9
 # It gains little from more than 4 processors.
 JOBS_OF_A_CHECK = 4
-# How far behind the task at the head of the longest chain the others stand where processors are short.
-NICENESS_OF_OTHERS = 10
+# What it takes beside what goes by its lines, as lines.
+LINES_OF_A_CHECK = 1500
+# The last in the queue for a processor, as `nice` counts.
+NICEST = 19
 SECONDS_BETWEEN_NEWS = 60
 LINES_SHOWN = 20
 
@@ -203,35 +205,44 @@ def show_failure(log, name):
     print(*lines[-LINES_SHOWN:], sep="\n", file=sys.stderr, flush=True)
 
 
-def proofs(crates, names):
+def proofs(crates, names, prove_one=prove):
     """Returns the tasks that prove these crates and all that they stand on, by their names."""
     wanted = {it for name in names for it in [*all_below(crates, name), name]}
     return {
-        name: Task(crates[name], lines_of(name), JOBS_OF_A_CHECK, lambda jobs, niceness, it=name: prove(crates, it, jobs, niceness))
+        name: Task(crates[name], LINES_OF_A_CHECK + lines_of(name), JOBS_OF_A_CHECK, lambda jobs, niceness, it=name: prove_one(crates, it, jobs, niceness))
         for name in crates
         if name in wanted
     }
 
 
-def number_in(file, pattern):
+def text_of(file):
     try:
         with open(file, encoding="utf-8") as it:
-            return int(re.search(pattern, it.read()).group(1))
-    except (OSError, AttributeError):
+            return it.read()
+    except OSError:
         return None
 
 
-def lanes():
-    """Returns how many checks may run side by side: one a processor, as many as memory holds, and at least one."""
-    processors = len(os.sched_getaffinity(0))
+def number_in(file, pattern):
+    found = re.search(pattern, text_of(file) or "")
+    return int(found.group(1)) if found else None
+
+
+def processors():
+    """Returns how many processors there are for this run, at least one."""
+    count = len(os.sched_getaffinity(0))
     quota, period = (number_in("/sys/fs/cgroup/cpu.max", it) for it in (r"^(\d+)", r" (\d+)"))
-    if quota and period:
-        processors = min(processors, quota // period)
+    return max(1, min(count, quota // period) if quota and period else count)
+
+
+def lanes():
+    """Returns how many checks may run side by side: as many as memory holds, at most three for two processors, and at least one."""
     free = 1024 * (number_in("/proc/meminfo", r"MemAvailable:\s+(\d+)") or 0)
     limit, held = number_in("/sys/fs/cgroup/memory.max", r"(\d+)"), number_in("/sys/fs/cgroup/memory.stat", r"anon (\d+)")
     if limit and held is not None:
         free = min(free, limit - held)
-    return max(1, min(processors, free // MEMORY_OF_A_CHECK))
+    # (a check is at one processor for half of its time, so more of them than processors keep those busy)
+    return max(1, min(processors() + processors() // 2, free // MEMORY_OF_A_CHECK))
 
 
 def chains(tasks):
@@ -252,33 +263,26 @@ def chains(tasks):
 def run_side_by_side(tasks, tell):
     """Runs the tasks, those with the longest chain behind them first, and returns whether all went well.
 
-    The one that the longest chain waits for may use all processors, and the others what it leaves. Once one fails, the others are
-    ended. `tell` is given those that are done and those that run, each with its seconds, whenever that changes and once a minute."""
-    all_lanes, chain = lanes(), chains(tasks)
-    free = all_lanes
+    The one that the longest chain waits for may use all processors. The others get a part of them, and stand further behind it where
+    processors are short the shorter their own chain is. Once one fails, the others are ended. `tell` is given those that are done and
+    those that run, each with its seconds, whenever that changes and once a minute."""
+    all_processors, all_lanes, chain = processors(), lanes(), chains(tasks)
     left, running, done = sorted(tasks, key=lambda it: -chain[it]), {}, {}
     is_well = True
     with ThreadPoolExecutor(all_lanes) as pool:
         try:
             while running or (left and is_well):
                 ready = [it for it in left if is_well and all(below in done for below in tasks[it].waits)]
-                for at, key in enumerate(ready):
-                    if free:
-                        if chain[key] == max(chain[it] for it in [*left, *(it for it, *_ in running.values())]):
-                            held, jobs, niceness = 1, min(tasks[key].most_jobs, all_lanes), 0
-                        else:
-                            # (of the free lanes it gets its part, by the chains that begin with it and with those that wait beside it)
-                            part = free * chain[key] / sum(chain[it] for it in ready[at:])
-                            held = jobs = max(1, min(tasks[key].most_jobs, round(part)))
-                            niceness = NICENESS_OF_OTHERS
-                        left.remove(key)
-                        free -= held
-                        running[pool.submit(tasks[key].work, jobs, niceness)] = key, held, time.monotonic()
+                for key in ready[: all_lanes - len(running)]:
+                    head = max(chain[it] for it in [*left, *(it for it, _ in running.values())])
+                    part = all_processors if chain[key] == head else all_processors // (len(running) + 1)
+                    jobs = max(1, min(tasks[key].most_jobs, part))
+                    left.remove(key)
+                    running[pool.submit(tasks[key].work, jobs, round(NICEST * (1 - chain[key] / head)))] = key, time.monotonic()
                 now = time.monotonic()
-                tell(done, {key: now - since for key, _, since in running.values()})
+                tell(done, {key: now - since for key, since in running.values()})
                 for it in wait(running, SECONDS_BETWEEN_NEWS, FIRST_COMPLETED).done:
-                    key, held, since = running.pop(it)
-                    free += held
+                    key, since = running.pop(it)
                     if it.result():
                         done[key] = time.monotonic() - since
                     elif is_well:

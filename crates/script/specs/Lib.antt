@@ -2,4 +2,3 @@ pub mod Lines
 pub mod Texts
 pub mod Answers
 pub mod LineFronts
-pub mod Seats

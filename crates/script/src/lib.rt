@@ -1,9 +1,7 @@
-//! Scripts: what a line says, and what it answers at a desk, in bytes.
+//! Scripts: what a line says, and the lines of answers, in bytes.
 #![tactic(auto)]
 
-pub mod answer;
 pub mod call;
 pub mod line;
 pub mod look;
-pub mod seat;
 pub mod text;

@@ -1,3 +1,4 @@
 pub mod Opened
 pub mod Endings
 pub mod Shares
+pub mod Replies

@@ -1,9 +1,11 @@
 //! A workbench for runs of a register: a script of edits and looks comes in, the answers go out.
 #![tactic(auto)]
 
+pub mod answer;
 pub mod ending;
 pub mod fault;
 pub mod run;
+pub mod seat;
 pub mod serve;
 #[cfg(test)]
 mod tests;

@@ -10,14 +10,14 @@ ghost use Rattle.conversation.specs.Scripts.{answers_to};
 ghost use Rattle.desk.specs.Chairs.{IsAt};
 ghost use Rattle.desk.specs.Histories.{seen};
 ghost use Rattle.script.specs.Answers.{answer_line};
-ghost use Rattle.script.specs.Seats.{world_at};
+ghost use Rattle.towerbench.specs.Seats.{world_at};
 
+use crate::answer::{LineAnswer, answer};
+use crate::seat::Seat;
 use conversation::converse::converse;
 use conversation::fault::StreamFault;
 use desk::{Chair, Desk};
 use frames::register::Register;
-use script::answer::{LineAnswer, answer};
-use script::seat::Seat;
 use std::alloc::Global;
 use std::io::{Read, Write};
 use std::sync::Wait;

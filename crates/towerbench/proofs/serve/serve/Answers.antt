@@ -2,7 +2,7 @@ use Rattle.std.proofs.Common.{IfErr, subst}
 use Rattle.conversation.specs.Conversations.{Breaks}
 use Rattle.conversation.specs.Scripts.{answers_to}
 use Rattle.script.specs.Answers.{answer_line}
-use Rattle.script.specs.Seats.{Seated, world_at}
+use Rattle.towerbench.specs.Seats.{Seated, world_at}
 use Rattle.towerbench.proofs.serve.serve.Goals as goal
 
 pub returns-clause-fault : goal.returns-clause-fault

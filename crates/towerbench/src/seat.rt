@@ -8,7 +8,7 @@ ghost use Rattle.sessions.specs.Looks.{looked, shown_in};
 ghost use Rattle.desk.specs.Works.{NeedsBranch};
 ghost use Rattle.desk.specs.Chairs.{IsAt};
 ghost use Rattle.desk.specs.Histories.{seen};
-ghost use Rattle.script.specs.Seats.{world_at};
+ghost use Rattle.towerbench.specs.Seats.{world_at};
 
 use desk::{Chair, Desk, Item, Journal};
 use frames::register::Register;
@@ -48,7 +48,7 @@ where
     ghost use Rattle.desk.specs.Works.{NeedsBranch};
     ghost use Rattle.desk.specs.Chairs.{IsAt};
     ghost use Rattle.desk.specs.Histories.{seen};
-    ghost use Rattle.script.specs.Seats.{Seated};
+    ghost use Rattle.towerbench.specs.Seats.{Seated};
 
     ghost Value = { Seated R R.Pending };
 

@@ -1,9 +1,9 @@
 use Rattle.std.proofs.Common.{subst}
 use Rattle.turn.specs.Chairs.{view}
 use Rattle.desk.specs.Works.{IsAnswer}
-use Rattle.script.specs.Seats.{Seated, world_at}
-use Rattle.script.proofs.Replies.{looked_answers, shown, found, refused}
-use Rattle.script.proofs.seat.Seat.look.Goals as goal
+use Rattle.towerbench.specs.Seats.{Seated, world_at}
+use Rattle.towerbench.proofs.Replies.{looked_answers, shown, found, refused}
+use Rattle.towerbench.proofs.seat.Seat.look.Goals as goal
 
 pub returns-clause-page : goal.returns-clause-page
 returns-clause-page g c = shown (world_at g.R.Behaves.is c.args.self.now) c.args.query c.look-answer.result.result

@@ -6,9 +6,9 @@ use Rattle.sessions.specs.Acts.{acted}
 use Rattle.sessions.specs.Held.{opening_of}
 use Rattle.sessions.specs.Logs.{world_after}
 use Rattle.desk.specs.Histories.{seen}
-use Rattle.script.specs.Seats.{Seated, world_at}
-use Rattle.script.proofs.Replies.{received_answers}
-use Rattle.script.proofs.seat.Seat.act.Goals as goal
+use Rattle.towerbench.specs.Seats.{Seated, world_at}
+use Rattle.towerbench.proofs.Replies.{received_answers}
+use Rattle.towerbench.proofs.seat.Seat.act.Goals as goal
 
 pub returns : goal.returns
 returns g c =

@@ -1,20 +1,20 @@
-//! Answers to the lines of a script.
+//! Answers to the lines of a script, at a desk.
 
 ghost use Rattle.std.specs.Prelude.{◌≡◌, ◌⊎◌, Bool, Ok, Err, OnOk, IfOk, IfErr, []};
 ghost use Rattle.schedule_trie.specs.Forest.{index_of};
 ghost use Rattle.sessions.specs.Looks.{looked};
 ghost use Rattle.script.specs.Answers.{page_of};
 ghost use Rattle.script.specs.Answers as spec;
-ghost use Rattle.script.specs.Seats.{world_at};
+ghost use Rattle.towerbench.specs.Seats.{world_at};
 
-use crate::call::{Call, Line, Request};
-use crate::line::read_line;
 use crate::seat::Seat;
-use crate::text::{push_bad_line, push_filled, push_reply};
 use conversation::answering::Answers;
 use frames::register::Register;
 use schedule_trie::name::Name;
 use schedule_trie::refusal::Refusal;
+use script::call::{Call, Line, Request};
+use script::line::read_line;
+use script::text::{push_bad_line, push_filled, push_reply};
 use sessions::reply::Reply;
 use std::alloc::{AllocError, Global};
 use std::sync::Wait;
@@ -24,7 +24,7 @@ use views::query::Query;
 
 impl<R: Register, W: Wait> Answers for Seat<'_, R, W> {
     ghost use Rattle.sessions.specs.World.{World};
-    ghost use Rattle.script.specs.Seats.{world_at};
+    ghost use Rattle.towerbench.specs.Seats.{world_at};
     ghost use Rattle.script.specs.Answers.{answer_line};
     ghost use Rattle.script.specs.LineFronts.{answer_line-front};
 

@@ -1,0 +1,110 @@
+"""Proofs from nothing, over libraries that hold what they state and not its proofs.
+
+`rt lib` builds a library with its checked proofs, and keeps the check's work for the next one. Who only wants the program needs
+neither: a library that is cut to its statements, as in `rt ci`, makes each proof over it cheaper. What is built so lies in
+crates/NAME/out/statements, beside what `rt` keeps, and serves until the crate or one below it changes.
+"""
+import functools
+import hashlib
+import os
+import shutil
+import subprocess
+
+import side_by_side as side
+
+TARGET = "x86_64-unknown-linux-gnu"
+
+
+def said_by_rt(word):
+    return subprocess.run(["rt", word], check=True, stdout=subprocess.PIPE, text=True).stdout.strip()
+
+
+@functools.lru_cache(None)
+def kit():
+    """Returns the folder of the Rattle kit, in which the page stands that `rt doc` names."""
+    return os.path.dirname(said_by_rt("doc"))
+
+
+@functools.lru_cache(None)
+def kit_name():
+    return said_by_rt("version")
+
+
+def folder_of(name):
+    return f"{side.TOP}/crates/{name}"
+
+
+def made_of(name):
+    """Returns where a crate's library or program is built."""
+    return f"{folder_of(name)}/out/statements/{name}{'' if side.is_program(name) else '.rlib'}"
+
+
+def sum_of(crates, name):
+    """Returns a sum of all that a crate's library or program is made from."""
+    found, rows = hashlib.sha256(kit_name().encode()), side.rows()
+    for it in [*side.all_below(crates, name), name]:
+        found.update(repr(rows[it]).encode())
+        for part in side.PARTS:
+            for at, _, files in sorted(os.walk(f"{folder_of(it)}/{part}")):
+                for file in sorted(files):
+                    with open(f"{at}/{file}", "rb") as text:
+                        found.update(repr((os.path.relpath(f"{at}/{file}", side.TOP), text.read())).encode())
+    return found.hexdigest()
+
+
+def words_of(crates, name):
+    """Returns the words that give `rattle` a crate, the libraries that its row names, and where theirs are."""
+    words = ["--crate-name", name, f"src/{'main' if side.is_program(name) else 'lib'}.rt"]
+    named = side.rows()[name].partition(":")[2].replace(",", " ").split()
+    for it in ["std", *[it for it in named if it not in crates]]:
+        words += ["--extern", f"{it}={kit()}/rlibs/{it}.rlib"]
+    for it in crates[name]:
+        words += ["--extern", f"{it}={made_of(it)}"]
+    for at in [f"{kit()}/rlibs", *[os.path.dirname(made_of(it)) for it in side.all_below(crates, name)]]:
+        words += ["-L", f"dependency={at}"]
+    words += ["--antt-project", f"{kit()}/rattle/logic/antt-project.json", "--logic-built", f"{kit()}/logic_built"]
+    return [*words, "--links", f"{name}="]
+
+
+def steps_of(crates, name, jobs):
+    """Returns the commands that prove and build a crate, in the crate's folder."""
+    prover = [f"{kit()}/bin/rattle", "build", *words_of(crates, name), "--jobs", str(jobs)]
+    if not side.is_program(name):
+        return [[*prover, "--statements", "-o", made_of(name)]]
+    toolchain, unlinked = ["--toolchain", f"{kit()}/toolchain"], f"out/statements/{name}.o"
+    below = [f"{kit()}/c/lib{it}_c.a" for it in ("os", "libc")]
+    return [
+        [*prover, *toolchain, "--backend", "llvm", "-o", unlinked],
+        [f"{kit()}/bin/rattle-link", "--target", TARGET, *toolchain, "-o", made_of(name), unlinked, *below],
+    ]
+
+
+def prove(crates, name, jobs, niceness):
+    """Proves and builds one crate over those below it, and returns whether it is proved."""
+    is_proved = is_current(crates, name) or build(crates, name, jobs, niceness)
+    if is_proved and side.is_program(name):
+        # (it goes where `rt` builds it, at once and also where the one there is running)
+        shutil.copy2(made_of(name), f"{made_of(name)}.new")
+        os.replace(f"{made_of(name)}.new", f"{folder_of(name)}/out/{name}")
+    return is_proved
+
+
+def is_current(crates, name):
+    return os.path.exists(made_of(name)) and side.text_of(f"{folder_of(name)}/out/statements/sum") == sum_of(crates, name)
+
+
+def build(crates, name, jobs, niceness):
+    kept, wanted = f"{folder_of(name)}/out/statements", sum_of(crates, name)
+    shutil.rmtree(kept, ignore_errors=True)
+    os.makedirs(kept)
+    for step in steps_of(crates, name, jobs):
+        log = f"{kept}/{os.path.basename(step[0])}.log"
+        if not side.PROCESSES.call(["nice", "-n", str(niceness), *step], folder_of(name), log):
+            if not side.PROCESSES.are_ended:
+                side.show_failure(log, name)
+            return False
+    # (what was edited meanwhile may be in it or not)
+    if sum_of(crates, name) == wanted:
+        with open(f"{kept}/sum", "w", encoding="utf-8") as file:
+            file.write(wanted)
+    return True
