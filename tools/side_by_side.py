@@ -23,8 +23,8 @@ PARTS = ("src", "specs", "proofs")
 MEMORY_OF_A_CHECK = 3 * 10**9
 # It gains little from more than 4 processors.
 JOBS_OF_A_CHECK = 4
-# What it takes beside what goes by its lines, as lines.
-LINES_OF_A_CHECK = 1500
+# It also loads what its crate stands on: so many of the lines there take as long as one of its own.
+LINES_LOADED_AS_ONE = 7
 # The last in the queue for a processor, as `nice` counts.
 NICEST = 19
 SECONDS_BETWEEN_NEWS = 60
@@ -73,6 +73,11 @@ def lines_of(name):
                 with open(f"{folder}/{it}", "rb") as file:
                     count += file.read().count(b"\n")
     return count
+
+
+def lines_of_check(crates, name):
+    """Returns about how long the check of a crate takes, as lines."""
+    return lines_of(name) + sum(map(lines_of, all_below(crates, name))) // LINES_LOADED_AS_ONE
 
 
 def is_program(name):
@@ -209,7 +214,7 @@ def proofs(crates, names, prove_one=prove):
     """Returns the tasks that prove these crates and all that they stand on, by their names."""
     wanted = {it for name in names for it in [*all_below(crates, name), name]}
     return {
-        name: Task(crates[name], LINES_OF_A_CHECK + lines_of(name), JOBS_OF_A_CHECK, lambda jobs, niceness, it=name: prove_one(crates, it, jobs, niceness))
+        name: Task(crates[name], lines_of_check(crates, name), JOBS_OF_A_CHECK, lambda jobs, niceness, it=name: prove_one(crates, it, jobs, niceness))
         for name in crates
         if name in wanted
     }
@@ -263,8 +268,8 @@ def chains(tasks):
 def run_side_by_side(tasks, tell):
     """Runs the tasks, those with the longest chain behind them first, and returns whether all went well.
 
-    The one that the longest chain waits for may use all processors. The others get a part of them, and stand further behind it where
-    processors are short the shorter their own chain is. Once one fails, the others are ended. `tell` is given those that are done and
+    The one that the longest chain waits for may use all processors. The shorter the chain behind another one, the fewer it may use, and
+    the further it stands behind where processors are short. Once one fails, the others are ended. `tell` is given those that are done and
     those that run, each with its seconds, whenever that changes and once a minute."""
     all_processors, all_lanes, chain = processors(), lanes(), chains(tasks)
     left, running, done = sorted(tasks, key=lambda it: -chain[it]), {}, {}
@@ -275,10 +280,10 @@ def run_side_by_side(tasks, tell):
                 ready = [it for it in left if is_well and all(below in done for below in tasks[it].waits)]
                 for key in ready[: all_lanes - len(running)]:
                     head = max(chain[it] for it in [*left, *(it for it, _ in running.values())])
-                    part = all_processors if chain[key] == head else all_processors // (len(running) + 1)
-                    jobs = max(1, min(tasks[key].most_jobs, part))
+                    jobs = max(1, min(tasks[key].most_jobs, all_processors * chain[key] // head))
+                    niceness = round(NICEST * (1 - chain[key] / head))
                     left.remove(key)
-                    running[pool.submit(tasks[key].work, jobs, round(NICEST * (1 - chain[key] / head)))] = key, time.monotonic()
+                    running[pool.submit(tasks[key].work, jobs, niceness)] = key, time.monotonic()
                 now = time.monotonic()
                 tell(done, {key: now - since for key, since in running.values()})
                 for it in wait(running, SECONDS_BETWEEN_NEWS, FIRST_COMPLETED).done:
