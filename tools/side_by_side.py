@@ -241,7 +241,7 @@ def processors():
 
 
 def lanes():
-    """Returns how many checks may run side by side: as many as memory holds, at most three for two processors, and at least one."""
+    """Returns how many checks may run side by side: as many as memory holds, at most three for each two processors, and at least one."""
     free = 1024 * (number_in("/proc/meminfo", r"MemAvailable:\s+(\d+)") or 0)
     limit, held = number_in("/sys/fs/cgroup/memory.max", r"(\d+)"), number_in("/sys/fs/cgroup/memory.stat", r"anon (\d+)")
     if limit and held is not None:
