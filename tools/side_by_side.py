@@ -19,8 +19,8 @@ from concurrent.futures import FIRST_COMPLETED, ThreadPoolExecutor, wait
 
 TOP = os.path.dirname(os.path.dirname(os.path.realpath(__file__)))
 PARTS = ("src", "specs", "proofs")
-# A check takes 1 to 3 GB.
-MEMORY_OF_A_CHECK = 3 * 10**9
+# A check takes 1 to 2 GB, and only that of the program more.
+MEMORY_OF_A_CHECK = 2 * 10**9
 # It gains little from more than 4 processors.
 JOBS_OF_A_CHECK = 4
 # It also loads what its crate stands on: so many of the lines there take as long as one of its own.
@@ -241,13 +241,13 @@ def processors():
 
 
 def lanes():
-    """Returns how many checks may run side by side: as many as memory holds, at most three for each two processors, and at least one."""
+    """Returns how many checks may run side by side: as many as memory holds, at most two for each processor, and at least one."""
     free = 1024 * (number_in("/proc/meminfo", r"MemAvailable:\s+(\d+)") or 0)
     limit, held = number_in("/sys/fs/cgroup/memory.max", r"(\d+)"), number_in("/sys/fs/cgroup/memory.stat", r"anon (\d+)")
     if limit and held is not None:
         free = min(free, limit - held)
     # (a check is at one processor for half of its time, so more of them than processors keep those busy)
-    return max(1, min(processors() + processors() // 2, free // MEMORY_OF_A_CHECK))
+    return max(1, min(2 * processors(), free // MEMORY_OF_A_CHECK))
 
 
 def chains(tasks):
@@ -268,8 +268,8 @@ def chains(tasks):
 def run_side_by_side(tasks, tell):
     """Runs the tasks, those with the longest chain behind them first, and returns whether all went well.
 
-    The one that the longest chain waits for may use all processors. The shorter the chain behind another one, the fewer it may use, and
-    the further it stands behind where processors are short. Once one fails, the others are ended. `tell` is given those that are done and
+    The one that the longest chain waits for may use all processors. The others share them, and the shorter the chain behind one, the
+    further it stands behind where processors are short. Once one fails, the others are ended. `tell` is given those that are done and
     those that run, each with its seconds, whenever that changes and once a minute."""
     all_processors, all_lanes, chain = processors(), lanes(), chains(tasks)
     left, running, done = sorted(tasks, key=lambda it: -chain[it]), {}, {}
@@ -278,9 +278,11 @@ def run_side_by_side(tasks, tell):
         try:
             while running or (left and is_well):
                 ready = [it for it in left if is_well and all(below in done for below in tasks[it].waits)]
+                head = max(chain[it] for it in [*left, *(it for it, _ in running.values())])
+                # (a check by more than one processor costs a third more, so that's for what the others wait for)
+                share = all_processors // (len(running) + len(ready) or 1)
                 for key in ready[: all_lanes - len(running)]:
-                    head = max(chain[it] for it in [*left, *(it for it, _ in running.values())])
-                    jobs = max(1, min(tasks[key].most_jobs, all_processors * chain[key] // head))
+                    jobs = max(1, min(tasks[key].most_jobs, all_processors if chain[key] == head else share))
                     niceness = round(NICEST * (1 - chain[key] / head))
                     left.remove(key)
                     running[pool.submit(tasks[key].work, jobs, niceness)] = key, time.monotonic()

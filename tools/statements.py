@@ -73,8 +73,9 @@ def steps_of(crates, name, jobs):
         return [[*prover, "--statements", "-o", made_of(name)]]
     toolchain, unlinked = ["--toolchain", f"{kit()}/toolchain"], f"out/statements/{name}.o"
     below = [f"{kit()}/c/lib{it}_c.a" for it in ("os", "libc")]
+    # (Rattle's own compiler takes a third of LLVM's time, and its code some 5 instructions in a hundred more)
     return [
-        [*prover, *toolchain, "--backend", "llvm", "-o", unlinked],
+        [*prover, *toolchain, "--backend", "rattle", "-o", unlinked],
         [f"{kit()}/bin/rattle-link", "--target", TARGET, *toolchain, "-o", made_of(name), unlinked, *below],
     ]
 

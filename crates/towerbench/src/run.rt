@@ -12,7 +12,7 @@ use crate::fault::Fault;
 use crate::serve::serve;
 use command_line::options::Options;
 use desk::Desk;
-use frames::register::Register;
+use frames::register::{Behaves, Register};
 use frames::safe::Safe;
 use frames::types::Step;
 use std::alloc::Global;
@@ -20,7 +20,7 @@ use std::io::{Read, Write};
 use std::sync::Wait;
 use std::thread::Threads;
 use tower_file::{TowerFile, TowerSpec, parse};
-use towers::{copies, matrix, regular, stamped, unary};
+use towers::{MatrixTower, StampedTower, copies, matrix, regular, stamped, unary};
 
 /// Answers a script, the lines of each read before the next one. It works on the tower and the steps of
 /// a file, or on a safe bit at 0 where there is none.
@@ -121,7 +121,7 @@ fn run_file<H: Threads + Wait + Sync, R: Read, W: Write>(
         }
         TowerSpec::Stamped { values, last } => {
             let register = stamped(values, last);
-            begin(rt, alloc, register, 0, steps, options, reader, writer)
+            begin_stamped(rt, alloc, register, steps, options, reader, writer)
         }
         TowerSpec::Matrix {
             processes,
@@ -130,9 +130,45 @@ fn run_file<H: Threads + Wait + Sync, R: Read, W: Write>(
             last_stamp,
         } => {
             let register = matrix(processes, values, last_tag, last_stamp);
-            begin(rt, alloc, register, 0, steps, options, reader, writer)
+            begin_matrix(rt, alloc, register, steps, options, reader, writer)
         }
     }
+}
+
+/// Answers a script on a stamped register at 0. It and the matrix begin in functions of their own, so that what is proved of their types is proved side by side.
+fn begin_stamped<H: Threads + Wait + Sync, R: Read, W: Write>(
+    rt: &H,
+    alloc: Global,
+    register: StampedTower,
+    steps: Vec<Step>,
+    options: Options,
+    reader: &mut R,
+    writer: &mut W,
+) -> Result<(), Fault>
+    requires value { 0 < (⟦<StampedTower as Behaves>⟧.is register).values }
+    requires limits { AreLimits options }
+    requires fit { AllFit (⟦<StampedTower as Behaves>⟧.is register) steps.items }
+    ensures { EndsOver (limits_of options) steps.items (answers_to answer_line (opening (⟦<StampedTower as Behaves>⟧.is register) 0 (limits_of options) steps.items)) (R.remaining reader.old) (R.remaining reader.new) (W.contents writer.old) (W.contents writer.new) result }
+{
+    begin(rt, alloc, register, 0, steps, options, reader, writer)
+}
+
+/// Answers a script on a matrix at 0.
+fn begin_matrix<H: Threads + Wait + Sync, R: Read, W: Write>(
+    rt: &H,
+    alloc: Global,
+    register: MatrixTower,
+    steps: Vec<Step>,
+    options: Options,
+    reader: &mut R,
+    writer: &mut W,
+) -> Result<(), Fault>
+    requires value { 0 < (⟦<MatrixTower as Behaves>⟧.is register).values }
+    requires limits { AreLimits options }
+    requires fit { AllFit (⟦<MatrixTower as Behaves>⟧.is register) steps.items }
+    ensures { EndsOver (limits_of options) steps.items (answers_to answer_line (opening (⟦<MatrixTower as Behaves>⟧.is register) 0 (limits_of options) steps.items)) (R.remaining reader.old) (R.remaining reader.new) (W.contents writer.old) (W.contents writer.new) result }
+{
+    begin(rt, alloc, register, 0, steps, options, reader, writer)
 }
 
 /// Answers a script on a register at a value, and steps that fit it, which are let go before anything is read.

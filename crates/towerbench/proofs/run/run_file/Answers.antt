@@ -32,12 +32,12 @@ returns-in-Unary g c =
 
 pub returns-in-Stamped : goal.returns-in-Stamped
 returns-in-Stamped g c =
-    on_file (g.R.Read.remaining c.args.reader.now) (g.R.Read.remaining c.begin-in-Stamped.new.reader) (g.W.Write.contents c.args.writer.now) (g.W.Write.contents c.begin-in-Stamped.new.writer)
-    c.begin-in-Stamped.result (limits_of c.args.options) 0 _ (stamped_tower c.in-Stamped.values c.in-Stamped.last) c.into_steps-steps.result.items (Stamped c.in-Stamped.values c.in-Stamped.last) c.spec-spec.result c.args.file
-    c.stamped-register.ensures c.into_steps-steps.ensures.steps c.spec-spec.ensures.tower c.in-Stamped.is (λ ss. refl) c.begin-in-Stamped.ensures
+    on_file (g.R.Read.remaining c.args.reader.now) (g.R.Read.remaining c.begin_stamped.new.reader) (g.W.Write.contents c.args.writer.now) (g.W.Write.contents c.begin_stamped.new.writer)
+    c.begin_stamped.result (limits_of c.args.options) 0 _ (stamped_tower c.in-Stamped.values c.in-Stamped.last) c.into_steps-steps.result.items (Stamped c.in-Stamped.values c.in-Stamped.last) c.spec-spec.result c.args.file
+    c.stamped-register.ensures c.into_steps-steps.ensures.steps c.spec-spec.ensures.tower c.in-Stamped.is (λ ss. refl) c.begin_stamped.ensures
 
 pub returns-in-Matrix : goal.returns-in-Matrix
 returns-in-Matrix g c =
-    on_file (g.R.Read.remaining c.args.reader.now) (g.R.Read.remaining c.begin-in-Matrix.new.reader) (g.W.Write.contents c.args.writer.now) (g.W.Write.contents c.begin-in-Matrix.new.writer)
-    c.begin-in-Matrix.result (limits_of c.args.options) 0 _ (matrix_tower c.in-Matrix.processes c.in-Matrix.values c.in-Matrix.last_tag c.in-Matrix.last_stamp) c.into_steps-steps.result.items (Matrix c.in-Matrix.processes c.in-Matrix.values c.in-Matrix.last_tag c.in-Matrix.last_stamp) c.spec-spec.result c.args.file
-    c.matrix-register.ensures c.into_steps-steps.ensures.steps c.spec-spec.ensures.tower c.in-Matrix.is (λ ss. refl) c.begin-in-Matrix.ensures
+    on_file (g.R.Read.remaining c.args.reader.now) (g.R.Read.remaining c.begin_matrix.new.reader) (g.W.Write.contents c.args.writer.now) (g.W.Write.contents c.begin_matrix.new.writer)
+    c.begin_matrix.result (limits_of c.args.options) 0 _ (matrix_tower c.in-Matrix.processes c.in-Matrix.values c.in-Matrix.last_tag c.in-Matrix.last_stamp) c.into_steps-steps.result.items (Matrix c.in-Matrix.processes c.in-Matrix.values c.in-Matrix.last_tag c.in-Matrix.last_stamp) c.spec-spec.result c.args.file
+    c.matrix-register.ensures c.into_steps-steps.ensures.steps c.spec-spec.ensures.tower c.in-Matrix.is (λ ss. refl) c.begin_matrix.ensures
