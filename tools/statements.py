@@ -73,7 +73,7 @@ def steps_of(crates, name, jobs):
         return [[*prover, "--statements", "-o", made_of(name)]]
     toolchain, unlinked = ["--toolchain", f"{kit()}/toolchain"], f"out/statements/{name}.o"
     below = [f"{kit()}/c/lib{it}_c.a" for it in ("os", "libc")]
-    # (Rattle's own compiler takes a third of LLVM's time, and its code some 5 instructions in a hundred more)
+    # (Rattle's own compiler is a minute sooner done than LLVM, and nothing is left to do meanwhile)
     return [
         [*prover, *toolchain, "--backend", "rattle", "-o", unlinked],
         [f"{kit()}/bin/rattle-link", "--target", TARGET, *toolchain, "-o", made_of(name), unlinked, *below],
