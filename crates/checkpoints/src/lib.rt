@@ -4,5 +4,3 @@
 pub mod events;
 pub mod replay;
 pub mod run;
-#[cfg(test)]
-mod tests;

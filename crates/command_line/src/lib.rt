@@ -3,5 +3,3 @@
 
 pub mod invocation;
 pub mod options;
-#[cfg(test)]
-mod tests;

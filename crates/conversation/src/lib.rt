@@ -5,5 +5,3 @@ pub mod answering;
 pub mod converse;
 pub mod fault;
 pub mod streams;
-#[cfg(test)]
-mod tests;

@@ -10,5 +10,3 @@ pub mod install;
 pub mod plan;
 pub mod settle;
 mod stored;
-#[cfg(test)]
-mod tests;

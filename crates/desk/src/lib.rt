@@ -15,8 +15,6 @@ mod plan;
 mod receipt;
 mod report;
 mod segment_job;
-#[cfg(test)]
-mod tests;
 
 pub use desk::{Chair, Desk};
 pub use item::Item;

@@ -10,6 +10,4 @@ pub mod register;
 pub mod roles;
 pub mod running;
 pub mod safe;
-#[cfg(test)]
-mod tests;
 pub mod types;

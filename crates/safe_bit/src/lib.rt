@@ -12,9 +12,6 @@ ghost use Rattle.safe_bit.specs.Memory.{IsNumbered, blank, cell_at, word_at, on_
 use std::alloc::{AllocError, Global};
 use std::marker::Model;
 
-#[cfg(test)]
-mod tests;
-
 /// A safe bit: its value, the value being written, and what is known of the read in progress.
 #[derive(Clone, Copy, Debug, PartialEq, Eq)]
 pub struct Cell {

@@ -9,6 +9,4 @@ pub mod name;
 pub mod refusal;
 mod segment;
 pub mod slot;
-#[cfg(test)]
-mod tests;
 pub mod trie;

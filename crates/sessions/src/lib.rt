@@ -11,6 +11,4 @@ pub mod log;
 pub mod reply;
 pub mod seek;
 mod stage;
-#[cfg(test)]
-mod tests;
 pub mod way;

@@ -36,6 +36,3 @@ pub use reading::parse;
 pub use tower::TowerSpec;
 pub use version::Version;
 pub use writing::print;
-
-#[cfg(test)]
-mod tests;

@@ -10,7 +10,7 @@ use std::rt::Files;
 use thiserror::Error;
 
 /// The most bytes of a tower file.
-pub const MOST_BYTES: usize = 1 << 26;
+const MOST_BYTES: usize = 1 << 26;
 
 /// The most bytes of one read.
 const PIECE_BYTES: usize = 4096;

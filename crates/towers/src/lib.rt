@@ -2,8 +2,6 @@
 //! unary number, a stamped register, and a matrix of stamped registers for many writers.
 #![tactic(auto)]
 
-#[cfg(test)]
-mod tests;
 mod unary_tower;
 
 ghost use Rattle.std.specs.Prelude.{◌≡◌, ◌<◌, ◌≤◌, ◌+◌, ◌*◌, ℕ};

@@ -16,8 +16,6 @@ mod refusal;
 mod rule;
 mod shares;
 mod steps;
-#[cfg(test)]
-mod tests;
 mod turn;
 mod view;
 

@@ -6,8 +6,6 @@ pub mod gate;
 mod hand;
 pub mod job;
 mod slots;
-#[cfg(test)]
-mod tests;
 mod thief;
 
 pub use crew::Crew;

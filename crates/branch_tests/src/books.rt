@@ -1,0 +1,275 @@
+//! Books on one safe bit. What a book is asked is data, so that one function alone makes a book;
+//! what a call promises is forgotten by functions with no clauses, so that no proof carries it on.
+
+ghost use Rattle.std.specs.Prelude.{◌<◌};
+ghost use Rattle.frames.specs.SafeBit.{safe_behaviour};
+ghost use Rattle.checkpoints.specs.Segment.{AllFit};
+ghost use Rattle.schedule_trie.specs.Cut.{AreLimits};
+
+mod commands;
+mod cursors;
+mod refusals;
+mod rows;
+
+use self::commands::go;
+use checkpoints::run::{Run, run_segment};
+use cutoff::install::Installation;
+use cutoff::plan::Job;
+use frames::safe::Safe;
+use frames::types::Step;
+use schedule_trie::limits::Limits;
+use schedule_trie::name::Name;
+use schedule_trie::refusal::Refusal;
+use sessions::book::Book;
+use sessions::command::Command;
+use sessions::reply::Reply;
+use std::alloc::Global;
+use std::sync::Arc;
+use views::lens::Lens;
+use views::page::{Page, page_text};
+use views::query::Query;
+use views::slip::Slip;
+
+/// What a book is asked, and what it has to answer.
+#[derive(Clone, Copy)]
+enum Ask<'a> {
+    /// A command of session 0 without a guard has this reply.
+    Replies(Command, Reply),
+    /// A command of session 0 without a guard is refused.
+    Refuses(Command, Refusal),
+    /// Each command of a session, with a guard that isn't met, is refused.
+    RefusesEach(u32, &'a [Command], Refusal),
+    /// Each command of session 0 without a guard is refused so.
+    RefusesAll(&'a [(Command, Refusal)]),
+    /// A look has a page of this text.
+    Shows(Query, &'a [u8]),
+    /// A look is refused.
+    Hides(Query, Refusal),
+    /// Four sessions, from this one on, join, and put their cursors on the places 0 to 3 of a
+    /// branch.
+    Stand(u32, &'a Name),
+    /// Their cursors stand on these places of a branch.
+    StandAt(u32, &'a Name, [u32; 4]),
+    /// So many commands are logged.
+    Logs(u32),
+    /// So many edits were accepted.
+    Counts(u64),
+    /// A branch has one job, whose run is installed, and then none.
+    Fills(&'a Name),
+}
+
+/// A guard that isn't met.
+const MISSED: Option<u64> = Some(9);
+
+/// What a book answers to a command.
+fn answer(
+    alloc: Global,
+    book: &mut Book<Safe>,
+    who: u32,
+    if_at: Option<u64>,
+    command: &Command,
+) -> Reply {
+    book.act(alloc, 0, who, if_at, command)
+}
+
+/// Whether each command of a session that missed its guard is refused so.
+fn refuses_each(
+    alloc: Global,
+    book: &mut Book<Safe>,
+    who: u32,
+    commands: &[Command],
+    refusal: Refusal,
+) -> bool {
+    for command in commands {
+        if answer(alloc, book, who, MISSED, command) != Reply::No(refusal) {
+            return false;
+        }
+    }
+    true
+}
+
+/// Whether each command of session 0 is refused so.
+fn refuses_all(alloc: Global, book: &mut Book<Safe>, rows: &[(Command, Refusal)]) -> bool {
+    for (command, refusal) in rows {
+        if answer(alloc, book, 0, None, command) != Reply::No(*refusal) {
+            return false;
+        }
+    }
+    true
+}
+
+/// The page of a slip.
+fn page_of(alloc: Global, slip: &Slip<Safe>) -> Result<Page, Refusal> {
+    let Ok(mut lens) = Lens::new(alloc) else {
+        return Err(Refusal::Memory);
+    };
+    slip.page(alloc, &mut lens).or(Err(Refusal::Memory))
+}
+
+/// The page of a look.
+fn page(alloc: Global, book: &mut Book<Safe>, query: Query) -> Result<Page, Refusal> {
+    let slip = book.look(alloc, query)?;
+    page_of(alloc, &slip)
+}
+
+/// The text of a look's page.
+fn text(alloc: Global, book: &mut Book<Safe>, query: Query) -> Result<Vec<u8>, Refusal> {
+    let page = page(alloc, book, query)?;
+    page_text(alloc, 0, &page).or(Err(Refusal::Memory))
+}
+
+/// Whether a look has a page of this text.
+fn shows(
+    alloc: Global,
+    book: &mut Book<Safe>,
+    query: Query,
+    wanted: &[u8],
+) -> Result<bool, Refusal> {
+    Ok(text(alloc, book, query)?.as_slice() == wanted)
+}
+
+/// Whether a look is refused so.
+fn hides(alloc: Global, book: &mut Book<Safe>, query: Query, refusal: Refusal) -> bool {
+    page(alloc, book, query).err() == Some(refusal)
+}
+
+/// Puts the cursors of four sessions on the places 0 to 3 of a branch, and tells whether they were
+/// put there.
+fn stand(alloc: Global, book: &mut Book<Safe>, first: u32, branch: &Name) -> bool
+    requires { first < 16 }
+{
+    for place in 0..4 {
+        let who = first + place;
+        let joined = answer(alloc, book, who, None, &Command::Join);
+        let moved = answer(alloc, book, who, None, &go(branch, place));
+        if joined != Reply::Joined || moved != Reply::Moved(*branch, place) {
+            return false;
+        }
+    }
+    true
+}
+
+/// Whether a session's cursor stands on a place of a branch.
+fn stands_at(
+    alloc: Global,
+    book: &mut Book<Safe>,
+    who: u32,
+    branch: &Name,
+    place: u32,
+) -> Result<bool, Refusal> {
+    let page = page(alloc, book, Query::Cursor { who })?;
+    Ok(is_cursor_at(&page, branch, place))
+}
+
+/// Whether the cursors of four sessions stand on these places of a branch.
+fn stand_at(
+    alloc: Global,
+    book: &mut Book<Safe>,
+    first: u32,
+    branch: &Name,
+    places: &[u32; 4],
+) -> Result<bool, Refusal>
+    requires { first < 16 }
+{
+    for i in 0..4u32 {
+        if !stands_at(alloc, book, first + i, branch, places[i as usize])? {
+            return Ok(false);
+        }
+    }
+    Ok(true)
+}
+
+/// Whether a page is that of a cursor on a place of a branch.
+fn is_cursor_at(page: &Page, branch: &Name, place: u32) -> bool {
+    match page {
+        Page::Cursor(page) => page.branch == *branch && page.place == place,
+        _ => false,
+    }
+}
+
+/// Whether the run of a branch's one job is installed, and no job is left.
+fn fills(alloc: Global, book: &mut Book<Safe>, branch: &Name) -> Result<bool, Refusal> {
+    let jobs = book.plan(alloc, branch)?;
+    let [job] = jobs.as_slice() else {
+        return Ok(false);
+    };
+    let run = run_of(alloc, job)?;
+    let answer = book.install(job.key(), run);
+    Ok(answer == Installation::Installed && jobs_left(alloc, book, branch)? == 0)
+}
+
+/// The run of a job.
+fn run_of(alloc: Global, job: &Job<Safe>) -> Result<Arc<Run<Safe>>, Refusal> {
+    let Ok(run) = run_segment(alloc, job.entry(), job.steps()) else {
+        return Err(Refusal::Memory);
+    };
+    Arc::new(alloc, run).or(Err(Refusal::Memory))
+}
+
+/// How many jobs there are.
+fn jobs_left(alloc: Global, book: &Book<Safe>, branch: &Name) -> Result<usize, Refusal> {
+    Ok(book.plan(alloc, branch)?.len())
+}
+
+/// Whether a book answers as it has to.
+fn answers(alloc: Global, book: &mut Book<Safe>, ask: &Ask<'_>) -> Result<bool, Refusal> {
+    match ask {
+        Ask::Replies(command, reply) => Ok(answer(alloc, book, 0, None, command) == *reply),
+        Ask::Refuses(command, refusal) => {
+            Ok(answer(alloc, book, 0, None, command) == Reply::No(*refusal))
+        }
+        Ask::RefusesEach(who, commands, refusal) => {
+            Ok(refuses_each(alloc, book, *who, commands, *refusal))
+        }
+        Ask::RefusesAll(rows) => Ok(refuses_all(alloc, book, rows)),
+        Ask::Shows(query, text) => shows(alloc, book, *query, text),
+        Ask::Hides(query, refusal) => Ok(hides(alloc, book, *query, *refusal)),
+        Ask::Stand(first, branch) => Ok(*first < 16 && stand(alloc, book, *first, branch)),
+        Ask::StandAt(first, branch, places) => {
+            Ok(*first < 16 && stand_at(alloc, book, *first, branch, places)?)
+        }
+        Ask::Logs(count) => Ok(book.len() == *count),
+        Ask::Counts(edits) => Ok(book.edits() == *edits),
+        Ask::Fills(branch) => fills(alloc, book, branch),
+    }
+}
+
+/// The first row that is answered otherwise.
+fn first_wrong(
+    alloc: Global,
+    book: &mut Book<Safe>,
+    asks: &[Ask<'_>],
+) -> Result<Option<usize>, Refusal> {
+    for (i, ask) in asks.iter().enumerate() {
+        if !answers(alloc, book, ask)? {
+            return Ok(Some(i));
+        }
+    }
+    Ok(None)
+}
+
+/// The first row that goes wrong in a book of these steps on `main`; the one behind them all where
+/// its log hasn't so many entries.
+fn tried(
+    alloc: Global,
+    limits: Limits,
+    steps: &[Step],
+    asks: &[Ask<'_>],
+    entries: usize,
+) -> Result<Option<usize>, Refusal>
+    requires limits { AreLimits limits }
+    requires fits { AllFit safe_behaviour steps.now }
+{
+    let mut book = Book::new(alloc, Safe, 0, limits, steps)?;
+    let wrong = first_wrong(alloc, &mut book, asks);
+    if entries_of(book) == entries {
+        wrong
+    } else {
+        Ok(Some(asks.len()))
+    }
+}
+
+/// How many entries a book's log has.
+fn entries_of(book: Book<Safe>) -> usize {
+    book.into_log().entries().len()
+}

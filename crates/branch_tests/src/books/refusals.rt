@@ -1,0 +1,159 @@
+//! Refusals come in their order: in each row the next refusal that the command can meet holds as
+//! well.
+//!
+//! | Command | Its refusals, in order; behind each the next one that holds too |
+//! |---|---|
+//! | `join`, `leave`, `seek`, `back`, `break` | LogFull, NoSession, Newer |
+//! | `clear` | LogFull, NoSession, Newer, NoBreak |
+//! | `go`, `remove` | LogFull, NoSession, Newer, NoBranch, NoPlace |
+//! | `insert` | LogFull, NoSession, Newer, BadStep, NoBranch, NoPlace, Full |
+//! | `replace` | LogFull, NoSession, Newer, BadStep, NoBranch, NoPlace |
+//! | `fork` | LogFull, NoSession, Newer, NoBranch, NameTaken, NoPlace, TooManyBranches |
+//! | `detach` | LogFull, NoSession, Newer, NoBranch, Full |
+//! | `drop` | LogFull, NoSession, Newer, NoBranch, LastBranch, Occupied |
+//!
+//! A `fork` is refused as BadName before NoPlace too: a name that is taken is no bad one.
+
+use super::commands::{detach, drop_branch, fork, go, insert, remove, replace};
+use super::{Ask, tried};
+use crate::given::{GO, READ, name, none_wrong};
+use frames::types::Step;
+use schedule_trie::limits::Limits;
+use schedule_trie::name::Name;
+use schedule_trie::refusal::Refusal;
+use sessions::command::Command;
+use sessions::reply::Reply;
+use views::breakpoint::Break;
+
+/// A step that doesn't fit: process 1 writes.
+const BAD: Step = Step::Write { p: 1, v: 0 };
+
+/// The commands of any session, refused for every late reason that they can meet.
+fn open_commands(main: &Name, zed: &Name) -> [Command; 7] {
+    [
+        Command::Join,
+        insert(zed, 9, BAD),
+        remove(zed, 9),
+        replace(zed, 9, BAD),
+        fork(zed, 9, main),
+        detach(zed),
+        drop_branch(zed),
+    ]
+}
+
+/// The commands of a session that has joined, so too.
+fn own_commands(zed: &Name) -> [Command; 6] {
+    [
+        Command::Leave,
+        go(zed, 9),
+        Command::Seek,
+        Command::Back,
+        Command::Break(Break::Void),
+        Command::Clear(Break::Void),
+    ]
+}
+
+/// Commands that miss their guards: those of any session, and those of one that has joined.
+#[derive(Drop)]
+struct Early {
+    open: [Command; 7],
+    own: [Command; 6],
+}
+
+fn early_commands(main: &Name, zed: &Name) -> Early {
+    Early {
+        open: open_commands(main, zed),
+        own: own_commands(zed),
+    }
+}
+
+/// A log that is full after one command.
+fn full_rows(early: &Early) -> [Ask<'_>; 8] {
+    [
+        Ask::Replies(Command::Join, Reply::Joined),
+        Ask::Logs(1),
+        Ask::Refuses(Command::Join, Refusal::LogFull),
+        Ask::RefusesEach(16, &early.open, Refusal::LogFull),
+        Ask::RefusesEach(16, &early.own, Refusal::LogFull),
+        Ask::RefusesEach(5, &early.open, Refusal::LogFull),
+        Ask::RefusesEach(5, &early.own, Refusal::LogFull),
+        Ask::Logs(1),
+    ]
+}
+
+#[test]
+fn a_log_of_one_entry(rt: HostRuntime) {
+    let commands = early_commands(&name(&rt, b"main"), &name(&rt, b"zed"));
+    let limits = Limits {
+        cells: 8,
+        branches: 2,
+        log: 1,
+    };
+    let rows = full_rows(&commands);
+    none_wrong(&rt, tried(rt.alloc(), limits, &[], &rows, 1));
+}
+
+/// Commands and their refusals in a book with one branch of three cells, room for no more of
+/// either, and session 0's cursor on it.
+fn late_rows(main: &Name, zed: &Name, new: &Name, bad: &Name) -> [(Command, Refusal); 21] {
+    [
+        (insert(zed, 9, BAD), Refusal::BadStep),
+        (replace(zed, 9, BAD), Refusal::BadStep),
+        (insert(zed, 9, READ), Refusal::NoBranch),
+        (remove(zed, 9), Refusal::NoBranch),
+        (replace(zed, 9, READ), Refusal::NoBranch),
+        (fork(zed, 9, main), Refusal::NoBranch),
+        (detach(zed), Refusal::NoBranch),
+        (drop_branch(zed), Refusal::NoBranch),
+        (go(zed, 9), Refusal::NoBranch),
+        (fork(main, 4, main), Refusal::NameTaken),
+        (fork(main, 4, bad), Refusal::BadName),
+        (insert(main, 4, READ), Refusal::NoPlace),
+        (remove(main, 3), Refusal::NoPlace),
+        (replace(main, 3, READ), Refusal::NoPlace),
+        (fork(main, 4, new), Refusal::NoPlace),
+        (go(main, 4), Refusal::NoPlace),
+        (insert(main, 3, READ), Refusal::Full),
+        (detach(main), Refusal::Full),
+        (drop_branch(main), Refusal::LastBranch),
+        (fork(main, 3, new), Refusal::TooManyBranches),
+        (Command::Clear(Break::Void), Refusal::NoBreak),
+    ]
+}
+
+/// Commands that miss their guards, and commands that are refused late.
+#[derive(Drop)]
+struct Refused {
+    early: Early,
+    late: [(Command, Refusal); 21],
+}
+
+fn rows_in_order(refused: &Refused) -> [Ask<'_>; 9] {
+    [
+        Ask::Replies(Command::Join, Reply::Joined),
+        Ask::RefusesEach(16, &refused.early.open, Refusal::NoSession),
+        Ask::RefusesEach(16, &refused.early.own, Refusal::NoSession),
+        Ask::RefusesEach(5, &refused.early.open, Refusal::Newer(0)),
+        Ask::RefusesEach(5, &refused.early.own, Refusal::NoSession),
+        Ask::RefusesEach(0, &refused.early.open, Refusal::Newer(0)),
+        Ask::RefusesEach(0, &refused.early.own, Refusal::Newer(0)),
+        Ask::RefusesAll(&refused.late),
+        Ask::Logs(61),
+    ]
+}
+
+#[test]
+fn refusals_in_order(rt: HostRuntime) {
+    let (main, zed) = (name(&rt, b"main"), name(&rt, b"zed"));
+    let limits = Limits {
+        cells: 3,
+        branches: 1,
+        log: 64,
+    };
+    let refused = Refused {
+        early: early_commands(&main, &zed),
+        late: late_rows(&main, &zed, &name(&rt, b"a"), &name(&rt, b"9x")),
+    };
+    let rows = rows_in_order(&refused);
+    none_wrong(&rt, tried(rt.alloc(), limits, &[READ, GO, GO], &rows, 61));
+}

@@ -1,0 +1,345 @@
+//! Branches: names, refusals, and into how many segments edits cut a branch. Edits are data, so
+//! that one function alone holds a trie.
+
+ghost use Rattle.std.specs.Prelude.{◌<◌, ◌≤◌};
+ghost use Rattle.schedule_trie.specs.Cut.{AreLimits};
+
+use crate::given::{GO, READ, name, none_wrong};
+use frames::types::Step;
+use schedule_trie::limits::Limits;
+use schedule_trie::name::Name;
+use schedule_trie::refusal::Refusal;
+use schedule_trie::trie::{SegKey, Trie};
+use std::alloc::{AllocError, Global};
+use std::process::Abort;
+
+/// As many reads.
+fn reads(alloc: Global, count: u32) -> Result<Vec<Step>, AllocError> {
+    let mut steps = Vec::new(alloc);
+    for _ in 0..count {
+        steps.push(READ)?;
+    }
+    Ok(steps)
+}
+
+fn limits(cells: u32) -> Limits
+    requires { 0 < cells × cells ≤ 16777216 }
+    ensures { AreLimits result }
+{
+    Limits {
+        cells,
+        branches: 1024,
+        log: 1024,
+    }
+}
+
+/// Whether a text is a name of a new branch; none where it is no name at all.
+fn is_well_formed(text: &[u8]) -> Option<bool> {
+    match Name::new(text) {
+        Some(name) => Some(name.is_well_formed()),
+        None => None,
+    }
+}
+
+/// Whether names have at most 16 bytes, and begin with a lower-case letter.
+fn names_are_told() -> bool {
+    is_well_formed(b"abcdefghijklmnop") == Some(true)
+        && is_well_formed(b"abcdefghijklmnopq").is_none()
+        && is_well_formed(b"a1") == Some(true)
+        && is_well_formed(b"aB") == Some(false)
+        && is_well_formed(b"9x") == Some(false)
+        && is_well_formed(b"") == Some(false)
+}
+
+#[test]
+fn names(rt: HostRuntime) {
+    assert!(rt; names_are_told());
+}
+
+/// Whether a name is its clone, and not another one.
+fn is_itself(rt: &impl Abort, name: &Name, other: &Name) -> bool {
+    let copy = name.clone().expect(rt, "memory");
+    copy == *name && name != other
+}
+
+#[test]
+fn a_name_is_its_clone(rt: HostRuntime) {
+    let (a1, digit) = (name(&rt, b"a1"), name(&rt, b"9x"));
+    assert!(rt; is_itself(&rt, &a1, &digit));
+}
+
+/// A branch: the first one, or another by its number.
+#[derive(Clone, Copy)]
+enum Branch {
+    Main,
+    Other(u32),
+}
+
+/// What is done to a branch.
+#[derive(Clone, Copy)]
+enum Change {
+    Insert(u32),
+    /// A branch of this number gets the first cells.
+    Fork(u32, u32),
+    Detach,
+    Drop,
+}
+
+/// One edit.
+#[derive(Clone, Copy)]
+struct Edit {
+    branch: Branch,
+    change: Change,
+}
+
+/// An edit of `main`.
+fn on_main(change: Change) -> Edit {
+    Edit {
+        branch: Branch::Main,
+        change,
+    }
+}
+
+/// An edit of another branch.
+fn on(number: u32, change: Change) -> Edit {
+    Edit {
+        branch: Branch::Other(number),
+        change,
+    }
+}
+
+fn name_of(rt: &impl Abort, alloc: Global, branch: Branch) -> Name {
+    match branch {
+        Branch::Main => name(rt, b"main"),
+        Branch::Other(number) => numbered(rt, alloc, number),
+    }
+}
+
+/// The name of a branch by its number.
+fn numbered(rt: &impl Abort, alloc: Global, number: u32) -> Name {
+    let text = format!(in alloc; "b{number}").expect(rt, "memory");
+    name(rt, text.as_bytes())
+}
+
+/// Makes an edit.
+fn edited(rt: &impl Abort, alloc: Global, trie: &mut Trie<u32>, edit: Edit) -> Result<(), Refusal> {
+    let branch = name_of(rt, alloc, edit.branch);
+    match edit.change {
+        Change::Insert(place) => trie.insert(alloc, &branch, place, GO),
+        Change::Fork(place, number) => {
+            trie.fork(alloc, &branch, place, numbered(rt, alloc, number))
+        }
+        Change::Detach => trie.detach(alloc, &branch),
+        Change::Drop => trie.drop_branch(&branch),
+    }
+}
+
+/// Makes edits one after the other.
+fn edited_by(
+    rt: &impl Abort,
+    alloc: Global,
+    trie: &mut Trie<u32>,
+    edits: &[Edit],
+) -> Result<(), Refusal> {
+    for edit in edits {
+        edited(rt, alloc, trie, *edit)?;
+    }
+    Ok(())
+}
+
+/// What is told of a trie: the steps of `main`, into how many segments it is cut, how many cells
+/// were made, and whether each segment that is held is one of `main`'s.
+#[derive(Drop)]
+struct Told {
+    steps: Vec<Step>,
+    segments: usize,
+    made: u32,
+    is_alone: bool,
+}
+
+fn told_of(alloc: Global, trie: &Trie<u32>, main: &Name) -> Result<Told, Refusal> {
+    let (segments, is_alone) = segments_of(alloc, trie, main)?;
+    Ok(Told {
+        steps: trie.path(alloc, main)?,
+        segments,
+        made: trie.made(),
+        is_alone,
+    })
+}
+
+/// Into how many segments a branch is cut, and whether each segment that is held is one of them.
+fn segments_of(alloc: Global, trie: &Trie<u32>, branch: &Name) -> Result<(usize, bool), Refusal> {
+    let keys = trie.segments(alloc, branch)?;
+    Ok((keys.len(), holds_alone(trie, &keys)))
+}
+
+/// Whether no other segments are held.
+fn holds_alone(trie: &Trie<u32>, keys: &[SegKey]) -> bool {
+    for key in 0..4096 {
+        if trie.cells_of(key).is_some() && !keys.contains(&key) {
+            return false;
+        }
+    }
+    true
+}
+
+/// What is told of a trie of these steps behind edits.
+fn tried(rt: &impl Abort, alloc: Global, steps: &[Step], edits: &[Edit]) -> Result<Told, Refusal> {
+    let mut trie: Trie<u32> = Trie::new(alloc, limits(2046), steps)?;
+    told_behind(rt, alloc, &mut trie, edits)
+}
+
+fn told_behind(
+    rt: &impl Abort,
+    alloc: Global,
+    trie: &mut Trie<u32>,
+    edits: &[Edit],
+) -> Result<Told, Refusal> {
+    edited_by(rt, alloc, trie, edits)?;
+    told_of(alloc, trie, &name(rt, b"main"))
+}
+
+/// Why steps are refused where there is room for so many cells.
+fn refused(alloc: Global, cells: u32, steps: &[Step]) -> Option<Refusal>
+    requires { 0 < cells × cells ≤ 16777216 }
+{
+    let trie: Result<Trie<u32>, Refusal> = Trie::new(alloc, limits(cells), steps);
+    trie.err()
+}
+
+/// Whether five steps are refused where there is room for four alone.
+fn five_fit_in_five(rt: &impl Abort, alloc: Global) -> bool {
+    let steps = reads(alloc, 5).expect(rt, "memory");
+    refused(alloc, 4, &steps) == Some(Refusal::Full) && refused(alloc, 5, &steps).is_none()
+}
+
+#[test]
+fn the_last_cell_that_fits(rt: HostRuntime) {
+    assert!(rt; five_fit_in_five(&rt, rt.alloc()));
+}
+
+/// As many reads, and what is done to `main`; behind it into how many segments `main` is cut, of
+/// how many cells, and how many were made.
+type Cut = (u32, Option<Change>, (usize, usize, u32));
+
+/// Segments have at most 128 cells; an insert cuts a full one, a fork one within, and a detached
+/// branch has new cells.
+const CUTS: [Cut; 15] = [
+    (0, None, (0, 0, 0)),
+    (1, None, (1, 1, 1)),
+    (128, None, (1, 128, 128)),
+    (129, None, (2, 129, 129)),
+    (300, None, (3, 300, 300)),
+    (128, Some(Change::Insert(0)), (2, 129, 129)),
+    (128, Some(Change::Insert(63)), (2, 129, 129)),
+    (128, Some(Change::Insert(64)), (2, 129, 129)),
+    (128, Some(Change::Insert(127)), (2, 129, 129)),
+    (128, Some(Change::Insert(128)), (2, 129, 129)),
+    (128, Some(Change::Fork(0, 0)), (1, 128, 128)),
+    (128, Some(Change::Fork(1, 0)), (2, 128, 128)),
+    (128, Some(Change::Fork(127, 0)), (2, 128, 128)),
+    (128, Some(Change::Fork(128, 0)), (1, 128, 128)),
+    (1023, Some(Change::Detach), (8, 1023, 2046)),
+];
+
+/// What is told of as many reads behind a change of `main`.
+fn changed(
+    rt: &impl Abort,
+    alloc: Global,
+    count: u32,
+    change: Option<Change>,
+) -> Result<Told, Refusal> {
+    let steps = reads(alloc, count).expect(rt, "memory");
+    match change {
+        Some(change) => tried(rt, alloc, &steps, &[on_main(change)]),
+        None => tried(rt, alloc, &steps, &[]),
+    }
+}
+
+/// The first row that is cut otherwise.
+fn first_wrong(rt: &impl Abort, alloc: Global) -> Result<Option<usize>, Refusal> {
+    for (i, (count, change, wanted)) in CUTS.iter().enumerate() {
+        let told = changed(rt, alloc, *count, *change)?;
+        if (told.segments, told.steps.len(), told.made) != *wanted {
+            return Ok(Some(i));
+        }
+    }
+    Ok(None)
+}
+
+#[test]
+fn cuts(rt: HostRuntime) {
+    none_wrong(&rt, first_wrong(&rt, rt.alloc()));
+}
+
+/// The order in which 1,023 branches are dropped: from the first, from the last, or every seventh
+/// round and round.
+#[derive(Clone, Copy)]
+enum Order {
+    FromTheFirst,
+    FromTheLast,
+    EverySeventh,
+}
+
+impl Order {
+    /// The branch that is dropped at a turn.
+    fn at(self, turn: u32) -> u32
+        requires { turn < 1023 }
+    {
+        match self {
+            Order::FromTheFirst => turn,
+            Order::FromTheLast => 1022 - turn,
+            Order::EverySeventh => turn * 7 % 1023,
+        }
+    }
+}
+
+/// Edits of 1,023 cells on `main` that make 1,023 branches off it, each a cell later than the one
+/// before, with a cell of its own, and then drop them.
+fn branches_and_drops(alloc: Global, order: Order) -> Result<Vec<Edit>, AllocError> {
+    let mut edits = Vec::new(alloc);
+    for number in 0..1023 {
+        edits.push(on_main(Change::Fork(number + 1, number)))?;
+        edits.push(on(number, Change::Insert(number + 1)))?;
+    }
+    for turn in 0..1023 {
+        edits.push(on(order.at(turn), Change::Drop))?;
+    }
+    Ok(edits)
+}
+
+/// Whether each segment that is held is one of `main`, where all other branches were dropped.
+fn leaves_nothing(rt: &impl Abort, alloc: Global, order: Order) -> Result<bool, Refusal> {
+    let steps = reads(alloc, 1023).expect(rt, "memory");
+    let edits = branches_and_drops(alloc, order).expect(rt, "memory");
+    Ok(tried(rt, alloc, &steps, &edits)?.is_alone)
+}
+
+/// The first order of three in which something is left.
+fn first_that_leaves(rt: &impl Abort, alloc: Global) -> Result<Option<usize>, Refusal> {
+    let orders = [Order::FromTheFirst, Order::FromTheLast, Order::EverySeventh];
+    for (i, order) in orders.iter().enumerate() {
+        if !leaves_nothing(rt, alloc, *order)? {
+            return Ok(Some(i));
+        }
+    }
+    Ok(None)
+}
+
+#[test]
+fn dropped_branches_leave_nothing(rt: HostRuntime) {
+    none_wrong(&rt, first_that_leaves(&rt, rt.alloc()));
+}
+
+/// Whether refusals have their numbers and names.
+fn refusals_are_told(rt: &impl Abort, alloc: Global) -> bool {
+    let text = format!(in alloc; "{}", Refusal::Newer(7)).expect(rt, "memory");
+    text.as_str() == "34 Newer"
+        && Refusal::TooManyBranches.number() == 26
+        && Refusal::LastBranch.name() == "LastBranch"
+}
+
+#[test]
+fn refusals_have_numbers_and_names(rt: HostRuntime) {
+    assert!(rt; refusals_are_told(&rt, rt.alloc()));
+}

@@ -1,6 +1,0 @@
-use Rattle.frames.specs.SafeBit.{safe_behaviour}
-use Rattle.checkpoints.specs.Segment.{AllFit}
-use Rattle.cutoff.proofs.tests.rows.writes.Given as goal
-
-abbrev pub invariant-loop-index : goal.invariant-loop-index
-invariant-loop-index l = AllFit safe_behaviour l.steps.items

@@ -1,6 +1,0 @@
-use Rattle.frames.specs.SafeBit.{safe_behaviour}
-use Rattle.desk.specs.Chairs.{IsAt}
-use Rattle.desk.proofs.tests.threads.rounds.Given as goal
-
-abbrev pub invariant-loop : goal.invariant-loop
-invariant-loop g l = IsAt (λ _. safe_behaviour) l.fn.desk l.chair

@@ -1,0 +1,188 @@
+//! When answers go out and when a conversation ends, by readers and writers that count.
+
+ghost use Rattle.std.specs.Prelude.{◌≡◌, IfOk, codes};
+
+use conversation::answering::Answers;
+use conversation::converse::converse;
+use conversation::fault::StreamFault;
+use std::alloc::{AllocError, Global};
+use std::cell::Cell;
+use std::io;
+use std::io::{Read, Write};
+use std::test::Fail;
+
+/// Answers each line alike.
+#[derive(Drop)]
+struct Nodding;
+
+impl Answers for Nodding {
+    ghost use Rattle.std.specs.Prelude.{⊤, codes, refl};
+
+    ghost Worlds = { ⊤ };
+
+    ghost world = { λ _. tt };
+
+    ghost define = { λ memory number line w. record { world = w; text = codes "yes" } };
+
+    ghost reads_front = { λ memory number line w. refl };
+}
+
+/// Answers each line alike, but that of one number, for which there is no memory.
+fn nod(alloc: Global, refused: u32, number: u32) -> Result<Vec<u8>, AllocError>
+    ensures { IfOk result (λ text. text.items ≡ codes "yes") }
+{
+    if number == refused {
+        return Err(AllocError);
+    }
+    Vec::from_slice(alloc, "yes".as_bytes())
+}
+
+/// Answers a script line by line, each alike, but that of one number, for which there is no memory.
+fn nod_to<R: Read, W: Write>(
+    alloc: Global,
+    refused: u32,
+    reader: &mut R,
+    writer: &mut W,
+) -> Option<StreamFault> {
+    let nodding = |_: &mut Nodding, number: u32, _: &[u8]| nod(alloc, refused, number);
+    converse(alloc, &mut Nodding, &nodding, reader, writer).err()
+}
+
+/// How many writes there were, how many bytes came by them, and how many writes there were at the last flush.
+#[derive(Drop)]
+struct Counts {
+    writes: Cell<usize>,
+    bytes: Cell<usize>,
+    flushed: Cell<usize>,
+}
+
+impl Counts {
+    fn new() -> Counts {
+        Counts {
+            writes: Cell::new(0),
+            bytes: Cell::new(0),
+            flushed: Cell::new(0),
+        }
+    }
+
+    fn now(&self) -> (usize, usize, usize) {
+        (self.writes.get(), self.bytes.get(), self.flushed.get())
+    }
+}
+
+/// Takes all bytes, and counts.
+#[derive(Drop)]
+struct Counted<'a> {
+    counts: &'a Counts,
+}
+
+impl Write for Counted<'_> {
+    fn write(&mut self, buf: &[u8]) -> io::Result<usize> {
+        let counts = self.counts;
+        counts.writes.set(counts.writes.get().wrapping_add(1));
+        counts.bytes.set(counts.bytes.get().wrapping_add(buf.len()));
+        Ok(buf.len())
+    }
+
+    fn flush(&mut self) -> io::Result<()> {
+        self.counts.flushed.set(self.counts.writes.get());
+        Ok(())
+    }
+}
+
+/// Gives a script piece by piece, and looks at each read at what was counted before.
+#[derive(Drop)]
+struct Watching<'a> {
+    pieces: &'a [&'a str],
+    next: usize,
+    counts: &'a Counts,
+    seen: Vec<(usize, usize, usize)>,
+}
+
+impl Read for Watching<'_> {
+    fn read(&mut self, buf: &mut [u8]) -> io::Result<usize> {
+        self.seen.push(self.counts.now())?;
+        let Some(piece) = self.pieces.get(self.next) else {
+            return Ok(0);
+        };
+        let piece = piece.as_bytes();
+        let count = piece.len().min(buf.len());
+        buf[..count].copy_from_slice(&piece[..count]);
+        self.next = self.next.wrapping_add(1);
+        Ok(count)
+    }
+}
+
+/// The answers to the lines of one read are written at once and flushed, before the next read; a line that goes on
+/// is answered where it ends, and where nothing is answered nothing is written. The last line has no line's end.
+#[test]
+fn answers_go_out_together(rt: HostRuntime) {
+    let counts = Counts::new();
+    let pieces = ["one\ntwo\nthr", "e", "e\nfour", "\n\n\nlast"];
+    let mut reader = Watching {
+        pieces: pieces.as_slice(),
+        next: 0,
+        counts: &counts,
+        seen: Vec::new(rt.alloc()),
+    };
+    let mut writer = Counted { counts: &counts };
+    let fault = nod_to(rt.alloc(), 0, &mut reader, &mut writer);
+    assert_eq!(rt; fault, None);
+    assert_eq!(rt;
+        reader.seen.as_slice(),
+        [(0, 0, 0), (1, 6, 1), (1, 6, 1), (2, 9, 2), (3, 18, 3)].as_slice()
+    );
+    assert_eq!(rt; counts.now(), (4, 21, 4));
+}
+
+/// Short lines by the thousand are answered by one write for each read.
+#[test]
+fn many_short_lines(rt: HostRuntime) -> Result<(), Fail> {
+    let counts = Counts::new();
+    let lines = vec![in rt.alloc(); b'\n'; 40_000]?;
+    let mut reader = lines.as_slice();
+    let mut writer = Counted { counts: &counts };
+    let fault = nod_to(rt.alloc(), 0, &mut reader, &mut writer);
+    assert_eq!(rt; fault, None);
+    assert!(rt; counts.writes.get() <= 11);
+    assert_eq!(rt; counts.bytes.get(), 3 * 40_001);
+    Ok(())
+}
+
+/// A line that there is no memory for ends the conversation for want of memory, also where it is the last one.
+#[test]
+fn line_without_memory(rt: HostRuntime) {
+    for (script, refused, bytes) in [("one\ntwo\nthree\n", 2, 0), ("one\ntwo\nlast", 3, 6)] {
+        let counts = Counts::new();
+        let mut reader = script.as_bytes();
+        let mut writer = Counted { counts: &counts };
+        let fault = nod_to(rt.alloc(), refused, &mut reader, &mut writer);
+        assert_eq!(rt; fault, Some(StreamFault::Memory), "{script}");
+        assert!(rt; counts.bytes.get() <= bytes, "{script}");
+    }
+}
+
+/// Gives one byte over and over, and counts.
+#[derive(Drop)]
+struct Endless {
+    bytes: usize,
+}
+
+impl Read for Endless {
+    fn read(&mut self, buf: &mut [u8]) -> io::Result<usize> {
+        buf.fill(b'#');
+        self.bytes = self.bytes.wrapping_add(buf.len());
+        Ok(buf.len())
+    }
+}
+
+/// A script is too long once it has 2^24 bytes, and not before.
+#[test]
+fn endless_script(rt: HostRuntime) {
+    let counts = Counts::new();
+    let mut reader = Endless { bytes: 0 };
+    let mut writer = Counted { counts: &counts };
+    let fault = nod_to(rt.alloc(), 0, &mut reader, &mut writer);
+    assert_eq!(rt; fault, Some(StreamFault::TooLong));
+    assert_eq!(rt; reader.bytes, 1 << 24);
+}

@@ -1,0 +1,81 @@
+//! Files by readers that end, fail or give their bytes slowly.
+
+use super::Slow;
+use std::alloc::Global;
+use std::io::ErrorKind;
+use std::process::Abort;
+use std::test::Fail;
+use towerbench::tower_source::{SourceFault, read_all};
+
+/// Asserts what readers of so many bytes come to under a limit.
+fn check(
+    rt: &impl Abort,
+    alloc: Global,
+    count: usize,
+    limit: usize,
+    fits: bool,
+) -> Result<(), Fail> {
+    let mut bytes = Vec::new(alloc);
+    for i in 0..count {
+        bytes.push((i % 251) as u8)?;
+    }
+    let mut slow = Slow::new(bytes.as_slice(), 0, None);
+    let mut whole = bytes.as_slice();
+    for read in [
+        read_all(alloc, &mut slow, limit),
+        read_all(alloc, &mut whole, limit),
+    ] {
+        match read {
+            Ok(read) => assert!(rt; fits && read == bytes, "{count} {limit}"),
+            Err(fault) => assert!(rt; !fits && fault == SourceFault::TooLong, "{count} {limit}"),
+        }
+    }
+    Ok(())
+}
+
+#[test]
+fn limits(rt: HostRuntime) -> Result<(), Fail> {
+    for (count, limit, fits) in [
+        (0, 0, true),
+        (1, 0, false),
+        (1, 1, true),
+        (2, 1, false),
+        (5, 9, true),
+        (4096, 4096, true),
+        (4097, 4096, false),
+        (4097, 4097, true),
+        (8192, 8192, true),
+        (8192, 8191, false),
+        (10_000, 10_000, true),
+        (10_000, 9_999, false),
+    ] {
+        check(&rt, rt.alloc(), count, limit, fits)?;
+    }
+    Ok(())
+}
+
+/// Any read that fails makes a file unreadable, and no read is tried again.
+#[test]
+fn failed_reads(rt: HostRuntime) {
+    for kind in [
+        ErrorKind::Interrupted,
+        ErrorKind::WouldBlock,
+        ErrorKind::IsADirectory,
+        ErrorKind::OutOfMemory,
+        ErrorKind::Other,
+    ] {
+        for bytes in [b"".as_slice(), b"tower 1\n".as_slice()] {
+            let mut slow = Slow::new(bytes, 0, Some(kind));
+            let read = read_all(rt.alloc(), &mut slow, 100);
+            assert!(rt; matches!(&read, Err(SourceFault::Unreadable)), "{kind:?}");
+        }
+    }
+}
+
+/// A file that is too long is told as such, before a read behind its limit fails.
+#[test]
+fn long_before_failed(rt: HostRuntime) {
+    let mut slow = Slow::new(b"tower 1\n".as_slice(), 0, Some(ErrorKind::Other));
+    let read = read_all(rt.alloc(), &mut slow, 7);
+    assert!(rt; matches!(&read, Err(SourceFault::TooLong)));
+}

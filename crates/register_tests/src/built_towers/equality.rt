@@ -1,0 +1,58 @@
+//! Registers are equal where they have the same numbers, and a configuration tells its register.
+
+use checkpoints::replay::replay;
+use frames::config::Config;
+use frames::register::Register;
+use frames::safe::Safe;
+use frames::types::Step;
+use reader_copies::Copies;
+use std::alloc::{AllocError, Global};
+use std::process::Abort;
+use std::test::Fail;
+use towers::regular;
+
+/// A write of 1 to two copies, a read between them, and one beside the second.
+const STEPS: [Step; 11] = [
+    Step::Write { p: 0, v: 1 },
+    Step::Go { p: 0, c: 0 },
+    Step::Go { p: 0, c: 0 },
+    Step::Read { p: 1 },
+    Step::Go { p: 1, c: 0 },
+    Step::Go { p: 1, c: 0 },
+    Step::Go { p: 0, c: 0 },
+    Step::Read { p: 2 },
+    Step::Go { p: 2, c: 0 },
+    Step::Go { p: 0, c: 0 },
+    Step::Go { p: 2, c: 0 },
+];
+
+/// Compares registers of one kind for two and four readers, and what a replay tells of the first.
+fn compared<R: Register>(
+    rt: &impl Abort,
+    alloc: Global,
+    of_two: R,
+    of_four: R,
+    steps: &[Step],
+) -> Result<(), AllocError> {
+    assert!(rt; of_four == of_four);
+    assert!(rt; of_four != of_two);
+    assert!(rt; 0 < of_two.values());
+    let config = Config::initial(alloc, of_two, 0)?;
+    assert!(rt; steps.iter().all(|step| config.fits(*step)));
+    let replayed = replay(alloc, of_two, 0, steps)?;
+    assert!(rt; replayed.config.register() == of_two);
+    Ok(())
+}
+
+#[test]
+fn equal_by_their_numbers(rt: HostRuntime) -> Result<(), Fail> {
+    compared(
+        &rt,
+        rt.alloc(),
+        Copies::new(Safe, 2)?,
+        Copies::new(Safe, 4)?,
+        &STEPS,
+    )?;
+    compared(&rt, rt.alloc(), regular(2), regular(4), &STEPS)?;
+    Ok(())
+}

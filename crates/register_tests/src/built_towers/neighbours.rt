@@ -1,0 +1,159 @@
+//! Two unary numbers side by side in one store: work on one leaves the other as it was.
+
+ghost use Rattle.std.specs.Prelude.{◌≡◌, ◌⊎◌, [], true};
+ghost use Rattle.safe_bit.specs.Parts.{LiesIn, part, origin};
+ghost use Rattle.register_tests.specs.Neighbours.{Stands, StandsUnlessEnded};
+
+use frames::flat::FlatStack;
+use frames::register::Register;
+use frames::types::{Op, Outcome};
+use safe_bit::{Cell, Place, Store};
+use std::alloc::{AllocError, Global};
+use std::marker::Model;
+use std::process::Abort;
+use std::test::Fail;
+use towers::unary;
+
+/// Two registers of one kind in one store, the second right behind the first.
+#[derive(Drop)]
+struct Neighbours<R: Register> {
+    register: R,
+    store: Store,
+}
+
+impl<R: Register> Model for Neighbours<R> {
+    ghost use Rattle.register_tests.specs.Neighbours.{Neighbours, AreNeighbours};
+
+    ghost Value = { Neighbours R };
+
+    ghost view = { λ n. record { register = n.register; memory = n.store } };
+
+    ghost invariant = { λ n. AreNeighbours (R.is n.register) (R.Holds n.register) n.store };
+}
+
+/// One of two neighbours.
+#[derive(Clone, Copy, Debug, PartialEq, Eq)]
+enum Side {
+    First,
+    Second,
+}
+
+impl<R: Register> Neighbours<R> {
+    /// Both at a value that the register has to have.
+    fn new(
+        rt: &impl Abort,
+        alloc: Global,
+        register: R,
+        value: u32,
+    ) -> Result<Neighbours<R>, AllocError> {
+        assert!(rt; value < register.values());
+        let size = register.size();
+        let mut store = Store::new(alloc, 2 * size.cell, 2 * size.word)?;
+        register.init(&mut store, Place::default(), value);
+        register.init(&mut store, size, value);
+        Ok(Neighbours { register, store })
+    }
+
+    /// Where one of them lies.
+    fn place(&self, side: Side) -> Place
+        ensures inside { LiesIn result (R.is self.now.register).size self.now.memory }
+        ensures holds { R.Holds self.now.register (part result (R.is self.now.register).size self.now.memory) }
+        ensures side { (result ≡ origin) ⊎ (result ≡ (R.is self.now.register).size) }
+    {
+        match side {
+            Side::First => Place::default(),
+            Side::Second => self.register.size(),
+        }
+    }
+
+    /// A process invokes an operation of one of them, on a stack of no frame.
+    fn begin(&mut self, side: Side, who: u32, op: Op, stack: &mut FlatStack) -> Option<Outcome>
+        requires fits { (R.is self.old.register).suits who op ≡ true }
+        requires idle { stack.old ≡ [] }
+        ensures register { self.new.register ≡ self.old.register }
+        ensures stands { StandsUnlessEnded (R.is self.old.register) (R.Reaches self.old.register) who stack.new result }
+    {
+        let at = self.place(side);
+        self.register.begin_on(&mut self.store, at, who, op, stack)
+    }
+
+    /// A pending operation of one of them makes its next bit action.
+    fn go(&mut self, side: Side, who: u32, stack: &mut FlatStack) -> Option<Outcome>
+        requires { Stands (R.is self.old.register) (R.Reaches self.old.register) who stack.old }
+        ensures register { self.new.register ≡ self.old.register }
+        ensures stands { StandsUnlessEnded (R.is self.old.register) (R.Reaches self.old.register) who stack.new result }
+    {
+        let at = self.place(side);
+        let progress = self
+            .register
+            .go_on(&mut self.store, at, who, stack, 0, false);
+        progress.end
+    }
+
+    /// The cells of one of them.
+    fn cells(&self, alloc: Global, side: Side) -> Result<Vec<Cell>, AllocError> {
+        let at = self.place(side);
+        let mut cells = Vec::new(alloc);
+        for i in 0..self.register.size().cell {
+            cells.push(self.store.cell(at.cell + i))?;
+        }
+        Ok(cells)
+    }
+
+    /// The words of one of them.
+    fn words(&self, alloc: Global, side: Side) -> Result<Vec<u32>, AllocError> {
+        let at = self.place(side);
+        let mut words = Vec::new(alloc);
+        for i in 0..self.register.size().word {
+            words.push(self.store.word(at.word + i))?;
+        }
+        Ok(words)
+    }
+
+    /// An operation of one of them that stays pending behind its first bit action.
+    fn leave_pending(&mut self, rt: &impl Abort, side: Side, who: u32, op: Op) {
+        assert!(rt; self.register.fits(who, op));
+        let mut stack = FlatStack::new();
+        if self.begin(side, who, op, &mut stack).is_none() {
+            self.go(side, who, &mut stack);
+        }
+    }
+
+    /// A whole operation of one of them, if it ends within 100 bit actions.
+    fn whole(&mut self, rt: &impl Abort, side: Side, who: u32, op: Op) -> Option<Outcome> {
+        assert!(rt; self.register.fits(who, op));
+        let mut stack = FlatStack::new();
+        let mut end = self.begin(side, who, op, &mut stack);
+        for _ in 0..100 {
+            if end.is_some() {
+                return end;
+            }
+            end = self.go(side, who, &mut stack);
+        }
+        end
+    }
+}
+
+#[test]
+fn work_on_one_leaves_the_other(rt: HostRuntime) -> Result<(), Fail> {
+    for (side, beside) in [(Side::First, Side::Second), (Side::Second, Side::First)] {
+        let mut both = Neighbours::new(&rt, rt.alloc(), unary(3, 2), 1)?;
+        let written = both.whole(&rt, beside, 0, Op::Write(2));
+        assert_eq!(rt; written, Some(Outcome::Written));
+        both.leave_pending(&rt, beside, 0, Op::Write(0));
+        let cells = both.cells(rt.alloc(), beside)?;
+        let words = both.words(rt.alloc(), beside)?;
+        assert_eq!(rt; (cells.len(), words.as_slice()), (6, [1, 0, 1].as_slice()));
+        for value in [2, 0, 1, 1] {
+            let written = both.whole(&rt, side, 0, Op::Write(value));
+            assert_eq!(rt; written, Some(Outcome::Written));
+            for who in [1, 2] {
+                let read = both.whole(&rt, side, who, Op::Read);
+                assert_eq!(rt; read, Some(Outcome::Value(value)));
+            }
+            assert_eq!(rt; both.cells(rt.alloc(), beside)?, cells);
+            assert_eq!(rt; both.words(rt.alloc(), beside)?, words);
+        }
+    }
+    Ok(())
+}

@@ -1,0 +1,114 @@
+//! A register of 8 values that has to be read before it can be written: any other write is spent.
+//! In a matrix each process reads the part on the diagonal, and only the others read its other
+//! parts.
+
+use frames::types::{Frame, FrameLayer, Layer, Op, Outcome};
+use layers::construction::{Construction, Rules, Shape, one_writer};
+use layers::nested::{Ask, Continuation};
+use safe_bit::Store;
+
+/// The rules of such a register: its word is 1 once it was read.
+#[derive(Clone, Copy, Debug, PartialEq, Eq)]
+pub struct ReadFirst;
+
+impl Rules for ReadFirst {
+    ghost use Rattle.register_tests.specs.ReadFirst.{read_first_table};
+
+    type Task = Op;
+
+    ghost table = { λ _. read_first_table };
+}
+
+impl Construction for ReadFirst {
+    ghost use Rattle.std.specs.Prelude.{refl};
+    ghost use Rattle.register_tests.specs.ReadFirst.{ReadFirstStands, read_first_sound};
+    ghost use Rattle.frames.specs.declared.types.Op.TheVariants.{Write, Read};
+    ghost use Rattle.frames.specs.Equality.{op_eq, op_decides};
+    ghost use Rattle.layers.specs.laws.Equality.{decides_like};
+
+    ghost Stands = { λ _. ReadFirstStands };
+
+    ghost left = { λ _ _. 0 };
+
+    fn shape(&self) -> Shape {
+        Shape {
+            parts: 1,
+            words: 1,
+            values: 8,
+            processes: 2,
+            inner_values: 8,
+            inner_processes: 2,
+        }
+    }
+
+    fn fits(&self, who: u32, op: Op) -> bool {
+        one_writer(8, 2, who, op)
+    }
+
+    fn frame(&self, task: Op) -> Frame {
+        Frame {
+            layer: FrameLayer::Regular,
+            op: task,
+            i: 0,
+            x: 0,
+        }
+    }
+
+    fn find(&self, _who: u32, frame: Frame) -> Op {
+        frame.op
+    }
+
+    fn asks(&self, task: Op) -> Ask {
+        match task {
+            Op::Write(v) => Ask {
+                part: 0,
+                who: 0,
+                op: Op::Write(v),
+            },
+            Op::Read => Ask {
+                part: 0,
+                who: 1,
+                op: Op::Read,
+            },
+        }
+    }
+
+    fn first_word(&self, _value: u32, _word: u32) -> u32 {
+        0
+    }
+
+    fn first(&self, value: u32, _part: u32) -> u32 {
+        value
+    }
+
+    fn after(
+        &self,
+        _store: &mut Store,
+        _base: u32,
+        _task: Op,
+        outcome: Outcome,
+    ) -> Continuation<Op> {
+        Continuation::Ends(outcome)
+    }
+
+    fn start(&self, store: &mut Store, base: u32, _who: u32, op: Op) -> Continuation<Op> {
+        match op {
+            Op::Write(v) => {
+                if store.word(base) == 0 {
+                    return Continuation::Ends(Outcome::Spent(Layer::Stamped));
+                }
+                Continuation::Asks(Op::Write(v))
+            }
+            Op::Read => {
+                store.set_word(base, 1);
+                Continuation::Asks(Op::Read)
+            }
+        }
+    }
+
+    ghost sound = { λ _. read_first_sound };
+
+    ghost alike = { λ _ _ _. refl };
+
+    ghost same_task = { decides_like ⟦<Op as PartialEq>⟧.eq op_eq (elim [ Write _ ↦ elim [ Write _ ↦ refl | Read ↦ refl ] | Read ↦ elim [ Write _ ↦ refl | Read ↦ refl ] ]) op_decides };
+}

@@ -1,0 +1,206 @@
+//! What the constructors of layers are refused for, and else the size, values, processes and depth
+//! of what they built.
+
+use frames::register::Register;
+use frames::safe::Safe;
+use layers::fit::LayerError;
+use matrix::Matrix;
+use reader_copies::Copies;
+use regular_bit::RegularBit;
+use safe_bit::Place;
+use stamped::Stamped;
+use std::process::Abort;
+use std::test::Fail;
+use towers::{regular, stamped, unary};
+use unary_number::Unary;
+
+/// What a constructor comes to.
+type Built = Result<(Place, u32, u32, u32), LayerError>;
+
+const BAD_SIZE: Built = Err(LayerError::BadSize);
+
+const TOO_MANY_BITS: Built = Err(LayerError::TooManyBits);
+
+/// So many cells and words.
+fn size(cell: u32, word: u32) -> Place {
+    Place { cell, word }
+}
+
+/// What a constructor came to.
+fn shape_of<R: Register>(built: Result<R, LayerError>) -> Built {
+    match built {
+        Ok(register) => Ok((
+            register.size(),
+            register.values(),
+            register.processes(),
+            register.depth(),
+        )),
+        Err(error) => Err(error),
+    }
+}
+
+/// How many readers copies of a safe bit can have.
+fn copies_of<S: Register>(rt: &impl Abort, bit: S) {
+    for (readers, wanted) in [
+        (0, BAD_SIZE),
+        (1, Ok((size(1, 0), 2, 2, 2))),
+        (2, Ok((size(2, 0), 2, 3, 2))),
+        (3, Ok((size(3, 0), 2, 4, 2))),
+        (4, Ok((size(4, 0), 2, 5, 2))),
+        (5, BAD_SIZE),
+        (u32::MAX, BAD_SIZE),
+    ] {
+        assert_eq!(rt; shape_of(Copies::new(bit, readers)), wanted, "{readers}");
+    }
+}
+
+#[test]
+fn over_safe_bits(rt: HostRuntime) -> Result<(), Fail> {
+    copies_of(&rt, Safe);
+    let of_two_readers = Copies::new(Safe, 2)?;
+    assert_eq!(rt;
+        Copies::new(of_two_readers, 1).err(),
+        Some(LayerError::BadSize)
+    );
+    let of_three_values = Unary::new(Safe, 3)?;
+    assert_eq!(rt;
+        RegularBit::new(of_three_values).err(),
+        Some(LayerError::BadSize)
+    );
+    Ok(())
+}
+
+/// Which unary numbers there can be over bits for four readers, of four cells and a word each.
+fn numbers_of<S: Register>(rt: &impl Abort, bits: S) {
+    for (values, wanted) in [
+        (0, BAD_SIZE),
+        (1, BAD_SIZE),
+        (2, Ok((size(8, 2), 2, 5, 4))),
+        (3, Ok((size(12, 3), 3, 5, 4))),
+        (512, Ok((size(2048, 512), 512, 5, 4))),
+        (513, BAD_SIZE),
+        (u32::MAX, BAD_SIZE),
+    ] {
+        assert_eq!(rt; shape_of(Unary::new(bits, values)), wanted, "{values}");
+    }
+}
+
+#[test]
+fn over_regular_bits(rt: HostRuntime) {
+    numbers_of(&rt, regular(4));
+}
+
+/// How many bits of 16 cells a unary number can have.
+fn most_bits<S: Register>(rt: &impl Abort, of_16_cells: S) {
+    match Unary::new(of_16_cells, 256) {
+        Ok(most) => assert_eq!(rt; most.size().cell, 4096),
+        Err(error) => assert!(rt; false, "{error}"),
+    }
+    assert_eq!(rt; shape_of(Unary::new(of_16_cells, 257)), TOO_MANY_BITS);
+}
+
+/// How many copies there can be of registers of 1,024 and of 1,028 cells.
+fn most_copies<S: Register>(rt: &impl Abort, of_1024_cells: S, of_1028_cells: S) {
+    assert!(rt; Copies::new(of_1024_cells, 4).is_ok());
+    assert!(rt; Copies::new(of_1028_cells, 3).is_ok());
+    assert_eq!(rt; shape_of(Copies::new(of_1028_cells, 4)), TOO_MANY_BITS);
+}
+
+#[test]
+fn at_most_4096_cells(rt: HostRuntime) -> Result<(), Fail> {
+    most_bits(&rt, Unary::new(unary(2, 4), 2)?);
+    let of_4_cells = Unary::new(unary(2, 1), 2)?;
+    most_copies(
+        &rt,
+        Unary::new(of_4_cells, 256)?,
+        Unary::new(of_4_cells, 257)?,
+    );
+    Ok(())
+}
+
+/// Which stamped registers there can be over 4 and 512 codes of one reader, and over 4 of two.
+fn stamped_of<S: Register>(rt: &impl Abort, of_4: S, of_512: S, of_two_readers: S) {
+    for (values, last, wanted) in [
+        (0, 0, BAD_SIZE),
+        (1, 511, BAD_SIZE),
+        (513, 0, BAD_SIZE),
+        (2, 512, BAD_SIZE),
+        (2, 256, BAD_SIZE),
+        (u32::MAX, u32::MAX, BAD_SIZE),
+        (2, 254, BAD_SIZE),
+        (2, 255, Ok((size(512, 514), 2, 2, 5))),
+        (512, 0, Ok((size(512, 514), 512, 2, 5))),
+    ] {
+        let built = shape_of(Stamped::new(of_512, values, last));
+        assert_eq!(rt; built, wanted, "{values} {last}");
+    }
+    let small = Ok((size(4, 6), 2, 2, 5));
+    assert_eq!(rt; shape_of(Stamped::new(of_4, 2, 1)), small);
+    assert_eq!(rt; shape_of(Stamped::new(of_two_readers, 2, 1)), BAD_SIZE);
+}
+
+#[test]
+fn over_unary_numbers(rt: HostRuntime) {
+    stamped_of(&rt, unary(4, 1), unary(512, 1), unary(4, 2));
+    let bits_of_three_values = Unary::new(unary(3, 4), 4);
+    assert_eq!(rt; bits_of_three_values.err(), Some(LayerError::BadSize));
+    let parts_of_two_readers = Matrix::new(unary(8, 2), 2, 2, 1);
+    assert_eq!(rt; parts_of_two_readers.err(), Some(LayerError::BadSize));
+}
+
+/// Asserts what matrices of processes, values and a last tag are over parts.
+fn matrices_of<S: Register>(rt: &impl Abort, parts: S, rows: &[([u32; 3], Built)]) {
+    for (numbers, wanted) in rows {
+        let [processes, values, last_tag] = *numbers;
+        let built = shape_of(Matrix::new(parts, processes, values, last_tag));
+        assert_eq!(rt; built, *wanted, "{numbers:?}");
+    }
+}
+
+/// Registers of one kind: of a last stamp of 0 and so many values, and of three other last stamps.
+#[derive(Drop)]
+struct Parts<S: Register> {
+    of_4: S,
+    of_8: S,
+    of_10: S,
+    of_512: S,
+    of_8_and_3: S,
+    of_16_and_15: S,
+    of_16_and_16: S,
+}
+
+/// Which matrices there can be over stamped registers.
+fn matrices<S: Register>(rt: &impl Abort, parts: Parts<S>) {
+    let small = Ok((size(32, 40), 2, 2, 6));
+    let larger = Ok((size(128, 136), 2, 2, 6));
+    let largest = Ok((size(4096, 4128), 2, 4, 6));
+    let of_4 = [([1, 2, 1], BAD_SIZE), ([2, 1, 0], BAD_SIZE)];
+    matrices_of(rt, parts.of_4, &of_4);
+    matrices_of(rt, parts.of_8, &[([2, 3, 1], BAD_SIZE), ([2, 2, 1], small)]);
+    matrices_of(rt, parts.of_10, &[([5, 2, 0], BAD_SIZE)]);
+    let of_512 = [
+        ([2, 513, 0], BAD_SIZE),
+        ([2, 2, 512], BAD_SIZE),
+        ([2, 2, 128], BAD_SIZE),
+        ([4, 512, 511], BAD_SIZE),
+        ([2, 2, 0], BAD_SIZE),
+    ];
+    matrices_of(rt, parts.of_512, &of_512);
+    matrices_of(rt, parts.of_8_and_3, &[([2, 2, 1], larger)]);
+    matrices_of(rt, parts.of_16_and_15, &[([4, 2, 1], largest)]);
+    matrices_of(rt, parts.of_16_and_16, &[([4, 2, 1], TOO_MANY_BITS)]);
+}
+
+#[test]
+fn over_stamped_registers(rt: HostRuntime) {
+    let parts = Parts {
+        of_4: stamped(4, 0),
+        of_8: stamped(8, 0),
+        of_10: stamped(10, 0),
+        of_512: stamped(512, 0),
+        of_8_and_3: stamped(8, 3),
+        of_16_and_15: stamped(16, 15),
+        of_16_and_16: stamped(16, 16),
+    };
+    matrices(&rt, parts);
+}

@@ -1,0 +1,74 @@
+//! A matrix whose parts have to be read before they can be written.
+
+use super::read_first::ReadFirst;
+use checkpoints::replay::{Replayed, replay};
+use frames::config::Config;
+use frames::register::Register;
+use frames::safe::Safe;
+use frames::types::{Event, Layer, Op, Step};
+use layers::layered::Layered;
+use matrix::Matrix;
+use safe_bit::Store;
+use std::alloc::{AllocError, Global};
+use std::process::Abort;
+use std::test::Fail;
+use unary_number::Unary;
+
+/// The cells and words behind a write of 1 by process 0 to the first part of its row.
+fn first_part_written(alloc: Global) -> Result<Store, AllocError> {
+    let mut store = Store::new(alloc, 32, 4)?;
+    store.set_value(5, true);
+    store.set_value(8, true);
+    store.set_value(16, true);
+    store.set_value(24, true);
+    store.set_word(0, 1);
+    store.set_word(2, 1);
+    Ok(store)
+}
+
+/// Replays steps that have to fit from value 0.
+fn replayed<R: Register>(
+    rt: &impl Abort,
+    alloc: Global,
+    register: R,
+    steps: &[Step],
+) -> Result<Replayed<R>, AllocError> {
+    assert!(rt; 0 < register.values());
+    let config = Config::initial(alloc, register, 0)?;
+    assert!(rt; steps.iter().all(|step| config.fits(*step)));
+    replay(alloc, register, 0, steps)
+}
+
+/// A write whose second part is spent: what it wrote to the first stays.
+fn spent_part_of_a_row<R: Register>(
+    rt: &impl Abort,
+    alloc: Global,
+    register: R,
+) -> Result<(), AllocError> {
+    let mut steps = Vec::new(alloc);
+    steps.push(Step::Write { p: 0, v: 1 })?;
+    for _ in 0..16 {
+        steps.push(Step::Go { p: 0, c: 0 })?;
+    }
+    let replayed = replayed(rt, alloc, register, &steps)?;
+    let history = replayed.events.indexed(alloc)?;
+    assert_eq!(rt;
+        history.as_slice(),
+        [
+            (0, Event::Invoke(0, Op::Write(1))),
+            (16, Event::Refused(0, Layer::Stamped)),
+        ]
+        .as_slice()
+    );
+    let store = first_part_written(alloc)?;
+    assert!(rt; *replayed.config.store() == store);
+    assert!(rt; replayed.config.stack(alloc, 0).is_none());
+    Ok(())
+}
+
+#[test]
+fn row_of_parts_to_be_read_first(rt: HostRuntime) -> Result<(), Fail> {
+    let parts = Layered::new(Unary::new(Safe, 8)?, ReadFirst)?;
+    spent_part_of_a_row(&rt, rt.alloc(), Matrix::new(parts, 2, 2, 1)?)?;
+    Ok(())
+}

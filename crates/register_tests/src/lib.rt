@@ -1,0 +1,14 @@
+//! Tests of registers, of their steps and of their files. They stand above the crates that they
+//! test, so that none of those is proved once more for its tests.
+#![tactic(auto)]
+
+#[cfg(test)]
+mod built_towers;
+#[cfg(test)]
+mod configurations;
+#[cfg(test)]
+mod files;
+#[cfg(test)]
+mod replays;
+#[cfg(test)]
+mod stores;

@@ -1,0 +1,210 @@
+//! Crews at work on jobs that square numbers: which threads run them, and which offers a gate sees.
+//! No contract speaks of either.
+
+ghost use Rattle.std.specs.Prelude.{◌≤◌};
+
+use std::alloc::{AllocError, Global};
+use std::sync::Wait;
+use std::sync::atomic::{AtomicU64, Ordering};
+use std::test::Fail;
+use std::thread;
+use std::thread::Threads;
+use workers::Crew;
+use workers::gate::{Gate, NoGate};
+use workers::job::{Done, Job, Outcome};
+
+/// Squares a number, or is refused memory where it has none.
+#[derive(Drop)]
+struct Square {
+    key: char,
+    number: Option<u64>,
+}
+
+impl Job for Square {
+    type Key = char;
+
+    type Run = u64;
+
+    ghost use Rattle.std.specs.Prelude.{◌≡◌, ◌*◌, IfSome};
+
+    ghost named = { λ job. job.key };
+
+    ghost gives = { λ job square. IfSome job.number (λ n. square ≡ n * n) };
+
+    fn key(&self) -> char {
+        self.key
+    }
+
+    fn run(&self, _alloc: Global) -> Result<u64, AllocError> {
+        match self.number {
+            Some(number) => number.checked_mul(number).ok_or(AllocError),
+            None => Err(AllocError),
+        }
+    }
+}
+
+/// How long an offer is held, in turns.
+const TURNS: u32 = 1 << 24;
+
+/// A gate that holds offer 0 until offer 1 came, and offer 1 until offer 0 came, each for so many
+/// turns at most.
+#[derive(Drop)]
+struct Meeting {
+    came: [AtomicU64; 2],
+    met: [AtomicU64; 2],
+}
+
+impl Meeting {
+    fn new() -> Meeting {
+        Meeting {
+            came: [AtomicU64::new(0), AtomicU64::new(0)],
+            met: [AtomicU64::new(0), AtomicU64::new(0)],
+        }
+    }
+
+    /// Whether both offers were let go before the limit.
+    fn both_met(&self) -> bool {
+        self.met[0].load(Ordering::SeqCst) == 1 && self.met[1].load(Ordering::SeqCst) == 1
+    }
+}
+
+impl<W: Wait> Gate<W> for Meeting {
+    fn offer(&self, _rt: &W, index: usize) {
+        if index > 1 {
+            return;
+        }
+        self.came[index].store(1, Ordering::SeqCst);
+        for _ in 0..TURNS {
+            if self.came[1 - index].load(Ordering::SeqCst) == 1 {
+                self.met[index].store(1, Ordering::SeqCst);
+                return;
+            }
+            thread::yield_now();
+        }
+    }
+}
+
+/// A gate that counts the offers of each job.
+#[derive(Drop)]
+struct Counts {
+    offers: Vec<AtomicU64>,
+}
+
+impl<W: Wait> Gate<W> for Counts {
+    fn offer(&self, _rt: &W, index: usize) {
+        if let Some(offers) = self.offers.get(index) {
+            offers.fetch_add(1, Ordering::SeqCst);
+        }
+    }
+}
+
+/// The caller and one thief each have one of two jobs at the same time, or the gate would hold the
+/// first until its limit. A crew that runs all jobs on one thread has the same outcomes and meets
+/// each contract: this test alone refuses it.
+#[test]
+fn two_threads(rt: HostRuntime) -> Result<(), Fail> {
+    let gate = Meeting::new();
+    let jobs = vec![in rt.alloc();
+        Square {
+            key: 'a',
+            number: Some(3)
+        },
+        Square {
+            key: 'b',
+            number: Some(5)
+        },
+    ]?;
+    let all = Crew::run(&rt, rt.alloc(), jobs, 1, &gate)?;
+    assert!(rt; gate.both_met());
+    assert_eq!(rt;
+        all.as_slice(),
+        [
+            Done {
+                key: 'a',
+                outcome: Outcome::Ran(9)
+            },
+            Done {
+                key: 'b',
+                outcome: Outcome::Ran(25)
+            },
+        ]
+        .as_slice()
+    );
+    Ok(())
+}
+
+/// Jobs under the letters, one of which is refused memory.
+fn letters(alloc: Global) -> Result<Vec<Square>, AllocError> {
+    let mut jobs = Vec::new(alloc);
+    for (key, n) in ('a'..='z').zip(1..27u64) {
+        let number = if key == 'q' { None } else { Some(n) };
+        jobs.push(Square { key, number })?;
+    }
+    Ok(jobs)
+}
+
+/// What becomes of them.
+fn squared_letters(alloc: Global) -> Result<Vec<Done<char, u64>>, AllocError> {
+    let mut all = Vec::new(alloc);
+    for (key, n) in ('a'..='z').zip(1..27u64) {
+        let outcome = if key == 'q' {
+            Outcome::NoMemory
+        } else {
+            Outcome::Ran(n.wrapping_mul(n))
+        };
+        all.push(Done { key, outcome })?;
+    }
+    Ok(all)
+}
+
+impl Counts {
+    fn new(alloc: Global, jobs: usize) -> Result<Counts, AllocError> {
+        let mut offers = Vec::new(alloc);
+        for _ in 0..jobs {
+            offers.push(AtomicU64::new(0))?;
+        }
+        Ok(Counts { offers })
+    }
+
+    /// Whether each job was offered once.
+    fn each_once(&self) -> bool {
+        self.offers
+            .iter()
+            .all(|offers| offers.load(Ordering::SeqCst) == 1)
+    }
+}
+
+/// What the jobs under the letters come to with so many thieves, and whether each was offered once.
+fn run_letters<R: Threads + Wait + Sync>(
+    rt: &R,
+    alloc: Global,
+    thieves: u32,
+) -> Result<(Vec<Done<char, u64>>, bool), AllocError>
+    requires { thieves ≤ 4 }
+{
+    let jobs = letters(alloc)?;
+    let gate = Counts::new(alloc, jobs.len())?;
+    let all = Crew::run(rt, alloc, jobs, thieves, &gate)?;
+    Ok((all, gate.each_once()))
+}
+
+/// Any number of thieves gives the same outcomes, and each job is offered once. A job that is
+/// refused memory has its own place among the others.
+#[test]
+fn any_number_of_thieves(rt: HostRuntime) -> Result<(), Fail> {
+    let expected = squared_letters(rt.alloc())?;
+    for thieves in [0, 1, 3] {
+        let (all, each_once) = run_letters(&rt, rt.alloc(), thieves)?;
+        assert!(rt; each_once && all.as_slice() == expected.as_slice());
+    }
+    Ok(())
+}
+
+/// No jobs have no outcomes.
+#[test]
+fn no_jobs(rt: HostRuntime) -> Result<(), Fail> {
+    let jobs: Vec<Square> = Vec::new(rt.alloc());
+    let all = Crew::run(&rt, rt.alloc(), jobs, 1, &NoGate)?;
+    assert!(rt; all.is_empty());
+    Ok(())
+}

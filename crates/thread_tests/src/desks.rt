@@ -1,0 +1,156 @@
+//! Desks on one safe bit: rows of calls, and chairs on threads of their own.
+
+ghost use Rattle.std.specs.Prelude.{◌≡◌, ◌<◌, ◌≤◌, IfOk};
+ghost use Rattle.frames.specs.SafeBit.{safe_behaviour};
+ghost use Rattle.checkpoints.specs.Segment.{AllFit};
+ghost use Rattle.schedule_trie.specs.Cut.{AreLimits};
+ghost use Rattle.turn.specs.Shares.{every_share};
+ghost use Rattle.turn.specs.Chairs.{view};
+ghost use Rattle.desk.specs.Chairs.{IsAt};
+
+mod fills;
+mod growths;
+mod measured;
+mod news;
+mod rows;
+mod threads;
+
+use desk::{Chair, Desk, Receipt};
+use frames::safe::Safe;
+use frames::types::Step;
+use schedule_trie::limits::Limits;
+use schedule_trie::name::Name;
+use schedule_trie::refusal::Refusal;
+use sessions::book::Book;
+use sessions::command::Command;
+use sessions::log::{Entry, Log};
+use std::alloc::Global;
+use std::process::Abort;
+use std::sync::Wait;
+use views::lens::Lens;
+use views::page::page_text;
+use views::query::Query;
+
+const READ: Step = Step::Read { p: 1 };
+
+/// Limits with so many calls in the log.
+fn limits(log: u32) -> Limits
+    requires { (0 < log) × (log ≤ 1048576) }
+    ensures { AreLimits result }
+{
+    Limits {
+        cells: 4096,
+        branches: 4,
+        log,
+    }
+}
+
+/// A desk with no steps, and its first chair.
+fn opened(alloc: Global, log: u32) -> Result<(Desk<Safe>, Chair<Safe>), Refusal>
+    requires { (0 < log) × (log ≤ 1048576) }
+    ensures { IfOk result (λ r. IsAt (λ _. safe_behaviour) r.0 r.1 × ((view r.1).shares ≡ every_share)) }
+{
+    Desk::open(alloc, Safe, 0, limits(log), &[])
+}
+
+/// A chair with every share, and another one that is given half of them.
+fn halves(desk: &Desk<Safe>, mut chair: Chair<Safe>) -> (Chair<Safe>, Chair<Safe>)
+    requires chair { IsAt (λ _. safe_behaviour) desk.now chair }
+    requires every { (view chair).shares ≡ every_share }
+    ensures { IsAt (λ _. safe_behaviour) desk.now result.0 × IsAt (λ _. safe_behaviour) desk.now result.1 }
+{
+    let other = desk.split(&mut chair, 8);
+    (chair, other)
+}
+
+fn name(rt: &impl Abort, text: &[u8]) -> Name {
+    Name::new(text).expect(rt, "a short name")
+}
+
+/// An insert of a read at a place of `main`.
+fn insert_at(rt: &impl Abort, place: u32) -> Command {
+    Command::Insert {
+        branch: name(rt, b"main"),
+        place,
+        step: READ,
+    }
+}
+
+/// Brings a command; what the call promises of histories is forgotten.
+fn bring<W: Wait>(
+    rt: &W,
+    alloc: Global,
+    desk: &Desk<Safe>,
+    chair: &mut Chair<Safe>,
+    who: u32,
+    if_at: Option<u64>,
+    command: &Command,
+) -> Receipt
+    requires { IsAt (λ _. safe_behaviour) desk.now chair.old }
+    ensures { IsAt (λ _. safe_behaviour) desk.now chair.new }
+{
+    desk.act(rt, alloc, chair, who, if_at, command)
+}
+
+/// The news; what they promise is forgotten.
+fn asked(desk: &Desk<Safe>, chair: &mut Chair<Safe>) -> u64
+    requires { IsAt (λ _. safe_behaviour) desk.now chair.old }
+    ensures { IsAt (λ _. safe_behaviour) desk.now chair.new }
+{
+    desk.news(chair)
+}
+
+/// Takes another chair in; what the call promises of histories is forgotten.
+fn take_in(desk: &Desk<Safe>, chair: &mut Chair<Safe>, other: Chair<Safe>)
+    requires { IsAt (λ _. safe_behaviour) desk.now chair.old × IsAt (λ _. safe_behaviour) desk.now other }
+    ensures { IsAt (λ _. safe_behaviour) desk.now chair.new }
+{
+    desk.join(chair, other);
+}
+
+/// The log, by a chair that has every share.
+fn closed(desk: Desk<Safe>, chair: Chair<Safe>) -> Option<Log>
+    requires { IsAt (λ _. safe_behaviour) desk chair }
+{
+    desk.close(chair).ok()
+}
+
+/// How long the history is, and the text of a look's page.
+fn text_at<R: Wait>(
+    rt: &R,
+    alloc: Global,
+    desk: &Desk<Safe>,
+    chair: &mut Chair<Safe>,
+    query: &Query,
+) -> Result<(u64, Vec<u8>), Refusal>
+    requires { IsAt (λ _. safe_behaviour) desk.now chair.old }
+    ensures { IsAt (λ _. safe_behaviour) desk.now chair.new }
+{
+    let Ok(mut lens) = Lens::new(alloc) else {
+        return Err(Refusal::Memory);
+    };
+    let answer = desk.look(rt, alloc, chair, &mut lens, *query);
+    let at = answer.at;
+    let page = answer.result?;
+    let Ok(text) = page_text(alloc, 0, &page) else {
+        return Err(Refusal::Memory);
+    };
+    Ok((at, text))
+}
+
+/// Whether a book replies to a call of a log as the log says.
+fn replies_so(alloc: Global, book: &mut Book<Safe>, entry: &Entry) -> bool {
+    book.act(alloc, entry.chair, entry.who, entry.if_at, &entry.command) == entry.reply
+}
+
+/// A new book of these steps after the calls of a log; none where a reply isn't the log's.
+fn replayed(alloc: Global, log: &Log, steps: &[Step]) -> Result<Option<Book<Safe>>, Refusal>
+    requires { AllFit safe_behaviour steps.now }
+{
+    let mut book = Book::new(alloc, Safe, 0, limits(1024), steps)?;
+    let mut all = true;
+    for entry in log.entries() {
+        all &= replies_so(alloc, &mut book, entry);
+    }
+    Ok(if all { Some(book) } else { None })
+}

@@ -1,0 +1,112 @@
+//! Rows of calls by two chairs in one thread.
+
+ghost use Rattle.std.specs.Prelude.{IfOk};
+ghost use Rattle.frames.specs.SafeBit.{safe_behaviour};
+ghost use Rattle.desk.specs.Chairs.{IsAt};
+
+use super::{asked, bring, closed, halves, insert_at, name, opened, take_in, text_at};
+use desk::{Chair, Desk, Receipt};
+use frames::safe::Safe;
+use schedule_trie::refusal::Refusal;
+use sessions::command::Command;
+use sessions::log::Log;
+use sessions::reply::Reply;
+use std::alloc::Global;
+use std::process::Abort;
+use std::sync::Wait;
+use std::test::Fail;
+use views::query::Query;
+
+/// The page of the state after an insert of a read.
+pub(super) const STATE: &[u8] =
+    b"0: state main 1 of 1\n  p0 idle\n  p1 read next rs 0\n  bits 0\n  words -\n";
+
+/// Each of two chairs inserts a read at the beginning, both guarded by no edit; the second is refused.
+fn two_inserts<R: Abort + Wait>(
+    rt: &R,
+    alloc: Global,
+) -> Result<(Desk<Safe>, Chair<Safe>, Chair<Safe>), Refusal>
+    ensures { IfOk result (λ r. IsAt (λ _. safe_behaviour) r.0 r.1 × IsAt (λ _. safe_behaviour) r.0 r.2) }
+{
+    let (desk, first) = opened(alloc, 16)?;
+    let (mut first, mut second) = halves(&desk, first);
+    let insert = insert_at(rt, 0);
+    let done = bring(rt, alloc, &desk, &mut first, 0, Some(0), &insert);
+    assert!(rt;
+        done == Receipt {
+            at: 1,
+            reply: Reply::Edited(1)
+        }
+    );
+    let late = bring(rt, alloc, &desk, &mut second, 1, Some(0), &insert);
+    assert!(rt;
+        late == Receipt {
+            at: 2,
+            reply: Reply::No(Refusal::Newer(1))
+        }
+    );
+    Ok((desk, first, second))
+}
+
+/// The state after the first step of `main`.
+pub(super) fn state_after_one(rt: &impl Abort) -> Query {
+    Query::State {
+        branch: name(rt, b"main"),
+        place: 1,
+    }
+}
+
+#[test]
+fn two_chairs(rt: HostRuntime) -> Result<(), Fail> {
+    let (desk, mut first, second) = two_inserts(&rt, rt.alloc())?;
+    assert_eq!(rt; asked(&desk, &mut first), 2);
+    let (at, text) = text_at(&rt, rt.alloc(), &desk, &mut first, &state_after_one(&rt))?;
+    assert_eq!(rt; at, 2);
+    assert!(rt; text.as_slice() == STATE);
+    assert!(rt; first.shares() == 8 && second.shares() == 8);
+    Ok(())
+}
+
+/// The log, by two chairs that have all shares together. Closing by one of them is refused first.
+fn closed_by_both(
+    rt: &impl Abort,
+    desk: Desk<Safe>,
+    first: Chair<Safe>,
+    second: Chair<Safe>,
+) -> Option<Log>
+    requires { IsAt (λ _. safe_behaviour) desk first × IsAt (λ _. safe_behaviour) desk second }
+{
+    let Err((out, desk, mut first)) = desk.close(first) else {
+        return None;
+    };
+    assert_eq!(rt; out.number(), 50);
+    take_in(&desk, &mut first, second);
+    closed(desk, first)
+}
+
+#[test]
+fn chairs_out(rt: HostRuntime) -> Result<(), Fail> {
+    let (desk, first, second) = two_inserts(&rt, rt.alloc())?;
+    let Some(log) = closed_by_both(&rt, desk, first, second) else {
+        panic!(rt; "a chair with every share")
+    };
+    let chairs = log.entries().iter().map(|entry| entry.chair);
+    assert!(rt; chairs.eq([0, 1]));
+    let (desk, mut chair) = opened(rt.alloc(), 1)?;
+    let joined = bring(&rt, rt.alloc(), &desk, &mut chair, 0, None, &Command::Join);
+    assert!(rt;
+        joined
+            == Receipt {
+                at: 1,
+                reply: Reply::Joined
+            }
+    );
+    let full = bring(&rt, rt.alloc(), &desk, &mut chair, 0, None, &Command::Join);
+    assert!(rt;
+        full == Receipt {
+            at: 1,
+            reply: Reply::No(Refusal::LogFull)
+        }
+    );
+    Ok(())
+}

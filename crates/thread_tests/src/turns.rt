@@ -1,0 +1,310 @@
+//! Chairs at work: two in one thread, two in two threads, and news while the turn is held.
+
+ghost use Rattle.std.specs.Prelude.{◌≡◌, ◌<◌, IfOk};
+ghost use Rattle.turn.specs.Shares.{every_share};
+ghost use Rattle.turn.specs.Chairs.{IsOf, view};
+
+use crate::flags::Flags;
+use std::alloc::{AllocError, Global};
+use std::process::Abort;
+use std::sync::Wait;
+use std::test::Fail;
+use std::thread;
+use std::thread::Threads;
+use turn::{Chair, ChairsOut, Counted, Turn, Work};
+
+/// A number that a chair wrote down.
+#[derive(Clone, Copy, Debug, PartialEq, Eq)]
+struct Note {
+    chair: u32,
+    value: u32,
+}
+
+/// What chairs wrote down, in order.
+#[derive(Drop)]
+struct Notes {
+    all: Vec<Note>,
+}
+
+impl Counted for Notes {
+    type Entry = Note;
+
+    ghost entries = { λ notes. notes.all.items };
+
+    ghost by = { λ note. note.chair };
+
+    fn len(&self) -> u64 {
+        self.all.len() as u64
+    }
+}
+
+/// Writes a number down.
+#[derive(Drop)]
+struct Write {
+    value: u32,
+}
+
+impl Work<Notes> for Write {
+    ghost use Rattle.std.specs.Prelude.{⊤};
+
+    type Out = Result<(), AllocError>;
+
+    ghost relation = { λ _ _ _ _ _. ⊤ };
+
+    fn work(&mut self, notes: &mut Notes, number: u32) -> Result<(), AllocError> {
+        let note = Note {
+            chair: number,
+            value: self.value,
+        };
+        notes.all.push(note)?;
+        Ok(())
+    }
+}
+
+/// Writes nothing, and keeps the turn until it is told to go on.
+#[derive(Drop)]
+struct Pause<'a> {
+    flags: &'a Flags,
+}
+
+impl Work<Notes> for Pause<'_> {
+    ghost use Rattle.std.specs.Prelude.{◌≡◌};
+
+    type Out = ();
+
+    ghost relation = { λ _ before after _ _. after ≡ before };
+
+    fn work(&mut self, _notes: &mut Notes, _number: u32) {
+        self.flags.hold();
+    }
+}
+
+/// A turn that has no notes, and its first chair.
+fn empty(alloc: Global) -> Result<(Turn<Notes>, Chair<Notes>), AllocError>
+    ensures { IfOk result (λ r. IsOf r.0 r.1 × ((view r.1).shares ≡ every_share)) }
+{
+    Turn::new(
+        alloc,
+        Notes {
+            all: Vec::new(alloc),
+        },
+    )
+}
+
+/// A chair with every share, and another one that is given so many of them.
+fn parted(turn: &Turn<Notes>, mut chair: Chair<Notes>, shares: u32) -> (Chair<Notes>, Chair<Notes>)
+    requires chair { IsOf turn.now chair }
+    requires every { (view chair).shares ≡ every_share }
+    requires shares { (0 < shares) × (shares < 16) }
+    ensures { IsOf turn.now result.0 × IsOf turn.now result.1 }
+{
+    let other = turn.split(&mut chair, shares);
+    (chair, other)
+}
+
+/// Writes a number down, and says whether there was memory for it.
+fn write_down<R: Wait>(rt: &R, turn: &Turn<Notes>, chair: &mut Chair<Notes>, value: u32) -> bool
+    requires { IsOf turn.now chair.old }
+    ensures { IsOf turn.now chair.new }
+{
+    turn.with(rt, chair, &mut Write { value }).is_ok()
+}
+
+/// The news; what they promise is forgotten.
+fn asked(turn: &Turn<Notes>, chair: &mut Chair<Notes>) -> u64
+    requires { IsOf turn.now chair.old }
+    ensures { IsOf turn.now chair.new }
+{
+    turn.news(chair)
+}
+
+/// The notes, by two chairs that have every share together.
+fn closed(turn: Turn<Notes>, mut first: Chair<Notes>, second: Chair<Notes>) -> Option<Notes>
+    requires { IsOf turn first × IsOf turn second }
+{
+    turn.join(&mut first, second);
+    if first.shares() != 16 {
+        return None;
+    }
+    turn.close(first).ok()
+}
+
+/// Writes down 0 to count - 1, and says whether there was memory for all.
+fn write_all<R: Wait>(
+    rt: &R,
+    turn: &Turn<Notes>,
+    mut chair: Chair<Notes>,
+    count: u32,
+) -> (Chair<Notes>, bool)
+    requires { IsOf turn.now chair }
+    ensures { IsOf turn.now result.0 }
+{
+    let mut all = true;
+    for value in 0..count {
+        all &= write_down(rt, turn, &mut chair, value);
+    }
+    (chair, all)
+}
+
+/// Whether a chair wrote 0 to count - 1, in order.
+fn has_counted(notes: &Notes, chair: u32, count: u32) -> bool {
+    let mut next = 0;
+    for note in &notes.all {
+        if note.chair == chair {
+            if next >= count || note.value != next {
+                return false;
+            }
+            next += 1;
+        }
+    }
+    next == count
+}
+
+/// Each of two chairs writes one number down, and the first one asks for news behind that.
+fn written_in_turn<R: Abort + Wait>(rt: &R, alloc: Global) -> Result<Option<Notes>, AllocError> {
+    let (turn, first) = empty(alloc)?;
+    assert_eq!(rt; first.shares(), 16);
+    let (mut first, mut second) = parted(&turn, first, 8);
+    assert!(rt; first.shares() == 8 && second.shares() == 8);
+    assert_eq!(rt; asked(&turn, &mut second), 0);
+    assert!(rt; write_down(rt, &turn, &mut first, 7) && write_down(rt, &turn, &mut second, 9));
+    assert_eq!(rt; asked(&turn, &mut first), 2);
+    Ok(closed(turn, first, second))
+}
+
+#[test]
+fn two_chairs(rt: HostRuntime) -> Result<(), Fail> {
+    let Some(notes) = written_in_turn(&rt, rt.alloc())? else {
+        panic!(rt; "a chair with every share")
+    };
+    let wanted = [Note { chair: 0, value: 7 }, Note { chair: 1, value: 9 }];
+    assert!(rt; notes.all.as_slice() == wanted.as_slice());
+    Ok(())
+}
+
+/// Closes a turn by a chair that lacks the other one's shares, which is refused, and then by both.
+fn refused_and_closed(
+    turn: Turn<Notes>,
+    first: Chair<Notes>,
+    second: Chair<Notes>,
+) -> Option<ChairsOut>
+    requires { IsOf turn first × IsOf turn second }
+{
+    let Err((refusal, turn, first)) = turn.close(first) else {
+        return None;
+    };
+    let notes = closed(turn, first, second);
+    if notes.is_some() { Some(refusal) } else { None }
+}
+
+#[test]
+fn chairs_out(rt: HostRuntime) -> Result<(), Fail> {
+    let (turn, first) = empty(rt.alloc())?;
+    let (first, second) = parted(&turn, first, 1);
+    let Some(refusal) = refused_and_closed(turn, first, second) else {
+        panic!(rt; "a share is out, and then none")
+    };
+    assert!(rt; refusal == ChairsOut && refusal.number() == 50);
+    let text = format!(in rt.alloc(); "{refusal}")?;
+    assert_eq!(rt; text.as_str(), "50 ChairsOut");
+    Ok(())
+}
+
+/// Two threads write 0 to count - 1 each; then the chairs join and the turn is closed.
+fn written_by_two<R: Threads + Wait + Sync>(
+    rt: &R,
+    turn: Turn<Notes>,
+    first: Chair<Notes>,
+    second: Chair<Notes>,
+    count: u32,
+) -> Option<Notes>
+    requires { IsOf turn first × IsOf turn second }
+{
+    let shared = &turn;
+    let ((first, one), (second, other)) = thread::join(
+        rt,
+        move || -> (Chair<Notes>, bool)
+            requires { IsOf shared.now first }
+            ensures { IsOf shared.entry.now result.0 }
+        { write_all(rt, shared, first, count) },
+        move || -> (Chair<Notes>, bool)
+            requires { IsOf shared.now second }
+            ensures { IsOf shared.entry.now result.0 }
+        { write_all(rt, shared, second, count) },
+    );
+    let notes = closed(turn, first, second);
+    if one && other { notes } else { None }
+}
+
+/// What two threads wrote down behind a turn of their own; none where a chair lacked a share or memory.
+fn written<R: Threads + Wait + Sync>(
+    rt: &R,
+    alloc: Global,
+    count: u32,
+) -> Result<Option<Notes>, AllocError> {
+    let (turn, first) = empty(alloc)?;
+    let (first, second) = parted(&turn, first, 8);
+    Ok(written_by_two(rt, turn, first, second, count))
+}
+
+#[test]
+fn two_threads(rt: HostRuntime) -> Result<(), Fail> {
+    for _ in 0..50 {
+        let Some(notes) = written(&rt, rt.alloc(), 100)? else {
+            panic!(rt; "a chair with every share")
+        };
+        assert_eq!(rt; notes.all.len(), 200);
+        assert!(rt; has_counted(&notes, 0, 100) && has_counted(&notes, 1, 100));
+    }
+    Ok(())
+}
+
+/// Keeps the turn until it is told to go on.
+fn keep<R: Wait>(rt: &R, turn: &Turn<Notes>, mut chair: Chair<Notes>, flags: &Flags)
+    requires { IsOf turn.now chair }
+{
+    turn.with(rt, &mut chair, &mut Pause { flags });
+}
+
+/// Asks for news once the turn is held, and tells. The answer is whether it was held, and the news.
+fn ask(turn: &Turn<Notes>, mut chair: Chair<Notes>, flags: &Flags) -> (bool, u64)
+    requires { IsOf turn.now chair }
+{
+    let held = flags.is_held();
+    let news = turn.news(&mut chair);
+    flags.tell();
+    (held, news)
+}
+
+fn ask_while_held<R: Threads + Wait + Sync>(
+    rt: &R,
+    turn: &Turn<Notes>,
+    first: Chair<Notes>,
+    second: Chair<Notes>,
+    flags: &Flags,
+) -> (bool, u64)
+    requires { IsOf turn.now first × IsOf turn.now second }
+{
+    let (_, answer) = thread::join(
+        rt,
+        move ||
+            requires { IsOf turn.now first }
+        { keep(rt, turn, first, flags) },
+        move || -> (bool, u64)
+            requires { IsOf turn.now second }
+        { ask(turn, second, flags) },
+    );
+    answer
+}
+
+#[test]
+fn news_while_held(rt: HostRuntime) -> Result<(), Fail> {
+    let flags = Flags::new();
+    let (turn, first) = empty(rt.alloc())?;
+    let (mut first, second) = parted(&turn, first, 8);
+    assert!(rt; write_down(&rt, &turn, &mut first, 3));
+    let (held, news) = ask_while_held(&rt, &turn, first, second, &flags);
+    assert!(rt; held && flags.were_told());
+    assert_eq!(rt; news, 1);
+    Ok(())
+}
