@@ -1,0 +1,152 @@
+"""Cases: a script, what the program is started on, and what has to come out.
+
+Beside NAME.script and NAME.expected, what standard output says, there may be
+- NAME.tower    the tower file, which is the first word of the command line
+- NAME.words    further words, parted as a shell parts them
+- NAME.status   the exit status, where it isn't 0
+- NAME.errors   what standard error says, where it says something
+Each may be made: NAME.KIND.make is a line of shell, run in the case's folder, that writes it.
+All names are of the repository's top, which is the current folder.
+"""
+import collections
+import os
+import shlex
+import subprocess
+
+KINDS = ("script", "expected", "tower", "words", "status", "errors")
+MADE = ".make"
+NUMBERS_OF_WORKERS = (0, 1, 4)
+# Words that say themselves how many threads help, or with which nothing is filled.
+WORDS_OF_ONE_RUN = ("--workers", "--help")
+REFUSED_WORDS = 2
+MOST_SECONDS = 300
+BYTES_SHOWN = 100
+BYTES_SHOWN_BEFORE = 30
+
+# script: its path; words: those behind the program's name; output and errors: bytes
+Case = collections.namedtuple("Case", "script words output status errors")
+Ran = collections.namedtuple("Ran", "output status errors")
+
+
+class Spoilt(Exception):
+    """A case that can't be read as one."""
+
+
+def run(program, words, script, environment=None):
+    """Returns what the program does on words, with a file or bytes on standard input."""
+    with open(script if isinstance(script, str) else os.devnull, "rb") as file:
+        source = {"stdin": file} if isinstance(script, str) else {"input": script}
+        ran = subprocess.run(
+            [program, *words],
+            **source,
+            stdout=subprocess.PIPE,
+            stderr=subprocess.PIPE,
+            env=environment,
+            timeout=MOST_SECONDS,
+            check=False,
+        )
+    return Ran(ran.stdout, ran.returncode, ran.stderr)
+
+
+def path_of(name, kind, scratch):
+    """Returns the path of a case's file, which is made where it has to be; None: it has none."""
+    path = f"{name}.{kind}"
+    if not os.path.exists(path + MADE):
+        return path if os.path.exists(path) else None
+    if os.path.exists(path):
+        raise Spoilt(f"there are both {path} and {path + MADE}")
+    target = f"{scratch}/{path.replace('/', '-')}"
+    with open(target, "wb") as file, open(path + MADE, encoding="utf-8") as line:
+        folder = os.path.dirname(path)
+        made = subprocess.run(["sh", "-c", line.read()], cwd=folder, stdout=file, check=False)
+    if made.returncode != 0:
+        raise Spoilt(f"{path + MADE} ended with status {made.returncode}")
+    return target
+
+
+def read(path):
+    with open(path, "rb") as file:
+        return file.read()
+
+
+def case_of(name, scratch):
+    """Returns the case of a name."""
+    paths = {kind: path_of(name, kind, scratch) for kind in KINDS}
+    for kind in ("script", "expected"):
+        if paths[kind] is None:
+            raise Spoilt(f"there is no {name}.{kind}")
+    more = os.fsdecode(read(paths["words"])) if paths["words"] else ""
+    status = read(paths["status"]).strip() if paths["status"] else b"0"
+    if not status.isdigit():
+        raise Spoilt(f"{name}.status is no number")
+    return Case(
+        script=paths["script"],
+        words=[it for it in [paths["tower"]] if it] + shlex.split(more),
+        output=read(paths["expected"]),
+        status=int(status),
+        errors=read(paths["errors"]) if paths["errors"] else b"",
+    )
+
+
+def ways(case):
+    """Returns the words that a case is run with, before its own: numbers of workers, or none."""
+    is_told = any(it.startswith(WORDS_OF_ONE_RUN) for it in case.words)
+    if is_told or case.status == REFUSED_WORDS:
+        return [[]]
+    return [["--workers", str(it)] for it in NUMBERS_OF_WORKERS]
+
+
+def shown(line, column):
+    """Returns a line as text, from somewhat before a column on; None: there is no such line."""
+    if line is None:
+        return "nothing more"
+    begin = max(0, column - BYTES_SHOWN_BEFORE) if len(line) > BYTES_SHOWN else 0
+    end = begin + BYTES_SHOWN
+    return ".." * (begin > 0) + repr(line[begin:end])[1:] + ".." * (end < len(line))
+
+
+def first_difference(wanted, got):
+    """Returns the first line in which two texts differ; None: they don't."""
+    if wanted == got:
+        return None
+    texts = [it.splitlines(keepends=True) for it in (wanted, got)]
+    count = next(
+        (k for k, (one, other) in enumerate(zip(*texts)) if one != other), min(map(len, texts))
+    )
+    lines = [it[count] if count < len(it) else None for it in texts]
+    column = len(os.path.commonprefix([it or b"" for it in lines]))
+    want, has = (shown(it, column) for it in lines)
+    return f"line {count + 1}: wanted {want}, got {has}"
+
+
+def difference(case, ran):
+    """Returns in what a run isn't as its case wants it; None: it is."""
+    texts = (("", case.output, ran.output), ("standard error, ", case.errors, ran.errors))
+    told = [(where, first_difference(wanted, got)) for where, wanted, got in texts]
+    found = [where + it for where, it in told if it]
+    if ran.status != case.status:
+        found.append(f"status: wanted {case.status}, got {ran.status}")
+    return "; ".join(found) or None
+
+
+def fault_of(name, program, scratch):
+    """Returns what is wrong with a case or with what the program makes of it; None: nothing."""
+    case = case_of(name, scratch)
+    for words in ways(case):
+        fault = difference(case, run(program, [*words, *case.words], case.script))
+        if fault:
+            return f"{' '.join(words)}{': ' * bool(words)}{fault}"
+    return None
+
+
+def names_in(folder):
+    """Returns the names of a folder's cases, and the files there that belong to none."""
+    names, others = set(), []
+    for file in sorted(os.listdir(folder)):
+        made = file[: -len(MADE)] if file.endswith(MADE) else file
+        name, _, kind = made.rpartition(".")
+        if kind in KINDS and name:
+            names.add(f"{folder}/{name}")
+        else:
+            others.append(f"{folder}/{file}")
+    return sorted(names), others

@@ -1,0 +1,156 @@
+"""Documents: what they name is there, their commands print what they say, and their lines fit.
+
+A document is README.md, and each page of docs/, lessons/ and crates/NAME/README.md.
+- A fence ```console is run from the repository's top: each line `$ COMMAND`, and below it what
+  standard output then says.
+- A word between backticks that is a path is that of a file or a folder, or its end (`*` and NAME
+  stand for any name); one that is a name of code (with `_`, `::`, `()` or a capital inside) occurs
+  in the sources.
+- No line is longer than 100 columns, but in tables, and on a lesson's page, which is a screen wide.
+All names are of the repository's top, which is the current folder.
+"""
+import fnmatch
+import functools
+import glob
+import os
+import re
+import shutil
+import subprocess
+
+import cases
+
+MOST_COLUMNS = 100
+SCREENS = re.compile(r"lessons/[^/]+/README\.md")
+SOURCES = (".rt", ".antt", ".py", ".c", ".txt", ".edit", ".html")
+SCRIPTS = ("towerbench", ".ci/*", "tools/*", "tests/*")
+FENCE = re.compile(r"^( *)```(\S*)$")
+SPAN = re.compile(r"`([^`\n]+)`")
+PATH = re.compile(
+    r"(?:\./)?[A-Za-z0-9_.*{},-]+(?:/[A-Za-z0-9_.*{},-]+)+/?"
+    r"|[A-Za-z0-9_-]+\.(?:md|py|rt|antt|txt|script|tower|expected|c)"
+)
+NAME_OF_CODE = re.compile(r"[A-Za-z_][A-Za-z0-9_]*(?:(?:::|\.)[A-Za-z_][A-Za-z0-9_]*)*(?:\(\))?")
+WORD = re.compile(r"[A-Za-z_][A-Za-z0-9_]*")
+LINK = re.compile(r"\]\(([^)#\s]+)(?:#[^)\s]*)?\)")
+# What stands for any name in a path, and where paths of words begin that a reader makes himself.
+ANY_NAME, MADE_BY_A_READER = ("NAME", "KIND"), ("/tmp/", "out/", "page.html")
+
+
+def documents():
+    found = ["README.md"]
+    for pattern in ("docs/**/*.md", "lessons/**/*.md", "crates/*/README.md"):
+        found += sorted(glob.glob(pattern, recursive=True))
+    return found
+
+
+@functools.lru_cache(None)
+def files():
+    """Returns the paths of all files that are no product of a build."""
+    asked = ["git", "ls-files", "--cached", "--others", "--exclude-standard"]
+    has_git = shutil.which("git") is not None
+    listed = subprocess.run(asked, capture_output=True, text=True, check=False) if has_git else None
+    found = listed.stdout.split("\n") if listed and listed.returncode == 0 else []
+    if not found:
+        # (a copy of the repository that isn't one)
+        made = {"out", ".git"}
+        inside = [(at, its) for at, _, its in os.walk(".") if not made & set(at.split("/"))]
+        found = [f"{at}/{it}"[2:] for at, its in inside for it in its]
+    return [it for it in found if os.path.isfile(it)]
+
+
+@functools.lru_cache(None)
+def ends_of_paths():
+    """Returns the ends of the paths of all files and folders, each with a slash in front."""
+    parts = [it.split("/") for it in files()]
+    folders = {"/".join(it[:k]) for it in parts for k in range(1, len(it))}
+    return [f"/{it}" for it in [*files(), *folders]]
+
+
+@functools.lru_cache(None)
+def words_of_sources():
+    """Returns all names that occur in the sources."""
+    found = set()
+    for path in files():
+        if path.endswith(SOURCES) or any(fnmatch.fnmatch(path, it) for it in SCRIPTS):
+            with open(path, encoding="utf-8", errors="replace") as file:
+                found.update(WORD.findall(file.read()))
+    return found
+
+
+@functools.lru_cache(None)
+def is_there(path):
+    """Returns whether a path is one of the repository, or the end of one."""
+    for name in ANY_NAME:
+        path = re.sub(rf"\b{name}\b", "*", path)
+    wanted = "*/" + re.sub(r"\{[^}]*\}", "*", re.sub(r"^\./", "", path)).rstrip("/")
+    return bool(fnmatch.filter(ends_of_paths(), wanted))
+
+
+def is_code(text):
+    """Returns whether a word between backticks can only be a name of the code."""
+    return bool(NAME_OF_CODE.fullmatch(text) and re.search(r"_|::|\(\)|[a-z][A-Z]", text))
+
+
+def fault_of_span(text):
+    if text.startswith(MADE_BY_A_READER):
+        return None
+    if PATH.fullmatch(text):
+        return None if is_there(text) else f"there is no {text}"
+    if is_code(text):
+        strange = [it for it in WORD.findall(text) if it not in words_of_sources()]
+        return f"no source has {strange[0]}" if strange else None
+    return None
+
+
+def console_faults(lines, at, document):
+    """Returns the faults of a fence's commands; its first line has the number `at`."""
+    faults, commands = [], []
+    for line in lines:
+        if line.startswith("$ "):
+            commands.append([line[2:], []])
+        elif commands:
+            commands[-1][1].append(line)
+    for command, told in commands:
+        ran = cases.run("bash", ["-c", command], b"")
+        difference = cases.first_difference("".join(f"{it}\n" for it in told).encode(), ran.output)
+        if difference:
+            faults.append(f"{document}:{at}: {command}: {difference}")
+    return faults
+
+
+def faults_of_text(line, document):
+    found = [fault_of_span(it) for it in SPAN.findall(line)]
+    links = [it for it in LINK.findall(line) if "://" not in it]
+    folder = os.path.dirname(document)
+    lost = [f"there is no {it}" for it in links if not os.path.exists(os.path.join(folder, it))]
+    return [it for it in found if it] + lost
+
+
+def faults_of(document):
+    """Returns all faults of a document, each with its line."""
+    with open(document, encoding="utf-8") as file:
+        lines = file.read().split("\n")
+    faults, fence = [], None
+    for number, line in enumerate(lines, 1):
+        is_wide = SCREENS.fullmatch(document) or line.lstrip().startswith("|")
+        if len(line) > MOST_COLUMNS and not is_wide:
+            faults.append(f"{document}:{number}: {len(line)} columns")
+        mark = FENCE.match(line)
+        if mark and fence is None:
+            fence = (mark.group(1), mark.group(2), number + 1, [])
+        elif mark:
+            if fence[1] == "console":
+                faults += console_faults(fence[3], fence[2], document)
+            fence = None
+        elif fence is not None:
+            fence[3].append(line[len(fence[0]) :])
+        else:
+            faults += [f"{document}:{number}: {it}" for it in faults_of_text(line, document)]
+    return faults
+
+
+def fault_of(document):
+    """Returns what is wrong with a document, the first five faults; None: nothing."""
+    faults = faults_of(document)
+    more = f"; and {len(faults) - 5} more" if len(faults) > 5 else ""
+    return "; ".join(faults[:5]) + more or None

@@ -1,0 +1,127 @@
+"""What each page under lessons/ quotes of the scripts and the outputs beside it.
+
+A block that begins with ```transcript NAME has lines that are typed, and below each some lines of
+its answer.
+- The lines typed in all blocks of a NAME are the commands of NAME.script, in order, and each script
+  has its blocks.
+- The lines below one of them stand in that command's answer in NAME.expected, in order.
+- The page says how the program is started on NAME.tower.
+- A line of an answer that the page's text names, as `4 p1 return 0` does, is one of those quoted in
+  its blocks.
+- A lesson's page is at most a screen long, and lessons/README.md links to each lesson, in order.
+That the outputs are the program's is seen by running the scripts.
+"""
+import pathlib
+import re
+
+TOP = pathlib.Path(__file__).resolve().parent.parent
+LESSONS = TOP / "lessons"
+INDEX = LESSONS / "README.md"
+SCREEN = (48, 120)
+FENCE = "```"
+# an answer's line where it is named in a text: an event or a verdict, a process, a cell, bits,
+# words, or a first line
+NAMED = re.compile(
+    r"`(\d+ p\d [^`]*|p\d [^`]*|\d+ [01] [01-] [rh-]|bits \d[^`]*|words [^`]*|\d+: [^`]*)`"
+)
+LINK = re.compile(r"\]\((\d\d-[a-z-]+)/(?:README\.md)?\)")
+
+
+def is_command(line):
+    return re.match(r"\d+ ", line) is not None
+
+
+def parted(page):
+    """Returns a page's text without its blocks, and of each block its mark and its lines."""
+    text, blocks, is_inside = [], [], False
+    for line in page.read_text(encoding="ascii").splitlines():
+        if line.startswith(FENCE):
+            is_inside = not is_inside
+            if is_inside:
+                blocks.append((line[len(FENCE):], []))
+        elif is_inside:
+            blocks[-1][1].append(line)
+        else:
+            text.append(line)
+    return "\n".join(text), blocks
+
+
+def answers(expected):
+    """Returns the lines of each answer: its first one has no spaces before it, all others two."""
+    found = []
+    for line in expected.read_text(encoding="ascii").splitlines():
+        if line.startswith("  ") and found:
+            found[-1].append(line)
+        else:
+            found.append([line])
+    return found
+
+
+def quotes_faults(page, name, lines):
+    """Yields what is wrong with the lines of all transcripts of a name."""
+    script = page.parent / f"{name}.script"
+    if not script.exists():
+        yield f"there is no {script.name}"
+        return
+    commands = [it for it in script.read_text(encoding="ascii").splitlines() if is_command(it)]
+    typed = [it for it in lines if is_command(it)]
+    if typed != commands:
+        yield f"{name}: what is typed isn't what {script.name} has"
+        return
+    rest, command, answer = iter(answers(script.with_suffix(".expected"))), "", iter(())
+    for line in lines:
+        if is_command(line):
+            command, answer = line, iter(next(rest, ()))
+        # (a quoted line is looked for behind the one before it)
+        elif line not in answer:
+            yield f"{name}: `{command}` doesn't answer this here: {line}"
+
+
+def page_faults(page):
+    text, blocks = parted(page)
+    transcripts = {it.stem: [] for it in page.parent.glob("*.script")}
+    for mark, lines in blocks:
+        kind, _, name = mark.partition(" ")
+        if kind != "transcript":
+            yield f"a block is marked `{mark}`, and its lines aren't looked at"
+        transcripts.setdefault(name, []).extend(lines)
+    for name, lines in sorted(transcripts.items()):
+        if f"`./towerbench {page.parent.relative_to(TOP)}/{name}.tower`" not in text:
+            yield f"it doesn't say how to start {name}.tower"
+        yield from quotes_faults(page, name, lines)
+    quoted = {line.strip() for _, lines in blocks for line in lines if not is_command(line)}
+    for named in NAMED.findall(text):
+        if not any(it == named or it.startswith(named + " ") for it in quoted):
+            yield f"no block has the line: {named}"
+
+
+def screen_faults(page):
+    lines = page.read_text(encoding="ascii").splitlines()
+    if len(lines) > SCREEN[0]:
+        yield f"{len(lines)} lines, more than {SCREEN[0]}"
+    for line in lines:
+        if len(line) > SCREEN[1]:
+            yield f"longer than {SCREEN[1]} characters: {line}"
+
+
+def lessons():
+    """Returns the names of the lessons, in order."""
+    return sorted(it.name for it in LESSONS.iterdir() if it.is_dir())
+
+
+def index_faults():
+    if LINK.findall(INDEX.read_text(encoding="ascii")) != lessons():
+        yield f"its links aren't, in order: {' '.join(lessons())}"
+
+
+def pages():
+    """Returns the paths of the pages, from the top."""
+    found = [INDEX, *(LESSONS / it / "README.md" for it in lessons())]
+    return [str(it.relative_to(TOP)) for it in found]
+
+
+def fault_of(path):
+    """Returns what is wrong with a page, or nothing."""
+    page = TOP / path
+    others = index_faults() if page == INDEX else screen_faults(page)
+    return "; ".join([*page_faults(page), *others])

@@ -1,0 +1,1 @@
+echo '0 state zed 0'; head -c 16777201 /dev/zero | tr '\0' '\n'

@@ -1,0 +1,1 @@
+sh thousand-steps.tower.make
