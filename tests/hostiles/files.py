@@ -1,0 +1,317 @@
+"""Tower files that are broken, too long, or no files."""
+import collections
+import itertools
+import os
+import random
+import socket
+import stat
+import subprocess
+import threading
+
+import tower_reader
+from runs import SECONDS, Ended, ended, fault, good, program
+
+MOST_BYTES = 2**26
+# A run over a file that is too long takes so much memory at most: what a file may have, and 16 MB.
+MOST_MEMORY = MOST_BYTES + 2**24
+NOBODY = 65534
+
+
+def spelled(header, tower, *steps):
+    return "".join(f"{line}\n" for line in (header, tower, *steps)).encode()
+
+
+READ = ["r 1"] + ["g 1 0"] * 8
+ROWS = {
+    "stamped-best": spelled("tower 1", "stamped 2 1", "w 0 1", *["g 0 0"] * 3, *READ,
+                            "r 1", "g 1 0", "g 1 1"),
+    "matrix-spent": spelled("tower 1", "matrix 2 2 1 3", "w 0 1", *["g 0 0"] * 12,
+                            "w 1 0", *["g 1 0"] * 30),
+    "stopped-writer": spelled("tower 2", "safe 0", "w 0 1", "g 0 0", "x 0", "g 0 0",
+                              "r 1", "g 1 0", "g 1 1"),
+}
+
+
+def wanted(data):
+    """Returns how a run of the reader's script over a file has to end, by the reader."""
+    try:
+        return good(tower_reader.pages(tower_reader.read(data)))
+    except tower_reader.Fault as first:
+        return Ended(1, b"", first.line)
+
+
+def cuts(data):
+    for count in range(len(data) + 1):
+        yield f"its first {count} bytes", data[:count]
+
+
+def versions(data):
+    for version in range(4):
+        yield f"version {version}", b"tower %d" % version + data[data.index(b"\n") :]
+
+
+def next_digit(byte):
+    """Returns the digit behind one, 0 behind 9, and 1 for a byte that is none."""
+    return ord(str((int(chr(byte)) + 1) % 10)) if chr(byte) in "0123456789" else ord("1")
+
+
+def replacements(data):
+    for place, byte in enumerate(data):
+        for other in (0x80, 0x00, ord("\n"), ord(" "), next_digit(byte)):
+            if other != byte:
+                changed = data[:place] + bytes([other]) + data[place + 1 :]
+                yield f"byte {place} as {other:#04x}", changed
+
+
+# What bytes are put in, and how many files are changed at more than one place.
+BYTES = b"0123456789 \nwrgxtower"
+MIXED = 300
+# Numbers at the limits of each tower's, and just past them.
+EDGES = {
+    "safe": [(0, 1, 2)],
+    "copies": [(0, 1, 4, 5), (0, 1, 2)],
+    "regular": [(0, 1, 4, 5), (0, 1, 2)],
+    "unary": [(1, 2, 511, 512, 513), (0, 1, 4, 5), (0, 1, 510, 511, 512)],
+    "stamped": [(1, 2, 255, 256, 257, 512, 513), (0, 1, 2, 254, 255, 256, 511, 512)],
+    "matrix": [(1, 2, 3, 4, 5), (1, 2, 3, 16, 128, 513), (0, 1, 511, 512), (0, 3, 15, 16, 512)],
+}
+
+
+def mixed(data):
+    """Yields a file changed at one to three places, by chance that is the same in each run."""
+    chance = random.Random(len(data))
+    for number in range(MIXED):
+        changed = data
+        for _ in range(chance.randint(1, 3)):
+            changed = changed_by(chance, changed)
+        yield f"change {number}, {changed!r}", changed
+
+
+def changed_by(chance, data):
+    """Returns data without a byte, with one more, or with two lines that have changed places."""
+    place, way = chance.randrange(len(data) + 1), chance.randrange(4)
+    if way == 0:
+        return data[:place] + data[place + 1 :]
+    if way == 1:
+        lines = data.splitlines(keepends=True) or [b""]
+        one, other = chance.randrange(len(lines)), chance.randrange(len(lines))
+        lines[one], lines[other] = lines[other], lines[one]
+        return b"".join(lines)
+    return data[:place] + bytes([chance.choice(BYTES)]) + data[place + (way == 2) :]
+
+
+def sized():
+    """Yields files of no steps and of one, of each tower at its limits."""
+    for kind, edges in EDGES.items():
+        for numbers in itertools.product(*edges):
+            tower = " ".join([kind, *map(str, numbers)])
+            yield tower, spelled("tower 1", tower)
+        for version in ("tower 1", "tower 2"):
+            for step in ("w 0 1", "w 0 2", "w 1 0", "r 0", "r 1", "r 2", "g 1 1", "g 2 0", "g 0 2",
+                         "x 1", "x 2", "r 01", "g  0 0", "w 0", "r 1 0", "y 1", ""):
+                tower = " ".join([kind, *(str(edge[1]) for edge in edges)])
+                yield f"{version}, {tower}, {step}", spelled(version, tower, step)
+
+
+def over(path):
+    return ended([path], tower_reader.SCRIPT)
+
+
+def broken(counts, room):
+    """A row's file cut after each of its bytes, and with each replaced."""
+    for row, data in ROWS.items():
+        for kind, changes in (("cut", cuts), ("with a byte replaced", replacements),
+                              ("in each version", versions), ("changed by chance", mixed)):
+            hold(counts, f"files: {row}, {kind}", changes(data), room)
+    hold(counts, "files: towers at their limits", sized(), room)
+
+
+def hold(counts, row, changes, room):
+    """Holds the program's reading of files to the reader's."""
+    counts.begin(row)
+    path, kinds = f"{room}/broken", collections.Counter()
+    for name, changed in changes:
+        with open(path, "wb") as file:
+            file.write(changed)
+        want = wanted(changed)
+        kinds[want.errors.split()[-1].decode() if want.errors else "read"] += 1
+        counts.same(name, over(path), want)
+    print(f"{row}: wanted: {', '.join(f'{count} {kind}' for kind, count in kinds.items())}")
+    counts.end()
+
+
+def measured(path):
+    """Runs the program over a file, and returns how it ended, and the most memory that it took."""
+    how = {"stdin": subprocess.DEVNULL, "stdout": subprocess.PIPE, "stderr": subprocess.PIPE}
+    with subprocess.Popen([program(), path], **how) as process:
+        timer = threading.Timer(SECONDS, process.kill)
+        timer.start()
+        output, errors = process.stdout.read(), process.stderr.read()
+        _, status, usage = os.wait4(process.pid, 0)
+        timer.cancel()
+        is_killed = os.WIFSIGNALED(status)
+        process.returncode = -os.WTERMSIG(status) if is_killed else os.WEXITSTATUS(status)
+    return Ended(process.returncode, output, errors), usage.ru_maxrss * 1024
+
+
+def same_in_memory(counts, name, path, want):
+    got, memory = measured(path)
+    counts.same(name, got, want)
+    is_much = memory > MOST_MEMORY
+    counts.told(f"{name}: memory", f"{memory} bytes, more than {MOST_MEMORY}" if is_much else None)
+    print(f"{counts.row}: {name}: at most {memory / 2**20:.1f} MB of memory", flush=True)
+
+
+def sparse(path, length):
+    with open(path, "wb") as file:
+        file.truncate(length)
+    return path
+
+
+def lawful(path, length):
+    """Makes a file that is lawful but for its length, and returns its path."""
+    steps = b"r 1\n" * 2**14
+    with open(path, "wb") as file:
+        left = length - file.write(b"tower 1\nsafe 0\n")
+        while left:
+            left -= file.write(steps[:left])
+    return path
+
+
+def long_files(counts, room):
+    """Files that are as long as one may be, longer, and without an end."""
+    counts.begin("files: long ones")
+    too_long, path = fault("file too long"), f"{room}/long"
+    not_ascii = fault("file line 1: 10 NotAscii")
+    counts.same("2^26 bytes of 0", ended([sparse(path, MOST_BYTES)]), not_ascii)
+    same_in_memory(counts, "2^26 + 1 bytes of 0", sparse(path, MOST_BYTES + 1), too_long)
+    same_in_memory(counts, "2^26 + 1 bytes of steps", lawful(path, MOST_BYTES + 1), too_long)
+    same_in_memory(counts, "2^36 bytes of 0", sparse(path, 2**36), too_long)
+    os.remove(path)
+    same_in_memory(counts, "/dev/zero", "/dev/zero", too_long)
+    pipe = made_pipe(f"{room}/endless")
+    feeder = fed(pipe, endless())
+    same_in_memory(counts, "a named pipe whose writer goes on", pipe, too_long)
+    feeder.join(SECONDS)
+    wrong = "it still writes" if feeder.is_alive() else None
+    counts.told("its writer is told that nobody reads", wrong)
+    counts.end()
+
+
+def made_pipe(path):
+    os.mkfifo(path)
+    return path
+
+
+def endless():
+    yield b"tower 1\nsafe 0\n"
+    while True:
+        yield b"r 1\n" * 2**12
+
+
+def fed(path, pieces):
+    """Writes pieces to a named pipe, by a thread, until nobody reads it."""
+    def feed():
+        try:
+            with open(path, "wb", buffering=0) as pipe:
+                for piece in pieces:
+                    pipe.write(piece)
+        except BrokenPipeError:
+            pass
+    feeder = threading.Thread(target=feed, daemon=True)
+    feeder.start()
+    return feeder
+
+
+def pipes(counts, room):
+    """Named pipes that come to an end: at once, in the middle, by a byte a write."""
+    counts.begin("files: named pipes that end")
+    pipe = made_pipe(f"{room}/pipe")
+    for row, data in ROWS.items():
+        bytewise = [data[i : i + 1] for i in range(len(data))]
+        half = data[: len(data) // 2]
+        for name, pieces in (("whole", [data]), ("no bytes", []), ("half", [half]),
+                             ("a byte a write", bytewise)):
+            feeder = fed(pipe, pieces)
+            counts.same(f"{row}, {name}", over(pipe), wanted(b"".join(pieces)))
+            feeder.join(SECONDS)
+    counts.end()
+
+
+def to_nobody():
+    os.setgroups([])
+    os.setgid(NOBODY)
+    os.setuid(NOBODY)
+
+
+def is_run_by_nobody(path):
+    """Returns whether the program can be run without rights here."""
+    how = {"stdout": subprocess.DEVNULL, "stderr": subprocess.DEVNULL, "preexec_fn": to_nobody}
+    try:
+        done = subprocess.run([path, "--help"], check=False, **how)
+    except (OSError, subprocess.SubprocessError):
+        return False
+    return done.returncode == 0
+
+
+def unreadable(counts, room):
+    """A file that its reader has no right to read, and a folder that it has no right to enter."""
+    path, folder = f"{room}/locked", f"{room}/closed"
+    names = {"a file without right to read": path, "one in such a folder": f"{folder}/x"}
+    with open(path, "wb") as file:
+        file.write(ROWS["stamped-best"])
+    os.mkdir(folder)
+    os.chmod(path, 0)
+    os.chmod(folder, 0)
+    how = {}
+    if os.geteuid() == 0:
+        os.chmod(room, stat.S_IRWXU | stat.S_IXGRP | stat.S_IXOTH)
+        how = {"preexec_fn": to_nobody}
+        if not is_run_by_nobody(program()):
+            for name in names:
+                counts.skip(name, "this runs as root, and nobody else can run the program")
+            return
+    for name, it in names.items():
+        counts.same(name, ended([it], **how), fault("file unreadable"))
+
+
+def no_files(counts, room):
+    """What can be named and is no tower file."""
+    counts.begin("files: what is no file")
+    os.symlink("ring", f"{room}/ring")
+    with open(f"{room}/plain", "wb") as file:
+        file.write(ROWS["stamped-best"])
+    with socket.socket(socket.AF_UNIX) as listener:
+        listener.bind(f"{room}/socket")
+        for name, path in (("a folder", room), ("a name that isn't there", f"{room}/absent"),
+                           ("an empty name", ""), ("a ring of links", f"{room}/ring"),
+                           ("below a file", f"{room}/plain/x"), ("a socket", f"{room}/socket"),
+                           ("a name of 5,000 bytes", "a" * 5000),
+                           ("a file whose first read fails", "/proc/self/mem")):
+            counts.same(name, ended([path], b"0 branches\n"), fault("file unreadable"))
+    counts.same("/dev/null", ended(["/dev/null"]), wanted(b""))
+    got = ended([b"\xff\xfe"], b"0 branches\n")
+    is_refused = got.status == 2 and not got.output and got.errors.startswith(b"towerbench: ")
+    counts.told("a name that is no text", None if is_refused else f"{got}")
+    unreadable(counts, room)
+    counts.end()
+
+
+def limits(counts, room):
+    """A file of more steps than cells may be made."""
+    counts.begin("files: more steps than cells")
+    path = f"{room}/steps"
+    with open(path, "wb") as file:
+        file.write(ROWS["stamped-best"])
+    for cells, want in (("16", wanted(ROWS["stamped-best"])),
+                        ("15", fault("open refused 24 Full"))):
+        counts.same(f"--cells {cells}", ended([path, "--cells", cells], tower_reader.SCRIPT), want)
+    counts.end()
+
+
+def run(counts, room):
+    broken(counts, room)
+    long_files(counts, room)
+    pipes(counts, room)
+    no_files(counts, room)
+    limits(counts, room)

@@ -1,0 +1,87 @@
+"""Fills by four workers under valgrind's memcheck and helgrind."""
+import re
+import shutil
+import subprocess
+
+from runs import SECONDS, ended, program, shown
+
+UNDER_VALGRIND = 40 * SECONDS
+TOOLS = {
+    "memcheck": ["--tool=memcheck", "--leak-check=full", "--errors-for-leak-kinds=definite"],
+    "helgrind": ["--tool=helgrind"],
+}
+ROUNDS = 3
+BRANCHES = 6
+STEPS = 900
+CYCLE = ["w 0 1", "r 1"] + ["g 0 0", "g 1 1"] * 11
+TOWERS = ("safe 0", "regular 2 0", "matrix 2 2 1 3")
+
+
+def tower(room, line):
+    path = f"{room}/tower"
+    steps = (CYCLE * (STEPS // len(CYCLE) + 1))[:STEPS]
+    with open(path, "w", encoding="ascii") as file:
+        file.write("\n".join(["tower 1", line, *steps, ""]))
+    return path
+
+
+def script():
+    """Returns a script of fills of branches, some of which share steps, and edits between them."""
+    names = [f"b{i}" for i in range(BRANCHES)]
+    lines = [f"0 fork main {STEPS - 100 * i} {name}" for i, name in enumerate(names)]
+    lines += [f"0 detach {name}" for name in names[::2]]
+    for turn in range(ROUNDS):
+        lines += [f"0 fill {names[turn]}"]
+        lines += [f"0 insert {name} {STEPS // 3 + turn} g 0 1" for name in names]
+        lines += [f"0 state {name} {STEPS // 4}" for name in names]
+    lines += ["0 fill main", "0 history main 400", "0 branches"]
+    return "".join(f"{line}\n" for line in lines).encode()
+
+
+def found(log):
+    """Returns what a tool's log tells of errors and of what was lost, or None."""
+    end = shown(log[-2000:].encode())
+    if "ERROR SUMMARY: 0 errors" not in log:
+        return f"errors were found: {end}"
+    for kind in ("definitely", "indirectly"):
+        lost = re.search(rf"{kind} lost: ([\d,]+) bytes", log)
+        if lost and lost.group(1) != "0":
+            return f"{lost.group(0)}: {end}"
+    return None
+
+
+def checked(counts, name, tool, words, given, want, log):
+    """Runs a command under a tool, and holds it to its answers, if told, and to no error."""
+    valgrind = ["valgrind", *TOOLS[tool], f"--log-file={log}"]
+    how = {"stdout": subprocess.PIPE, "stderr": subprocess.PIPE, "timeout": UNDER_VALGRIND}
+    try:
+        done = subprocess.run([*valgrind, *words], input=given, check=False, **how)
+    except subprocess.TimeoutExpired:
+        counts.told(f"{name}, {tool}", "it has no end")
+        return
+    with open(log, encoding="utf-8", errors="replace") as file:
+        counts.told(f"{name}, {tool}: its errors", found(file.read()))
+    is_same = done.returncode == 0 and (want is None or done.stdout == want)
+    told = f"status {done.returncode}, {shown(done.stdout)}"
+    counts.told(f"{name}, {tool}: its answers", None if is_same else told)
+
+
+def fills(counts, room):
+    counts.begin("threads: fills by four workers")
+    for line in TOWERS:
+        path = tower(room, line)
+        alone = ended([path], script())
+        is_good = alone.status == 0 and not alone.errors and b"refused" not in alone.output
+        counts.told(f"{line}, by none", None if is_good else f"{alone}")
+        for tool in TOOLS:
+            words = [program(), path, "--workers", "4"]
+            checked(counts, line, tool, words, script(), alone.output, f"{room}/log")
+    counts.end()
+
+
+def run(counts, room):
+    counts.begin("threads")
+    if not shutil.which("valgrind"):
+        counts.skip("all of it", "there is no valgrind (Debian's package of that name)")
+        return
+    fills(counts, room)

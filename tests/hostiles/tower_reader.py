@@ -1,0 +1,156 @@
+"""A second reader of tower files, written from the documents alone, to hold the program's own to.
+
+It goes over a file once for each kind of fault, in the order in which the first one is told, and
+knows the pages of a tower on which no step was made.
+"""
+import collections
+import re
+
+NUMBERS = {
+    "NotAscii": 10, "BadHeader": 11, "UnknownTower": 12,
+    "BadField": 13, "BadStep": 14, "BadSize": 15,
+}
+HEADERS = {"tower 1\n": 1, "tower 2\n": 2}
+# How many numbers the second line has behind the tower's name.
+FIELDS = {"safe": 1, "copies": 2, "regular": 2, "unary": 3, "stamped": 2, "matrix": 4}
+NUMBER = re.compile(r"0|[1-9][0-9]{0,8}")
+LINE = re.compile(r"[^\n]*\n|[^\n]+")
+# How many numbers a step has behind its letter.
+STEPS = {"w": 2, "r": 1, "g": 2, "x": 1}
+
+# readers: how many there are behind process 0, or None where each process reads and writes.
+Roles = collections.namedtuple("Roles", "processes values readers")
+Tower = collections.namedtuple("Tower", "version kind numbers steps")
+
+
+class Fault(Exception):
+    """The first fault of a file."""
+
+    def __init__(self, name, line):
+        super().__init__(name, line)
+        self.line = f"towerbench: file line {line}: {NUMBERS[name]} {name}\n".encode()
+
+
+def read(data):
+    """Returns the tower and the steps that a file's bytes spell, or raises their first fault."""
+    refuse_bytes(data)
+    lines = LINE.findall(data.decode("ascii"))
+    header, second = (lines[i] if i < len(lines) else "" for i in (0, 1))
+    if header not in HEADERS:
+        raise Fault("BadHeader", 1)
+    kind, numbers = tower_of(second)
+    tower = Tower(HEADERS[header], kind, numbers, [line[:-1] for line in lines[2:]])
+    for place, line in enumerate(lines[2:], 3):
+        if not (line.endswith("\n") and fits(tower, line[:-1].split(" "))):
+            raise Fault("BadStep", place)
+    return tower
+
+
+def refuse_bytes(data):
+    for place, byte in enumerate(data):
+        if byte != 0x0A and not 0x20 <= byte <= 0x7E:
+            raise Fault("NotAscii", 1 + data.count(b"\n", 0, place))
+
+
+def tower_of(line):
+    """Returns the kind and the numbers of a tower by a file's second line."""
+    kind = re.match(r"[^ \n]*", line).group()
+    if kind not in FIELDS:
+        raise Fault("UnknownTower", 2)
+    fields = line.rstrip("\n").split(" ")[1:]
+    are_numbers = all(NUMBER.fullmatch(it) for it in fields)
+    if not line.endswith("\n") or len(fields) != FIELDS[kind] or not are_numbers:
+        raise Fault("BadField", 2)
+    numbers = [int(it) for it in fields]
+    if not is_sized(kind, *numbers):
+        raise Fault("BadSize", 2)
+    return kind, numbers
+
+
+def is_sized(kind, *numbers):
+    """Returns whether the numbers of a tower are within their limits."""
+    if kind == "safe":
+        return numbers[0] <= 1
+    if kind in ("copies", "regular"):
+        return 1 <= numbers[0] <= 4 and numbers[1] <= 1
+    if kind == "unary":
+        values, readers, init = numbers
+        return 2 <= values <= 512 and 1 <= readers <= 4 and init < values
+    if kind == "stamped":
+        values, last = numbers
+        return 2 <= values <= 512 and last <= 511 and (last + 1) * values <= 512
+    count, values, tag, inner = numbers
+    codes = (inner + 1) * (tag + 1) * count * values
+    in_range = 2 <= count <= 4 and 2 <= values <= 512 and tag <= 511 and inner <= 511
+    return in_range and codes <= 512 and count * count * codes <= 4096
+
+
+def roles_of(kind, numbers):
+    """Returns who may do what at a tower."""
+    if kind == "safe":
+        return Roles(2, 2, 1)
+    if kind in ("copies", "regular"):
+        return Roles(numbers[0] + 1, 2, numbers[0])
+    if kind == "unary":
+        return Roles(numbers[1] + 1, numbers[0], numbers[1])
+    if kind == "stamped":
+        return Roles(2, numbers[0], 1)
+    return Roles(numbers[0], numbers[1], None)
+
+
+def fits(tower, words):
+    """Returns whether a line's words are a step of the file's version that fits its tower."""
+    letter, fields = words[0], words[1:]
+    if STEPS.get(letter) != len(fields) or not all(NUMBER.fullmatch(it) for it in fields):
+        return False
+    roles, numbers = roles_of(tower.kind, tower.numbers), [int(it) for it in fields]
+    process = numbers[0]
+    if letter == "w":
+        is_writer = process < roles.processes if roles.readers is None else process == 0
+        return is_writer and numbers[1] < roles.values
+    if letter == "r":
+        return process < roles.processes and (roles.readers is None or process >= 1)
+    if letter == "g":
+        return process < roles.processes and numbers[1] <= 1
+    return tower.version == 2 and process < roles.processes
+
+
+def unary_at(values, readers, init):
+    """Returns the cells and the words of a unary number before any step."""
+    bits = [int(i == init) for i in range(values)]
+    return [bit for bit in bits for _ in range(readers)], bits
+
+
+def stamped_at(codes):
+    """Returns those of a stamped register: behind its bits a last stamp and a best code."""
+    cells, words = unary_at(codes, 1, 0)
+    return cells, words + [0, 0]
+
+
+def memory_of(kind, numbers):
+    """Returns the cells and the words of a tower before any step."""
+    if kind == "safe":
+        return numbers, []
+    if kind in ("copies", "regular"):
+        return [numbers[1]] * numbers[0], [numbers[1]] if kind == "regular" else []
+    if kind == "unary":
+        return unary_at(*numbers)
+    if kind == "stamped":
+        return stamped_at((numbers[1] + 1) * numbers[0])
+    count, values, tag, inner = numbers
+    cells, words = stamped_at((inner + 1) * (tag + 1) * count * values)
+    return cells * count**2, words * count**2
+
+
+SCRIPT = b"0 state main 0\n0 steps main\n"
+
+
+def pages(tower):
+    """Returns what SCRIPT is answered over a tower: the state before any step, and the steps."""
+    cells, words = memory_of(tower.kind, tower.numbers)
+    lines = [f"0: state main 0 of {len(tower.steps)}"]
+    lines += [f"  p{p} idle" for p in range(roles_of(tower.kind, tower.numbers).processes)]
+    lines += ["  bits " + "".join(map(str, cells)), "  words " + (" ".join(map(str, words)) or "-")]
+    lines += [f"0: steps main {len(tower.steps)}"]
+    lines += [f"  {place} {step}" for place, step in enumerate(tower.steps)]
+    return "".join(f"{line}\n" for line in lines).encode()

@@ -1,0 +1,107 @@
+"""A run of the program that is given its script by stages, and what memory it takes in each."""
+import collections
+import re
+import subprocess
+import threading
+import time
+
+from runs import BYTES_SHOWN, program
+
+PIECE = 2**16
+
+# script: bytes; pieces: the bytes that are to be answered, one after the other; of: what it has
+# count of, for each of which memory is told, or None.
+Stage = collections.namedtuple("Stage", "name script pieces of count", defaults=(None, None))
+# held: what was held before the stage; most: the peak within it; in bytes.
+Measure = collections.namedtuple("Measure", "stage held most seconds")
+
+
+def difference(stream, pieces):
+    """Returns how a stream differs from the pieces that are to come on it, or None."""
+    place = 0
+    for piece in pieces:
+        got = stream.read(len(piece))
+        if got != piece:
+            at = next((i for i, pair in enumerate(zip(got, piece)) if pair[0] != pair[1]), len(got))
+            near = slice(max(0, at - BYTES_SHOWN // 4), at + BYTES_SHOWN // 4)
+            return f"at byte {place + at}: {got[near]!r}, wanted {piece[near]!r}"
+        place += len(piece)
+    return None
+
+
+def memory_of(process, kind):
+    """Returns the bytes that a process holds (VmRSS) or held at most (VmHWM), 0 once it ended."""
+    try:
+        with open(f"/proc/{process.pid}/status", encoding="ascii") as file:
+            found = re.search(rf"^{kind}:\s+(\d+) kB", file.read(), re.M)
+    except OSError:
+        return 0
+    return 1024 * int(found.group(1)) if found else 0
+
+
+def begin_peak(process):
+    """Has what was held at most begin anew."""
+    try:
+        with open(f"/proc/{process.pid}/clear_refs", "w", encoding="ascii") as file:
+            file.write("5")
+    except OSError:
+        pass
+
+
+class Watched:
+    """A run of the program, used by `with`. It is ended where its answers take too long."""
+
+    def __init__(self, words, seconds):
+        pipes = {"stdin": subprocess.PIPE, "stdout": subprocess.PIPE, "stderr": subprocess.PIPE}
+        self.process = subprocess.Popen([program(), *words], **pipes)
+        self.timer = threading.Timer(seconds, self.process.kill)
+        self.feeder, self.is_begun = None, False
+
+    def __enter__(self):
+        self.timer.start()
+        return self
+
+    def __exit__(self, *_):
+        self.timer.cancel()
+        self.process.kill()
+        if self.feeder:
+            self.feeder.join()
+        self.process.__exit__(None, None, None)
+
+    def feed(self, script):
+        try:
+            for place in range(0, len(script), PIECE):
+                self.process.stdin.write(script[place : place + PIECE])
+            self.process.stdin.flush()
+        except (BrokenPipeError, ValueError):
+            pass
+
+    def stage(self, stage):
+        """Gives the run a stage's script, and returns how its answers differ, and a Measure."""
+        begun, held = time.monotonic(), 0
+        # (what is opened before the first stage is told with it)
+        if self.is_begun:
+            held = memory_of(self.process, "VmRSS")
+            begin_peak(self.process)
+        self.is_begun = True
+        self.feeder = threading.Thread(target=self.feed, args=(stage.script,), daemon=True)
+        self.feeder.start()
+        wrong = difference(self.process.stdout, stage.pieces)
+        most = memory_of(self.process, "VmHWM")
+        if wrong:
+            self.process.kill()
+        self.feeder.join()
+        return wrong, Measure(stage, held, most, time.monotonic() - begun)
+
+    def end(self):
+        """Ends the script, and returns what isn't as at a good end, or None."""
+        try:
+            self.process.stdin.close()
+        except BrokenPipeError:
+            pass
+        output = self.process.stdout.read(BYTES_SHOWN)
+        errors = self.process.stderr.read(BYTES_SHOWN)
+        status = self.process.wait()
+        if (status, output, errors) == (0, b"", b""):
+            return None
+        return f"status {status}, {output!r}, {errors!r}"
