@@ -1,1 +1,13 @@
 pub mod Stacks
+pub mod Pointwise
+pub mod Halves
+pub mod Seen
+pub mod Judged
+pub mod Moves
+pub mod Reached
+pub mod Told
+pub mod Pending
+pub mod Agreed
+pub mod Agreement
+pub mod SafeIsSafe
+pub mod NeverStray

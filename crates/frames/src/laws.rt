@@ -9,9 +9,11 @@ ghost use Rattle.frames.specs.Beside.{LeavesOthers};
 ghost use Rattle.frames.specs.declared.types.Step.{Step};
 ghost use Rattle.frames.specs.Configuration.{Configuration, fits_step, is_enabled, is_stopped, stepped, replayed};
 ghost use Rattle.frames.specs.Parked.{IsConfiguration};
+ghost use Rattle.frames.specs.Regularity.{IsAtomic, IsRegular, IsSafe, NeverStray};
 ghost use Rattle.frames.specs.laws.Steps.{IsVoid, StaysStopped};
 
-use crate::register::Register;
+use crate::register::{Behaves, Register};
+use crate::safe::Safe;
 
 /// A step that isn't enabled leaves the configuration, and records one Void of its process.
 pub fn void_unless_enabled<R: Register>(register: &R)
@@ -38,4 +40,15 @@ pub fn leaves_others<R: Register>(register: &R)
         → LeavesOthers at (R.is register.now).size m (with_part at ((R.is register.now).begins who o (part at (R.is register.now).size m)).memory m) }
     ensures go { (at : Place) (m : Memory) (who : ℕ) (o : Op) (p : R.Pending) (choice : Bool) → LiesIn at (R.is register.now).size m → R.Holds register.now (part at (R.is register.now).size m) → R.Reaches register.now who o p
         → LeavesOthers at (R.is register.now).size m (with_part at ((R.is register.now).goes p choice (part at (R.is register.now).size m)).memory m) }
+{}
+
+/// The safe bit is safe.
+pub fn safe(register: &Safe)
+    ensures { IsSafe (⟦<Safe as Behaves>⟧.is register.now) }
+{}
+
+/// No returned read of a regular register is stray, and none of an atomic one.
+pub fn never_stray<R: Register>(register: &R)
+    ensures regular { IsRegular (R.is register.now) → NeverStray (R.is register.now) }
+    ensures atomic { IsAtomic (R.is register.now) → NeverStray (R.is register.now) }
 {}

@@ -11,3 +11,4 @@ pub mod roles;
 pub mod running;
 pub mod safe;
 pub mod types;
+pub mod verdict;

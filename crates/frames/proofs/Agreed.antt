@@ -1,0 +1,238 @@
+-- The two folds over what a register with one writer records agree: what is known by events (`Known`), and what is seen by steps (`Seen`).
+use Rattle.std.proofs.Common.{◌≡◌, ℕ, zero, suc, ◌+◌, ◌<◌, ◌≤◌, Bool, true, false, ◌||◌, ◌&&◌, cond, List, [], ◌∷◌, ◌++◌, length, drop, Option, Some, None, inl, inr, refl, sym, ap, subst, ◌∙◌, true≢false, arith, eq-eqb, get_or, set, replicate, IsTrue, append-nil, append_assoc, length-append}
+use Rattle.std.specs.Prelude.{◌==◌, ◌≢◌, ⊤, reverse, nat_lt, if◌then◌else◌}
+use Rattle.std.specs.List.{find, list_any, AllByRecursion}
+use Rattle.std.specs.Option.{option_map, unwrap_or}
+use Rattle.std.proofs.lemmas.Bool.{cases_eq, ne_eqb, or_parts}
+use Rattle.std.proofs.lemmas.List.{reverse-append, drop-append-le, get_or-set_same, get_or-set_other}
+use Rattle.std.proofs.Math.Seq.{drop-length}
+use Rattle.std.proofs.lemmas.List.Folds.{list_any-append}
+use Rattle.safe_bit.specs.Memory.{Memory}
+use Rattle.frames.specs.declared.types.Op.{Op}
+use Rattle.frames.specs.declared.types.Op.TheVariants as op
+use Rattle.frames.specs.declared.types.Outcome.{Outcome}
+use Rattle.frames.specs.declared.types.Outcome.TheVariants.{Value, Written, Spent}
+use Rattle.frames.specs.declared.types.Next.{Next}
+use Rattle.frames.specs.declared.types.Next.TheVariants.{Pending, Done}
+use Rattle.frames.specs.declared.types.Reason.{Reason}
+use Rattle.frames.specs.declared.types.Reason.TheVariants.{Busy, Idle, Stopped}
+use Rattle.frames.specs.declared.types.Event.{Event}
+use Rattle.frames.specs.declared.types.Event.TheVariants.{Invoke, Got, Wrote, Refused, Void, Stop, Chosen}
+use Rattle.frames.specs.declared.types.StepEvents.{StepEvents}
+use Rattle.frames.specs.declared.running.Running.{Running}
+use Rattle.frames.specs.declared.verdict.Reading.{Reading}
+use Rattle.frames.specs.declared.verdict.Verdict.{Verdict}
+use Rattle.frames.specs.declared.verdict.Verdict.TheVariants.{Fresh, Overlap, Stray}
+use Rattle.frames.specs.Behaviour.{Behaviour, StandsWell, Answers}
+use Rattle.frames.specs.Configuration.{return_of, still_running, chosen_of, in_order}
+use Rattle.frames.specs.Verdicts.{Known, initially, after, invoked_now, returning, last_read, reading, is_value, has_returned, overlaps, judged}
+use Rattle.frames.specs.Regularity.{in_progress, overlapped, FreshAlone, NotStray}
+use Rattle.frames.proofs.Seen.{Seen, Returned, among, verdict, opening, now_last, sees, refuses, after_step, got, IsFreshAlone, IsNotStray}
+use Rattle.frames.proofs.Pointwise.{put, put_same, put_other}
+
+-- a process's read in progress, as both folds have it
+pub record ReadAgrees (p : ℕ) (k : Known) (s : Seen) : Type 0 where
+  pub read : Reading
+  pub last : last_read p k ≡ Some read
+  pub fresh : read.fresh ≡ s.fresh p
+  pub since : read.since ≤ length k.returned
+  pub over : s.overlaps p ≡ reverse (drop read.since k.returned ++ in_progress k.writing)
+
+-- both folds, where each process has this pending
+pub record Agrees (ops : ℕ → Option Op) (k : Known) (s : Seen) : Type 0 where
+  pub last : k.fresh ≡ s.last
+  pub writing : k.writing ≡ s.writing
+  pub idle : ops 0 ≡ None → k.writing ≡ None
+  pub reads : (p : ℕ) → ops p ≡ Some op.Read → ReadAgrees p k s
+
+pub agrees_same : (from to : ℕ → Option Op) (k : Known) (s : Seen) → ((p : ℕ) → from p ≡ to p) → Agrees from k s → Agrees to k s
+agrees_same from to k s same a = record { last = a.last; writing = a.writing; idle = λ e. a.idle (same 0 ∙ e); reads = λ p e. a.reads p (same p ∙ e) }
+
+-- the last of some
+pub found_last : (p : ℕ) (r : Reading) (rs : List Reading) → find (λ x. x.process == p) (reverse (rs ++ r ∷ [])) ≡ cond (r.process == p) (Some r) (find (λ x. x.process == p) (reverse rs))
+found_last p r rs = ap (find (λ (x : Reading). x.process == p)) (reverse-append rs (r ∷ []))
+
+reverse_last : (xs : List ℕ) (x : ℕ) → reverse (xs ++ x ∷ []) ≡ x ∷ reverse xs
+reverse_last xs x = reverse-append xs (x ∷ [])
+
+-- what both say of a read's value
+among_reverse : (x : ℕ) (xs : List ℕ) → among x (reverse xs) ≡ among x xs
+among_reverse x [] = refl
+among_reverse x (y ∷ xs) =
+    ap (among x) (reverse-append (y ∷ []) xs) ∙ list_any-append (λ v. v == x) (reverse xs) (y ∷ [])
+    ∙ ap (λ b. b || ((y == x) || false)) (among_reverse x xs) ∙ either_way (among x xs) (y == x)
+  where
+    either_way : (a b : Bool) → (a || (b || false)) ≡ (b || a)
+    either_way true true = refl
+    either_way true false = refl
+    either_way false true = refl
+    either_way false false = refl
+
+pub is_among : (x : ℕ) (w : Option ℕ) → is_value x w ≡ among x (in_progress w)
+is_among x None = refl
+is_among x (Some v) = or_false (v == x)
+  where
+    or_false : (b : Bool) → b ≡ (b || false)
+    or_false true = refl
+    or_false false = refl
+
+abbrev pub returned_of : ℕ → ℕ → Seen → Returned
+returned_of p v s = record { reader = p; value = v; fresh = s.fresh p; overlaps = s.overlaps p }
+
+reading_is : (p : ℕ) (k : Known) (s : Seen) (a : ReadAgrees p k s) → reading p k ≡ a.read
+reading_is p k s a = ap (λ o. unwrap_or o (invoked_now p k)) a.last
+
+over_is : (p : ℕ) (k : Known) (s : Seen) (a : ReadAgrees p k s) → s.overlaps p ≡ reverse (overlapped p k)
+over_is p k s a = a.over ∙ ap (λ (r : Reading). reverse (drop r.since k.returned ++ in_progress k.writing)) (sym (reading_is p k s a))
+
+pub judged_is : (p v : ℕ) (k : Known) (s : Seen) → ReadAgrees p k s → judged k p v ≡ verdict (returned_of p v s)
+judged_is p v k s a =
+    let r = reading_is p k s a in
+    let over : overlaps (reading p k) v k ≡ among v (s.overlaps p) =
+    ap (λ b. has_returned v (reading p k).since k || b) (is_among v k.writing)
+    ∙ sym (list_any-append (λ u. u == v) (drop (reading p k).since k.returned) (in_progress k.writing))
+    ∙ sym (among_reverse v (overlapped p k)) ∙ sym (ap (among v) (over_is p k s a)) in
+    ap (λ n. if v == n then Fresh else (if overlaps (reading p k) v k then Overlap else Stray)) (ap (λ (x : Reading). x.fresh) r ∙ a.fresh)
+    ∙ ap (λ b. if v == s.fresh p then Fresh else (if b then Overlap else Stray)) over
+
+no_overlap : (p : ℕ) (k : Known) (s : Seen) → ReadAgrees p k s → overlapped p k ≡ [] → s.overlaps p ≡ []
+no_overlap p k s a e = over_is p k s a ∙ ap reverse e
+
+none_reversed : (xs : List ℕ) → reverse xs ≡ [] → xs ≡ []
+none_reversed [] e = refl
+none_reversed (x ∷ xs) e = absurd (never (reverse xs) (sym (reverse-append (x ∷ []) xs) ∙ e))
+  where
+    never : (ys : List ℕ) → ys ++ (x ∷ []) ≡ [] → ⊥
+    never [] e = cc
+    never (y ∷ ys) e = cc
+
+no_overlapped : (p : ℕ) (k : Known) (s : Seen) → ReadAgrees p k s → s.overlaps p ≡ [] → overlapped p k ≡ []
+no_overlapped p k s a e = none_reversed (overlapped p k) (sym (over_is p k s a) ∙ e)
+
+-- what is said of a read by what is known, and by what is seen
+pub record Alike (Says : Known → ℕ → ℕ → Type 0) (Good : Returned → Type 0) : Type 0 where
+  pub seen : (p v : ℕ) (k : Known) (s : Seen) → ReadAgrees p k s → Says k p v → Good (returned_of p v s)
+  pub known : (p v : ℕ) (k : Known) (s : Seen) → ReadAgrees p k s → Good (returned_of p v s) → Says k p v
+
+pub fresh_alike : Alike FreshAlone IsFreshAlone
+fresh_alike = record {
+  seen = λ p v k s a h e. sym (judged_is p v k s a) ∙ h (no_overlapped p k s a e);
+  known = λ p v k s a h e. judged_is p v k s a ∙ h (no_overlap p k s a e);
+}
+
+pub stray_alike : Alike NotStray IsNotStray
+stray_alike = record {
+  seen = λ p v k s a h e. h (judged_is p v k s a ∙ e);
+  known = λ p v k s a h e. h (sym (judged_is p v k s a) ∙ e);
+}
+
+-- a write is invoked
+pub agrees_write : (v : ℕ) (ops : ℕ → Option Op) (k : Known) (s : Seen) → ops 0 ≡ None → Agrees ops k s
+    → Agrees (put 0 (Some (op.Write v)) ops) (after k (Invoke 0 (op.Write v))) (sees (Some (Invoke 0 (op.Write v))) s)
+agrees_write v ops k s free a = record {
+  last = a.last;
+  writing = refl;
+  idle = λ e. absurd (cc e);
+  reads = λ p e. elim (cases_eq p 0) as (λ _. ReadAgrees p (after k (Invoke 0 (op.Write v))) (sees (Some (Invoke 0 (op.Write v))) s)) [
+    | inl zero_p ↦ absurd (let f : put 0 (Some (op.Write v)) ops 0 ≡ Some op.Read = sym (ap (put 0 (Some (op.Write v)) ops) zero_p) ∙ e in cc)
+    | inr other ↦
+        let r = a.reads p (sym (put_other 0 p (Some (op.Write v)) ops other) ∙ e) in
+        record {
+          read = r.read;
+          last = r.last;
+          fresh = r.fresh;
+          since = r.since;
+          over = ap (λ l. v ∷ l) (r.over ∙ ap (λ w. reverse (drop r.read.since k.returned ++ in_progress w)) (a.idle free) ∙ ap reverse (append-nil (drop r.read.since k.returned)))
+              ∙ sym (reverse_last (drop r.read.since k.returned) v);
+        }
+  ];
+}
+
+one_reversed : (w : Option ℕ) → in_progress w ≡ reverse (in_progress w)
+one_reversed None = refl
+one_reversed (Some v) = refl
+
+-- a read is invoked
+pub agrees_read : (p : ℕ) (ops : ℕ → Option Op) (k : Known) (s : Seen) → ops p ≡ None → Agrees ops k s
+    → Agrees (put p (Some op.Read) ops) (after k (Invoke p op.Read)) (sees (Some (Invoke p op.Read)) s)
+agrees_read p ops k s free a =
+    let k' : Known = after k (Invoke p op.Read) in
+    let s' : Seen = sees (Some (Invoke p op.Read)) s in
+    record {
+      last = a.last;
+      writing = a.writing;
+      idle = λ e. elim (cases_eq 0 p) as (λ _. k.writing ≡ None) [
+        | inl same ↦ absurd (let f : put p (Some op.Read) ops p ≡ None = sym (ap (put p (Some op.Read) ops) same) ∙ e in let g : put p (Some op.Read) ops p ≡ Some op.Read = put_same p (Some op.Read) ops in cc)
+        | inr other ↦ a.idle (sym (put_other p 0 (Some op.Read) ops other) ∙ e)
+      ];
+      reads = λ q e. elim (cases_eq q p) as (λ _. ReadAgrees q k' s') [
+        | inl same ↦ subst (λ i. ReadAgrees i k' s') (sym same) (record {
+          read = invoked_now p k;
+          last = found_last p (invoked_now p k) k.reads ∙ ap (λ b. cond b (Some (invoked_now p k)) (last_read p k)) (eq-eqb p p refl);
+          fresh = a.last ∙ sym (put_same p s.last s.fresh);
+          since = omega arith;
+          over = put_same p (in_progress s.writing) s.overlaps ∙ ap in_progress (sym a.writing) ∙ one_reversed k.writing
+              ∙ sym (ap (λ l. reverse (l ++ in_progress k.writing)) (drop-length k.returned));
+        })
+        | inr other ↦
+            let r = a.reads q (sym (put_other p q (Some op.Read) ops other) ∙ e) in
+            record {
+              read = r.read;
+              last = found_last q (invoked_now p k) k.reads ∙ ap (λ b. cond b (Some (invoked_now p k)) (last_read q k)) (ne_eqb p q (λ f. other (sym f))) ∙ r.last;
+              fresh = r.fresh ∙ sym (put_other p q s.last s.fresh other);
+              since = r.since;
+              over = put_other p q (in_progress s.writing) s.overlaps other ∙ r.over;
+            }
+      ];
+    }
+
+-- an operation ends: nobody else's changes
+pub agrees_ended : (p : ℕ) (ops : ℕ → Option Op) (k : Known) (s : Seen) → (p ≡ 0 → k.writing ≡ None) → Agrees ops k s → Agrees (put p None ops) k s
+agrees_ended p ops k s quiet a = record {
+  last = a.last;
+  writing = a.writing;
+  idle = λ e. elim (cases_eq p 0) as (λ _. k.writing ≡ None) [
+    | inl same ↦ quiet same
+    | inr other ↦ a.idle (sym (put_other p 0 None ops (λ f. other (sym f))) ∙ e)
+  ];
+  reads = λ q e. elim (cases_eq q p) as (λ _. ReadAgrees q k s) [
+    | inl same ↦ absurd (let f : put p None ops p ≡ Some op.Read = sym (ap (put p None ops) same) ∙ e in let g : put p None ops p ≡ None = put_same p None ops in cc)
+    | inr other ↦ a.reads q (sym (put_other p q None ops other) ∙ e)
+  ];
+}
+
+-- the write in progress returns
+returning_agrees : (w : Option ℕ) (ops : ℕ → Option Op) (k : Known) (s : Seen) → k.writing ≡ w → Agrees ops k s
+    → Agrees ops (returning w k) (record s { last = now_last w s.last; writing = None })
+returning_agrees None ops k s e a = record {
+  last = a.last;
+  writing = e;
+  idle = a.idle;
+  reads = λ p h. let r = a.reads p h in record { read = r.read; last = r.last; fresh = r.fresh; since = r.since; over = r.over };
+}
+returning_agrees (Some v) ops k s e a = record {
+  last = refl;
+  writing = refl;
+  idle = λ h. refl;
+  reads = λ p h.
+      let r = a.reads p h in
+      record {
+        read = r.read;
+        last = r.last;
+        fresh = r.fresh;
+        since = (let l = r.since in omega (arith, l, length-append k.returned (v ∷ [])));
+        over = r.over ∙ ap (λ w. reverse (drop r.read.since k.returned ++ in_progress w)) e
+            ∙ ap reverse (sym (drop-append-le r.read.since k.returned (v ∷ []) r.since) ∙ sym (append-nil (drop r.read.since (k.returned ++ v ∷ []))));
+      };
+}
+
+returning_none : (w : Option ℕ) (k : Known) → k.writing ≡ w → (returning w k).writing ≡ None
+returning_none None k e = e
+returning_none (Some v) k e = refl
+
+pub agrees_wrote : (p : ℕ) (ops : ℕ → Option Op) (k : Known) (s : Seen) → Agrees ops k s → Agrees ops (after k (Wrote p)) (sees (Some (Wrote p)) s)
+agrees_wrote p ops k s a =
+    subst (λ w. Agrees ops (after k (Wrote p)) (record s { last = now_last w s.last; writing = None })) a.writing (returning_agrees k.writing ops k s refl a)
+
+pub wrote_quiet : (p : ℕ) (k : Known) → (after k (Wrote p)).writing ≡ None
+wrote_quiet p k = returning_none k.writing k refl

@@ -1,0 +1,35 @@
+-- What the verdict on a returned read says of its value, and what no write in progress says.
+use Rattle.std.proofs.Common.{◌≡◌, ℕ, Bool, true, false, List, [], ◌∷◌, Option, Some, None, refl, ap, sym, ◌∙◌, inl, inr, IsTrue, eq-eqb}
+use Rattle.std.specs.Prelude.{◌==◌, ◌⊎◌, if◌then◌else◌}
+use Rattle.std.proofs.lemmas.Bool.{eqb-true}
+use Rattle.frames.specs.declared.verdict.Verdict.TheVariants.{Fresh, Overlap, Stray}
+use Rattle.frames.specs.Regularity.{in_progress}
+use Rattle.frames.proofs.Seen.{Returned, among, verdict, IsNotStray}
+
+pub none_in : (w : Option ℕ) → in_progress w ≡ [] → w ≡ None
+none_in None e = refl
+none_in (Some v) e = let f : ⊥ = cc in absurd f
+
+pub is_fresh : (x : Returned) → x.value ≡ x.fresh → verdict x ≡ Fresh
+is_fresh x e = ap (λ c. if c then Fresh else if among x.value x.overlaps then Overlap else Stray) (eq-eqb x.value x.fresh e)
+
+pub fresh_value : (x : Returned) → verdict x ≡ Fresh → x.value ≡ x.fresh
+fresh_value x h = go (x.value == x.fresh) refl h
+  where
+    late : (d : Bool) → (if d then Overlap else Stray) ≡ Fresh → ⊥
+    late true e = cc
+    late false e = cc
+
+    go : (c : Bool) → (x.value == x.fresh) ≡ c → (if c then Fresh else if among x.value x.overlaps then Overlap else Stray) ≡ Fresh → x.value ≡ x.fresh
+    go true e k = eqb-true x.value x.fresh e
+    go false e k = absurd (late (among x.value x.overlaps) k)
+
+-- what a read gives, where it is not stray
+pub not_stray_is : (x : Returned) → IsNotStray x → (x.value ≡ x.fresh) ⊎ IsTrue (among x.value x.overlaps)
+not_stray_is x h = go (x.value == x.fresh) refl (among x.value x.overlaps) refl h
+  where
+    go : (c : Bool) → (x.value == x.fresh) ≡ c → (d : Bool) → among x.value x.overlaps ≡ d → ((if c then Fresh else if d then Overlap else Stray) ≡ Stray → ⊥)
+        → (x.value ≡ x.fresh) ⊎ IsTrue (among x.value x.overlaps)
+    go true e d f k = inl (eqb-true x.value x.fresh e)
+    go false e true f k = inr f
+    go false e false f k = absurd (k refl)

@@ -1,0 +1,145 @@
+-- No returned read of an atomic register is stray: its number is that of the write last returned before it, or of one that it overlaps.
+use Rattle.std.proofs.Common.{◌≡◌, ℕ, zero, suc, ◌+◌, ◌<◌, ◌≤◌, ◌-◌, Bool, true, false, ◌||◌, cond, List, [], ◌∷◌, ◌++◌, length, drop, Option, Some, None, inl, inr, refl, sym, ap, subst, ◌∙◌, arith, get_or, eq-eqb, length-append}
+use Rattle.std.specs.Prelude.{◌==◌, if◌then◌else◌}
+use Rattle.std.specs.List.{list_any}
+use Rattle.std.specs.Option.{unwrap_or}
+use Rattle.std.proofs.lemmas.Bool.{cases_eq}
+use Rattle.std.proofs.lemmas.List.{drop-append-le, get_or-drop, get_or_append_left, get_or_at, length-drop}
+use Rattle.std.proofs.lemmas.List.Folds.{list_any-append, list_any_at}
+use Rattle.frames.specs.declared.types.Op.{Op}
+use Rattle.frames.specs.declared.types.Op.TheVariants as op
+use Rattle.frames.specs.declared.types.Event.{Event}
+use Rattle.frames.specs.declared.types.Event.TheVariants.{Invoke, Got, Wrote, Refused, Void, Stop, Chosen}
+use Rattle.frames.specs.declared.verdict.Reading.{Reading}
+use Rattle.frames.specs.declared.verdict.Verdict.{Verdict}
+use Rattle.frames.specs.declared.verdict.Verdict.TheVariants.{Fresh, Overlap, Stray}
+use Rattle.frames.specs.Behaviour.{Behaviour}
+use Rattle.frames.specs.Verdicts.{Known, initially, after, refusing, returning, invoked_now, last_read, reading, overlaps, judged}
+use Rattle.frames.specs.Regularity.{in_progress, overlapped, OnReturn, EachRead, NotStray, NeverStray, IsRegular, IsAtomic, by_number, IsNumber, Numbered}
+use Rattle.frames.proofs.Agreed.{found_last, is_among}
+
+-- a read as it was noted: no more writes had returned than have by now, and the last of them, or the initial value, was fresh
+record IsNoted (value : ℕ) (returned : List ℕ) (r : Reading) : Type 0 where
+  since : r.since ≤ length returned
+  fresh : get_or (value ∷ returned) r.since value ≡ r.fresh
+
+-- what is known after any events
+record IsKnown (value : ℕ) (k : Known) : Type 0 where
+  fresh : get_or (value ∷ k.returned) (length k.returned) value ≡ k.fresh
+  reads : (p : ℕ) (r : Reading) → last_read p k ≡ Some r → IsNoted value k.returned r
+
+noted_now : (value p : ℕ) (k : Known) → IsKnown value k → IsNoted value k.returned (invoked_now p k)
+noted_now value p k h = record { since = omega arith; fresh = h.fresh }
+
+reading_noted : (value p : ℕ) (k : Known) → IsKnown value k → IsNoted value k.returned (reading p k)
+reading_noted value p k h = go (last_read p k) refl
+  where
+    go : (o : Option Reading) → last_read p k ≡ o → IsNoted value k.returned (unwrap_or o (invoked_now p k))
+    go None e = noted_now value p k h
+    go (Some r) e = h.reads p r e
+
+-- one more write has returned
+noted_more : (value v : ℕ) (returned : List ℕ) (r : Reading) → IsNoted value returned r → IsNoted value (returned ++ v ∷ []) r
+noted_more value v returned r h =
+    let since : r.since ≤ length returned = h.since in
+    record {
+      since = omega (arith, since, length-append returned (v ∷ []));
+      fresh = get_or_append_left (value ∷ returned) (v ∷ []) value r.since (omega (arith, since)) ∙ h.fresh;
+    }
+
+known_returning : (value : ℕ) (w : Option ℕ) (k : Known) → IsKnown value k → IsKnown value (returning w k)
+known_returning value None k h = h
+known_returning value (Some v) k h = record {
+  fresh = get_or_at (value ∷ k.returned) v [] value (length (k.returned ++ v ∷ [])) (omega (arith, length-append k.returned (v ∷ [])));
+  reads = λ p r e. noted_more value v k.returned r (h.reads p r e);
+}
+
+known_read : (value q : ℕ) (k : Known) → IsKnown value k → IsKnown value (after k (Invoke q op.Read))
+known_read value q k h = record {
+  fresh = h.fresh;
+  reads = λ p r e. go p r (q == p) (sym (found_last p (invoked_now q k) k.reads) ∙ e);
+}
+  where
+    go : (p : ℕ) (r : Reading) (b : Bool) → cond b (Some (invoked_now q k)) (last_read p k) ≡ Some r → IsNoted value k.returned r
+    go p r true e = subst (IsNoted value k.returned) (ap (λ o. unwrap_or o (invoked_now q k)) e) (noted_now value q k h)
+    go p r false e = h.reads p r e
+
+known_refused : (value : ℕ) (b : Bool) (k : Known) → IsKnown value k → IsKnown value (if b then record k { writing = None } else k)
+known_refused value true k h = record { fresh = h.fresh; reads = h.reads }
+known_refused value false k h = h
+
+known_after : (value : ℕ) (k : Known) (e : Event) → IsKnown value k → IsKnown value (after k e)
+known_after value k (Invoke p (op.Write v)) h = record { fresh = h.fresh; reads = h.reads }
+known_after value k (Invoke p op.Read) h = known_read value p k h
+known_after value k (Wrote p) h = known_returning value k.writing k h
+known_after value k (Refused p layer) h = known_refused value (p == 0) k h
+known_after value k (Got p v) h = h
+known_after value k (Void p reason) h = h
+known_after value k (Stop p) h = h
+known_after value k (Chosen p bit v) h = h
+
+-- a value that stands behind the first i is among those from there on
+among_later : (v d : ℕ) (xs : List ℕ) (i n : ℕ) → i ≤ n → n < length xs → get_or xs n d ≡ v → list_any (λ u. u == v) (drop i xs) ≡ true
+among_later v d xs i n low high there =
+    let at : get_or (drop i xs) (n - i) d ≡ v = get_or-drop i xs (n - i) d ∙ ap (λ j. get_or xs j d) (let e : i + (n - i) ≡ n = omega (arith, low) in e) ∙ there in
+    list_any_at (λ u. u == v) (drop i xs) (n - i) d (let l = length-drop i xs in omega (arith, low, high, l)) (eq-eqb (get_or (drop i xs) (n - i) d) v at)
+
+-- the write with a later number overlaps the read
+number_overlaps : (value n p v : ℕ) (k : Known) → IsNoted value k.returned (reading p k) → (reading p k).since < n → IsNumber value k p v n → overlaps (reading p k) v k ≡ true
+number_overlaps value zero p v k noted later is = let f : ⊥ = omega (arith, later) in absurd f
+number_overlaps value (suc m) p v k noted later is =
+    let r : Reading = reading p k in
+    let high : suc m < length (by_number value k) = is.high in
+    ap (λ b. list_any (λ u. u == v) (drop r.since k.returned) || b) (is_among v k.writing)
+    ∙ sym (list_any-append (λ u. u == v) (drop r.since k.returned) (in_progress k.writing))
+    ∙ ap (list_any (λ u. u == v)) (sym (drop-append-le r.since k.returned (in_progress k.writing) noted.since))
+    ∙ among_later v value (k.returned ++ in_progress k.writing) r.since m (omega (arith, later)) (omega (arith, high)) is.value_of
+
+-- the write with the number of those returned before the read is fresh
+number_fresh : (value n p v : ℕ) (k : Known) → IsNoted value k.returned (reading p k) → n ≡ (reading p k).since → IsNumber value k p v n → v ≡ (reading p k).fresh
+number_fresh value n p v k noted e is =
+    let since : (reading p k).since ≤ length k.returned = noted.since in
+    sym is.value_of ∙ ap (λ i. get_or (by_number value k) i value) e
+    ∙ get_or_append_left (value ∷ k.returned) (in_progress k.writing) value (reading p k).since (omega (arith, since)) ∙ noted.fresh
+
+numbered_not_stray : (value n p v : ℕ) (k : Known) → IsKnown value k → IsNumber value k p v n → NotStray k p v
+numbered_not_stray value n p v k h is = elim (cases_eq n (reading p k).since) as (λ _. NotStray k p v) [
+  | inl e ↦ fresh (v == (reading p k).fresh) (eq-eqb v (reading p k).fresh (number_fresh value n p v k noted e is)) (overlaps (reading p k) v k)
+  | inr ne ↦ let low : (reading p k).since ≤ n = is.low in
+      late (overlaps (reading p k) v k) (number_overlaps value n p v k noted (omega (arith, low, ne)) is) (v == (reading p k).fresh)
+]
+  where
+    noted : IsNoted value k.returned (reading p k)
+    noted = reading_noted value p k h
+
+    fresh : (a : Bool) → a ≡ true → (b : Bool) → (if a then Fresh else (if b then Overlap else Stray)) ≡ Stray → ⊥
+    fresh true e b s = cc
+    fresh false e b s = cc
+
+    late : (b : Bool) → b ≡ true → (a : Bool) → (if a then Fresh else (if b then Overlap else Stray)) ≡ Stray → ⊥
+    late true e true s = cc
+    late true e false s = cc
+    late false e a s = cc
+
+on_return : (value n : ℕ) (k : Known) (e : Event) → IsKnown value k → OnReturn (λ k p v. IsNumber value k p v n) k e → OnReturn NotStray k e
+on_return value n k (Got p v) h is = numbered_not_stray value n p v k h is
+on_return value n k (Invoke p o) h is = tt
+on_return value n k (Wrote p) h is = tt
+on_return value n k (Refused p layer) h is = tt
+on_return value n k (Void p reason) h is = tt
+on_return value n k (Stop p) h is = tt
+on_return value n k (Chosen p bit v) h is = tt
+
+each_not_stray : (value floor : ℕ) (k : Known) (events : List (ℕ × Event)) → IsKnown value k → Numbered value floor k events → EachRead NotStray k events
+each_not_stray value floor k [] h numbered = tt
+each_not_stray value floor k (e ∷ events) h numbered =
+    (on_return value numbered.0 k e.1 h numbered.1.1.0, each_not_stray value numbered.0 (after k e.1) events (known_after value k e.1 h) numbered.1.1.1)
+
+known_first : (value : ℕ) → IsKnown value (initially value)
+known_first value = record { fresh = refl; reads = λ p r e. absurd (cc e) }
+
+pub atomic_never_stray : {P : Type 0} (b : Behaviour P) → IsAtomic b → NeverStray b
+atomic_never_stray b atomic value steps small fit = each_not_stray value 0 (initially value) _ (known_first value) (atomic.numbered value steps small fit)
+
+pub regular_never_stray : {P : Type 0} (b : Behaviour P) → IsRegular b → NeverStray b
+regular_never_stray b regular value steps small fit = regular.each_read value steps small fit

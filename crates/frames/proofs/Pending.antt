@@ -1,0 +1,43 @@
+-- What each process of a register alone has pending, and what it has at first.
+use Rattle.std.proofs.Common.{◌≡◌, ℕ, zero, suc, ◌<◌, Bool, false, Option, Some, None, inl, inr, refl, sym, ap, ◌∙◌, length, get_or, set, replicate}
+use Rattle.std.specs.Option.{option_map}
+use Rattle.std.proofs.lemmas.Bool.{cases_eq}
+use Rattle.std.proofs.lemmas.List.{get_or-set_same, get_or-set_other}
+use Rattle.safe_bit.specs.Memory.{Memory}
+use Rattle.frames.specs.declared.types.Op.{Op}
+use Rattle.frames.specs.declared.running.Running.{Running}
+use Rattle.frames.specs.Behaviour.{Behaviour, IsLawful}
+use Rattle.frames.specs.Configuration.{running_at}
+use Rattle.frames.specs.Parked.{IsConfiguration}
+use Rattle.frames.specs.Recorded.{Alone, first_configuration}
+use Rattle.frames.specs.laws.Steps.{initial_keeps}
+use Rattle.frames.proofs.Pointwise.{put, put_same, put_other}
+
+abbrev pub op_of : {P : Type 0} → Option (Running P) → Option Op
+op_of slot = option_map (λ r. r.op) slot
+
+abbrev pub ops_of : {P : Type 0} → Alone P → ℕ → Option Op
+ops_of c q = op_of (running_at q c)
+
+-- where process p comes to have this pending
+pub ops_after : {P : Type 0} (p : ℕ) (x : Option (Running P)) (c : Alone P) → p < length c.running → (q : ℕ) → put p (op_of x) (ops_of c) q ≡ op_of (get_or (set c.running p x) q None)
+ops_after p x c there q = elim (cases_eq q p) as (λ _. put p (op_of x) (ops_of c) q ≡ op_of (get_or (set c.running p x) q None)) [
+  | inl same ↦ ap (put p (op_of x) (ops_of c)) same ∙ put_same p (op_of x) (ops_of c)
+      ∙ sym (ap (λ i. op_of (get_or (set c.running p x) i None)) same ∙ ap op_of (get_or-set_same c.running p x None there))
+  | inr other ↦ put_other p q (op_of x) (ops_of c) other ∙ sym (ap op_of (get_or-set_other c.running p q x None other))
+]
+
+-- at first nothing is pending, and nobody has stopped
+pub none_at : {A : Type 0} (n p : ℕ) → ◌≡◌ {A = Option A} (get_or (replicate n None) p None) None
+none_at zero p = refl
+none_at (suc n) zero = refl
+none_at (suc n) (suc p) = none_at n p
+
+pub awake_at : (n p : ℕ) → get_or (replicate n false) p false ≡ false
+awake_at zero p = refl
+awake_at (suc n) zero = refl
+awake_at (suc n) (suc p) = awake_at n p
+
+pub first_well : {P : Type 0} (b : Behaviour P) (Holds : Memory → Type 0) (Reaches : ℕ → Op → P → Type 0) (lawful : IsLawful b Holds Reaches) (v : ℕ) → v < b.values
+    → IsConfiguration b Holds Reaches (first_configuration b v)
+first_well b Holds Reaches lawful v lt = initial_keeps b Holds Reaches lawful tt v (b.initial v) (replicate b.processes None) (replicate b.processes false) lt refl refl refl

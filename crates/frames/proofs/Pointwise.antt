@@ -1,0 +1,49 @@
+-- A function, and the same changed at one place.
+use Rattle.std.proofs.Common.{◌≡◌, ℕ, refl, sym, ap, subst, ◌∙◌, inl, inr, eq-eqb}
+use Rattle.std.specs.Prelude.{◌==◌, if◌then◌else◌}
+use Rattle.std.proofs.lemmas.Bool.{cases_eq, ne_eqb}
+
+-- f, but for x at i
+abbrev pub put : {A : Type 0} → ℕ → A → (ℕ → A) → ℕ → A
+put i x f k = if k == i then x else f k
+
+pub put_same : {A : Type 0} (i : ℕ) (x : A) (f : ℕ → A) → put i x f i ≡ x
+put_same i x f = ap (λ c. if c then x else f i) (eq-eqb i i refl)
+
+pub put_other : {A : Type 0} (i k : ℕ) (x : A) (f : ℕ → A) → (k ≡ i → ⊥) → put i x f k ≡ f k
+put_other i k x f ne = ap (λ c. if c then x else f k) (ne_eqb k i ne)
+
+pub put_zero : {A : Type 0} (i : ℕ) (x : A) (f : ℕ → A) → i ≡ 0 → put i x f 0 ≡ x
+put_zero i x f e = sym (ap (put i x f) e) ∙ put_same i x f
+
+-- put there what was there
+pub put_again : {A : Type 0} (i k : ℕ) (f : ℕ → A) → f k ≡ put i (f i) f k
+put_again i k f =
+    elim (cases_eq k i) [
+      | inl e ↦ ap f e ∙ sym (ap (put i (f i) f) e ∙ put_same i (f i) f)
+      | inr ne ↦ sym (put_other i k (f i) f ne)
+    ]
+
+pub put_back : {A : Type 0} (i : ℕ) (f : ℕ → A) → f ≡ put i (f i) f
+put_back i f = λ d k. put_again i k f d
+
+pub put_is : {A : Type 0} (i k : ℕ) (x : A) (f : ℕ → A) → f i ≡ x → f k ≡ put i x f k
+put_is i k x f e = subst (λ y. f k ≡ put i y f k) e (put_again i k f)
+
+-- put twice at one place
+pub put_put : {A : Type 0} (i k : ℕ) (x y : A) (f : ℕ → A) → put i y (put i x f) k ≡ put i y f k
+put_put i k x y f = elim (cases_eq k i) as (λ _. put i y (put i x f) k ≡ put i y f k) [
+  | inl same ↦ ap (put i y (put i x f)) same ∙ put_same i y (put i x f) ∙ sym (ap (put i y f) same ∙ put_same i y f)
+  | inr other ↦ put_other i k y (put i x f) other ∙ put_other i k x f other ∙ sym (put_other i k y f other)
+]
+
+pub put_over : {A : Type 0} (i : ℕ) (x y : A) (f : ℕ → A) → put i y (put i x f) ≡ put i y f
+put_over i x y f = λ d k. put_put i k x y f d
+
+-- what holds of each place but for i, and of the item put at i, holds of each place after
+pub put_all : {A : Type 0} (Q : ℕ → A → Type 0) (i : ℕ) (x : A) (f : ℕ → A) → Q i x → ((k : ℕ) → (k ≡ i → ⊥) → Q k (f k)) → (k : ℕ) → Q k (put i x f k)
+put_all Q i x f here there k =
+    elim (cases_eq k i) [
+      | inl e ↦ subst (λ j. Q j (put i x f j)) (sym e) (subst (Q i) (sym (put_same i x f)) here)
+      | inr ne ↦ subst (Q k) (sym (put_other i k x f ne)) (there k ne)
+    ]

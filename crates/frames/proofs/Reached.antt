@@ -1,0 +1,85 @@
+-- A register alone that a list of fitting steps has led to a configuration, with what its history tells; and one fitting step more.
+use Rattle.std.proofs.Common.{◌≡◌, ℕ, ◌<◌, List, [], ◌∷◌, ◌++◌, refl, ap, sym, ◌∙◌, subst, arith, Bool, true, false, Option, Some, None, IsTrue, rules}
+use Rattle.std.specs.Prelude.{◌&&◌, if◌then◌else◌}
+use Rattle.std.specs.List.{AllByRecursion, All}
+use Rattle.std.proofs.lemmas.List.Elements.{All-append, All-cons}
+use Rattle.frames.specs.declared.types.Step.{Step}
+use Rattle.frames.specs.declared.types.StepEvents.{StepEvents}
+use Rattle.frames.specs.Behaviour.{Behaviour}
+use Rattle.frames.specs.Configuration.{Configuration, stepped, events_of, fits_step, replayed, history}
+use Rattle.frames.specs.Recorded.{AllFit, Alone, first_configuration}
+use Rattle.frames.proofs.Seen.{Seen, Returned, opening, after_step, read_in, reads, seen, refuses, refuses_none, Always}
+use Rattle.frames.proofs.Halves.{all_left, all_right, two_false}
+
+-- a list of fitting steps of the register alone leads to the configuration, and its history tells this
+pub record Reached {P : Type 0} (b : Behaviour P) (v : ℕ) (c : Alone P) (s : Seen) : Type 0 where
+  pub steps : List Step
+  pub fit : AllFit b steps
+  pub leads : replayed b (first_configuration b v) steps ≡ c
+  pub tells : seen (opening v) (history b (first_configuration b v) steps) ≡ s
+
+pub record IsFine (Good : Returned → Type 0) (s : Seen) (e : StepEvents) : Type 0 where
+  pub first : refuses e.first ≡ false
+  pub second : refuses e.second ≡ false
+  pub reads : AllByRecursion Good (read_in e s)
+
+last_fine : (Good : Returned → Type 0) (s : Seen) (es : List StepEvents) (e : StepEvents) → IsTrue (refuses_none (es ++ e ∷ [])) → AllByRecursion Good (reads s (es ++ e ∷ []))
+    → IsFine Good (seen s es) e
+last_fine Good s [] e n h =
+    let t = two_false (refuses e.first) (refuses e.second) true n in
+    record { first = t.0; second = t.1.0; reads = all_left Good (read_in e s) [] h }
+last_fine Good s (d ∷ es) e n h =
+    let t = two_false (refuses d.first) (refuses d.second) (refuses_none (es ++ e ∷ [])) n in
+    last_fine Good (after_step d s) es e t.1.1 (all_right Good (read_in d s) (reads (after_step d s) (es ++ e ∷ [])) h)
+
+history-append : {R P : Type 0} (b : Behaviour P) (xs : List Step) (s : Step) (c : Configuration R P)
+    → history b c (xs ++ s ∷ []) ≡ history b c xs ++ events_of b (replayed b c xs) s ∷ []
+history-append b [] s c = refl
+history-append b (x ∷ xs) s c = ap (λ es. events_of b c x ∷ es) (history-append b xs s (stepped b c x))
+
+replayed-append : {R P : Type 0} (b : Behaviour P) (xs : List Step) (s : Step) (c : Configuration R P)
+    → replayed b c (xs ++ s ∷ []) ≡ stepped b (replayed b c xs) s
+replayed-append b [] s c = refl
+replayed-append b (x ∷ xs) s c = replayed-append b xs s (stepped b c x)
+
+seen-append : (s : Seen) (es : List StepEvents) (e : StepEvents) → seen s (es ++ e ∷ []) ≡ after_step e (seen s es)
+seen-append s [] e = refl
+seen-append s (d ∷ es) e = seen-append (after_step d s) es e
+
+one_fits : {P : Type 0} (b : Behaviour P) (s : Step) → fits_step b s ≡ true → AllFit b (s ∷ [])
+one_fits b s f = All-cons (λ s. fits_step b s ≡ true) s [] f (λ k d lt. absurd (omega (arith, lt)))
+
+fit-append : {P : Type 0} (b : Behaviour P) (xs : List Step) (s : Step) → AllFit b xs → fits_step b s ≡ true → AllFit b (xs ++ s ∷ [])
+fit-append b xs s h f = All-append (λ s. fits_step b s ≡ true) xs (s ∷ []) h (one_fits b s f)
+
+-- no step
+pub reached_first : {P : Type 0} (b : Behaviour P) (v : ℕ) → Reached b v (first_configuration b v) (opening v)
+reached_first b v = record { steps = []; fit = λ k d lt. absurd (omega (arith, lt)); leads = refl; tells = refl }
+
+-- one fitting step more
+pub reached_more : {P : Type 0} (b : Behaviour P) (v : ℕ) (c : Alone P) (s : Seen) (step : Step) → Reached b v c s → fits_step b step ≡ true
+    → Reached b v (stepped b c step) (after_step (events_of b c step) s)
+reached_more b v c s step h f =
+    let first = first_configuration b v in
+    record {
+      steps = h.steps ++ step ∷ [];
+      fit = fit-append b h.steps step h.fit f;
+      leads = replayed-append b h.steps step first ∙ ap (λ x. stepped b x step) h.leads;
+      tells = ap (seen (opening v)) (history-append b h.steps step first)
+          ∙ seen-append (opening v) (history b first h.steps) (events_of b (replayed b first h.steps) step)
+          ∙ ap (λ x. after_step (events_of b x step) (seen (opening v) (history b first h.steps))) h.leads
+          ∙ ap (after_step (events_of b c step)) h.tells;
+    }
+
+-- what such a step records is as the register promises
+pub reached_fine : {P : Type 0} (Good : Returned → Type 0) (b : Behaviour P) (v : ℕ) (c : Alone P) (s : Seen) (step : Step) → Always Good b → v < b.values
+    → Reached b v c s → fits_step b step ≡ true → IsFine Good s (events_of b c step)
+reached_fine Good b v c s step all l h f =
+    let first = first_configuration b v in
+    let a = all v (h.steps ++ step ∷ []) l (fit-append b h.steps step h.fit f) in
+    let e : StepEvents = events_of b (replayed b first h.steps) step in
+    let k = history-append b h.steps step first in
+    let w : IsFine Good (seen (opening v) (history b first h.steps)) e =
+    last_fine Good (opening v) (history b first h.steps) e (subst (λ es. IsTrue (refuses_none es)) k a.0) (subst (λ es. AllByRecursion Good (reads (opening v) es)) k a.1) in
+    subst (λ x. IsFine Good s (events_of b x step)) h.leads
+    (subst (λ z. IsFine Good z e) h.tells w)

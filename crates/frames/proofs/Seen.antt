@@ -1,0 +1,123 @@
+-- What a history tells, step by step, as functions of the reader: the fold over which the laws of layers are proved. That it says what
+-- `Known` says is shown in `Agreement`.
+use Rattle.std.specs.Prelude.{◌≡◌, ◌≢◌, ℕ, ◌<◌, Bool, true, false, Option, Some, None, List, [], ◌∷◌, ◌++◌, ◌==◌, ◌&&◌, if◌then◌else◌, IsTrue}
+use Rattle.std.specs.List.{list_any, AllByRecursion}
+use Rattle.frames.specs.declared.types.Op.{Op}
+use Rattle.frames.specs.declared.types.Op.TheVariants.{Read, Write}
+use Rattle.frames.specs.declared.types.Outcome.{Outcome}
+use Rattle.frames.specs.declared.types.Outcome.TheVariants.{Value, Written, Spent}
+use Rattle.frames.specs.declared.types.Step.{Step}
+use Rattle.frames.specs.declared.types.Event.{Event}
+use Rattle.frames.specs.declared.types.Event.TheVariants.{Invoke, Got, Wrote, Refused, Void, Chosen, Stop}
+use Rattle.frames.specs.declared.types.StepEvents.{StepEvents}
+use Rattle.frames.specs.declared.verdict.Verdict.{Verdict}
+use Rattle.frames.specs.declared.verdict.Verdict.TheVariants.{Fresh, Overlap, Stray}
+use Rattle.frames.specs.Behaviour.{Behaviour}
+use Rattle.frames.specs.Configuration.{history}
+use Rattle.frames.specs.Recorded.{AllFit, first_configuration}
+use Rattle.frames.specs.Regularity.{in_progress}
+use Rattle.frames.proofs.Pointwise.{put}
+
+-- a read that returned: whose, its value, the value that was fresh as it was invoked, and those of the writes that it overlaps
+pub record Returned : Type 0 where
+  pub reader : ℕ
+  pub value : ℕ
+  pub fresh : ℕ
+  pub overlaps : List ℕ
+
+-- x is one of them
+abbrev pub among : ℕ → List ℕ → Bool
+among x vs = list_any (λ v. v == x) vs
+
+abbrev pub verdict : Returned → Verdict
+verdict x = if x.value == x.fresh then Fresh else if among x.value x.overlaps then Overlap else Stray
+
+-- what a history tells: the value of the last write that returned, or the initial one; that of the write in progress; and
+-- for each process the value that was last as its last read was invoked, and those of the writes in progress then or since
+pub record Seen : Type 0 where
+  pub last : ℕ
+  pub writing : Option ℕ
+  pub fresh : ℕ → ℕ
+  pub overlaps : ℕ → List ℕ
+
+abbrev pub opening : ℕ → Seen
+opening v = record { last = v; writing = None; fresh = λ p. v; overlaps = λ p. [] }
+
+abbrev pub now_last : Option ℕ → ℕ → ℕ
+now_last None x = x
+now_last (Some v) x = v
+
+abbrev pub sees : Option Event → Seen → Seen
+sees None s = s
+sees (Some (Invoke p (Write v))) s = record s { writing = Some v; overlaps = λ r. v ∷ s.overlaps r }
+sees (Some (Invoke p Read)) s = record s { fresh = put p s.last s.fresh; overlaps = put p (in_progress s.writing) s.overlaps }
+sees (Some (Wrote p)) s = record s { last = now_last s.writing s.last; writing = None }
+sees (Some (Got p x)) s = s
+sees (Some (Refused p l)) s = s
+sees (Some (Void p reason)) s = s
+sees (Some (Chosen p i c)) s = s
+sees (Some (Stop p)) s = s
+
+abbrev pub refuses : Option Event → Bool
+refuses None = false
+refuses (Some (Refused _ _)) = true
+refuses (Some (Invoke _ _)) = false
+refuses (Some (Got _ _)) = false
+refuses (Some (Wrote _)) = false
+refuses (Some (Void _ _)) = false
+refuses (Some (Chosen _ _ _)) = false
+refuses (Some (Stop _)) = false
+
+-- a write that is refused in the step that invokes it counts for nothing
+abbrev pub after_step : StepEvents → Seen → Seen
+after_step e s = if refuses e.second then s else sees e.second (sees e.first s)
+
+abbrev pub got : Option Event → Seen → List Returned
+got None s = []
+got (Some (Got p x)) s = record { reader = p; value = x; fresh = s.fresh p; overlaps = s.overlaps p } ∷ []
+got (Some (Invoke p op)) s = []
+got (Some (Wrote p)) s = []
+got (Some (Refused p l)) s = []
+got (Some (Void p reason)) s = []
+got (Some (Chosen p i c)) s = []
+got (Some (Stop p)) s = []
+
+abbrev pub read_in : StepEvents → Seen → List Returned
+read_in e s = got e.first s ++ got e.second (sees e.first s)
+
+-- the returned reads, in order
+abbrev pub reads : Seen → List StepEvents → List Returned
+reads s [] = []
+reads s (e ∷ es) = read_in e s ++ reads (after_step e s) es
+
+abbrev pub seen : Seen → List StepEvents → Seen
+seen s [] = s
+seen s (e ∷ es) = seen (after_step e s) es
+
+abbrev pub refuses_none : List StepEvents → Bool
+refuses_none [] = true
+refuses_none (e ∷ es) = (if refuses e.first then false else if refuses e.second then false else true) && refuses_none es
+
+-- on every list of fitting steps from every initial configuration, no operation is refused, and what is said holds of each returned read
+abbrev pub Always : {P : Type 0} → (Returned → Type 0) → Behaviour P → Type 0
+Always Good b =
+    (v : ℕ) (steps : List Step) → v < b.values → AllFit b steps
+    → IsTrue (refuses_none (history b (first_configuration b v) steps)) × AllByRecursion Good (reads (opening v) (history b (first_configuration b v) steps))
+
+-- where it overlaps no write it is fresh
+abbrev pub IsFreshAlone : Returned → Type 0
+IsFreshAlone x = x.overlaps ≡ [] → verdict x ≡ Fresh
+
+abbrev pub IsNotStray : Returned → Type 0
+IsNotStray x = verdict x ≢ Stray
+
+-- each step's events are ones that what is known allows
+abbrev pub Allowed : {U : Type 0} → (U → StepEvents → U → Type 0) → U → List StepEvents → Type 0
+Allowed Up u [] = Unit {0}
+Allowed {U = U} Up u (e ∷ es) = (z : U) × (Up u e z × Allowed Up z es)
+
+-- the event of an operation's end
+abbrev pub ended : ℕ → Outcome → Event
+ended p (Value v) = Got p v
+ended p Written = Wrote p
+ended p (Spent layer) = Refused p layer
