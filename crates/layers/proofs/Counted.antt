@@ -1,0 +1,51 @@
+-- How far a history has come: writes counted, and the numbers that returned reads are given.
+use Rattle.std.specs.Prelude.{◌≡◌, ⊤, ℕ, ◌+◌, ◌≤◌, Bool, true, false, Option, Some, None}
+use Rattle.frames.specs.declared.types.Op.{Op}
+use Rattle.frames.specs.declared.types.Op.TheVariants.{Read, Write}
+use Rattle.frames.specs.declared.types.Event.{Event}
+use Rattle.frames.specs.declared.types.Event.TheVariants.{Invoke, Got, Wrote, Refused, Void, Chosen, Stop}
+use Rattle.frames.specs.declared.types.StepEvents.{StepEvents}
+use Rattle.frames.proofs.Seen.{refuses}
+use Rattle.frames.proofs.Pointwise.{put}
+
+-- the value of each write not refused, by its number (0 is the initial value); the numbers of the last of them invoked and returned;
+-- that of the last returned as the reader's read was invoked; and that of its last read
+pub record Counted : Type 0 where
+  pub value : ℕ → ℕ
+  pub begun : ℕ
+  pub done : ℕ
+  pub low : ℕ
+  pub floor : ℕ
+
+abbrev pub uncounted : ℕ → Counted
+uncounted v = record { value = λ n. v; begun = 0; done = 0; low = 0; floor = 0 }
+
+abbrev pub Counts : Option Event → Counted → Counted → Type 0
+Counts None c z = z ≡ c
+Counts (Some (Invoke p (Write v))) c z = z ≡ record c { value = put (c.begun + 1) v c.value; begun = c.begun + 1 }
+Counts (Some (Invoke p Read)) c z = z ≡ record c { low = c.done }
+Counts (Some (Wrote p)) c z = z ≡ record c { done = c.begun }
+-- the read is given a number
+Counts (Some (Got p x)) c z = (n : ℕ) × ((c.value n ≡ x) × ((c.low ≤ n) × ((n ≤ c.begun) × ((c.floor ≤ n) × (z ≡ record c { floor = n })))))
+Counts (Some (Refused p l)) c z = z ≡ c
+Counts (Some (Void p reason)) c z = z ≡ c
+Counts (Some (Chosen p i b)) c z = z ≡ c
+Counts (Some (Stop p)) c z = z ≡ c
+
+abbrev pub Invokes : Option Event → Type 0
+Invokes None = ⊥
+Invokes (Some (Invoke p o)) = ⊤
+Invokes (Some (Got p x)) = ⊥
+Invokes (Some (Wrote p)) = ⊥
+Invokes (Some (Refused p l)) = ⊥
+Invokes (Some (Void p reason)) = ⊥
+Invokes (Some (Chosen p i b)) = ⊥
+Invokes (Some (Stop p)) = ⊥
+
+-- an operation is refused in the step that invokes it alone, and then counts for nothing
+abbrev pub NumberedIf : Bool → Counted → StepEvents → Counted → Type 0
+NumberedIf true c e z = Invokes e.first × (z ≡ c)
+NumberedIf false c e z = (mid : Counted) × (Counts e.first c mid × Counts e.second mid z)
+
+abbrev pub NumberedStep : Counted → StepEvents → Counted → Type 0
+NumberedStep c e z = (refuses e.first ≡ false) × NumberedIf (refuses e.second) c e z

@@ -1,0 +1,105 @@
+-- The law of layers: what every turn of a layer's programs keeps, where each part alone does as it promises, holds of each history of the layer.
+use Rattle.std.proofs.Common.{◌≡◌, ℕ, zero, suc, ◌+◌, ◌*◌, ◌<◌, List, [], ◌∷◌, ◌++◌, length, get_or, refl, ap, sym, ◌∙◌, subst, arith, Bool, true, false, Option, Some, None, IsTrue, replicate, rules}
+use Rattle.std.specs.List.{AllByRecursion}
+use Rattle.std.proofs.lemmas.List.{length-replicate, get_or-append-add}
+use Rattle.safe_bit.specs.declared.Place.{Place}
+use Rattle.safe_bit.specs.Memory.{Memory, word_at}
+use Rattle.safe_bit.specs.Parts.{part, HasSize}
+use Rattle.safe_bit.specs.laws.Parts.{same_memory}
+use Rattle.safe_bit.specs.laws.Windows.{window-append}
+use Rattle.frames.specs.declared.types.Op.{Op}
+use Rattle.frames.specs.declared.types.Event.{Event}
+use Rattle.frames.specs.declared.types.Event.TheVariants.{Invoke, Void, Stop}
+use Rattle.frames.specs.declared.types.Reason.{Reason}
+use Rattle.frames.specs.declared.types.StepEvents.{StepEvents}
+use Rattle.frames.specs.declared.types.Step.{Step}
+use Rattle.frames.specs.declared.running.Running.{Running}
+use Rattle.layers.specs.declared.nested.Nested.{Nested}
+use Rattle.frames.specs.Behaviour.{Behaviour, IsLawful}
+use Rattle.frames.specs.Configuration.{Configuration, running_at, is_stopped, in_order, chosen_of, history}
+use Rattle.frames.specs.Parked.{IsConfiguration}
+use Rattle.frames.specs.Recorded.{Alone, AllFit, first_configuration}
+use Rattle.frames.specs.laws.Steps.{initial_keeps}
+use Rattle.frames.proofs.Seen.{Seen, Returned, opening, after_step, read_in, reads, refuses, refuses_none, Always, Allowed, sees, got}
+use Rattle.frames.specs.OneWriter.{HasOneWriter}
+use Rattle.frames.specs.Verdicts.{Known}
+use Rattle.frames.specs.Regularity.{AlwaysReads}
+use Rattle.frames.proofs.Reached.{IsFine, reached_first}
+use Rattle.frames.proofs.Agreed.{Alike}
+use Rattle.frames.proofs.Agreement.{always_known, always_seen}
+use Rattle.layers.specs.Nested.{Table, part_place, own_words, layered, layer_initial, gathered}
+use Rattle.layers.specs.Sound.{LayerHolds, LayerReaches}
+use Rattle.layers.specs.laws.Nested.{row_fits}
+use Rattle.layers.specs.laws.Gathered.{length-gathered, window-gathered, get_or-gathered}
+use Rattle.layers.specs.laws.Layered.{layer_lawful}
+use Rattle.layers.specs.laws.Over.{LayerOver}
+use Rattle.layers.proofs.Law.{View, Watch, IsKept, IsUser}
+use Rattle.layers.proofs.Links.{below_of}
+pub use Rattle.frames.proofs.Told.{Told, told_begun, told_gone, told_void, told_stop, told_none, told_reads}
+use Rattle.frames.proofs.Pending.{none_at, awake_at, first_well}
+use Rattle.layers.proofs.Turns.{standing_of}
+use Rattle.layers.proofs.LayerSteps.{Joint, steps_joint}
+
+module _ {Task P : Type 0} (l : LayerOver Task P) (user : ℕ → ℕ → ℕ) (is_user : IsUser l.table l.Stands user) where
+  first_value : (v k : ℕ) → v < l.table.values → k < l.table.parts → l.table.first v k < l.below.values
+  first_value v k lt lk = rw l.fit.same_values (l.sound.first_fits v k lt lk)
+
+  -- part k at first
+  first_part : (v k : ℕ) → v < l.table.values → k < l.table.parts → l.below.initial (l.table.first v k) ≡ part (part_place l.below.size k) l.below.size (layer_initial l.table l.below v)
+  first_part v k lt lk =
+      let size : (j : ℕ) → j < l.table.parts → HasSize l.below.size (l.below.initial (l.table.first v j)) = λ j lj. l.lawful.size_holds _ (l.lawful.initial_holds (l.table.first v j) (first_value v j lt lj)) in
+      let cells : (j : ℕ) → j < l.table.parts → length (l.below.initial (l.table.first v j)).cells ≡ l.below.size.cell = λ j lj. (size j lj).cells in
+      let words : (j : ℕ) → j < l.table.parts → length (l.below.initial (l.table.first v j)).words ≡ l.below.size.word = λ j lj. (size j lj).words in
+      let w = length-gathered (λ j. (l.below.initial (l.table.first v j)).words) l.below.size.word l.table.parts words in
+      sym (same_memory (part (part_place l.below.size k) l.below.size (layer_initial l.table l.below v)) (l.below.initial (l.table.first v k))
+      (window-gathered (λ j. (l.below.initial (l.table.first v j)).cells) l.below.size.cell l.table.parts k cells lk)
+      (window-append (k * l.below.size.word) l.below.size.word (gathered (λ j. (l.below.initial (l.table.first v j)).words) l.table.parts) (gathered (λ i. l.table.first_word v i ∷ []) l.table.words)
+      (let r = row_fits k l.table.parts l.below.size.word lk in omega arith)
+      ∙ window-gathered (λ j. (l.below.initial (l.table.first v j)).words) l.below.size.word l.table.parts k words lk))
+
+  first_word : (v i : ℕ) → v < l.table.values → i < l.table.words → word_at (own_words l.table l.below.size + i) (layer_initial l.table l.below v) ≡ l.table.first_word v i
+  first_word v i lt li =
+      let size : (j : ℕ) → j < l.table.parts → HasSize l.below.size (l.below.initial (l.table.first v j)) = λ j lj. l.lawful.size_holds _ (l.lawful.initial_holds (l.table.first v j) (first_value v j lt lj)) in
+      let words : (j : ℕ) → j < l.table.parts → length (l.below.initial (l.table.first v j)).words ≡ l.below.size.word = λ j lj. (size j lj).words in
+      let w = length-gathered (λ j. (l.below.initial (l.table.first v j)).words) l.below.size.word l.table.parts words in
+      ap (λ n. get_or (gathered (λ j. (l.below.initial (l.table.first v j)).words) l.table.parts ++ gathered (λ k. l.table.first_word v k ∷ []) l.table.words) (n + i) 0) (sym w)
+      ∙ get_or-append-add (gathered (λ j. (l.below.initial (l.table.first v j)).words) l.table.parts) (gathered (λ k. l.table.first_word v k ∷ []) l.table.words) i 0
+      ∙ get_or-gathered (l.table.first_word v) l.table.words i li
+
+  pub layer_law : {U : Type 0} (w : Watch Task U) (first : ℕ → U) (Up : U → StepEvents → U → Type 0) → Always w.Good l.below → IsKept l.table l.Stands w first Up
+      → (v : ℕ) (steps : List Step) → v < l.table.values → AllFit (layered l.table l.below) steps
+      → Allowed Up (first v) (history (layered l.table l.below) (first_configuration (layered l.table l.below) v) steps)
+  layer_law w first Up all K v steps lt f =
+      let value : ℕ → ℕ = l.table.first v in
+      let c : Alone (Nested Task P) = first_configuration (layered l.table l.below) v in
+      let idle : (p : ℕ) → standing_of (running_at p c) ≡ None = λ p. ap standing_of (none_at l.table.processes p) in
+      let j : View Task = record { words = λ i. word_at (own_words l.table l.below.size + i) c.memory; tasks = λ p. standing_of (running_at p c); parts = λ k. opening (value k) } in
+      steps_joint l user is_user value w first Up K all (λ k lk. first_value v k lt lk) steps c (first v) f
+      (record {
+        well = first_well (layered l.table l.below) (LayerHolds l.table l.below l.Holds) (LayerReaches l.table l.Stands l.Reaches) (layer_lawful l) v lt;
+        j = j;
+        inv = K.initial v lt j (λ i li. first_word v i lt li) idle (λ k lk. refl);
+        words = λ i li. refl;
+        tasks = λ q. refl;
+        links = λ k lk. record {
+          c = first_configuration l.below (value k);
+          well = first_well l.below l.Holds l.Reaches l.lawful (value k) (first_value v k lt lk);
+          reached = reached_first l.below (value k);
+          memory = first_part v k lt lk;
+          stopped = λ q lq. awake_at l.below.processes q ∙ sym (awake_at l.table.processes (user k q));
+          running = λ q lq. none_at l.below.processes q ∙ sym (ap (below_of l.table k q) (none_at l.table.processes (user k q)));
+        };
+      })
+
+  -- the same for what is said of reads
+  pub layer_always : (Good : Returned → Type 0) (w : Watch Task Seen) → Always w.Good l.below → IsKept l.table l.Stands w opening (Told Good) → Always Good (layered l.table l.below)
+  layer_always Good w all K v steps lt f =
+      let allowed = layer_law w opening (Told Good) all K v steps lt f in
+      (told_none Good (opening v) _ allowed, told_reads Good (opening v) _ allowed)
+
+  -- the same by what is known: what a layer with one writer promises of its reads, where its parts promise theirs
+  pub layer_promises : {Below Says : Known → ℕ → ℕ → Type 0} (Good : Returned → Type 0) (w : Watch Task Seen) → Alike Below w.Good → Alike Says Good → HasOneWriter (layered l.table l.below)
+      → AlwaysReads l.below Below → IsKept l.table l.Stands w opening (Told Good) → AlwaysReads (layered l.table l.below) Says
+  layer_promises {Below} {Says} Good w below here one promised K =
+      always_known Says Good here (layered l.table l.below) one (LayerHolds l.table l.below l.Holds) (LayerReaches l.table l.Stands l.Reaches) (layer_lawful l)
+      (layer_always Good w (always_seen Below w.Good below l.below promised.one_writer l.Holds l.Reaches l.lawful promised) K)

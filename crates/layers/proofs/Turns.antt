@@ -1,0 +1,213 @@
+-- A process's program runs on, up to its next bit action or its end: what is to be kept is kept, and each part stays linked to its own list.
+use Rattle.std.proofs.Common.{◌≡◌, ℕ, ◌+◌, ◌*◌, ◌<◌, ◌≤◌, ◌==◌, List, [], ◌∷◌, length, get_or, set, refl, ap, sym, ◌∙◌, subst, arith, inl, inr, Bool, true, false, Option, Some, None, IsTrue}
+use Rattle.std.specs.Prelude.{◌⊎◌}
+use Rattle.std.specs.List.{AllByRecursion}
+use Rattle.std.proofs.lemmas.Bool.{cases_eq}
+use Rattle.std.proofs.lemmas.List.{get_or-set_same, get_or-set_other}
+use Rattle.safe_bit.specs.declared.Place.{Place}
+use Rattle.safe_bit.specs.Memory.{Memory, word_at, with_word}
+use Rattle.safe_bit.specs.Parts.{part, with_part, HasSize}
+use Rattle.frames.specs.declared.types.Op.{Op}
+use Rattle.frames.specs.declared.types.Outcome.{Outcome}
+use Rattle.frames.specs.declared.types.Outcome.TheVariants.{Value, Written, Spent}
+use Rattle.frames.specs.declared.types.Next.{Next}
+use Rattle.frames.specs.declared.types.Next.TheVariants.{Pending, Done}
+use Rattle.frames.specs.declared.types.Event.{Event}
+use Rattle.frames.specs.declared.types.Event.TheVariants.{Invoke}
+use Rattle.frames.specs.declared.running.Running.{Running}
+use Rattle.layers.specs.declared.nested.Nested.{Nested}
+use Rattle.frames.specs.Behaviour.{Behaviour, Begun, StandsWell, Answers}
+use Rattle.frames.specs.Configuration.{running_at, is_stopped, return_of, still_running, in_order, events_of, fits_step}
+use Rattle.frames.proofs.Seen.{Seen, Returned, sees, got, refuses, Always, ended, after_step}
+use Rattle.frames.proofs.Reached.{IsFine, reached_fine}
+use Rattle.frames.proofs.Pointwise.{put, put_same, put_other, put_is}
+use Rattle.layers.specs.Nested.{Program, Ends, Asks, Reads, Sets, Table, part_place, own_words, asked, behind_part, advance}
+use Rattle.layers.specs.Sound.{LayerHolds, IsSound, IsNotSpent}
+use Rattle.layers.specs.laws.Nested.{asks_fit, holds_with_part, holds_with_word}
+use Rattle.layers.specs.laws.Over.{LayerOver}
+use Rattle.layers.proofs.Law.{Standing, View, Watch, Runs, IsUser}
+use Rattle.layers.proofs.Links.{step_of, fits_of, step_begins, StepsTo, nested, below_of, Linked, part-with_word, word_behind, links_move, link_same, begun_seen}
+
+abbrev pub standing_of : {Task P : Type 0} → Option (Running (Nested Task P)) → Option (Standing Task)
+standing_of None = None
+standing_of (Some r) = Some (record { op = r.op; task = r.point.task })
+
+-- the event of an end
+pub return_done : (P : Type 0) (p : ℕ) (o : Outcome) → return_of {P = P} p (Done o) ≡ Some (ended p o)
+return_done P p (Value v) = refl
+return_done P p Written = refl
+return_done P p (Spent layer) = refl
+
+-- what the view has of the memory, of the processes other than p, and of the parts
+pub record Mid {Task P U : Type 0} (l : LayerOver Task P) (user : ℕ → ℕ → ℕ) (value : ℕ → ℕ) (halted : ℕ → Bool) (w : Watch Task U)
+    (m : Memory) (at : ℕ → Option (Running (Nested Task P))) (p : ℕ) (j : View Task) : Type 0 where
+  pub holds : LayerHolds l.table l.below l.Holds m
+  pub words : (i : ℕ) → i < l.table.words → j.words i ≡ word_at (own_words l.table l.below.size + i) m
+  pub tasks : (q : ℕ) → (q ≡ p → ⊥) → j.tasks q ≡ standing_of (at q)
+  pub links : (k : ℕ) → k < l.table.parts → Linked l user value halted m at k (j.parts k)
+
+-- what holds where p's turn has ended
+pub record Ran {Task P U : Type 0} (l : LayerOver Task P) (user : ℕ → ℕ → ℕ) (value : ℕ → ℕ) (halted : ℕ → Bool) (w : Watch Task U)
+    (p : ℕ) (o : Op) (Out : Option Event → U → Type 0) (begun : Begun (Nested Task P)) (at : ℕ → Option (Running (Nested Task P))) : Type 0 where
+  pub u : U
+  pub out : Out (return_of p begun.next) u
+  pub j : View Task
+  pub inv : w.Inv u j
+  pub to : ℕ → Option (Running (Nested Task P))
+  pub others : (q : ℕ) → (q ≡ p → ⊥) → to q ≡ at q
+  pub mine : to p ≡ still_running o begun.next
+  pub words : (i : ℕ) → i < l.table.words → j.words i ≡ word_at (own_words l.table l.below.size + i) begun.memory
+  pub tasks : (q : ℕ) → j.tasks q ≡ standing_of (to q)
+  pub links : (k : ℕ) → k < l.table.parts → Linked l user value halted begun.memory to k (j.parts k)
+
+tasks_put : {Task P : Type 0} (p q : ℕ) (x : Option (Running (Nested Task P))) (f : ℕ → Option (Standing Task)) (at : ℕ → Option (Running (Nested Task P)))
+    → ((q : ℕ) → (q ≡ p → ⊥) → f q ≡ standing_of (at q)) → put p (standing_of x) f q ≡ standing_of (put p x at q)
+tasks_put p q x f at h =
+    elim (cases_eq q p) [
+      | inl e ↦ ap (put p (standing_of x) f) e ∙ put_same p (standing_of x) f ∙ sym (ap (λ i. standing_of (put p x at i)) e ∙ ap standing_of (put_same p x at))
+      | inr ne ↦ put_other p q (standing_of x) f ne ∙ h q ne ∙ sym (ap standing_of (put_other p q x at ne))
+    ]
+
+module _ {Task P U : Type 0} (l : LayerOver Task P) (user : ℕ → ℕ → ℕ) (value : ℕ → ℕ) (halted : ℕ → Bool) (w : Watch Task U) where
+  abbrev At : Type 0
+  At = ℕ → Option (Running (Nested Task P))
+
+  abbrev RanTo : ℕ → Op → (Option Event → U → Type 0) → Begun (Nested Task P) → At → Type 0
+  RanTo p o Out begun at = Ran l user value halted w p o Out begun at
+
+  -- where others' operations were set aside for the turn
+  ran_from : (p : ℕ) (o : Op) (Out : Option Event → U → Type 0) (begun : Begun (Nested Task P)) (at : At) → RanTo p o Out begun (put p None at) → RanTo p o Out begun at
+  ran_from p o Out begun at r = record {
+    u = r.u;
+    out = r.out;
+    j = r.j;
+    inv = r.inv;
+    to = r.to;
+    others = λ q ne. r.others q ne ∙ put_other p q None at ne;
+    mine = r.mine;
+    words = r.words;
+    tasks = r.tasks;
+    links = r.links;
+  }
+
+  -- a part's turn has ended
+  pub behind_ran : (p : ℕ) (o : Op) (task : Task) (m : Memory) (at : At) (j c : View Task) (s : Seen) (next : Next P) (Out : Option Event → U → Type 0) (go_on : Outcome → Memory → Begun (Nested Task P))
+      → LayerHolds l.table l.below l.Holds m
+      → ((i : ℕ) → i < l.table.words → j.words i ≡ word_at (own_words l.table l.below.size + i) m)
+      → ((q : ℕ) → (q ≡ p → ⊥) → j.tasks q ≡ standing_of (at q))
+      → ((k : ℕ) → k < l.table.parts → Linked l user value halted m (put p (still_running o (nested task next)) at) k
+      (put (l.table.asks task).part (sees (return_of (l.table.asks task).who next) s) j.parts k))
+      → refuses (return_of (l.table.asks task).who next) ≡ false
+      → AllByRecursion w.Good (got (return_of (l.table.asks task).who next) s)
+      → StandsWell (l.Reaches (l.table.asks task).who (l.table.asks task).op) (Answers l.table.inner_values (l.table.asks task).op) next
+      → ((u : U) × (Out None u × w.Inv u c))
+      → ((i : ℕ) → c.words i ≡ j.words i) → ((q : ℕ) → c.tasks q ≡ put p (Some (record { op = o; task = task })) j.tasks q) → ((k : ℕ) → c.parts k ≡ put (l.table.asks task).part s j.parts k)
+      → ((outcome : Outcome) → Answers l.table.inner_values (l.table.asks task).op outcome → IsNotSpent outcome → AllByRecursion w.Good (got (Some (ended (l.table.asks task).who outcome)) s)
+      → Mid l user value halted w m (put p None at) p (record j { parts = put (l.table.asks task).part (sees (Some (ended (l.table.asks task).who outcome)) s) j.parts })
+      → RanTo p o Out (go_on outcome m) (put p None at))
+      → RanTo p o Out (behind_part go_on task next m) at
+  behind_ran p o task m at j c s (Pending q) Out go_on lh words tasks links fine good ans inv cw ct cp more =
+      let x : Option (Running (Nested Task P)) = Some (record { op = o; point = record { task = task; below = q } }) in
+      record {
+        u = inv.0;
+        out = inv.1.0;
+        j = c;
+        inv = inv.1.1;
+        to = put p x at;
+        others = λ i ne. put_other p i x at ne;
+        mine = put_same p x at;
+        words = λ i lt. cw i ∙ words i lt;
+        tasks = λ i. ct i ∙ tasks_put p i x j.tasks at tasks;
+        links = λ k lt. subst (Linked l user value halted m (put p x at) k) (sym (cp k)) (links k lt);
+      }
+  behind_ran p o task m at j c s (Done (Value v)) Out go_on lh words tasks links fine good ans inv cw ct cp more =
+      ran_from p o Out (go_on (Value v) m) at (more (Value v) ans tt good (record { holds = lh; words = words; tasks = λ q ne. tasks q ne ∙ sym (ap standing_of (put_other p q None at ne)); links = links }))
+  behind_ran p o task m at j c s (Done Written) Out go_on lh words tasks links fine good ans inv cw ct cp more =
+      ran_from p o Out (go_on Written m) at (more Written ans tt good (record { holds = lh; words = words; tasks = λ q ne. tasks q ne ∙ sym (ap standing_of (put_other p q None at ne)); links = links }))
+  behind_ran p o task m at j c s (Done (Spent layer)) Out go_on lh words tasks links fine good ans inv cw ct cp more =
+      let never : ⊥ = cc in absurd never
+
+  -- what a part's next step leads to, with the answers as the table has them
+  pub stands_here : (task : Task) (next : Next P) → StandsWell (l.Reaches (l.table.asks task).who (l.table.asks task).op) (Answers l.below.values (l.table.asks task).op) next
+      → StandsWell (l.Reaches (l.table.asks task).who (l.table.asks task).op) (Answers l.table.inner_values (l.table.asks task).op) next
+  stands_here task next h = subst (λ n. StandsWell (l.Reaches (l.table.asks task).who (l.table.asks task).op) (Answers n (l.table.asks task).op) next) l.fit.same_values h
+
+  -- a program runs on
+  pub run_on : IsUser l.table l.Stands user → Always w.Good l.below → ((k : ℕ) → k < l.table.parts → value k < l.below.values)
+      → (p : ℕ) (o : Op) (Out : Option Event → U → Type 0) (prog : Program Task) (m : Memory) (at : At) (j : View Task)
+      → halted p ≡ false → at p ≡ None → IsSound l.table (l.Stands p o) (Answers l.table.values o) prog
+      → Mid l user value halted w m at p j → Runs l.table w p o Out prog j
+      → RanTo p o Out (advance l.table l.below prog m) at
+  run_on is_user all vals p o Out (Ends outcome) m at j awake idle sound mid r = record {
+    u = r.0;
+    out = subst (λ e. Out e r.0) (sym (return_done (Nested Task P) p outcome)) r.1.0;
+    j = record j { tasks = put p None j.tasks };
+    inv = r.1.1;
+    to = put p None at;
+    others = λ q ne. put_other p q None at ne;
+    mine = put_same p None at;
+    words = mid.words;
+    tasks = λ q. tasks_put p q None j.tasks at mid.tasks;
+    links = λ k lt. link_same l user value halted m m at (put p None at) k (j.parts k) (j.parts k) (λ q. put_is p q None at idle) refl refl (mid.links k lt);
+  }
+  run_on is_user all vals p o Out (Reads i rest) m at j awake idle sound mid r =
+      let x : ℕ = word_at (own_words l.table l.below.size + i) m in
+      run_on is_user all vals p o Out (rest x) m at j awake idle (sound.1 x (mid.holds.words i sound.0)) mid (subst (λ y. Runs l.table w p o Out (rest y) j) (mid.words i sound.0) r)
+  run_on is_user all vals p o Out (Sets i x rest) m at j awake idle sound mid r =
+      let new : Memory = with_word (own_words l.table l.below.size + i) x m in
+      let there : own_words l.table l.below.size + i < length m.words = (let h = mid.holds.size.words in let lt = sound.0 in omega arith) in
+      run_on is_user all vals p o Out rest new at (record j { words = put i x j.words }) awake idle sound.1.1
+      (record {
+        holds = holds_with_word l i x m sound.0 sound.1.0 mid.holds;
+        words = λ k lk. elim (cases_eq k i) as (λ _. put i x j.words k ≡ word_at (own_words l.table l.below.size + k) new) [
+          | inl e ↦
+              ap (put i x j.words) e ∙ put_same i x j.words
+              ∙ sym (ap (λ q. word_at (own_words l.table l.below.size + q) new) e ∙ get_or-set_same m.words (own_words l.table l.below.size + i) x 0 there)
+          | inr ne ↦
+              put_other i k x j.words ne ∙ mid.words k lk
+              ∙ sym (get_or-set_other m.words (own_words l.table l.below.size + i) (own_words l.table l.below.size + k) x 0 (λ e. ne (omega (arith, e))))
+        ];
+        tasks = mid.tasks;
+        links = λ k lk. link_same l user value halted m new at at k (j.parts k) (j.parts k) (λ q. refl) (sym (part-with_word l m i x k mid.holds lk)) refl (mid.links k lk);
+      }) r
+  run_on is_user all vals p o Out (Asks task rest) m at j awake idle sound mid r =
+      let a : ℕ = (l.table.asks task).part in
+      let who : ℕ = (l.table.asks task).who in
+      let aop : Op = (l.table.asks task).op in
+      let fit = asks_fit l p o task sound.0 in
+      let la : a < l.table.parts = fit.0 in
+      let lw : who < l.below.processes = l.lawful.nobody_else who aop fit.1 in
+      let u : user a who ≡ p = is_user p o task sound.0 in
+      let link = mid.links a la in
+      let free : running_at who link.c ≡ None = link.running who lw ∙ ap (λ i. below_of l.table a who (at i)) u ∙ ap (below_of l.table a who) idle in
+      let own : Memory = part (part_place l.below.size a) l.below.size m in
+      let begun : Begun P = l.below.begins who aop own in
+      let new : Memory = with_part (part_place l.below.size a) begun.memory m in
+      let to : StepsTo l.below link.c (step_of who aop) who aop (Some (Invoke who aop)) begun.next begun.memory =
+      step_begins l.below who aop link.c own free (link.stopped who lw ∙ ap halted u ∙ awake) link.memory in
+      let f : fits_step l.below (step_of who aop) ≡ true = fits_of l.below who aop fit.1 in
+      let g = l.lawful.begins_well who aop own (mid.holds.parts a la) fit.1 in
+      let hs : HasSize l.below.size begun.memory = l.lawful.size_holds begun.memory g.holds in
+      let fine : IsFine w.Good (j.parts a) (in_order (Some (Invoke who aop)) (return_of who begun.next)) =
+      subst (IsFine w.Good (j.parts a)) to.events (reached_fine w.Good l.below (value a) link.c (j.parts a) (step_of who aop) all (vals a la) link.reached f) in
+      let z : Seen = sees (Some (Invoke who aop)) (j.parts a) in
+      let es : after_step (in_order (Some (Invoke who aop)) (return_of who begun.next)) (j.parts a) ≡ sees (return_of who begun.next) z =
+      begun_seen who aop (return_of who begun.next) (j.parts a) fine.second in
+      let lh : LayerHolds l.table l.below l.Holds new = holds_with_part l a begun.memory m la g.holds mid.holds in
+      behind_ran p o task new at j (record j { tasks = put p (Some (record { op = o; task = task })) j.tasks; parts = put a z j.parts }) z begun.next Out (λ outcome n. advance l.table l.below (rest outcome) n)
+      lh
+      (λ i lt. mid.words i lt ∙ sym (word_behind l begun.memory m a i mid.holds la hs))
+      mid.tasks
+      (λ k lk. subst (λ y. Linked l user value halted new (put p (still_running o (nested task begun.next)) at) k (put a y j.parts k)) es
+      (links_move l user value halted m at j.parts p o task (Some (Invoke who aop)) begun.next begun.memory (step_of who aop) mid.holds mid.links la lw u
+      (λ k q ne. ap (below_of l.table k q) idle) link f to hs k lk))
+      fine.second
+      fine.reads
+      (stands_here task begun.next g.stands)
+      r.0
+      (λ i. refl) (λ q. refl) (λ k. refl)
+      (λ outcome ans pass good mid2.
+      run_on is_user all vals p o Out (rest outcome) new (put p None at) (record j { parts = put a (sees (Some (ended who outcome)) z) j.parts })
+      awake (put_same p None at)
+      (subst (λ q. IsSound l.table (l.Stands p o) (Answers l.table.values o) q) (sym (sound.1 outcome)) (l.sound.rest_sound p o task outcome sound.0 ans pass))
+      mid2 (r.1 outcome ans pass good))
