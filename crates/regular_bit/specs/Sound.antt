@@ -17,17 +17,13 @@ use Rattle.regular_bit.specs.declared.task.RegularTask.TheVariants.{Writing, Rea
 use Rattle.regular_bit.specs.Program.{regular_program, regular_table, regular_asks, regular_frame, regular_find, RegularStands}
 
 module _ (processes : ℕ) (some : 0 < processes) where
-  write_sound : (who v last : ℕ) → who ≡ 0 → v < 2 → IsSound (regular_table processes) (RegularStands processes who (op.Write v)) (Answers 2 (op.Write v))
-      (if last == v then Ends Written else Sets 0 v (Asks (Writing v) Ends))
-  write_sound who v last writer lt = by_test (last == v)
-    where
-      by_test : (same : Bool) → IsSound (regular_table processes) (RegularStands processes who (op.Write v)) (Answers 2 (op.Write v))
-          (if same then Ends Written else Sets 0 v (Asks (Writing v) Ends))
-      by_test true = tt
-      by_test false = (omega arith, (lt, ((writer, refl, lt), λ o. refl)))
+  write_sound : (who v : ℕ) (same : Bool) → who ≡ 0 → v < 2 → IsSound (regular_table processes) (RegularStands processes who (op.Write v)) (Answers 2 (op.Write v))
+      (if same then Ends Written else Sets 0 v (Asks (Writing v) Ends))
+  write_sound who v true writer lt = tt
+  write_sound who v false writer lt = (omega arith, (lt, ((writer, refl, lt), λ o. refl)))
 
   begins_sound : (who : ℕ) (o : Op) → one_writer 2 processes who o ≡ true → IsSound (regular_table processes) (RegularStands processes who o) (Answers 2 o) (regular_program who o)
-  begins_sound who (op.Write v) h = (omega arith, λ last low. write_sound who v last (writer.writer_zero 2 processes who v h) (writer.no_other_value 2 processes who v h))
+  begins_sound who (op.Write v) h = (omega arith, λ last low. write_sound who v _ (writer.writer_zero 2 processes who v h) (writer.no_other_value 2 processes who v h))
   begins_sound who op.Read h = ((refl, writer.reader_some 2 processes who h, writer.reader_few 2 processes who h), λ o. refl)
 
   rest_sound : (who : ℕ) (o : Op) (task : RegularTask) (outcome : Outcome) → RegularStands processes who o task → Answers 2 (regular_asks task).op outcome → IsNotSpent outcome → Answers 2 o outcome
@@ -65,7 +61,7 @@ module _ (processes : ℕ) (some : 0 < processes) where
     nobody_else = λ who o h. writer.nobody_else 2 processes who o h;
     no_other_value = λ who v h. writer.no_other_value 2 processes who v h;
     first_fits = λ v j lt below. lt;
-    first_words = λ v k lt below. lt;
+    first_words = λ v k lt below. omega (arith, lt);
     asks_fit = asks_fit;
     stands_suits = stands_suits;
     frame_tells = frame_tells;

@@ -1,0 +1,291 @@
+-- Copies of a safe register are safe.
+use Rattle.std.proofs.Common.{◌≡◌, ℕ, zero, suc, Bool, true, false, Option, Some, None, ◌<◌, ◌≤◌, ◌==◌, ◌+◌, ◌-◌, IsTrue, refl, sym, ap, ◌∙◌, subst, rules, arith, eq-eqb, List, [], ◌∷◌, inl, inr}
+use Rattle.std.specs.Prelude.{◌⊎◌, if◌then◌else◌}
+use Rattle.std.specs.List.{AllByRecursion}
+use Rattle.std.proofs.lemmas.Bool.{cases_eq, eqb-true}
+use Rattle.safe_bit.specs.Memory.{Memory}
+use Rattle.frames.specs.declared.types.Op.{Op}
+use Rattle.frames.specs.declared.types.Op.TheVariants.{Read, Write}
+use Rattle.frames.specs.declared.types.Outcome.{Outcome}
+use Rattle.frames.specs.declared.types.Outcome.TheVariants.{Value, Written, Spent}
+use Rattle.frames.specs.declared.types.Event.{Event}
+use Rattle.frames.specs.declared.types.Event.TheVariants.{Invoke, Got, Wrote}
+use Rattle.frames.specs.declared.verdict.Verdict.TheVariants.{Fresh, Overlap, Stray}
+use Rattle.frames.specs.Behaviour.{Behaviour, IsLawful, Answers}
+use Rattle.frames.specs.Configuration.{in_order, chosen_of}
+use Rattle.frames.specs.OneWriter.{one_writer}
+use Rattle.frames.specs.laws.OneWriter as writer
+use Rattle.frames.specs.Regularity.{in_progress, IsSafe}
+use Rattle.frames.proofs.Seen.{Seen, Returned, verdict, among, opening, sees, got, now_last, IsFreshAlone, ended}
+use Rattle.frames.proofs.Agreed.{fresh_alike}
+use Rattle.frames.proofs.Judged.{none_in, is_fresh, fresh_value}
+use Rattle.frames.proofs.Pointwise.{put, put_same, put_other, put_zero, put_back, put_all}
+use Rattle.layers.specs.Nested.{Program, Ends, Asks, Table, layered}
+use Rattle.layers.specs.Sound.{IsNotSpent, IsSoundTable, FitsBelow}
+use Rattle.layers.specs.laws.Over.{LayerOver, over}
+use Rattle.layers.proofs.Law.{Standing, View, Watch, Runs, IsKept, IsUser}
+use Rattle.layers.proofs.LayerLaw.{Told, told_begun, told_gone, told_void, told_stop, layer_promises}
+use Rattle.reader_copies.specs.declared.task.CopiesTask.{CopiesTask}
+use Rattle.reader_copies.specs.declared.task.CopiesTask.TheVariants.{Writing, Reading}
+use Rattle.reader_copies.specs.Program.{write_from, copies_program, copies_rest, copies_table, CopiesStands}
+
+-- the copies for the readers before r have the value, and none is being written
+pub record Behind (m r v : ℕ) (u : Seen) (parts : ℕ → Seen) : Type 0 where
+  pub writing : u.writing ≡ Some v
+  pub last : (k : ℕ) → k + 1 < r → (parts k).last ≡ v
+  pub quiet : (k : ℕ) → k < m → (parts k).writing ≡ None
+
+-- and the copy for reader r is being written
+pub record Within (m r v : ℕ) (u : Seen) (parts : ℕ → Seen) : Type 0 where
+  pub writing : u.writing ≡ Some v
+  pub here : (parts (r - 1)).writing ≡ Some v
+  pub last : (k : ℕ) → k + 1 < r → (parts k).last ≡ v
+  pub quiet : (k : ℕ) → k < m → (k ≡ r - 1 → ⊥) → (parts k).writing ≡ None
+
+pub record Still (m : ℕ) (u : Seen) (parts : ℕ → Seen) : Type 0 where
+  pub writing : u.writing ≡ None
+  pub last : (k : ℕ) → k < m → (parts k).last ≡ u.last
+  pub quiet : (k : ℕ) → k < m → (parts k).writing ≡ None
+
+abbrev pub CopierAt : ℕ → CopiesTask → Seen → (ℕ → Seen) → Type 0
+CopierAt m (Writing v r) u parts = Within m r v u parts
+CopierAt m (Reading r) u parts = ⊥
+
+abbrev pub CopierSays : ℕ → Option (Standing CopiesTask) → Seen → (ℕ → Seen) → Type 0
+CopierSays m None u parts = Still m u parts
+CopierSays m (Some n) u parts = CopierAt m n.task u parts
+
+-- a read that overlaps no write overlaps none of its copy
+abbrev pub Alone : ℕ → Seen → (ℕ → Seen) → Type 0
+Alone m u parts = (r : ℕ) → 1 ≤ r → r ≤ m → u.overlaps r ≡ [] → ((parts (r - 1)).overlaps 1 ≡ []) × (((parts (r - 1)).fresh 1 ≡ u.fresh r) × (u.writing ≡ None))
+
+pub record CopiesInv (m : ℕ) (u : Seen) (j : View CopiesTask) : Type 0 where
+  pub alone : Alone m u j.parts
+  pub copier : CopierSays m (j.tasks 0) u j.parts
+
+abbrev pub copies_watch : ℕ → Watch CopiesTask Seen
+copies_watch m = record { Good = IsFreshAlone; Inv = CopiesInv m }
+
+-- while a write is in progress, every read overlaps it
+alone_none : (m v : ℕ) (u z : Seen) (parts to : ℕ → Seen) → u.writing ≡ Some v → Alone m u parts → ((r : ℕ) → z.overlaps r ≡ u.overlaps r) → Alone m z to
+alone_none m v u z parts to e h o r lo hi k =
+    let n : u.writing ≡ None = (h r lo hi (sym (o r) ∙ k)).1.1 in
+    let f : ⊥ = cc in
+    absurd f
+
+writer_still : (m : ℕ) (task : Option (Standing CopiesTask)) (u : Seen) (parts : ℕ → Seen) → CopierSays m task u parts → u.writing ≡ None → Still m u parts
+writer_still m None u parts h e = h
+writer_still m (Some n) u parts h e = at n.task h
+  where
+    at : (task : CopiesTask) → CopierAt m task u parts → Still m u parts
+    at (Writing v r) h = let q : u.writing ≡ Some v = h.writing in let f : ⊥ = cc in absurd f
+    at (Reading r) h = absurd h
+
+copier_same : (m : ℕ) (task : Option (Standing CopiesTask)) (u z : Seen) (parts to : ℕ → Seen) → u.last ≡ z.last → u.writing ≡ z.writing → ((k : ℕ) → (parts k).last ≡ (to k).last) → ((k : ℕ) → (parts k).writing ≡ (to k).writing)
+    → CopierSays m task u parts → CopierSays m task z to
+copier_same m None u z parts to ul uw l w h = record { writing = sym uw ∙ h.writing; last = λ k lk. sym (l k) ∙ h.last k lk ∙ ul; quiet = λ k lk. sym (w k) ∙ h.quiet k lk }
+copier_same m (Some n) u z parts to ul uw l w h = at n.task h
+  where
+    at : (task : CopiesTask) → CopierAt m task u parts → CopierAt m task z to
+    at (Writing v r) h = record { writing = sym uw ∙ h.writing; here = sym (w (r - 1)) ∙ h.here; last = λ k lk. sym (l k) ∙ h.last k lk; quiet = λ k lk ne. sym (w k) ∙ h.quiet k lk ne }
+    at (Reading r) h = h
+
+-- which process acts on a copy: the writer, or the copy's reader
+abbrev pub copies_user : ℕ → ℕ → ℕ
+copies_user k zero = zero
+copies_user k (suc q) = suc k
+
+module _ (m values : ℕ) where
+  abbrev t : Table CopiesTask
+  t = copies_table m values
+
+  abbrev w : Watch CopiesTask Seen
+  w = copies_watch m
+
+  runs_writes : (behind r v p : ℕ) (op : Op) (Out : Option Event → Seen → Type 0) (u : Seen) (j : View CopiesTask) → p ≡ 0 → 1 ≤ r → r + behind ≡ m + 1 → Behind m r v u j.parts → Alone m u j.parts
+      → Out None u → Out (Some (Wrote p)) (sees (Some (Wrote p)) u) → Runs t w p op Out (write_from v r behind) j
+  runs_writes zero r v p op Out u j zp lo room h a on oe =
+      let z : Seen = sees (Some (Wrote p)) u in (
+        z,
+        (
+          oe,
+          record {
+            alone = alone_none m v u z j.parts j.parts h.writing a (λ r. refl);
+            copier = subst (λ y. CopierSays m y z j.parts) (sym (put_zero p None j.tasks zp)) (record {
+              writing = refl;
+              last = λ k lk. h.last k (omega (arith, lk, room)) ∙ sym (ap (λ o. now_last o u.last) h.writing);
+              quiet = h.quiet;
+            });
+          },
+        ),
+      )
+  runs_writes (suc behind) r v p op Out u j zp lo room h a on oe =
+      let i : ℕ = r - 1 in
+      let n : Option (Standing CopiesTask) = Some (record { op = op; task = Writing v r }) in
+      let s : Seen = sees (Some (Invoke 0 (Write v))) (j.parts i) in
+      let e : Seen = sees (Some (Wrote 0)) s in (
+        (
+          u,
+          (
+            on,
+            record {
+              alone = alone_none m v u u j.parts (put i s j.parts) h.writing a (λ r. refl);
+              copier = subst (λ y. CopierSays m y u (put i s j.parts)) (sym (put_zero p n j.tasks zp)) (record {
+                writing = h.writing;
+                here = ap (λ x. x.writing) (put_same i s j.parts);
+                last = λ k lk. ap (λ x. x.last) (put_other i k s j.parts (λ q. omega (arith, q, lk, lo))) ∙ h.last k lk;
+                quiet = λ k lk ne. ap (λ x. x.writing) (put_other i k s j.parts ne) ∙ h.quiet k lk;
+              });
+            },
+          ),
+        ),
+        λ o ans pass good. elim o as (λ o. Answers values (Write v) o → IsNotSpent o → Runs t w p op Out (write_from v (r + 1) behind) (record j { parts = put i (sees (Some (ended 0 o)) s) j.parts })) [
+          | Value x ↦ λ ans pass. absurd ans
+          | Written ↦ λ ans pass. runs_writes behind (r + 1) v p op Out u (record j { parts = put i e j.parts }) zp (omega (arith, lo)) (omega (arith, room))
+              (record {
+                writing = h.writing;
+                last = put_all (λ k x. k + 1 < r + 1 → x.last ≡ v) i e j.parts (λ lk. refl) (λ k ne lk. h.last k (omega (arith, lk, ne, lo)));
+                quiet = put_all (λ k x. k < m → x.writing ≡ None) i e j.parts (λ lk. refl) (λ k ne lk. h.quiet k lk);
+              }) (alone_none m v u u j.parts (put i e j.parts) h.writing a (λ r. refl)) on oe
+          | Spent l ↦ λ ans pass. absurd pass
+        ] ans pass,
+      )
+
+  begin_write : (u : Seen) (j : View CopiesTask) (p v : ℕ) → CopiesInv m u j → j.tasks p ≡ None → p ≡ 0
+      → Runs t w p (Write v) (λ e. Told IsFreshAlone u (in_order (Some (Invoke p (Write v))) e)) (write_from v 1 m) j
+  begin_write u j p v h free zp =
+      let idle : Still m u j.parts = subst (λ y. CopierSays m y u j.parts) (sym (ap j.tasks zp) ∙ free) h.copier in
+      let z : Seen = sees (Some (Invoke p (Write v))) u in
+      runs_writes m 1 v p (Write v) (λ e. Told IsFreshAlone u (in_order (Some (Invoke p (Write v))) e)) z j zp (omega arith) (omega arith)
+      (record { writing = refl; last = λ k lk. (let f : ⊥ = omega (arith, lk) in absurd f); quiet = idle.quiet })
+      (λ r lo hi k. (let f : ⊥ = cc in absurd f))
+      (told_begun IsFreshAlone p (Write v) None u refl tt) (told_begun IsFreshAlone p (Write v) (Some (Wrote p)) u refl tt)
+
+  gives : (r x : ℕ) (u s : Seen) → (u.overlaps r ≡ [] → (s.overlaps 1 ≡ []) × ((s.fresh 1 ≡ u.fresh r) × (u.writing ≡ None)))
+      → IsFreshAlone (record { reader = 1; value = x; fresh = s.fresh 1; overlaps = s.overlaps 1 }) → IsFreshAlone (record { reader = r; value = x; fresh = u.fresh r; overlaps = u.overlaps r })
+  gives r x u s a g o =
+      let y : Returned = record { reader = 1; value = x; fresh = s.fresh 1; overlaps = s.overlaps 1 } in
+      let f = a o in
+      is_fresh (record { reader = r; value = x; fresh = u.fresh r; overlaps = u.overlaps r }) (fresh_value y (g f.0) ∙ f.1.0)
+
+  begin_read : (u : Seen) (j : View CopiesTask) (p : ℕ) → CopiesInv m u j → 1 ≤ p → p ≤ m
+      → Runs t w p Read (λ e. Told IsFreshAlone u (in_order (Some (Invoke p Read)) e)) (copies_program m p Read) j
+  begin_read u j p h lo hi =
+      let i : ℕ = p - 1 in
+      let li : i < m = omega (arith, lo, hi) in
+      let z : Seen = sees (Some (Invoke p Read)) u in
+      let s : Seen = sees (Some (Invoke 1 Read)) (j.parts i) in
+      let mid : ℕ → Seen = put i s j.parts in
+      let zo : z.overlaps p ≡ in_progress u.writing = put_same p (in_progress u.writing) u.overlaps in
+      let zf : z.fresh p ≡ u.last = put_same p u.last u.fresh in
+      let me : mid i ≡ s = put_same i s j.parts in
+      let copier : CopierSays m (j.tasks 0) z mid =
+      copier_same m (j.tasks 0) u z j.parts mid refl refl (put_all (λ k x. (j.parts k).last ≡ x.last) i s j.parts refl (λ k ne. refl)) (put_all (λ k x. (j.parts k).writing ≡ x.writing) i s j.parts refl (λ k ne. refl)) h.copier in
+      let alone : Alone m z mid = λ r rl rh. elim (cases_eq r p) as (λ c. z.overlaps r ≡ [] → ((mid (r - 1)).overlaps 1 ≡ []) × (((mid (r - 1)).fresh 1 ≡ z.fresh r) × (z.writing ≡ None))) [
+        | inl e ↦ λ o.
+            let n : u.writing ≡ None = none_in u.writing (sym zo ∙ sym (ap (λ x. z.overlaps x) e) ∙ o) in
+            let st : Still m u j.parts = writer_still m (j.tasks 0) u j.parts h.copier n in (
+              ap (λ x. (mid (x - 1)).overlaps 1) e ∙ ap (λ x. x.overlaps 1) me ∙ ap in_progress (st.quiet i li),
+              (ap (λ x. (mid (x - 1)).fresh 1) e ∙ ap (λ x. x.fresh 1) me ∙ st.last i li ∙ sym zf ∙ sym (ap (λ x. z.fresh x) e), n),
+            )
+        | inr ne ↦ λ o.
+            let np : r - 1 ≡ i → ⊥ = λ q. ne (omega (arith, q, rl, lo)) in
+            let f = h.alone r rl rh (sym (put_other p r (in_progress u.writing) u.overlaps ne) ∙ o) in (
+              ap (λ x. x.overlaps 1) (put_other i (r - 1) s j.parts np) ∙ f.0,
+              (ap (λ x. x.fresh 1) (put_other i (r - 1) s j.parts np) ∙ f.1.0 ∙ sym (put_other p r u.last u.fresh ne), f.1.1),
+            )
+      ] in (
+        (
+          z,
+          (
+            told_begun IsFreshAlone p Read None u refl tt,
+            record {
+              alone = alone;
+              copier = subst (λ y. CopierSays m y z mid) (sym (put_other p 0 (Some (record { op = Read; task = Reading p })) j.tasks (λ q. omega (arith, q, lo)))) copier;
+            },
+          ),
+        ),
+        λ o ans pass good. elim o as (λ o. Answers values Read o → IsNotSpent o → AllByRecursion IsFreshAlone (got (Some (ended 1 o)) s)
+            → Runs t w p Read (λ e. Told IsFreshAlone u (in_order (Some (Invoke p Read)) e)) (Ends o) (record j { parts = put i (sees (Some (ended 1 o)) s) j.parts })) [
+              | Value x ↦ λ ans pass good. (
+                z,
+                (
+                  told_begun IsFreshAlone p Read (Some (Got p x)) u refl
+                      (gives p x z s (λ o. let f = alone p lo hi o in (sym (ap (λ x. x.overlaps 1) me) ∙ f.0, (sym (ap (λ x. x.fresh 1) me) ∙ f.1.0, f.1.1))) good.0, tt),
+                  record {
+                    alone = alone;
+                    copier = subst (λ y. CopierSays m y z mid) (sym (put_other p 0 None j.tasks (λ q. omega (arith, q, lo)))) copier;
+                  },
+                ),
+              )
+              | Written ↦ λ ans pass good. absurd ans
+              | Spent l ↦ λ ans pass good. absurd pass
+            ] ans pass good,
+      )
+
+  begins : (u : Seen) (j : View CopiesTask) (p : ℕ) (op : Op) → CopiesInv m u j → j.tasks p ≡ None → one_writer values (m + 1) p op ≡ true
+      → Runs t w p op (λ e. Told IsFreshAlone u (in_order (Some (Invoke p op)) e)) (copies_program m p op) j
+  begins u j p (Write v) h free s = begin_write u j p v h free (writer.writer_zero values (m + 1) p v s)
+  begins u j p Read h free s = let lo = writer.reader_some values (m + 1) p s in let hi = writer.reader_few values (m + 1) p s in begin_read u j p h lo (omega (arith, hi))
+
+  go_ends : (u : Seen) (j : View CopiesTask) (p : ℕ) (op : Op) (task : CopiesTask) (chosen : Option (ℕ × Bool)) (o : Outcome) → CopiesInv m u j → j.tasks p ≡ Some (record { op = op; task = task })
+      → CopiesStands m values p op task
+      → Answers values (t.asks task).op o → IsNotSpent o → AllByRecursion IsFreshAlone (got (Some (ended (t.asks task).who o)) (j.parts (t.asks task).part))
+      → Runs t w p op (λ e. Told IsFreshAlone u (in_order (chosen_of p chosen) e)) (copies_rest m task o)
+      (record j { parts = put (t.asks task).part (sees (Some (ended (t.asks task).who o)) (j.parts (t.asks task).part)) j.parts })
+  go_ends u j p (Write x) (Writing v r) chosen (Value y) h mine st ans pass good = absurd ans
+  go_ends u j p (Write x) (Writing v r) chosen (Spent l) h mine st ans pass good = absurd pass
+  go_ends u j p (Write x) (Writing v r) chosen Written h mine st ans pass good =
+      let h0 : Within m r v u j.parts = subst (λ y. CopierSays m y u j.parts) (sym (ap j.tasks st.0) ∙ mine) h.copier in
+      let i : ℕ = r - 1 in
+      let e : Seen = sees (Some (Wrote 0)) (j.parts i) in
+      let lo : 1 ≤ r = st.3 in
+      let hi : r ≤ m = st.4 in
+      runs_writes (m - r) (r + 1) v p (Write x) (λ e. Told IsFreshAlone u (in_order (chosen_of p chosen) e)) u (record j { parts = put i e j.parts }) st.0 (omega (arith, lo)) (omega (arith, hi))
+      (record {
+        writing = h0.writing;
+        last = put_all (λ k x. k + 1 < r + 1 → x.last ≡ v) i e j.parts (λ lk. ap (λ o. now_last o (j.parts i).last) h0.here) (λ k ne lk. h0.last k (omega (arith, lk, ne, lo)));
+        quiet = put_all (λ k x. k < m → x.writing ≡ None) i e j.parts (λ lk. refl) (λ k ne lk. h0.quiet k lk ne);
+      }) (alone_none m v u u j.parts (put i e j.parts) h0.writing h.alone (λ r. refl))
+      (told_gone IsFreshAlone p chosen None u refl tt) (told_gone IsFreshAlone p chosen (Some (Wrote p)) u refl tt)
+  go_ends u j p Read (Reading r) chosen Written h mine st ans pass good = absurd ans
+  go_ends u j p Read (Reading r) chosen (Spent l) h mine st ans pass good = absurd pass
+  go_ends u j p Read (Reading r) chosen (Value x) h mine st ans pass good =
+      let i : ℕ = r - 1 in
+      let lo : 1 ≤ r = st.1 in
+      let is : r ≡ p = st.0 in
+      subst (λ f. Runs t w p Read (λ e. Told IsFreshAlone u (in_order (chosen_of p chosen) e)) (Ends (Value x)) (record j { parts = f })) (put_back i j.parts) (
+        u,
+        (
+          told_gone IsFreshAlone p chosen (Some (Got p x)) u refl
+              (subst (λ q. IsFreshAlone (record { reader = q; value = x; fresh = u.fresh q; overlaps = u.overlaps q })) is (gives r x u (j.parts i) (h.alone r lo st.2) good.0), tt),
+          record { alone = h.alone; copier = subst (λ y. CopierSays m y u j.parts) (sym (put_other p 0 None j.tasks (λ q. omega (arith, q, lo, is)))) h.copier },
+        ),
+      )
+  go_ends u j p (Write x) (Reading r) chosen o h mine st ans pass good = absurd st
+  go_ends u j p Read (Writing v r) chosen o h mine st ans pass good = absurd st
+
+  pub copies_kept : IsKept t (CopiesStands m values) w opening (Told IsFreshAlone)
+  copies_kept = record {
+    initial = λ v l j ew et ep. record {
+      alone = λ r lo hi o. (let f = ep (r - 1) (omega (arith, lo, hi)) in (ap (λ s. s.overlaps 1) f, (ap (λ s. s.fresh 1) f, refl)));
+      copier = subst (λ y. CopierSays m y (opening v) j.parts) (sym (et 0)) (record { writing = refl; last = λ k lk. ap (λ s. s.last) (ep k lk); quiet = λ k lk. ap (λ s. s.writing) (ep k lk) });
+    };
+    void = told_void IsFreshAlone;
+    stop = told_stop IsFreshAlone;
+    begins = begins;
+    still = λ u j p chosen h. (u, (told_gone IsFreshAlone p chosen None u refl tt, h));
+    goes = λ u j p n chosen o h mine s ans pass good. go_ends u j p n.op n.task chosen o h mine s ans pass good;
+  }
+
+  pub copies_user_is : IsUser t (CopiesStands m values) copies_user
+  copies_user_is p (Write x) (Writing v r) s = sym s.0
+  copies_user_is p Read (Reading r) s = let lo : 1 ≤ r = s.1 in let is : r ≡ p = s.0 in omega (arith, lo, is)
+  copies_user_is p (Write x) (Reading r) s = absurd s
+  copies_user_is p Read (Writing v r) s = absurd s
+
+-- copies of a safe register are safe
+pub copies_over_safe : {P : Type 0} (b : Behaviour P) (Holds : Memory → Type 0) (Reaches : ℕ → Op → P → Type 0) (readers values : ℕ) (left : CopiesTask → ℕ) → IsLawful b Holds Reaches
+    → IsSoundTable (copies_table readers values) (CopiesStands readers values) left → FitsBelow (copies_table readers values) b → IsSafe b → IsSafe (layered (copies_table readers values) b)
+copies_over_safe b Holds Reaches readers values left lawful sound fit safe =
+    layer_promises (over lawful sound fit) copies_user (copies_user_is readers values) IsFreshAlone (copies_watch readers) fresh_alike fresh_alike (λ who o h. h) safe (copies_kept readers values)

@@ -1,0 +1,332 @@
+-- A regular bit over a safe register is regular.
+use Rattle.std.proofs.Common.{◌≡◌, ℕ, zero, suc, Bool, true, false, Option, Some, None, ◌<◌, ◌≤◌, ◌==◌, IsTrue, refl, sym, ap, ◌∙◌, subst, rules, arith, eq-eqb, List, [], ◌∷◌, inl, inr}
+use Rattle.std.specs.Prelude.{◌⊎◌, ◌≢◌, ◌||◌, if◌then◌else◌}
+use Rattle.std.specs.List.{list_any, AllByRecursion}
+use Rattle.std.proofs.lemmas.Bool.{ne_eqb, eqb-true, eqb-false, cases_eq}
+use Rattle.frames.specs.declared.types.Op.{Op}
+use Rattle.frames.specs.declared.types.Op.TheVariants.{Read, Write}
+use Rattle.frames.specs.declared.types.Outcome.{Outcome}
+use Rattle.frames.specs.declared.types.Outcome.TheVariants.{Value, Written, Spent}
+use Rattle.frames.specs.declared.types.Event.{Event}
+use Rattle.frames.specs.declared.types.Event.TheVariants.{Invoke, Got, Wrote}
+use Rattle.frames.specs.declared.verdict.Verdict.{Verdict}
+use Rattle.frames.specs.declared.verdict.Verdict.TheVariants.{Fresh, Overlap, Stray}
+use Rattle.safe_bit.specs.Memory.{Memory}
+use Rattle.frames.specs.Behaviour.{Behaviour, IsLawful, Answers}
+use Rattle.frames.specs.Configuration.{in_order, chosen_of}
+use Rattle.frames.specs.OneWriter.{one_writer}
+use Rattle.frames.specs.laws.OneWriter as writer
+use Rattle.frames.specs.Regularity.{in_progress, IsSafe, IsRegular}
+use Rattle.frames.proofs.Agreed.{fresh_alike, stray_alike}
+use Rattle.frames.proofs.Seen.{Seen, Returned, verdict, among, opening, sees, got, now_last, IsFreshAlone, IsNotStray, Always, ended}
+use Rattle.frames.proofs.Judged.{fresh_value}
+use Rattle.frames.proofs.Pointwise.{put, put_same, put_other}
+use Rattle.layers.specs.Nested.{Program, Ends, Asks, Reads, Sets, Table, layered}
+use Rattle.layers.specs.Sound.{IsNotSpent, IsSoundTable, FitsBelow}
+use Rattle.layers.specs.laws.Over.{LayerOver, over}
+use Rattle.layers.proofs.Law.{Standing, View, Watch, Runs, IsKept, IsUser}
+use Rattle.layers.proofs.LayerLaw.{Told, told_begun, told_gone, told_void, told_stop, layer_promises}
+use Rattle.regular_bit.specs.declared.task.RegularTask.{RegularTask}
+use Rattle.regular_bit.specs.declared.task.RegularTask.TheVariants.{Writing, Reading}
+use Rattle.regular_bit.specs.Program.{regular_table, regular_program, RegularStands}
+
+-- the word is the value of the last write that began, which differs from the one before it
+abbrev pub WordSays : ℕ → Option ℕ → ℕ → Type 0
+WordSays word None last = word ≡ last
+WordSays word (Some v) last = (word ≡ v) × ((v ≡ last → ⊥) × v < 2)
+
+-- the reader overlaps no write of the register below, or one of another value than the fresh one
+abbrev pub HasOther : ℕ → List ℕ → ℕ → Option ℕ → Type 0
+HasOther fresh overlaps last writing =
+    ((overlaps ≡ []) × ((fresh ≡ last) × (writing ≡ None)))
+    ⊎ ((x : ℕ) × (IsTrue (among x overlaps) × ((x ≡ fresh → ⊥) × x < 2)))
+
+-- what the histories of the regular bit, u, and of the register below, s, tell of a reader
+pub record Agree (u s : Seen) (word : ℕ) : Type 0 where
+  pub last : u.last ≡ s.last
+  pub writing : u.writing ≡ s.writing
+  pub fresh : (r : ℕ) → u.fresh r ≡ s.fresh r
+  pub overlaps : (r x : ℕ) → IsTrue (among x (s.overlaps r)) → IsTrue (among x (u.overlaps r))
+  pub last_small : s.last < 2
+  pub fresh_small : (r : ℕ) → s.fresh r < 2
+  pub says : WordSays word s.writing s.last
+  pub other : (r : ℕ) → HasOther (s.fresh r) (s.overlaps r) s.last s.writing
+
+among_more : (x v : ℕ) (vs : List ℕ) → IsTrue (among x vs) → IsTrue (among x (v ∷ vs))
+among_more x v vs h = elim (v == x) as (λ c. IsTrue (c || among x vs)) [ true ↦ refl | false ↦ h ]
+
+among_both : (x v : ℕ) (vs ws : List ℕ) → (IsTrue (among x vs) → IsTrue (among x ws)) → IsTrue (among x (v ∷ vs)) → IsTrue (among x (v ∷ ws))
+among_both x v vs ws f h = go (v == x) h
+  where
+    go : (c : Bool) → IsTrue (c || among x vs) → IsTrue (c || among x ws)
+    go true k = refl
+    go false k = f k
+
+among_here : (x : ℕ) (vs : List ℕ) → IsTrue (among x (x ∷ vs))
+among_here x vs = ap (λ c. c || among x vs) (eq-eqb x x refl)
+
+agree_invoke : (p q v : ℕ) (u s : Seen) (word : ℕ) → Agree u s word → s.writing ≡ None → v < 2 → (word ≡ v → ⊥)
+    → Agree (sees (Some (Invoke p (Write v))) u) (sees (Some (Invoke q (Write v))) s) v
+agree_invoke p q v u s word a idle l ne =
+    let w : word ≡ s.last = subst (λ k. WordSays word k s.last) idle a.says in
+    record {
+      last = a.last;
+      writing = refl;
+      fresh = a.fresh;
+      overlaps = λ r x. among_both x v (s.overlaps r) (u.overlaps r) (a.overlaps r x);
+      last_small = a.last_small;
+      fresh_small = a.fresh_small;
+      says = (refl, (λ e. ne (w ∙ sym e), l));
+      other = λ r. elim (a.other r) [
+        | inl h ↦ inr (v, (among_here v (s.overlaps r), (λ e. ne (w ∙ sym h.1.0 ∙ sym e), l)))
+        | inr h ↦ inr (h.0, (among_more h.0 v (s.overlaps r) h.1.0, h.1.1))
+      ];
+    }
+
+now_small : (w : Option ℕ) (last word : ℕ) → WordSays word w last → last < 2 → now_last w last < 2
+now_small None last word h l = l
+now_small (Some v) last word h l = h.1.1
+
+now_word : (w : Option ℕ) (last word : ℕ) → WordSays word w last → word ≡ now_last w last
+now_word None last word h = h
+now_word (Some v) last word h = h.0
+
+agree_wrote : (p q : ℕ) (u s : Seen) (word : ℕ) → Agree u s word → Agree (sees (Some (Wrote p)) u) (sees (Some (Wrote q)) s) word
+agree_wrote p q u s word a = record {
+  last = ap (λ x. now_last u.writing x) a.last ∙ ap (λ w. now_last w s.last) a.writing;
+  writing = refl;
+  fresh = a.fresh;
+  overlaps = a.overlaps;
+  last_small = now_small s.writing s.last word a.says a.last_small;
+  fresh_small = a.fresh_small;
+  says = now_word s.writing s.last word a.says;
+  other = λ r. elim (a.other r) [
+    | inl h ↦ inl (h.0, (h.1.0 ∙ sym (ap (λ w. now_last w s.last) h.1.1), refl))
+    | inr h ↦ inr h
+  ];
+}
+
+-- a write of the word's value
+agree_same : (p v : ℕ) (u s : Seen) (word : ℕ) → Agree u s word → s.writing ≡ None → word ≡ v → Agree (sees (Some (Wrote p)) (sees (Some (Invoke p (Write v))) u)) s word
+agree_same p v u s word a idle e =
+    let w : word ≡ s.last = subst (λ k. WordSays word k s.last) idle a.says in
+    record {
+      last = sym e ∙ w;
+      writing = sym idle;
+      fresh = a.fresh;
+      overlaps = λ r x h. among_more x v (u.overlaps r) (a.overlaps r x h);
+      last_small = a.last_small;
+      fresh_small = a.fresh_small;
+      says = a.says;
+      other = a.other;
+    }
+
+begun_other : (w : Option ℕ) (last word : ℕ) → WordSays word w last → HasOther last (in_progress w) last w
+begun_other None last word h = inl (refl, (refl, refl))
+begun_other (Some v) last word h = inr (v, (among_here v [], h.1))
+
+agree_read : (p : ℕ) (u s : Seen) (word : ℕ) → Agree u s word → Agree (sees (Some (Invoke p Read)) u) (sees (Some (Invoke p Read)) s) word
+agree_read p u s word a = record {
+  last = a.last;
+  writing = a.writing;
+  fresh = λ r. elim (r == p) as (λ c. (if c then u.last else u.fresh r) ≡ (if c then s.last else s.fresh r)) [ true ↦ a.last | false ↦ a.fresh r ];
+  overlaps = λ r x. elim (r == p) as (λ c. IsTrue (among x (if c then in_progress s.writing else s.overlaps r)) → IsTrue (among x (if c then in_progress u.writing else u.overlaps r))) [
+    | true ↦ λ h. subst (λ w. IsTrue (among x (in_progress w))) (sym a.writing) h
+    | false ↦ a.overlaps r x
+  ];
+  last_small = a.last_small;
+  fresh_small = λ r. elim (r == p) as (λ c. (if c then s.last else s.fresh r) < 2) [ true ↦ a.last_small | false ↦ a.fresh_small r ];
+  says = a.says;
+  other = λ r. elim (r == p) as (λ c. HasOther (if c then s.last else s.fresh r) (if c then in_progress s.writing else s.overlaps r) s.last s.writing) [
+    | true ↦ begun_other s.writing s.last word a.says
+    | false ↦ a.other r
+  ];
+}
+
+not_stray_fresh : (x : Returned) → x.value ≡ x.fresh → IsNotStray x
+not_stray_fresh x e h =
+    let k : Fresh ≡ Stray = sym (ap (λ c. if c then Fresh else if among x.value x.overlaps then Overlap else Stray) (eq-eqb x.value x.fresh e)) ∙ h in
+    cc
+
+not_stray_overlap : (x : Returned) → IsTrue (among x.value x.overlaps) → IsNotStray x
+not_stray_overlap x e h = go (x.value == x.fresh) (sym (ap (λ d. if x.value == x.fresh then Fresh else if d then Overlap else Stray) e) ∙ h)
+  where
+    go : (c : Bool) → (if c then Fresh else Overlap) ≡ Stray → ⊥
+    go true k = cc
+    go false k = cc
+
+agree_got : (p : ℕ) (u s : Seen) (word x : ℕ) → Agree u s word → x < 2 → IsFreshAlone (record { reader = p; value = x; fresh = s.fresh p; overlaps = s.overlaps p })
+    → IsNotStray (record { reader = p; value = x; fresh = u.fresh p; overlaps = u.overlaps p })
+agree_got p u s word x a l g =
+    let here : Returned = record { reader = p; value = x; fresh = u.fresh p; overlaps = u.overlaps p } in
+    let below : Returned = record { reader = p; value = x; fresh = s.fresh p; overlaps = s.overlaps p } in
+    elim (a.other p) [
+      | inl h ↦ not_stray_fresh here (fresh_value below (g h.0) ∙ sym (a.fresh p))
+      | inr h ↦ elim (cases_eq x (s.fresh p)) [
+        | inl e ↦ not_stray_fresh here (e ∙ sym (a.fresh p))
+        | inr ne ↦
+            let y : ℕ = h.0 in
+            let ly : y < 2 = h.1.1.1 in
+            let ny : y ≡ s.fresh p → ⊥ = h.1.1.0 in
+            let lf : s.fresh p < 2 = a.fresh_small p in
+            let e : y ≡ x = omega (arith, ly, ny, lf, l, ne) in
+            not_stray_overlap here (a.overlaps p x (subst (λ k. IsTrue (among k (s.overlaps p))) e h.1.0))
+      ]
+    ]
+
+pub record RegularInv (u : Seen) (j : View RegularTask) : Type 0 where
+  pub agree : Agree u (j.parts 0) (j.words 0)
+  pub idle : j.tasks 0 ≡ None → (j.parts 0).writing ≡ None
+
+abbrev pub regular_watch : Watch RegularTask Seen
+regular_watch = record { Good = IsFreshAlone; Inv = RegularInv }
+
+module _ (processes : ℕ) where
+  abbrev t : Table RegularTask
+  t = regular_table processes
+
+  abbrev OutOf : Seen → ℕ → Op → Option Event → Seen → Type 0
+  OutOf u p o e = Told IsNotStray u (in_order (Some (Invoke p o)) e)
+
+  busy : (p : ℕ) (n : Standing RegularTask) (f : ℕ → Option (Standing RegularTask)) → p ≡ 0 → put p (Some n) f 0 ≡ None → ⊥
+  busy p n f e k =
+      let s : put p (Some n) f p ≡ Some n = put_same p (Some n) f in
+      let m : put p (Some n) f p ≡ put p (Some n) f 0 = ap (put p (Some n) f) e in
+      cc
+
+  begin_write : (u : Seen) (j : View RegularTask) (p v : ℕ) → RegularInv u j → j.tasks p ≡ None → p ≡ 0 → v < 2
+      → Runs t regular_watch p (Write v) (OutOf u p (Write v)) (regular_program p (Write v)) j
+  begin_write u j p v h free zero_p l = go (j.words 0 == v) refl
+    where
+      ends : (o : Outcome) → Answers 2 (Write v) o → IsNotSpent o → Agree (sees (Some (Invoke p (Write v))) u) (sees (Some (Invoke 0 (Write v))) (j.parts 0)) v
+          → (z : Seen) × (OutOf u p (Write v) (Some (ended p o)) z
+          × RegularInv z (record { words = put 0 v j.words; tasks = put p None j.tasks; parts = put 0 (sees (Some (ended 0 o)) (sees (Some (Invoke 0 (Write v))) (j.parts 0))) j.parts }))
+      ends (Value x) ans pass a = absurd ans
+      ends (Spent s) ans pass a = absurd pass
+      ends Written ans pass a = (
+        sees (Some (Wrote p)) (sees (Some (Invoke p (Write v))) u),
+        (
+          told_begun IsNotStray p (Write v) (Some (Wrote p)) u refl tt,
+          record { agree = agree_wrote p 0 _ _ v a; idle = λ k. refl },
+        ),
+      )
+
+      go : (c : Bool) → (j.words 0 == v) ≡ c → Runs t regular_watch p (Write v) (OutOf u p (Write v)) (if c then Ends Written else Sets 0 v (Asks (Writing v) Ends)) j
+      go true e =
+          let idle : (j.parts 0).writing ≡ None = h.idle (sym (ap j.tasks zero_p) ∙ free) in (
+            sees (Some (Wrote p)) (sees (Some (Invoke p (Write v))) u),
+            (
+              told_begun IsNotStray p (Write v) (Some (Wrote p)) u refl tt,
+              record { agree = agree_same p v u (j.parts 0) (j.words 0) h.agree idle (eqb-true (j.words 0) v e); idle = λ k. idle },
+            ),
+          )
+      go false e =
+          let idle : (j.parts 0).writing ≡ None = h.idle (sym (ap j.tasks zero_p) ∙ free) in
+          let a = agree_invoke p 0 v u (j.parts 0) (j.words 0) h.agree idle l (eqb-false (j.words 0) v e) in (
+            (
+              sees (Some (Invoke p (Write v))) u,
+              (
+                told_begun IsNotStray p (Write v) None u refl tt,
+                record { agree = a; idle = λ k. absurd (busy p (record { op = Write v; task = Writing v }) j.tasks zero_p k) },
+              ),
+            ),
+            λ o ans pass good. ends o ans pass a,
+          )
+
+  other_task : (p : ℕ) (n : Option (Standing RegularTask)) (f : ℕ → Option (Standing RegularTask)) → 1 ≤ p → put p n f 0 ≡ None → f 0 ≡ None
+  other_task p n f l e = sym (put_other p 0 n f (λ k. omega (arith, l, k))) ∙ e
+
+  begin_read : (u : Seen) (j : View RegularTask) (p : ℕ) → RegularInv u j → 1 ≤ p → Runs t regular_watch p Read (OutOf u p Read) (regular_program p Read) j
+  begin_read u j p h l =
+      let a = agree_read p u (j.parts 0) (j.words 0) h.agree in (
+        (
+          sees (Some (Invoke p Read)) u,
+          (
+            told_begun IsNotStray p Read None u refl tt,
+            record { agree = a; idle = λ k. h.idle (other_task p (Some (record { op = Read; task = Reading p })) j.tasks l k) },
+          ),
+        ),
+        λ o ans pass good. ends o ans pass good a,
+      )
+    where
+      ends : (o : Outcome) → Answers 2 Read o → IsNotSpent o → AllByRecursion IsFreshAlone (got (Some (ended p o)) (sees (Some (Invoke p Read)) (j.parts 0)))
+          → Agree (sees (Some (Invoke p Read)) u) (sees (Some (Invoke p Read)) (j.parts 0)) (j.words 0)
+          → (z : Seen) × (OutOf u p Read (Some (ended p o)) z
+          × RegularInv z (record { words = j.words; tasks = put p None j.tasks; parts = put 0 (sees (Some (ended p o)) (sees (Some (Invoke p Read)) (j.parts 0))) j.parts }))
+      ends Written ans pass good a = absurd ans
+      ends (Spent s) ans pass good a = absurd pass
+      ends (Value x) ans pass good a = (
+        sees (Some (Invoke p Read)) u,
+        (
+          told_begun IsNotStray p Read (Some (Got p x)) u refl (agree_got p _ _ (j.words 0) x a ans good.0, tt),
+          record { agree = a; idle = λ k. h.idle (other_task p None j.tasks l k) },
+        ),
+      )
+
+  begins : (u : Seen) (j : View RegularTask) (p : ℕ) (o : Op) → RegularInv u j → j.tasks p ≡ None → one_writer 2 processes p o ≡ true
+      → Runs t regular_watch p o (OutOf u p o) (regular_program p o) j
+  begins u j p (Write v) h free s = begin_write u j p v h free (writer.writer_zero 2 processes p v s) (writer.no_other_value 2 processes p v s)
+  begins u j p Read h free s = begin_read u j p h (writer.reader_some 2 processes p s)
+
+  go_ends : (u : Seen) (j : View RegularTask) (p : ℕ) (op : Op) (task : RegularTask) (chosen : Option (ℕ × Bool)) (o : Outcome)
+      → RegularInv u j → RegularStands processes p op task → Answers 2 (t.asks task).op o → IsNotSpent o
+      → AllByRecursion IsFreshAlone (got (Some (ended (t.asks task).who o)) (j.parts (t.asks task).part))
+      → Runs t regular_watch p op (λ e. Told IsNotStray u (in_order (chosen_of p chosen) e)) (Ends o)
+      (record j { parts = put (t.asks task).part (sees (Some (ended (t.asks task).who o)) (j.parts (t.asks task).part)) j.parts })
+  go_ends u j p (Write w) (Writing v) chosen Written h s ans pass good =
+      (sees (Some (Wrote p)) u, (told_gone IsNotStray p chosen (Some (Wrote p)) u refl tt, record { agree = agree_wrote p 0 u (j.parts 0) (j.words 0) h.agree; idle = λ k. refl }))
+  go_ends u j p (Write w) (Writing v) chosen (Value x) h s ans pass good = absurd ans
+  go_ends u j p (Write w) (Writing v) chosen (Spent l) h s ans pass good = absurd pass
+  go_ends u j p Read (Reading q) chosen Written h s ans pass good = absurd ans
+  go_ends u j p Read (Reading q) chosen (Spent l) h s ans pass good = absurd pass
+  go_ends u j p Read (Reading q) chosen (Value x) h s ans pass good =
+      let g : AllByRecursion IsFreshAlone (got (Some (Got p x)) (j.parts 0)) = subst (λ i. AllByRecursion IsFreshAlone (got (Some (Got i x)) (j.parts 0))) s.0 good in
+      let l : 1 ≤ p = subst (λ i. 1 ≤ i) s.0 s.1 in (
+        u,
+        (
+          told_gone IsNotStray p chosen (Some (Got p x)) u refl (agree_got p u (j.parts 0) (j.words 0) x h.agree ans g.0, tt),
+          record { agree = h.agree; idle = λ k. h.idle (other_task p None j.tasks l k) },
+        ),
+      )
+  go_ends u j p (Write w) (Reading q) chosen o h s ans pass good = absurd s
+  go_ends u j p Read (Writing v) chosen o h s ans pass good = absurd s
+
+  at_first : (v : ℕ) → v < 2 → (j : View RegularTask) → j.words 0 ≡ v → j.parts 0 ≡ opening v → RegularInv (opening v) j
+  at_first v l j ew ep =
+      let a : Agree (opening v) (opening v) v = record {
+        last = refl;
+        writing = refl;
+        fresh = λ r. refl;
+        overlaps = λ r x h. h;
+        last_small = l;
+        fresh_small = λ r. l;
+        says = refl;
+        other = λ r. inl (refl, (refl, refl));
+      } in
+      record {
+        agree = subst (λ w. Agree (opening v) (j.parts 0) w) (sym ew) (subst (λ s. Agree (opening v) s v) (sym ep) a);
+        idle = λ k. ap (λ s. s.writing) ep;
+      }
+
+  pub regular_kept : IsKept t (RegularStands processes) regular_watch opening (Told IsNotStray)
+  regular_kept = record {
+    initial = λ v l j ew et ep. at_first v l j (ew 0 (omega arith)) (ep 0 (omega arith));
+    void = told_void IsNotStray;
+    stop = told_stop IsNotStray;
+    begins = begins;
+    still = λ u j p chosen h. (u, (told_gone IsNotStray p chosen None u refl tt, h));
+    goes = λ u j p n chosen o h mine s ans pass good. go_ends u j p n.op n.task chosen o h s ans pass good;
+  }
+
+  -- each process acts as itself on the one part
+  pub regular_user : IsUser t (RegularStands processes) (λ part who. who)
+  regular_user p (Write w) (Writing v) s = sym s.0
+  regular_user p Read (Reading q) s = s.0
+  regular_user p (Write w) (Reading q) s = absurd s
+  regular_user p Read (Writing v) s = absurd s
+
+-- a regular bit over a safe register is regular
+pub regular_over_safe : {P : Type 0} (b : Behaviour P) (Holds : Memory → Type 0) (Reaches : ℕ → Op → P → Type 0) (processes : ℕ) (left : RegularTask → ℕ) → IsLawful b Holds Reaches
+    → IsSoundTable (regular_table processes) (RegularStands processes) left → FitsBelow (regular_table processes) b → IsSafe b → IsRegular (layered (regular_table processes) b)
+regular_over_safe b Holds Reaches processes left lawful sound fit safe =
+    layer_promises (over lawful sound fit) (λ part who. who) (regular_user processes) IsNotStray regular_watch fresh_alike stray_alike (λ who o h. h) safe (regular_kept processes)
