@@ -60,7 +60,7 @@ module _ (values last : ℕ) (some : LEAST_VALUES ≤ values) where
   rest_sound who (op.Write w) (Writing v code) (Value x) stands answers on = absurd answers
   rest_sound who (op.Write w) (Writing v code) (Spent layer) stands answers on = absurd on
   rest_sound who op.Read Reading (Value code) stands answers on =
-      (omega arith, λ best low. (omega arith, (greater_fits best code low answers, mod_below (max best code) values (omega arith))))
+      (omega arith, λ best low. (omega arith, (greater_fits best code low answers, mod_below _ values (omega arith))))
   rest_sound who op.Read Reading Written stands answers on = absurd answers
   rest_sound who op.Read Reading (Spent layer) stands answers on = absurd on
   rest_sound who (op.Write w) Reading outcome stands answers on = absurd stands

@@ -42,13 +42,14 @@ module _ (none : Outcome) (values processes : ℕ) (two : LEAST_VALUES ≤ value
   looks_sound who reader i zero same above below all = answered
   looks_sound who reader i (suc left) same above below all = ((same, above, below, omega arith), λ o. refl)
 
-  looked_sound : (who reader i left bit : ℕ) → reader ≡ who → 1 ≤ who → who < processes → i + left + 1 ≡ values
-      → IsSound (unary_table_with none values processes) (UnaryStands values processes who op.Read) (Answers values op.Read) (behind_look i (looks_above none reader i left) (Value bit))
-  looked_sound who reader i left bit same above below all = by_test (bit == 1)
+  -- a look that finds 1 may answer any value
+  looked_sound : (who reader i left bit x : ℕ) → reader ≡ who → 1 ≤ who → who < processes → i + left + 1 ≡ values → x < values
+      → IsSound (unary_table_with none values processes) (UnaryStands values processes who op.Read) (Answers values op.Read) (behind_look x (looks_above none reader i left) (Value bit))
+  looked_sound who reader i left bit x same above below all small = by_test (bit == 1)
     where
       by_test : (found : Bool) → IsSound (unary_table_with none values processes) (UnaryStands values processes who op.Read) (Answers values op.Read)
-          (if found then Ends (Value i) else looks_above none reader i left)
-      by_test true = omega arith
+          (if found then Ends (Value x) else looks_above none reader i left)
+      by_test true = small
       by_test false = looks_sound who reader i left same above below all
 
   same_bit : (x : ℕ) → (x == x) ≡ true
@@ -65,10 +66,10 @@ module _ (none : Outcome) (values processes : ℕ) (two : LEAST_VALUES ≤ value
   looks_fall who i zero = tt
   looks_fall who i (suc left) = omega arith
 
-  look_falls : (who i left bit : ℕ) → Falls unary_left left (behind_look i (looks_above none who i left) (Value bit))
-  look_falls who i left bit = by_test (bit == 1)
+  look_falls : (who i left bit x : ℕ) → Falls unary_left left (behind_look x (looks_above none who i left) (Value bit))
+  look_falls who i left bit x = by_test (bit == 1)
     where
-      by_test : (found : Bool) → Falls unary_left left (if found then Ends (Value i) else looks_above none who i left)
+      by_test : (found : Bool) → Falls unary_left left (if found then Ends (Value x) else looks_above none who i left)
       by_test true = tt
       by_test false = looks_fall who i left
 
@@ -80,7 +81,7 @@ module _ (none : Outcome) (values processes : ℕ) (two : LEAST_VALUES ≤ value
   asks_fit : (who : ℕ) (o : Op) (task : UnaryTask) → UnaryStands values processes who o task
       → ((unary_asks task).part < values) × FitsPart 2 processes (unary_asks task).who (unary_asks task).op
   asks_fit who (op.Write w) (Setting x) stands = (omega (arith, stands.1, stands.2), (refl, omega arith))
-  asks_fit who (op.Write w) (Clearing x i) stands = (omega (arith, stands.2, stands.3), (refl, omega arith))
+  asks_fit who (op.Write w) (Clearing x i) stands = (omega (arith, stands.1, stands.2, stands.3), (refl, omega arith))
   asks_fit who op.Read (Looking reader i left) stands = (omega (arith, stands.3), (omega (arith, stands.0, stands.1), omega (arith, stands.0, stands.2)))
   asks_fit who (op.Write w) (Looking reader i left) stands = absurd stands
   asks_fit who op.Read (Setting x) stands = absurd stands
@@ -91,7 +92,7 @@ module _ (none : Outcome) (values processes : ℕ) (two : LEAST_VALUES ≤ value
   rest_sound who (op.Write w) (Setting x) outcome stands answers on = clears_sound who w x x stands.0 stands.1 (omega (arith, stands.1)) stands.2
   rest_sound who (op.Write w) (Clearing x i) outcome stands answers on = clears_sound who w x i stands.0 stands.1 (omega (arith, stands.2)) stands.3
   rest_sound who op.Read (Looking reader i left) (Value bit) stands answers on =
-      looked_sound who reader i left bit stands.0 stands.1 stands.2 stands.3
+      looked_sound who reader i left bit _ stands.0 stands.1 stands.2 stands.3 (omega (arith, stands.3))
   rest_sound who op.Read (Looking reader i left) Written stands answers on = absurd answers
   rest_sound who op.Read (Looking reader i left) (Spent layer) stands answers on = absurd on
   rest_sound who (op.Write w) (Looking reader i left) outcome stands answers on = absurd stands
@@ -102,7 +103,7 @@ module _ (none : Outcome) (values processes : ℕ) (two : LEAST_VALUES ≤ value
       → Falls unary_left (unary_left task) (unary_rest none task outcome)
   rest_falls who o (Setting x) outcome stands answers on = clears_fall x x x (omega arith)
   rest_falls who o (Clearing x i) outcome stands answers on = clears_fall x i i (omega arith)
-  rest_falls who o (Looking reader i left) (Value bit) stands answers on = look_falls reader i left bit
+  rest_falls who o (Looking reader i left) (Value bit) stands answers on = look_falls reader i left bit _
   rest_falls who o (Looking reader i left) Written stands answers on = tt
   rest_falls who o (Looking reader i left) (Spent layer) stands answers on = tt
 

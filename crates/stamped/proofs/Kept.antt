@@ -1,0 +1,376 @@
+-- A stamped register over a regular one: its returned reads can be numbered.
+use Rattle.std.proofs.Common.{◌≡◌, ℕ, zero, suc, Bool, true, false, Option, Some, None, ◌<◌, ◌≤◌, ◌==◌, ◌+◌, ◌*◌, IsTrue, refl, sym, ap, ◌∙◌, subst, rules, arith, get_or, eq-eqb, List, [], ◌∷◌, inl, inr}
+use Rattle.std.specs.Prelude.{◌⊎◌, ◌≢◌, ◌||◌, ◌%◌, max, if◌then◌else◌}
+use Rattle.std.specs.List.{list_any, AllByRecursion}
+use Rattle.std.proofs.lemmas.Bool.{ne_eqb, eqb-true, eqb-false, cases_lt, cases_eq}
+use Rattle.std.proofs.lemmas.Nat.{mod-mul-add}
+use Rattle.std.proofs.Math.Nat.{mul-le-mul_right, suc-mul}
+use Rattle.safe_bit.specs.Memory.{Memory}
+use Rattle.frames.specs.declared.types.Op.{Op}
+use Rattle.frames.specs.declared.types.Op.TheVariants.{Read, Write}
+use Rattle.frames.specs.declared.types.Layer.TheVariants.{Stamped}
+use Rattle.frames.specs.declared.types.Outcome.{Outcome}
+use Rattle.frames.specs.declared.types.Outcome.TheVariants.{Value, Written, Spent}
+use Rattle.frames.specs.declared.types.Event.{Event}
+use Rattle.frames.specs.declared.types.Event.TheVariants.{Invoke, Got, Wrote, Refused, Chosen}
+use Rattle.frames.specs.declared.types.StepEvents.{StepEvents}
+use Rattle.frames.specs.declared.types.Step.{Step}
+use Rattle.frames.specs.declared.verdict.Verdict.TheVariants.{Fresh, Overlap, Stray}
+use Rattle.frames.specs.Behaviour.{Behaviour, IsLawful, Answers}
+use Rattle.frames.specs.Configuration.{in_order, chosen_of, history}
+use Rattle.frames.specs.OneWriter.{one_writer}
+use Rattle.frames.specs.laws.OneWriter as writer
+use Rattle.frames.specs.Recorded.{AllFit, first_configuration}
+use Rattle.frames.specs.Regularity.{in_progress, IsRegular, NotStray}
+use Rattle.frames.proofs.Seen.{Seen, Returned, verdict, among, opening, sees, got, now_last, IsNotStray, refuses, ended, Allowed}
+use Rattle.frames.proofs.Agreed.{stray_alike}
+use Rattle.frames.proofs.Agreement.{always_seen}
+use Rattle.frames.specs.Regularity.{IsAtomic}
+use Rattle.frames.proofs.Judged.{not_stray_is}
+use Rattle.frames.proofs.Pointwise.{put, put_same, put_other}
+use Rattle.layers.proofs.Numbering.{numbered_atomic}
+use Rattle.layers.specs.Sound.{LayerHolds, LayerReaches}
+use Rattle.layers.specs.laws.Layered.{layer_lawful}
+use Rattle.layers.proofs.Counted.{Counted, uncounted, Counts, NumberedIf, NumberedStep}
+use Rattle.layers.specs.Nested.{Program, Ends, Asks, Reads, Sets, Table, layered}
+use Rattle.layers.specs.Sound.{IsNotSpent, IsSoundTable, FitsBelow}
+use Rattle.layers.specs.laws.Over.{LayerOver, over}
+use Rattle.layers.proofs.Law.{Standing, View, Watch, Runs, IsKept, IsUser}
+use Rattle.layers.proofs.LayerLaw.{layer_law}
+use Rattle.stamped.specs.declared.task.StampedTask.{StampedTask}
+use Rattle.stamped.specs.declared.task.StampedTask.TheVariants.{Writing, Reading}
+use Rattle.stamped.specs.Program.{stamped_program, stamped_rest, stamped_table, codes, StampedStands}
+
+-- the code of the write with a number
+abbrev pub code_of : ℕ → Counted → ℕ → ℕ
+code_of V c n = n * V + c.value n
+
+-- the code is of a write that the read may return
+abbrev pub Since : ℕ → Counted → ℕ → Type 0
+Since V c y = (n : ℕ) × ((c.low ≤ n) × ((n ≤ c.begun) × (y ≡ code_of V c n)))
+
+abbrev pub WriteSays : ℕ → Counted → Option ℕ → Type 0
+WriteSays V c None = c.done ≡ c.begun
+WriteSays V c (Some y) = y ≡ code_of V c c.begun
+
+-- the writes' numbers are their stamps
+pub record Stamps (V : ℕ) (c : Counted) (s : Seen) (stamp best : ℕ) : Type 0 where
+  pub small : (n : ℕ) → n ≤ c.begun → c.value n < V
+  pub stamped : stamp ≡ c.begun
+  pub best_is : best ≡ code_of V c c.floor
+  pub floor : c.floor ≤ c.begun
+  pub low : c.low ≤ c.done
+  pub done : c.done ≤ c.begun
+  pub last : s.last ≡ code_of V c c.done
+  pub writing : WriteSays V c s.writing
+  pub fresh : s.fresh 1 ≡ code_of V c c.low
+  pub overlaps : (y : ℕ) → IsTrue (among y (s.overlaps 1)) → Since V c y
+
+abbrev pub after_write : ℕ → Counted → Counted
+after_write v c = record c { value = put (c.begun + 1) v c.value; begun = (c.begun + 1) }
+
+same_code : (V v n : ℕ) (c : Counted) → n ≤ c.begun → code_of V c n ≡ code_of V (after_write v c) n
+same_code V v n c l = ap (λ x. n * V + x) (sym (put_other (c.begun + 1) n v c.value (λ e. omega (arith, e, l))))
+
+stamps_invoke : (V v p q : ℕ) (c : Counted) (s : Seen) (stamp best : ℕ) → Stamps V c s stamp best → s.writing ≡ None → v < V
+    → Stamps V (after_write v c) (sees (Some (Invoke q (Write ((stamp + 1) * V + v)))) s) (stamp + 1) best
+stamps_invoke V v p q c s stamp best h idle lv =
+    let d : Counted = after_write v c in
+    let hl : c.low ≤ c.done = h.low in
+    let hd : c.done ≤ c.begun = h.done in
+    let hf : c.floor ≤ c.begun = h.floor in
+    let new : (stamp + 1) * V + v ≡ code_of V d d.begun = ap (λ x. (x + 1) * V + v) h.stamped ∙ ap (λ x. (c.begun + 1) * V + x) (sym (put_same (c.begun + 1) v c.value)) in
+    record {
+      small = λ n l. elim (cases_eq n (c.begun + 1)) [
+        | inl e ↦ subst (λ x. x < V) (sym (ap (put (c.begun + 1) v c.value) e ∙ put_same (c.begun + 1) v c.value)) lv
+        | inr ne ↦ subst (λ x. x < V) (sym (put_other (c.begun + 1) n v c.value ne)) (h.small n (omega (arith, l, ne)))
+      ];
+      stamped = ap (λ x. x + 1) h.stamped;
+      best_is = h.best_is ∙ same_code V v c.floor c hf;
+      floor = omega (arith, hf);
+      low = hl;
+      done = omega (arith, hd);
+      last = h.last ∙ same_code V v c.done c hd;
+      writing = new;
+      fresh = h.fresh ∙ same_code V v c.low c (omega (arith, hl, hd));
+      overlaps = λ y m. go y ((stamp + 1) * V + v == y) refl m new;
+    }
+  where
+    go : (y : ℕ) (b : Bool) → ((stamp + 1) * V + v == y) ≡ b → IsTrue (b || among y (s.overlaps 1)) → (stamp + 1) * V + v ≡ code_of V (after_write v c) (c.begun + 1) → Since V (after_write v c) y
+    go y true e m new =
+        let hl : c.low ≤ c.done = h.low in
+        let hd : c.done ≤ c.begun = h.done in
+        ((c.begun + 1), (omega (arith, hl, hd), (omega arith, sym (eqb-true ((stamp + 1) * V + v) y e) ∙ new)))
+    go y false e m new =
+        let o = h.overlaps y m in
+        let l : o.0 ≤ c.begun = o.1.1.0 in
+        (o.0, (o.1.0, (omega (arith, l), o.1.1.1 ∙ same_code V v o.0 c l)))
+
+last_now : (V : ℕ) (c : Counted) (w : Option ℕ) (last : ℕ) → WriteSays V c w → last ≡ code_of V c c.done → now_last w last ≡ code_of V c c.begun
+last_now V c None last w l = l ∙ ap (code_of V c) w
+last_now V c (Some y) last w l = w
+
+stamps_wrote : (V q : ℕ) (c : Counted) (s : Seen) (stamp best : ℕ) → Stamps V c s stamp best → Stamps V (record c { done = c.begun }) (sees (Some (Wrote q)) s) stamp best
+stamps_wrote V q c s stamp best h =
+    let hl : c.low ≤ c.done = h.low in
+    let hd : c.done ≤ c.begun = h.done in
+    record {
+      small = h.small;
+      stamped = h.stamped;
+      best_is = h.best_is;
+      floor = h.floor;
+      low = omega (arith, hl, hd);
+      done = omega arith;
+      last = last_now V c s.writing s.last h.writing h.last;
+      writing = refl;
+      fresh = h.fresh;
+      overlaps = λ y m. h.overlaps y m;
+    }
+
+begun_since : (V : ℕ) (c : Counted) (w : Option ℕ) (y : ℕ) → WriteSays V c w → IsTrue (among y (in_progress w)) → y ≡ code_of V c c.begun
+begun_since V c None y w m = let n : ⊥ = cc in absurd n
+begun_since V c (Some x) y w m = go (x == y) refl m
+  where
+    go : (b : Bool) → (x == y) ≡ b → IsTrue (b || false) → y ≡ code_of V c c.begun
+    go true e k = sym (eqb-true x y e) ∙ w
+    go false e k = let n : ⊥ = cc in absurd n
+
+stamps_read : (V : ℕ) (c : Counted) (s : Seen) (stamp best : ℕ) → Stamps V c s stamp best → Stamps V (record c { low = c.done }) (sees (Some (Invoke 1 Read)) s) stamp best
+stamps_read V c s stamp best h = record {
+  small = h.small;
+  stamped = h.stamped;
+  best_is = h.best_is;
+  floor = h.floor;
+  low = omega arith;
+  done = h.done;
+  last = h.last;
+  writing = h.writing;
+  fresh = h.last;
+  overlaps = λ y m. (c.begun, (h.done, (omega arith, begun_since V c s.writing y h.writing m)));
+}
+
+-- what the register below gives is the code of a write that may be returned
+read_since : (V x : ℕ) (c : Counted) (s : Seen) (stamp best : ℕ) → Stamps V c s stamp best → IsNotStray (record { reader = 1; value = x; fresh = s.fresh 1; overlaps = s.overlaps 1 }) → Since V c x
+read_since V x c s stamp best h g =
+    let y : Returned = record { reader = 1; value = x; fresh = s.fresh 1; overlaps = s.overlaps 1 } in
+    let hl : c.low ≤ c.done = h.low in
+    let hd : c.done ≤ c.begun = h.done in
+    elim (not_stray_is y g) [
+      | inl e ↦ (c.low, (omega arith, (omega (arith, hl, hd), e ∙ h.fresh)))
+      | inr m ↦ h.overlaps x m
+    ]
+
+code_less : (V n m a b : ℕ) → n < m → a < V → n * V + a ≤ m * V + b
+code_less V n m a b l la = let e : suc n * V ≤ m * V = mul-le-mul_right V (omega (arith, l)) in omega (arith, e, suc-mul n V, la)
+
+-- the greater code is that of the greater number
+greater : (V x : ℕ) (c : Counted) (s : Seen) (stamp best : ℕ) → Stamps V c s stamp best → Since V c x
+    → (n : ℕ) × ((c.low ≤ n) × ((n ≤ c.begun) × ((c.floor ≤ n) × (max best x ≡ code_of V c n))))
+greater V x c s stamp best h y =
+    let n : ℕ = y.0 in
+    let ln : c.low ≤ n = y.1.0 in
+    let nb : n ≤ c.begun = y.1.1.0 in
+    let xe : x ≡ code_of V c n = y.1.1.1 in
+    let fb : c.floor ≤ c.begun = h.floor in
+    let be : best ≡ code_of V c c.floor = h.best_is in
+    elim (cases_lt c.floor n) [
+      | inl lt ↦
+          let le : code_of V c c.floor ≤ code_of V c n = code_less V c.floor n (c.value c.floor) (c.value n) lt (h.small c.floor fb) in
+          (n, (ln, (nb, (omega (arith, lt), omega (arith, le, be, xe)))))
+      | inr ge ↦
+          let le : code_of V c n ≤ code_of V c c.floor = elim (cases_eq n c.floor) [
+            | inl e ↦ (let q : code_of V c n ≡ code_of V c c.floor = ap (code_of V c) e in omega (arith, q))
+            | inr ne ↦ code_less V n c.floor (c.value n) (c.value c.floor) (omega (arith, ge, ne)) (h.small n nb)
+          ] in
+          (c.floor, (omega (arith, ge, ln), (fb, (omega arith, omega (arith, le, be, xe)))))
+    ]
+
+pub record StampedInv (V : ℕ) (c : Counted) (j : View StampedTask) : Type 0 where
+  pub stamps : Stamps V c (j.parts 0) (j.words 0) (j.words 1)
+  pub idle : j.tasks 0 ≡ None → (j.parts 0).writing ≡ None
+
+abbrev pub stamped_watch : ℕ → Watch StampedTask Counted
+stamped_watch V = record { Good = IsNotStray; Inv = StampedInv V }
+
+gone : (p : ℕ) (chosen : Option (ℕ × Bool)) (end : Option Event) (c z : Counted) → refuses end ≡ false → Counts end c z → NumberedStep c (in_order (chosen_of p chosen) end) z
+gone p None end c z f k = (f, (z, (k, refl)))
+gone p (Some x) end c z f k = (refl, subst (λ b. NumberedIf b c (record { first = Some (Chosen p x.0 x.1); second = end }) z) (sym f) (c, (refl, k)))
+
+module _ (V last : ℕ) where
+  abbrev t : Table StampedTask
+  t = stamped_table V last
+
+  abbrev w : Watch StampedTask Counted
+  w = stamped_watch V
+
+  -- the read below has ended
+  runs_taken : (x : ℕ) (op : Op) (Out : Option Event → Counted → Type 0) (c : Counted) (j : View StampedTask) → StampedInv V c (record j { tasks = put 1 None j.tasks }) → Since V c x
+      → ((y : ℕ) (z : Counted) → Counts (Some (Got 1 y)) c z → Out (Some (Got 1 y)) z) → Runs t w 1 op Out (stamped_rest V Reading (Value x)) j
+  runs_taken x op Out c j h y og =
+      let g = greater V x c (j.parts 0) (j.words 0) (j.words 1) h.stamps y in
+      let n : ℕ = g.0 in
+      let nb : n ≤ c.begun = g.1.1.0 in
+      let is : max (j.words 1) x ≡ code_of V c n = g.1.1.1.1 in
+      let z : Counted = record c { floor = n } in
+      let value : c.value n ≡ max (j.words 1) x % V = sym (ap (λ k. k % V) is ∙ mod-mul-add n V (c.value n) (h.stamps.small n nb)) in (
+        z,
+        (
+          og (max (j.words 1) x % V) z (n, (value, (g.1.0, (nb, (g.1.1.1.0, refl))))),
+          record {
+            stamps = record {
+              small = h.stamps.small;
+              stamped = h.stamps.stamped;
+              best_is = is;
+              floor = nb;
+              low = h.stamps.low;
+              done = h.stamps.done;
+              last = h.stamps.last;
+              writing = says (j.parts 0).writing h.stamps.writing;
+              fresh = h.stamps.fresh;
+              overlaps = λ y m. h.stamps.overlaps y m;
+            };
+            idle = h.idle;
+          },
+        ),
+      )
+    where
+      says : (o : Option ℕ) → WriteSays V c o → WriteSays V (record c { floor = (greater V x c (j.parts 0) (j.words 0) (j.words 1) h.stamps y).0 }) o
+      says None k = k
+      says (Some y) k = k
+
+  begin_write : (c : Counted) (j : View StampedTask) (v : ℕ) → StampedInv V c j → j.tasks 0 ≡ None → v < V
+      → Runs t w 0 (Write v) (λ e. NumberedStep c (in_order (Some (Invoke 0 (Write v))) e)) (stamped_program V last 0 (Write v)) j
+  begin_write c j v h free lv = go (j.words 0 == last)
+    where
+      z : Counted
+      z = after_write v c
+
+      s : Seen
+      s = sees (Some (Invoke 0 (Write ((j.words 0 + 1) * V + v)))) (j.parts 0)
+
+      a : Stamps V (after_write v c) (sees (Some (Invoke 0 (Write ((j.words 0 + 1) * V + v)))) (j.parts 0)) (j.words 0 + 1) (j.words 1)
+      a = stamps_invoke V v 0 0 c (j.parts 0) (j.words 0) (j.words 1) h.stamps (h.idle free) lv
+
+      go : (d : Bool) → Runs t w 0 (Write v) (λ e. NumberedStep c (in_order (Some (Invoke 0 (Write v))) e))
+          (if d then Ends (Spent Stamped) else Sets 0 (j.words 0 + 1) (Asks (Writing v ((j.words 0 + 1) * V + v)) Ends)) j
+      go true = (c, ((refl, (tt, refl)), record { stamps = h.stamps; idle = λ k. h.idle free }))
+      go false = (
+        (after_write v c, ((refl, (after_write v c, (refl, refl))), record { stamps = a; idle = λ k. (let n : ⊥ = cc in absurd n) })),
+        λ o ans pass good. ends o ans pass,
+      )
+        where
+          ends : (o : Outcome) → Answers (codes V last) (Write ((j.words 0 + 1) * V + v)) o → IsNotSpent o
+              → Runs t w 0 (Write v) (λ e. NumberedStep c (in_order (Some (Invoke 0 (Write v))) e)) (Ends o)
+              (record { words = put 0 (j.words 0 + 1) j.words; tasks = j.tasks; parts = put 0 (sees (Some (ended 0 o)) (sees (Some (Invoke 0 (Write ((j.words 0 + 1) * V + v)))) (j.parts 0))) j.parts })
+          ends (Value x) ans pass = absurd ans
+          ends (Spent l) ans pass = absurd pass
+          ends Written ans pass =
+              (record (after_write v c) { done = c.begun + 1 }, ((refl, (after_write v c, (refl, refl))), record { stamps = stamps_wrote V 0 (after_write v c) _ (j.words 0 + 1) (j.words 1) a; idle = λ k. refl }))
+
+  begin_read : (c : Counted) (j : View StampedTask) → StampedInv V c j
+      → Runs t w 1 Read (λ e. NumberedStep c (in_order (Some (Invoke 1 Read)) e)) (stamped_program V last 1 Read) j
+  begin_read c j h =
+      let a = stamps_read V c (j.parts 0) (j.words 0) (j.words 1) h.stamps in (
+        (record c { low = c.done }, ((refl, (record c { low = c.done }, (refl, refl))), record { stamps = a; idle = h.idle })),
+        λ o ans pass good. ends o ans pass good a,
+      )
+    where
+      ends : (o : Outcome) → Answers (codes V last) Read o → IsNotSpent o → AllByRecursion IsNotStray (got (Some (ended 1 o)) (sees (Some (Invoke 1 Read)) (j.parts 0)))
+          → Stamps V (record c { low = c.done }) (sees (Some (Invoke 1 Read)) (j.parts 0)) (j.words 0) (j.words 1)
+          → Runs t w 1 Read (λ e. NumberedStep c (in_order (Some (Invoke 1 Read)) e)) (stamped_rest V Reading o)
+          (record { words = j.words; tasks = j.tasks; parts = put 0 (sees (Some (ended 1 o)) (sees (Some (Invoke 1 Read)) (j.parts 0))) j.parts })
+      ends Written ans pass good a = absurd ans
+      ends (Spent l) ans pass good a = absurd pass
+      ends (Value x) ans pass good a =
+          runs_taken x Read (λ e. NumberedStep c (in_order (Some (Invoke 1 Read)) e)) (record c { low = c.done })
+          (record { words = j.words; tasks = j.tasks; parts = put 0 (sees (Some (Invoke 1 Read)) (j.parts 0)) j.parts })
+          (record { stamps = a; idle = h.idle })
+          (read_since V x (record c { low = c.done }) (sees (Some (Invoke 1 Read)) (j.parts 0)) (j.words 0) (j.words 1) a good.0)
+          (λ y z k. (refl, (record c { low = c.done }, (refl, k))))
+
+  begins : (c : Counted) (j : View StampedTask) (p : ℕ) (op : Op) → StampedInv V c j → j.tasks p ≡ None → one_writer V 2 p op ≡ true
+      → Runs t w p op (λ e. NumberedStep c (in_order (Some (Invoke p op)) e)) (stamped_program V last p op) j
+  begins c j p (Write v) h free s =
+      let zp = writer.writer_zero V 2 p v s in
+      let lv = writer.no_other_value V 2 p v s in
+      subst (λ q. Runs t w q (Write v) (λ e. NumberedStep c (in_order (Some (Invoke q (Write v))) e)) (stamped_program V last q (Write v)) j) (sym zp)
+      (begin_write c j v h (sym (ap j.tasks zp) ∙ free) lv)
+  begins c j p Read h free s =
+      subst (λ q. Runs t w q Read (λ e. NumberedStep c (in_order (Some (Invoke q Read)) e)) (stamped_program V last q Read) j) (sym (let lo = writer.reader_some V 2 p s in let hi = writer.reader_few V 2 p s in omega (arith, lo, hi)))
+      (begin_read c j h)
+
+  go_ends : (c : Counted) (j : View StampedTask) (p : ℕ) (op : Op) (task : StampedTask) (chosen : Option (ℕ × Bool)) (o : Outcome) → StampedInv V c j
+      → StampedStands V last p op task → Answers (codes V last) (t.asks task).op o → IsNotSpent o
+      → AllByRecursion IsNotStray (got (Some (ended (t.asks task).who o)) (j.parts (t.asks task).part))
+      → Runs t w p op (λ e. NumberedStep c (in_order (chosen_of p chosen) e)) (stamped_rest V task o)
+      (record j { parts = put (t.asks task).part (sees (Some (ended (t.asks task).who o)) (j.parts (t.asks task).part)) j.parts })
+  go_ends c j p (Write v) (Writing x k) chosen (Value y) h s ans pass good = absurd ans
+  go_ends c j p (Write v) (Writing x k) chosen (Spent l) h s ans pass good = absurd pass
+  go_ends c j p (Write v) (Writing x k) chosen Written h s ans pass good = (
+    record c { done = c.begun },
+    (
+      gone p chosen (Some (Wrote p)) c (record c { done = c.begun }) refl refl,
+      record { stamps = stamps_wrote V 0 c (j.parts 0) (j.words 0) (j.words 1) h.stamps; idle = λ k. refl },
+    ),
+  )
+  go_ends c j p Read Reading chosen Written h s ans pass good = absurd ans
+  go_ends c j p Read Reading chosen (Spent l) h s ans pass good = absurd pass
+  go_ends c j p Read Reading chosen (Value x) h s ans pass good =
+      let y : Since V c x = read_since V x c (j.parts 0) (j.words 0) (j.words 1) h.stamps good.0 in
+      subst (λ r. Runs t w r Read (λ e. NumberedStep c (in_order (chosen_of r chosen) e)) (stamped_rest V Reading (Value x)) (record j { parts = put 0 (j.parts 0) j.parts })) (sym s)
+      (runs_taken x Read (λ e. NumberedStep c (in_order (chosen_of 1 chosen) e)) c (record j { parts = put 0 (j.parts 0) j.parts }) (record { stamps = h.stamps; idle = h.idle }) y
+      (λ y z k. gone 1 chosen (Some (Got 1 y)) c z refl k))
+  go_ends c j p (Write v) Reading chosen o h s ans pass good = absurd s
+  go_ends c j p Read (Writing x k) chosen o h s ans pass good = absurd s
+
+  at_first : (v : ℕ) → v < V → (j : View StampedTask) → j.words 0 ≡ 0 → j.words 1 ≡ v → j.parts 0 ≡ opening v → StampedInv V (uncounted v) j
+  at_first v l j e0 e1 ep =
+      let zero_code : v ≡ code_of V (uncounted v) 0 = omega arith in
+      record {
+        stamps = subst (λ s. Stamps V (uncounted v) s (j.words 0) (j.words 1)) (sym ep) (record {
+          small = λ n k. l;
+          stamped = e0;
+          best_is = e1 ∙ zero_code;
+          floor = omega arith;
+          low = omega arith;
+          done = omega arith;
+          last = zero_code;
+          writing = refl;
+          fresh = zero_code;
+          overlaps = λ y m. (let n : ⊥ = cc in absurd n);
+        });
+        idle = λ k. ap (λ s. s.writing) ep;
+      }
+
+  pub stamped_kept : IsKept t (StampedStands V last) w uncounted NumberedStep
+  stamped_kept = record {
+    initial = λ v l j ew et ep. at_first v l j (ew 0 (omega arith)) (ew 1 (omega arith)) (ep 0 (omega arith));
+    void = λ c p reason. (refl, (c, (refl, refl)));
+    stop = λ c p. (refl, (c, (refl, refl)));
+    begins = begins;
+    still = λ c j p chosen h. (c, (gone p chosen None c c refl refl, h));
+    goes = λ c j p n chosen o h mine s ans pass good. go_ends c j p n.op n.task chosen o h s ans pass good;
+  }
+
+  -- each process acts as itself on the one part
+  pub stamped_user : IsUser t (StampedStands V last) (λ part who. who)
+  stamped_user p (Write v) (Writing x k) s = sym s.0
+  stamped_user p Read Reading s = sym s
+  stamped_user p (Write v) Reading s = absurd s
+  stamped_user p Read (Writing x k) s = absurd s
+
+-- what a stamped register over a regular one records can be numbered, step by step
+pub stamped_numbered : {P : Type 0} (b : Behaviour P) (Holds : Memory → Type 0) (Reaches : ℕ → Op → P → Type 0) (V last : ℕ) (left : StampedTask → ℕ) → IsLawful b Holds Reaches
+    → IsSoundTable (stamped_table V last) (StampedStands V last) left → FitsBelow (stamped_table V last) b → IsRegular b
+    → (v : ℕ) (steps : List Step) → v < V → AllFit (layered (stamped_table V last) b) steps
+    → Allowed NumberedStep (uncounted v) (history (layered (stamped_table V last) b) (first_configuration (layered (stamped_table V last) b) v) steps)
+stamped_numbered b Holds Reaches V last left lawful sound fit regular v steps l f =
+    layer_law (over lawful sound fit) (λ part who. who) (stamped_user V last) (stamped_watch V) uncounted NumberedStep
+    (always_seen NotStray IsNotStray stray_alike b regular.one_writer Holds Reaches lawful regular) (stamped_kept V last) v steps l f
+
+-- a stamped register over a regular one is atomic
+pub stamped_over_regular : {P : Type 0} (b : Behaviour P) (Holds : Memory → Type 0) (Reaches : ℕ → Op → P → Type 0) (V last : ℕ) (left : StampedTask → ℕ) → IsLawful b Holds Reaches
+    → IsSoundTable (stamped_table V last) (StampedStands V last) left → FitsBelow (stamped_table V last) b → IsRegular b → IsAtomic (layered (stamped_table V last) b)
+stamped_over_regular b Holds Reaches V last left lawful sound fit regular =
+    numbered_atomic (layered (stamped_table V last) b) (λ who o h. h) refl (LayerHolds (stamped_table V last) b Holds) (LayerReaches (stamped_table V last) (StampedStands V last) Reaches)
+    (layer_lawful (over lawful sound fit)) (stamped_numbered b Holds Reaches V last left lawful sound fit regular)

@@ -1,0 +1,296 @@
+-- Beacons: from a bit on, a bit that is lit and whose index a read may give.
+use Rattle.std.proofs.Common.{eq-eqb, ◌+◌, ◌-◌, ◌≡◌, ℕ, zero, suc, Bool, true, false, Option, Some, None, ◌<◌, ◌≤◌, ◌==◌, IsTrue, refl, sym, ap, ◌∙◌, subst, rules, arith, List, [], ◌∷◌, inl, inr}
+use Rattle.std.specs.Prelude.{◌⊎◌, ◌≢◌, ◌||◌, if◌then◌else◌}
+use Rattle.std.specs.List.{list_any, AllByRecursion}
+use Rattle.std.proofs.lemmas.Bool.{ne_eqb, eqb-true, eqb-false, cases_lt, cases_eq}
+use Rattle.frames.specs.declared.types.Op.{Op}
+use Rattle.frames.specs.declared.types.Op.TheVariants.{Read, Write}
+use Rattle.frames.specs.declared.types.Event.{Event}
+use Rattle.frames.specs.declared.types.Event.TheVariants.{Invoke, Got, Wrote}
+use Rattle.frames.specs.declared.verdict.Verdict.{Verdict}
+use Rattle.frames.specs.declared.verdict.Verdict.TheVariants.{Fresh, Overlap, Stray}
+use Rattle.frames.specs.Regularity.{in_progress}
+use Rattle.frames.proofs.Seen.{Seen, Returned, verdict, among, opening, sees, got, now_last, IsNotStray, ended, refuses}
+use Rattle.frames.proofs.Judged.{not_stray_is}
+use Rattle.frames.proofs.Pointwise.{put, put_same, put_other, put_all}
+use Rattle.layers.proofs.Law.{Standing, View, Watch, Runs, IsKept, IsUser}
+
+-- the bit is 1, and no write of 0 to it is in progress
+pub record IsLit (s : Seen) : Type 0 where
+  pub last : s.last ≡ 1
+  pub writing : (s.writing ≡ None) ⊎ (s.writing ≡ Some 1)
+
+-- a read of the bit may give 1
+abbrev pub MayShow : Seen → Type 0
+MayShow s = (s.last ≡ 1) ⊎ (s.writing ≡ Some 1)
+
+-- from bit p on, bit k is lit and its index is allowed, and so is that of each bit below it that may show
+pub record Beacon (top p k : ℕ) (A : ℕ → Type 0) (parts : ℕ → Seen) : Type 0 where
+  pub low : p ≤ k
+  pub high : k ≤ top
+  pub allowed : A k
+  pub lit : IsLit (parts k)
+  pub below : (i : ℕ) → p ≤ i → i < k → MayShow (parts i) → A i
+
+abbrev pub raised : Seen → Seen
+raised s = sees (Some (Invoke 0 (Write 1))) s
+
+abbrev pub lowered : Seen → Seen
+lowered s = sees (Some (Invoke 0 (Write 0))) s
+
+abbrev pub written : Seen → Seen
+written s = sees (Some (Wrote 0)) s
+
+-- the write of 1 to a bit whose index is allowed begins
+pub beacon_raise : (top p k x : ℕ) (A : ℕ → Type 0) (parts : ℕ → Seen) → Beacon top p k A parts → A x → Beacon top p k A (put x (raised (parts x)) parts)
+beacon_raise top p k x A parts b ax = record {
+  low = b.low;
+  high = b.high;
+  allowed = b.allowed;
+  lit = put_all (λ i s. i ≡ k → IsLit s) x (raised (parts x)) parts
+      (λ e. record { last = subst (λ i. (parts i).last ≡ 1) (sym e) b.lit.last; writing = inr refl })
+      (λ i ne e. subst (λ y. IsLit (parts y)) (sym e) b.lit) k refl;
+  below = put_all (λ i s. p ≤ i → i < k → MayShow s → A i) x (raised (parts x)) parts (λ l h m. ax) (λ i ne. b.below i);
+}
+
+-- it ends
+pub beacon_raised : (top p k x : ℕ) (A : ℕ → Type 0) (parts : ℕ → Seen) → Beacon top p k A parts → (parts x).writing ≡ Some 1 → A x → Beacon top p k A (put x (written (parts x)) parts)
+beacon_raised top p k x A parts b w ax = record {
+  low = b.low;
+  high = b.high;
+  allowed = b.allowed;
+  lit = put_all (λ i s. i ≡ k → IsLit s) x (written (parts x)) parts
+      (λ e. record { last = ap (λ o. now_last o (parts x).last) w; writing = inl refl })
+      (λ i ne e. subst (λ y. IsLit (parts y)) (sym e) b.lit) k refl;
+  below = put_all (λ i s. p ≤ i → i < k → MayShow s → A i) x (written (parts x)) parts (λ l h m. ax) (λ i ne. b.below i);
+}
+
+pub no_one : (A : Type 0) → (let z : Option ℕ = Some 0 in z) ≡ Some 1 → A
+no_one A e = let n : ⊥ = cc in absurd n
+
+may_lower : (s : Seen) → MayShow (lowered s) → MayShow s
+may_lower s m = elim m [ inl e ↦ inl e | inr e ↦ no_one (MayShow s) e ]
+
+-- a write of 0 to another bit than the beacon begins
+pub beacon_lower : (top p k i : ℕ) (A : ℕ → Type 0) (parts : ℕ → Seen) → Beacon top p k A parts → (k ≡ i → ⊥) → Beacon top p k A (put i (lowered (parts i)) parts)
+beacon_lower top p k i A parts b ne = record {
+  low = b.low;
+  high = b.high;
+  allowed = b.allowed;
+  lit = put_all (λ y s. y ≡ k → IsLit s) i (lowered (parts i)) parts
+      (λ e. absurd (ne (sym e)))
+      (λ y n e. subst (λ y. IsLit (parts y)) (sym e) b.lit) k refl;
+  below = put_all (λ y s. p ≤ y → y < k → MayShow s → A y) i (lowered (parts i)) parts (λ l h m. b.below i l h (may_lower (parts i) m)) (λ y n. b.below y);
+}
+
+-- a write of 0 to the beacon begins, where bit x above it is lit and none between shows
+pub beacon_jump : (top p i x : ℕ) (A : ℕ → Type 0) (parts : ℕ → Seen) → Beacon top p i A parts → i < x → x ≤ top → A x → (parts x).last ≡ 1 → (parts x).writing ≡ None
+    → ((y : ℕ) → i < y → y < x → MayShow (parts y) → ⊥) → Beacon top p x A (put i (lowered (parts i)) parts)
+beacon_jump top p i x A parts b l high ax one quiet none = record {
+  low = let q : p ≤ i = b.low in omega (arith, l, q);
+  high = high;
+  allowed = ax;
+  lit = put_all (λ y s. y ≡ x → IsLit s) i (lowered (parts i)) parts
+      (λ e. let n : ⊥ = omega (arith, e, l) in absurd n)
+      (λ y n e. subst (λ y. IsLit (parts y)) (sym e) (record { last = one; writing = inl quiet })) x refl;
+  below = put_all (λ y s. p ≤ y → y < x → MayShow s → A y) i (lowered (parts i)) parts
+      (λ lo hi m. b.allowed)
+      (λ y n lo hi m. between y n lo hi m);
+}
+  where
+    between : (y : ℕ) → (y ≡ i → ⊥) → p ≤ y → y < x → MayShow (parts y) → A y
+    between y n lo hi m =
+        elim (cases_lt y i) [
+          | inl lt ↦ b.below y lo lt m
+          | inr ge ↦ (let gt : i < y = omega (arith, ge, n) in absurd (none y gt hi m))
+        ]
+
+-- a write of 0 to another bit than the beacon ends
+pub beacon_lowered : (top p k i : ℕ) (A : ℕ → Type 0) (parts : ℕ → Seen) → Beacon top p k A parts → (parts i).writing ≡ Some 0 → Beacon top p k A (put i (written (parts i)) parts)
+beacon_lowered top p k i A parts b w = record {
+  low = b.low;
+  high = b.high;
+  allowed = b.allowed;
+  lit = put_all (λ y s. y ≡ k → IsLit s) i (written (parts i)) parts
+      (λ e. elim b.lit.writing [
+        | inl n ↦ (let q : (parts i).writing ≡ None = subst (λ y. (parts y).writing ≡ None) (sym e) n in let z : ⊥ = cc in absurd z)
+        | inr n ↦ (let q : (parts i).writing ≡ Some 1 = subst (λ y. (parts y).writing ≡ Some 1) (sym e) n in no_one (IsLit (written (parts i))) (sym w ∙ q))
+      ])
+      (λ y n e. subst (λ y. IsLit (parts y)) (sym e) b.lit) k refl;
+  below = put_all (λ y s. p ≤ y → y < k → MayShow s → A y) i (written (parts i)) parts
+      (λ lo hi m. elim m [
+        | inl e ↦ (let z : ⊥ = zero_one _ (ap (λ o. now_last o (parts i).last) w) e in absurd z)
+        | inr e ↦ (let z : ⊥ = cc in absurd z)
+      ])
+      (λ y n. b.below y);
+}
+  where
+    zero_one : (n : ℕ) → n ≡ 0 → n ≡ 1 → ⊥
+    zero_one n e f = omega (arith, e, f)
+
+pub beacon_more : (top p k : ℕ) (A B : ℕ → Type 0) (parts : ℕ → Seen) → ((i : ℕ) → A i → B i) → Beacon top p k A parts → Beacon top p k B parts
+beacon_more top p k A B parts f b = record { low = b.low; high = b.high; allowed = f k b.allowed; lit = b.lit; below = λ i l h m. f i (b.below i l h m) }
+
+-- a read of a bit begins
+pub beacon_read : (top p k i q : ℕ) (A : ℕ → Type 0) (parts : ℕ → Seen) → Beacon top p k A parts → Beacon top p k A (put i (sees (Some (Invoke q Read)) (parts i)) parts)
+beacon_read top p k i q A parts b = record {
+  low = b.low;
+  high = b.high;
+  allowed = b.allowed;
+  lit = put_all (λ y s. y ≡ k → IsLit s) i (sees (Some (Invoke q Read)) (parts i)) parts
+      (λ e. let h : IsLit (parts i) = subst (λ y. IsLit (parts y)) (sym e) b.lit in record { last = h.last; writing = h.writing })
+      (λ y n e. subst (λ y. IsLit (parts y)) (sym e) b.lit) k refl;
+  below = put_all (λ y s. p ≤ y → y < k → MayShow s → A y) i (sees (Some (Invoke q Read)) (parts i)) parts (b.below i) (λ y n. b.below y);
+}
+
+-- what a read of the number may give: the fresh value, or one of the writes that it overlaps; and were it invoked now
+abbrev pub MayGive : ℕ → Seen → ℕ → Type 0
+MayGive r u y = (y ≡ u.fresh r) ⊎ IsTrue (among y (u.overlaps r))
+
+abbrev pub MayGiveNow : Seen → ℕ → Type 0
+MayGiveNow u y = (y ≡ u.last) ⊎ (u.writing ≡ Some y)
+
+pub among_more : (x v : ℕ) (vs : List ℕ) → IsTrue (among x vs) → IsTrue (among x (v ∷ vs))
+among_more x v vs h = elim (v == x) as (λ c. IsTrue (c || among x vs)) [ true ↦ refl | false ↦ h ]
+
+pub among_here : (x : ℕ) (vs : List ℕ) → IsTrue (among x (x ∷ vs))
+among_here x vs = ap (λ c. c || among x vs) (eq-eqb x x refl)
+
+-- process r reads bit i, with so many left above: bit k is its beacon
+pub record Looks (top r i left k : ℕ) (u : Seen) (parts : ℕ → Seen) : Type 0 where
+  pub room : i + left ≡ top
+  pub beacon : Beacon top i k (MayGive r u) parts
+  pub here : k ≡ i → ((parts i).fresh r ≡ 1) × (IsTrue (among 0 ((parts i).overlaps r)) → ⊥)
+  pub fresh_one : (parts i).fresh r ≡ 1 → MayGive r u i
+  pub over_one : IsTrue (among 1 ((parts i).overlaps r)) → MayGive r u i
+
+pub looking_begin : (top r i left k p x : ℕ) (u : Seen) (parts : ℕ → Seen) → Looks top r i left k u parts
+    → Looks top r i left k (sees (Some (Invoke p (Write x))) u) (put x (raised (parts x)) parts)
+looking_begin top r i left k p x u parts l =
+    let more : (y : ℕ) → MayGive r u y → MayGive r (sees (Some (Invoke p (Write x))) u) y = λ y m. elim m [ inl e ↦ inl e | inr e ↦ inr (among_more y x (u.overlaps r) e) ] in
+    let ax : MayGive r (sees (Some (Invoke p (Write x))) u) x = inr (among_here x (u.overlaps r)) in
+    record {
+      room = l.room;
+      beacon = beacon_raise top i k x (MayGive r (sees (Some (Invoke p (Write x))) u)) parts (beacon_more top i k (MayGive r u) (MayGive r (sees (Some (Invoke p (Write x))) u)) parts more l.beacon) ax;
+      here = put_all (λ y s. y ≡ i → k ≡ i → (s.fresh r ≡ 1) × (IsTrue (among 0 (s.overlaps r)) → ⊥)) x (raised (parts x)) parts
+          (λ e ke. subst (λ y. ((parts y).fresh r ≡ 1) × (IsTrue (among 0 ((parts y).overlaps r)) → ⊥)) (sym e) (l.here ke))
+          (λ y ne e ke. subst (λ y. ((parts y).fresh r ≡ 1) × (IsTrue (among 0 ((parts y).overlaps r)) → ⊥)) (sym e) (l.here ke)) i refl;
+      fresh_one = put_all (λ y s. y ≡ i → s.fresh r ≡ 1 → MayGive r (sees (Some (Invoke p (Write x))) u) i) x (raised (parts x)) parts
+          (λ e f. more i (l.fresh_one (subst (λ y. (parts y).fresh r ≡ 1) e f)))
+          (λ y ne e f. more i (l.fresh_one (subst (λ y. (parts y).fresh r ≡ 1) e f))) i refl;
+      over_one = put_all (λ y s. y ≡ i → IsTrue (among 1 (s.overlaps r)) → MayGive r (sees (Some (Invoke p (Write x))) u) i) x (raised (parts x)) parts
+          (λ e f. subst (MayGive r (sees (Some (Invoke p (Write x))) u)) e ax)
+          (λ y ne e f. more i (l.over_one (subst (λ y. IsTrue (among 1 ((parts y).overlaps r))) e f))) i refl;
+    }
+
+-- a write of a bit ends
+pub looking_written : (top r i left k d : ℕ) (u : Seen) (parts : ℕ → Seen) → Looks top r i left k u parts → Beacon top i k (MayGive r u) (put d (written (parts d)) parts)
+    → Looks top r i left k u (put d (written (parts d)) parts)
+looking_written top r i left k d u parts l b = record {
+  room = l.room;
+  beacon = b;
+  here = put_all (λ y s. y ≡ i → k ≡ i → (s.fresh r ≡ 1) × (IsTrue (among 0 (s.overlaps r)) → ⊥)) d (written (parts d)) parts
+      (λ e ke. subst (λ y. ((parts y).fresh r ≡ 1) × (IsTrue (among 0 ((parts y).overlaps r)) → ⊥)) (sym e) (l.here ke))
+      (λ y ne e ke. subst (λ y. ((parts y).fresh r ≡ 1) × (IsTrue (among 0 ((parts y).overlaps r)) → ⊥)) (sym e) (l.here ke)) i refl;
+  fresh_one = put_all (λ y s. y ≡ i → s.fresh r ≡ 1 → MayGive r u i) d (written (parts d)) parts
+      (λ e f. l.fresh_one (subst (λ y. (parts y).fresh r ≡ 1) e f))
+      (λ y ne e f. l.fresh_one (subst (λ y. (parts y).fresh r ≡ 1) e f)) i refl;
+  over_one = put_all (λ y s. y ≡ i → IsTrue (among 1 (s.overlaps r)) → MayGive r u i) d (written (parts d)) parts
+      (λ e f. l.over_one (subst (λ y. IsTrue (among 1 ((parts y).overlaps r))) e f))
+      (λ y ne e f. l.over_one (subst (λ y. IsTrue (among 1 ((parts y).overlaps r))) e f)) i refl;
+}
+
+-- a write of 0 to bit d begins, and k or a higher bit is the beacon then
+pub looking_lower : (top r i left k z d : ℕ) (u : Seen) (parts : ℕ → Seen) → Looks top r i left k u parts → Beacon top i z (MayGive r u) (put d (lowered (parts d)) parts)
+    → (z ≡ i → (k ≡ i) × (i ≡ d → ⊥)) → Looks top r i left z u (put d (lowered (parts d)) parts)
+looking_lower top r i left k z d u parts l b which = record {
+  room = l.room;
+  beacon = b;
+  here = put_all (λ y s. y ≡ i → z ≡ i → (s.fresh r ≡ 1) × (IsTrue (among 0 (s.overlaps r)) → ⊥)) d (lowered (parts d)) parts
+      (λ e ze. absurd ((which ze).1 (sym e)))
+      (λ y ne e ze. subst (λ y. ((parts y).fresh r ≡ 1) × (IsTrue (among 0 ((parts y).overlaps r)) → ⊥)) (sym e) (l.here (which ze).0)) i refl;
+  fresh_one = put_all (λ y s. y ≡ i → s.fresh r ≡ 1 → MayGive r u i) d (lowered (parts d)) parts
+      (λ e f. l.fresh_one (subst (λ y. (parts y).fresh r ≡ 1) e f))
+      (λ y ne e f. l.fresh_one (subst (λ y. (parts y).fresh r ≡ 1) e f)) i refl;
+  over_one = put_all (λ y s. y ≡ i → IsTrue (among 1 (s.overlaps r)) → MayGive r u i) d (lowered (parts d)) parts
+      (λ e f. l.over_one (subst (λ y. IsTrue (among 1 ((parts y).overlaps r))) e f))
+      (λ y ne e f. l.over_one (subst (λ y. IsTrue (among 1 ((parts y).overlaps r))) e f)) i refl;
+}
+
+-- another process begins to read bit d
+pub looking_other : (top r i left k d q : ℕ) (u v : Seen) (parts : ℕ → Seen) → (r ≡ q → ⊥) → u.fresh r ≡ v.fresh r → u.overlaps r ≡ v.overlaps r → Looks top r i left k u parts
+    → Looks top r i left k v (put d (sees (Some (Invoke q Read)) (parts d)) parts)
+looking_other top r i left k d q u v parts ne ef eo l =
+    let give : (y : ℕ) → MayGive r u y → MayGive r v y = λ y m. elim m [ inl e ↦ inl (e ∙ ef) | inr e ↦ inr (subst (λ o. IsTrue (among y o)) eo e) ] in
+    let s : Seen = sees (Some (Invoke q Read)) (parts d) in
+    let sf : s.fresh r ≡ (parts d).fresh r = put_other q r (parts d).last (parts d).fresh ne in
+    let so : s.overlaps r ≡ (parts d).overlaps r = put_other q r (in_progress (parts d).writing) (parts d).overlaps ne in
+    record {
+      room = l.room;
+      beacon = beacon_read top i k d q (MayGive r v) parts (beacon_more top i k (MayGive r u) (MayGive r v) parts give l.beacon);
+      here = put_all (λ y s. y ≡ i → k ≡ i → (s.fresh r ≡ 1) × (IsTrue (among 0 (s.overlaps r)) → ⊥)) d s parts
+          (λ e ke.
+          let h = subst (λ y. ((parts y).fresh r ≡ 1) × (IsTrue (among 0 ((parts y).overlaps r)) → ⊥)) (sym e) (l.here ke) in
+          (sf ∙ h.0, λ m. h.1 (subst (λ o. IsTrue (among 0 o)) so m)))
+          (λ y ne e ke. subst (λ y. ((parts y).fresh r ≡ 1) × (IsTrue (among 0 ((parts y).overlaps r)) → ⊥)) (sym e) (l.here ke)) i refl;
+      fresh_one = put_all (λ y s. y ≡ i → s.fresh r ≡ 1 → MayGive r v i) d s parts
+          (λ e f. give i (l.fresh_one (subst (λ y. (parts y).fresh r ≡ 1) e (sym sf ∙ f))))
+          (λ y ne e f. give i (l.fresh_one (subst (λ y. (parts y).fresh r ≡ 1) e f))) i refl;
+      over_one = put_all (λ y s. y ≡ i → IsTrue (among 1 (s.overlaps r)) → MayGive r v i) d s parts
+          (λ e f. give i (l.over_one (subst (λ y. IsTrue (among 1 ((parts y).overlaps r))) e (subst (λ o. IsTrue (among 1 o)) so f))))
+          (λ y ne e f. give i (l.over_one (subst (λ y. IsTrue (among 1 ((parts y).overlaps r))) e f))) i refl;
+    }
+
+one_of : (w : Option ℕ) → IsTrue (among 1 (in_progress w)) → w ≡ Some 1
+one_of None h = let n : ⊥ = cc in absurd n
+one_of (Some v) h = go (v == 1) refl h
+  where
+    go : (c : Bool) → (v == 1) ≡ c → IsTrue (c || false) → (let s : Option ℕ = Some v in s) ≡ Some 1
+    go true e k = ap (λ x. let s : Option ℕ = Some x in s) (eqb-true v 1 e)
+    go false e k = let n : ⊥ = cc in absurd n
+
+no_zero : (w : Option ℕ) → (w ≡ None) ⊎ (w ≡ Some 1) → IsTrue (among 0 (in_progress w)) → ⊥
+no_zero w (inl e) h = let k = subst (λ w. IsTrue (among 0 (in_progress w))) e h in cc
+no_zero w (inr e) h = let k = subst (λ w. IsTrue (among 0 (in_progress w))) e h in cc
+
+-- process r itself begins to read bit i
+pub looking_mine : (top r i left k : ℕ) (u : Seen) (parts : ℕ → Seen) → i + left ≡ top → Beacon top i k (MayGive r u) parts
+    → Looks top r i left k u (put i (sees (Some (Invoke r Read)) (parts i)) parts)
+looking_mine top r i left k u parts room b =
+    let s : Seen = sees (Some (Invoke r Read)) (parts i) in
+    let sf : s.fresh r ≡ (parts i).last = put_same r (parts i).last (parts i).fresh in
+    let so : s.overlaps r ≡ in_progress (parts i).writing = put_same r (in_progress (parts i).writing) (parts i).overlaps in
+    let shows : MayShow (parts i) → MayGive r u i = λ m. elim (cases_eq k i) [
+      | inl e ↦ subst (MayGive r u) e b.allowed
+      | inr ne ↦ (let low : i ≤ k = b.low in let lt : i < k = omega (arith, low, ne) in b.below i (omega arith) lt m)
+    ] in
+    let me : put i s parts i ≡ s = put_same i s parts in
+    record {
+      room = room;
+      beacon = beacon_read top i k i r (MayGive r u) parts b;
+      here = λ ke. subst (λ z. (z.fresh r ≡ 1) × (IsTrue (among 0 (z.overlaps r)) → ⊥)) (sym me)
+          (let lit : IsLit (parts i) = subst (λ y. IsLit (parts y)) ke b.lit in
+          (sf ∙ lit.last, λ m. no_zero (parts i).writing lit.writing (subst (λ o. IsTrue (among 0 o)) so m)));
+      fresh_one = λ f. shows (inl (sym sf ∙ subst (λ z. z.fresh r ≡ 1) me f));
+      over_one = λ f. shows (inr (one_of (parts i).writing (subst (λ o. IsTrue (among 1 o)) so (subst (λ z. IsTrue (among 1 (z.overlaps r))) me f))));
+    }
+
+pub looked_one : (top r i left k : ℕ) (u : Seen) (parts : ℕ → Seen) → Looks top r i left k u parts
+    → IsNotStray (record { reader = r; value = 1; fresh = (parts i).fresh r; overlaps = (parts i).overlaps r }) → MayGive r u i
+looked_one top r i left k u parts l g =
+    let x : Returned = record { reader = r; value = 1; fresh = (parts i).fresh r; overlaps = (parts i).overlaps r } in
+    elim (not_stray_is x g) [ inl e ↦ l.fresh_one (sym e) | inr m ↦ l.over_one m ]
+
+pub looked_zero : (top r i left k : ℕ) (u : Seen) (parts : ℕ → Seen) → Looks top r i left k u parts
+    → IsNotStray (record { reader = r; value = 0; fresh = (parts i).fresh r; overlaps = (parts i).overlaps r }) → Beacon top (suc i) k (MayGive r u) parts
+looked_zero top r i left k u parts l g =
+    let x : Returned = record { reader = r; value = 0; fresh = (parts i).fresh r; overlaps = (parts i).overlaps r } in
+    let ne : k ≡ i → ⊥ = λ e. let h = l.here e in elim (not_stray_is x g) [ inl z ↦ (let f : (parts i).fresh r ≡ 1 = h.0 in omega (arith, z, f)) | inr m ↦ h.1 m ] in
+    let low : i ≤ k = l.beacon.low in
+    record {
+      low = omega (arith, low, ne);
+      high = l.beacon.high;
+      allowed = l.beacon.allowed;
+      lit = l.beacon.lit;
+      below = λ y lo hi m. l.beacon.below y (omega (arith, lo)) hi m;
+    }

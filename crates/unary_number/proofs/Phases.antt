@@ -1,0 +1,243 @@
+-- Where the writer stands, with the bits as it left them, and what each read in progress has before it.
+use Rattle.std.proofs.Common.{eq-eqb, ◌+◌, ◌-◌, ◌≡◌, ℕ, zero, suc, Bool, true, false, Option, Some, None, ◌<◌, ◌≤◌, ◌==◌, IsTrue, refl, sym, ap, ◌∙◌, subst, rules, arith, List, [], ◌∷◌, inl, inr}
+use Rattle.std.specs.Prelude.{◌⊎◌, ◌≢◌, ◌||◌, if◌then◌else◌}
+use Rattle.std.specs.List.{list_any, AllByRecursion}
+use Rattle.std.proofs.lemmas.Bool.{ne_eqb, eqb-true, eqb-false, cases_lt, cases_eq}
+use Rattle.frames.specs.declared.types.Op.{Op}
+use Rattle.frames.specs.declared.types.Op.TheVariants.{Read, Write}
+use Rattle.frames.specs.declared.types.Event.{Event}
+use Rattle.frames.specs.declared.types.Event.TheVariants.{Invoke, Got, Wrote}
+use Rattle.frames.specs.declared.verdict.Verdict.{Verdict}
+use Rattle.frames.specs.declared.verdict.Verdict.TheVariants.{Fresh, Overlap, Stray}
+use Rattle.frames.specs.Regularity.{in_progress}
+use Rattle.frames.proofs.Seen.{Seen, Returned, verdict, among, opening, sees, got, now_last, IsNotStray, ended, refuses}
+use Rattle.frames.proofs.Pointwise.{put, put_same, put_other, put_all}
+use Rattle.layers.proofs.Law.{Standing, View, Watch, Runs, IsKept, IsUser}
+use Rattle.unary_number.specs.declared.task.UnaryTask.{UnaryTask}
+use Rattle.unary_number.specs.declared.task.UnaryTask.TheVariants.{Setting, Clearing, Looking}
+use Rattle.unary_number.proofs.Beacons.{IsLit, MayShow, Beacon, raised, lowered, written, MayGive, MayGiveNow, among_more, among_here, Looks, beacon_raise, beacon_raised, beacon_lower, beacon_jump, beacon_lowered, beacon_more, beacon_read, looking_begin, looking_written, looking_lower, looking_other, looking_mine, looked_one, looked_zero, no_one}
+
+-- where the writer stands, with the bits as it left them
+
+pub record Idle (top : ℕ) (u : Seen) (parts : ℕ → Seen) : Type 0 where
+  pub writing : u.writing ≡ None
+  pub small : u.last ≤ top
+  pub one : (parts u.last).last ≡ 1
+  pub zeros : (i : ℕ) → i < u.last → (parts i).last ≡ 1 → ⊥
+  pub quiet : (i : ℕ) → i ≤ top → (parts i).writing ≡ None
+
+pub record Rising (top x : ℕ) (u : Seen) (parts : ℕ → Seen) : Type 0 where
+  pub writing : u.writing ≡ Some x
+  pub small : x ≤ top
+  pub here : (parts x).writing ≡ Some 1
+  pub quiet : (i : ℕ) → i ≤ top → (i ≡ x → ⊥) → (parts i).writing ≡ None
+
+-- bit x is 1, and those from i on below it are 0
+pub record Cleared (top i x : ℕ) (u : Seen) (parts : ℕ → Seen) : Type 0 where
+  pub writing : u.writing ≡ Some x
+  pub small : x ≤ top
+  pub low : i ≤ x
+  pub one : (parts x).last ≡ 1
+  pub zeros : (k : ℕ) → i ≤ k → k < x → (parts k).last ≡ 1 → ⊥
+  pub quiet : (k : ℕ) → k ≤ top → (parts k).writing ≡ None
+
+pub record Falling (top i x : ℕ) (u : Seen) (parts : ℕ → Seen) : Type 0 where
+  pub writing : u.writing ≡ Some x
+  pub small : x ≤ top
+  pub low : i < x
+  pub one : (parts x).last ≡ 1
+  pub zeros : (k : ℕ) → i < k → k < x → (parts k).last ≡ 1 → ⊥
+  pub here : (parts i).writing ≡ Some 0
+  pub quiet : (k : ℕ) → k ≤ top → (k ≡ i → ⊥) → (parts k).writing ≡ None
+
+abbrev pub WriterAt : ℕ → UnaryTask → Seen → (ℕ → Seen) → Type 0
+WriterAt top (Setting x) u parts = Rising top x u parts
+WriterAt top (Clearing x i) u parts = Falling top i x u parts
+WriterAt top (Looking q i left) u parts = ⊥
+
+abbrev pub WriterSays : ℕ → Option (Standing UnaryTask) → Seen → (ℕ → Seen) → Type 0
+WriterSays top None u parts = Idle top u parts
+WriterSays top (Some n) u parts = WriterAt top n.task u parts
+
+abbrev pub ReaderAt : ℕ → ℕ → UnaryTask → Seen → (ℕ → Seen) → Type 0
+ReaderAt top r (Setting x) u parts = ⊥
+ReaderAt top r (Clearing x i) u parts = ⊥
+ReaderAt top r (Looking q i left) u parts = (q ≡ r) × ((k : ℕ) × Looks top r i left k u parts)
+
+abbrev pub ReaderSays : ℕ → ℕ → Option (Standing UnaryTask) → Seen → (ℕ → Seen) → Type 0
+ReaderSays top r None u parts = Unit {0}
+ReaderSays top r (Some n) u parts = ReaderAt top r n.task u parts
+
+-- what holds whoever's turn it is, but for p: each read in progress overlaps the write in progress, a read invoked now would
+-- have a beacon, and each read in progress has one
+pub record Lights (top p : ℕ) (u : Seen) (tasks : ℕ → Option (Standing UnaryTask)) (parts : ℕ → Seen) : Type 0 where
+  pub overlap : (r x : ℕ) → u.writing ≡ Some x → IsTrue (among x (u.overlaps r))
+  pub ready : (k : ℕ) × Beacon top 0 k (MayGiveNow u) parts
+  pub readers : (r : ℕ) → (r ≡ 0 → ⊥) → (r ≡ p → ⊥) → ReaderSays top r (tasks r) u parts
+
+pub reader_map : (top r : ℕ) (u v : Seen) (parts to : ℕ → Seen) → ((i left k : ℕ) → Looks top r i left k u parts → (z : ℕ) × Looks top r i left z v to)
+    → (task : Option (Standing UnaryTask)) → ReaderSays top r task u parts → ReaderSays top r task v to
+reader_map top r u v parts to f None h = tt
+reader_map top r u v parts to f (Some n) h = at n.task h
+  where
+    at : (task : UnaryTask) → ReaderAt top r task u parts → ReaderAt top r task v to
+    at (Setting x) h = h
+    at (Clearing x i) h = h
+    at (Looking q i left) h = (h.0, f i left h.1.0 h.1.1)
+
+same_some : (x y : ℕ) → (let s : Option ℕ = Some x in s) ≡ Some y → x ≡ y
+same_some x y e = cc
+
+pub lights_begin : (top p x : ℕ) (u : Seen) (tasks : ℕ → Option (Standing UnaryTask)) (parts : ℕ → Seen) → Lights top p u tasks parts → u.writing ≡ None
+    → Lights top p (sees (Some (Invoke p (Write x))) u) tasks (put x (raised (parts x)) parts)
+lights_begin top p x u tasks parts l idle =
+    let v : Seen = sees (Some (Invoke p (Write x))) u in
+    record {
+      overlap = λ r y e. subst (λ z. IsTrue (among z (x ∷ u.overlaps r))) (same_some x y e) (among_here x (u.overlaps r));
+      ready = (
+        l.ready.0,
+        beacon_raise top 0 l.ready.0 x (MayGiveNow v) parts
+            (beacon_more top 0 l.ready.0 (MayGiveNow u) (MayGiveNow v) parts (λ y m. elim m [ inl e ↦ inl e | inr e ↦ (let n : ⊥ = cc in absurd n) ]) l.ready.1) (inr refl),
+      );
+      readers = λ r z ne. reader_map top r u v parts (put x (raised (parts x)) parts) (λ i left k h. (k, looking_begin top r i left k p x u parts h)) (tasks r) (l.readers r z ne);
+    }
+
+pub lights_raised : (top p x : ℕ) (u : Seen) (tasks : ℕ → Option (Standing UnaryTask)) (parts : ℕ → Seen) → Lights top p u tasks parts → u.writing ≡ Some x → (parts x).writing ≡ Some 1
+    → Lights top p u tasks (put x (written (parts x)) parts)
+lights_raised top p x u tasks parts l e w = record {
+  overlap = l.overlap;
+  ready = (l.ready.0, beacon_raised top 0 l.ready.0 x (MayGiveNow u) parts l.ready.1 w (inr e));
+  readers = λ r z ne. reader_map top r u u parts (put x (written (parts x)) parts)
+      (λ i left k h. (k, looking_written top r i left k x u parts h (beacon_raised top i k x (MayGive r u) parts h.beacon w (inr (l.overlap r x e))))) (tasks r) (l.readers r z ne);
+}
+
+quiet_dark : (s : Seen) → s.writing ≡ None → (s.last ≡ 1 → ⊥) → MayShow s → ⊥
+quiet_dark s q d m = elim m [ inl e ↦ d e | inr e ↦ (let n : ⊥ = cc in n) ]
+
+beacon_fall : (top p k i x : ℕ) (A : ℕ → Type 0) (u : Seen) (parts : ℕ → Seen) → Cleared top (suc i) x u parts → A x → Beacon top p k A parts
+    → (z : ℕ) × (Beacon top p z A (put i (lowered (parts i)) parts) × (((k ≡ i → ⊥) × (z ≡ k)) ⊎ ((k ≡ i) × (z ≡ x))))
+beacon_fall top p k i x A u parts c ax b =
+    let low : suc i ≤ x = c.low in
+    let small : x ≤ top = c.small in
+    elim (cases_eq k i) [
+      | inr ne ↦ (k, (beacon_lower top p k i A parts b ne, inl (ne, refl)))
+      | inl e ↦ (
+        x,
+        (
+          beacon_jump top p i x A parts (subst (λ y. Beacon top p y A parts) e b) (omega (arith, low)) small ax c.one (c.quiet x small)
+              (λ y lo hi m. quiet_dark (parts y) (c.quiet y (omega (arith, hi, small))) (c.zeros y (omega (arith, lo)) hi) m),
+          inr (e, refl),
+        ),
+      )
+    ]
+
+pub lights_lower : (top p i x : ℕ) (u : Seen) (tasks : ℕ → Option (Standing UnaryTask)) (parts : ℕ → Seen) → Lights top p u tasks parts → Cleared top (suc i) x u parts
+    → Lights top p u tasks (put i (lowered (parts i)) parts)
+lights_lower top p i x u tasks parts l c =
+    let ready = beacon_fall top 0 l.ready.0 i x (MayGiveNow u) u parts c (inr c.writing) l.ready.1 in
+    record {
+      overlap = l.overlap;
+      ready = (ready.0, ready.1.0);
+      readers = λ r z ne. reader_map top r u u parts (put i (lowered (parts i)) parts) (λ y left k h. turned r y left k h (l.overlap r x c.writing)) (tasks r) (l.readers r z ne);
+    }
+  where
+    turned : (r y left k : ℕ) → Looks top r y left k u parts → IsTrue (among x (u.overlaps r)) → (z : ℕ) × Looks top r y left z u (put i (lowered (parts i)) parts)
+    turned r y left k h o =
+        let f = beacon_fall top y k i x (MayGive r u) u parts c (inr o) h.beacon in
+        let low : suc i ≤ x = c.low in
+        let ky : y ≤ k = h.beacon.low in (
+          f.0,
+          looking_lower top r y left k f.0 i u parts h f.1.0 (λ e. elim f.1.1 [
+            | inl g ↦ (sym g.1 ∙ e, λ a. g.0 (sym g.1 ∙ e ∙ a))
+            | inr g ↦ (let g0 : k ≡ i = g.0 in let g1 : f.0 ≡ x = g.1 in let n : ⊥ = omega (arith, e, g0, g1, low, ky) in absurd n)
+          ]),
+        )
+
+pub lights_lowered : (top p i : ℕ) (u : Seen) (tasks : ℕ → Option (Standing UnaryTask)) (parts : ℕ → Seen) → Lights top p u tasks parts → (parts i).writing ≡ Some 0
+    → Lights top p u tasks (put i (written (parts i)) parts)
+lights_lowered top p i u tasks parts l w = record {
+  overlap = l.overlap;
+  ready = (l.ready.0, beacon_lowered top 0 l.ready.0 i (MayGiveNow u) parts l.ready.1 w);
+  readers = λ r z ne. reader_map top r u u parts (put i (written (parts i)) parts)
+      (λ y left k h. (k, looking_written top r y left k i u parts h (beacon_lowered top y k i (MayGive r u) parts h.beacon w))) (tasks r) (l.readers r z ne);
+}
+
+-- the write returns
+pub lights_end : (top p q x : ℕ) (u : Seen) (tasks : ℕ → Option (Standing UnaryTask)) (parts : ℕ → Seen) → Lights top p u tasks parts → Cleared top 0 x u parts
+    → Lights top p (sees (Some (Wrote q)) u) tasks parts
+lights_end top p q x u tasks parts l c =
+    let v : Seen = sees (Some (Wrote q)) u in
+    let last : now_last u.writing u.last ≡ x = ap (λ w. now_last w u.last) c.writing in
+    record {
+      overlap = λ r y e. (let n : ⊥ = cc in absurd n);
+      ready = (
+        x,
+        record {
+          low = omega arith;
+          high = c.small;
+          allowed = inl (sym last);
+          lit = record { last = c.one; writing = inl (c.quiet x c.small) };
+          below = λ i lo hi m. absurd (let small : x ≤ top = c.small in quiet_dark (parts i) (c.quiet i (omega (arith, hi, small))) (c.zeros i lo hi) m);
+        },
+      );
+      readers = λ r z ne. reader_map top r u v parts parts (λ i left k h. (k, record { room = h.room; beacon = h.beacon; here = h.here; fresh_one = h.fresh_one; over_one = h.over_one })) (tasks r) (l.readers r z ne);
+    }
+
+pub idle_end : (top q x : ℕ) (u : Seen) (parts : ℕ → Seen) → Cleared top 0 x u parts → Idle top (sees (Some (Wrote q)) u) parts
+idle_end top q x u parts c =
+    let last : now_last u.writing u.last ≡ x = ap (λ w. now_last w u.last) c.writing in
+    record {
+      writing = refl;
+      small = subst (λ y. y ≤ top) (sym last) c.small;
+      one = subst (λ y. (parts y).last ≡ 1) (sym last) c.one;
+      zeros = λ i l. c.zeros i (omega arith) (subst (λ y. i < y) last l);
+      quiet = c.quiet;
+    }
+
+pub rising_begin : (top p x : ℕ) (u : Seen) (parts : ℕ → Seen) → Idle top u parts → x ≤ top → Rising top x (sees (Some (Invoke p (Write x))) u) (put x (raised (parts x)) parts)
+rising_begin top p x u parts h l = record {
+  writing = refl;
+  small = l;
+  here = ap (λ s. s.writing) (put_same x (raised (parts x)) parts);
+  quiet = λ i li ne. ap (λ s. s.writing) (put_other x i (raised (parts x)) parts ne) ∙ h.quiet i li;
+}
+
+pub rising_end : (top x : ℕ) (u : Seen) (parts : ℕ → Seen) → Rising top x u parts → Cleared top x x u (put x (written (parts x)) parts)
+rising_end top x u parts h = record {
+  writing = h.writing;
+  small = h.small;
+  low = omega arith;
+  one = ap (λ s. s.last) (put_same x (written (parts x)) parts) ∙ ap (λ w. now_last w (parts x).last) h.here;
+  zeros = λ k lo hi. absurd (let n : ⊥ = omega (arith, lo, hi) in n);
+  quiet = put_all (λ i s. i ≤ top → s.writing ≡ None) x (written (parts x)) parts (λ l. refl) (λ i ne l. h.quiet i l ne);
+}
+
+pub falling_begin : (top i x : ℕ) (u : Seen) (parts : ℕ → Seen) → Cleared top (suc i) x u parts → Falling top i x u (put i (lowered (parts i)) parts)
+falling_begin top i x u parts c =
+    let low : suc i ≤ x = c.low in
+    record {
+      writing = c.writing;
+      small = c.small;
+      low = omega (arith, low);
+      one = put_all (λ y s. y ≡ x → s.last ≡ 1) i (lowered (parts i)) parts (λ e. subst (λ y. (parts y).last ≡ 1) (sym e) c.one) (λ y ne e. subst (λ y. (parts y).last ≡ 1) (sym e) c.one) x refl;
+      zeros = put_all (λ k s. i < k → k < x → s.last ≡ 1 → ⊥) i (lowered (parts i)) parts (λ lo hi. absurd (let n : ⊥ = omega (arith, lo) in n)) (λ k ne lo hi. c.zeros k (omega (arith, lo)) hi);
+      here = ap (λ s. s.writing) (put_same i (lowered (parts i)) parts);
+      quiet = λ k l ne. ap (λ s. s.writing) (put_other i k (lowered (parts i)) parts ne) ∙ c.quiet k l;
+    }
+
+pub falling_end : (top i x : ℕ) (u : Seen) (parts : ℕ → Seen) → Falling top i x u parts → Cleared top i x u (put i (written (parts i)) parts)
+falling_end top i x u parts f =
+    let low : i < x = f.low in
+    record {
+      writing = f.writing;
+      small = f.small;
+      low = omega (arith, low);
+      one = put_all (λ y s. y ≡ x → s.last ≡ 1) i (written (parts i)) parts (λ e. absurd (let n : ⊥ = omega (arith, e, low) in n)) (λ y ne e. subst (λ y. (parts y).last ≡ 1) (sym e) f.one) x refl;
+      zeros = put_all (λ k s. i ≤ k → k < x → s.last ≡ 1 → ⊥) i (written (parts i)) parts
+          (λ lo hi e. zero_one _ (ap (λ w. now_last w (parts i).last) f.here) e)
+          (λ k ne lo hi. f.zeros k (omega (arith, lo, ne)) hi);
+      quiet = put_all (λ k s. k ≤ top → s.writing ≡ None) i (written (parts i)) parts (λ l. refl) (λ k ne l. f.quiet k l ne);
+    }
+  where
+    zero_one : (n : ℕ) → n ≡ 0 → n ≡ 1 → ⊥
+    zero_one n e f = omega (arith, e, f)

@@ -1,0 +1,21 @@
+use Rattle.frames.specs.declared.types.Outcome.TheVariants.{Spent}
+use Rattle.layers.specs.Sound.{FitsBelow}
+use Rattle.unary_number.specs.Program.{unary_table_with}
+use Rattle.unary_number.specs.Sound.{unary_left, unary_sound, table_sound}
+use Rattle.std.specs.Prelude.{◌-◌, ◌≤◌}
+use Rattle.frames.specs.declared.types.Outcome.TheVariants.{Value}
+use Rattle.unary_number.proofs.Kept.{unary_over_regular}
+use Rattle.unary_number.proofs.laws.regular.Goals as goal
+
+pub returns-clause-regular : goal.returns-clause-regular
+returns-clause-regular g c =
+    let r = c.args.register.now in
+    unary_over_regular (g.S.Behaves.is r.below) (g.S.Register.Holds r.below) (g.S.Register.Reaches r.below) (Value (r.layer.values - 1)) r.layer.values r.layer.processes unary_left r.layer.two (g.met.S.Register.lawful r.below)
+    (unary_sound r.layer.values r.layer.processes r.layer.two r.layer.some) r.fit c.requires
+
+pub returns-clause-found : goal.returns-clause-found
+returns-clause-found g c = λ layer.
+    let r = c.args.register.now in
+    unary_over_regular (g.S.Behaves.is r.below) (g.S.Register.Holds r.below) (g.S.Register.Reaches r.below) (Spent layer) r.layer.values r.layer.processes unary_left r.layer.two (g.met.S.Register.lawful r.below)
+    (table_sound (Spent layer) r.layer.values r.layer.processes r.layer.two r.layer.some tt)
+    (record { same_values = r.fit.same_values; same_processes = r.fit.same_processes; room = r.fit.room; few_cells = r.fit.few_cells; few_words = r.fit.few_words }) c.requires
