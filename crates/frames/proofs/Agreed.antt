@@ -1,33 +1,20 @@
 -- The two folds over what a register with one writer records agree: what is known by events (`Known`), and what is seen by steps (`Seen`).
-use Rattle.std.proofs.Common.{◌≡◌, ℕ, zero, suc, ◌+◌, ◌<◌, ◌≤◌, Bool, true, false, ◌||◌, ◌&&◌, cond, List, [], ◌∷◌, ◌++◌, length, drop, Option, Some, None, inl, inr, refl, sym, ap, subst, ◌∙◌, true≢false, arith, eq-eqb, get_or, set, replicate, IsTrue, append-nil, append_assoc, length-append}
-use Rattle.std.specs.Prelude.{◌==◌, ◌≢◌, ⊤, reverse, nat_lt, if◌then◌else◌}
-use Rattle.std.specs.List.{find, list_any, AllByRecursion}
-use Rattle.std.specs.Option.{option_map, unwrap_or}
-use Rattle.std.proofs.lemmas.Bool.{cases_eq, ne_eqb, or_parts}
-use Rattle.std.proofs.lemmas.List.{reverse-append, drop-append-le, get_or-set_same, get_or-set_other}
+use Rattle.std.proofs.Common.{◌≡◌, ℕ, ◌≤◌, Bool, true, false, ◌||◌, cond, List, [], ◌∷◌, ◌++◌, length, drop, Option, Some, None, inl, inr, refl, sym, ap, subst, ◌∙◌, arith, eq-eqb, append-nil, length-append}
+use Rattle.std.specs.Prelude.{◌==◌, reverse, if◌then◌else◌}
+use Rattle.std.specs.List.{find}
+use Rattle.std.specs.Option.{unwrap_or}
+use Rattle.std.proofs.lemmas.Bool.{cases_eq, ne_eqb}
+use Rattle.std.proofs.lemmas.List.{reverse-append, drop-append-le}
 use Rattle.std.proofs.Math.Seq.{drop-length}
 use Rattle.std.proofs.lemmas.List.Folds.{list_any-append}
-use Rattle.safe_bit.specs.Memory.{Memory}
 use Rattle.frames.specs.declared.types.Op.{Op}
 use Rattle.frames.specs.declared.types.Op.TheVariants as op
-use Rattle.frames.specs.declared.types.Outcome.{Outcome}
-use Rattle.frames.specs.declared.types.Outcome.TheVariants.{Value, Written, Spent}
-use Rattle.frames.specs.declared.types.Next.{Next}
-use Rattle.frames.specs.declared.types.Next.TheVariants.{Pending, Done}
-use Rattle.frames.specs.declared.types.Reason.{Reason}
-use Rattle.frames.specs.declared.types.Reason.TheVariants.{Busy, Idle, Stopped}
-use Rattle.frames.specs.declared.types.Event.{Event}
-use Rattle.frames.specs.declared.types.Event.TheVariants.{Invoke, Got, Wrote, Refused, Void, Stop, Chosen}
-use Rattle.frames.specs.declared.types.StepEvents.{StepEvents}
-use Rattle.frames.specs.declared.running.Running.{Running}
+use Rattle.frames.specs.declared.types.Event.TheVariants.{Invoke, Wrote}
 use Rattle.frames.specs.declared.verdict.Reading.{Reading}
-use Rattle.frames.specs.declared.verdict.Verdict.{Verdict}
 use Rattle.frames.specs.declared.verdict.Verdict.TheVariants.{Fresh, Overlap, Stray}
-use Rattle.frames.specs.Behaviour.{Behaviour, StandsWell, Answers}
-use Rattle.frames.specs.Configuration.{return_of, still_running, chosen_of, in_order}
-use Rattle.frames.specs.Verdicts.{Known, initially, after, invoked_now, returning, last_read, reading, is_value, has_returned, overlaps, judged}
+use Rattle.frames.specs.Verdicts.{Known, after, invoked_now, returning, last_read, reading, is_value, has_returned, overlaps, judged}
 use Rattle.frames.specs.Regularity.{in_progress, overlapped, FreshAlone, NotStray}
-use Rattle.frames.proofs.Seen.{Seen, Returned, among, verdict, opening, now_last, sees, refuses, after_step, got, IsFreshAlone, IsNotStray}
+use Rattle.frames.proofs.Seen.{Seen, Returned, among, verdict, now_last, sees, IsFreshAlone, IsNotStray}
 use Rattle.frames.proofs.Pointwise.{put, put_same, put_other}
 
 -- a process's read in progress, as both folds have it

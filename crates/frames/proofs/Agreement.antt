@@ -1,20 +1,16 @@
 -- What is promised of a register with one writer by what is known, event by event, is what is promised by what is seen, step by step.
-use Rattle.std.proofs.Common.{◌≡◌, ℕ, zero, suc, ◌+◌, ◌<◌, ◌≤◌, Bool, true, false, ◌||◌, ◌&&◌, List, [], ◌∷◌, ◌++◌, length, Option, Some, None, inl, inr, refl, sym, ap, subst, ◌∙◌, true≢false, arith, get_or, set, replicate, IsTrue, rules, append_assoc}
-use Rattle.std.specs.Prelude.{◌==◌, ⊤, if◌then◌else◌, nat_lt}
+use Rattle.std.proofs.Common.{◌≡◌, ℕ, ◌+◌, ◌<◌, Bool, true, false, ◌||◌, List, [], ◌∷◌, ◌++◌, length, Option, Some, None, refl, sym, ap, subst, ◌∙◌, arith, IsTrue, append_assoc}
+use Rattle.std.specs.Prelude.{◌==◌, ⊤, if◌then◌else◌}
 use Rattle.std.specs.List.{list_any, AllByRecursion}
-use Rattle.std.specs.Option.{option_map}
-use Rattle.std.proofs.lemmas.Bool.{cases_eq, or_parts}
-use Rattle.std.proofs.lemmas.List.{get_or-set_same, get_or-set_other}
+use Rattle.std.proofs.lemmas.Bool.{or_parts}
 use Rattle.std.proofs.lemmas.List.Folds.{list_any-append}
 use Rattle.std.proofs.lemmas.List.Elements.{All-head, All-tail}
 use Rattle.safe_bit.specs.Memory.{Memory}
 use Rattle.frames.specs.declared.types.Op.{Op}
 use Rattle.frames.specs.declared.types.Op.TheVariants as op
-use Rattle.frames.specs.declared.types.Outcome.{Outcome}
 use Rattle.frames.specs.declared.types.Outcome.TheVariants.{Value, Written, Spent}
 use Rattle.frames.specs.declared.types.Next.{Next}
 use Rattle.frames.specs.declared.types.Next.TheVariants.{Pending, Done}
-use Rattle.frames.specs.declared.types.Reason.TheVariants.{Busy, Idle, Stopped}
 use Rattle.frames.specs.declared.types.Step.{Step}
 use Rattle.frames.specs.declared.types.Step.TheVariants as step
 use Rattle.frames.specs.declared.types.Event.{Event}
@@ -24,15 +20,15 @@ use Rattle.frames.specs.declared.running.Running.{Running}
 use Rattle.frames.specs.Behaviour.{Behaviour, IsLawful, StandsWell, Answers}
 use Rattle.frames.specs.Fitting.{process_of}
 use Rattle.frames.specs.OneWriter.{HasOneWriter}
-use Rattle.frames.specs.Configuration.{Configuration, running_at, is_stopped, fits_step, stepped, history, events_of, acted_on, acting, acting_unless, invoking, going, return_of, still_running, chosen_of, in_order}
+use Rattle.frames.specs.Configuration.{running_at, is_stopped, fits_step, stepped, history, events_of, acted_on, acting, acting_unless, invoking, going, return_of, still_running, chosen_of, in_order}
 use Rattle.frames.specs.Parked.{IsConfiguration}
-use Rattle.frames.specs.Recorded.{AllFit, Alone, at_index, indexed, first_configuration, recorded}
+use Rattle.frames.specs.Recorded.{AllFit, Alone, at_index, indexed, first_configuration}
 use Rattle.frames.specs.Verdicts.{Known, initially, after}
 use Rattle.frames.specs.Regularity.{is_refusal, NoneRefused, OnReturn, EachRead, AlwaysReads}
-use Rattle.frames.specs.laws.Steps.{IsReached, initial_keeps, step_keeps, process_there}
+use Rattle.frames.specs.laws.Steps.{IsReached, step_keeps, process_there}
 use Rattle.frames.specs.laws.OneWriter.{writer_zero, reader_some}
 use Rattle.frames.proofs.Seen.{Seen, Returned, opening, sees, refuses, refuses_none, after_step, got, read_in, reads, Always}
-use Rattle.frames.proofs.Agreed.{ReadAgrees, Agrees, agrees_same, agrees_write, agrees_read, agrees_ended, agrees_wrote, wrote_quiet, Alike, returned_of}
+use Rattle.frames.proofs.Agreed.{ReadAgrees, Agrees, agrees_same, agrees_write, agrees_read, agrees_ended, agrees_wrote, wrote_quiet, Alike}
 use Rattle.frames.proofs.Halves.{all_left, all_right, all_both, two_false}
 use Rattle.frames.proofs.Pending.{op_of, ops_of, ops_after, none_at, first_well}
 use Rattle.frames.proofs.Pointwise.{put, put_same, put_is, put_put}

@@ -6,16 +6,14 @@ use Rattle.std.specs.Option.{unwrap_or}
 use Rattle.std.proofs.lemmas.Bool.{cases_eq}
 use Rattle.std.proofs.lemmas.List.{drop-append-le, get_or-drop, get_or_append_left, get_or_at, length-drop}
 use Rattle.std.proofs.lemmas.List.Folds.{list_any-append, list_any_at}
-use Rattle.frames.specs.declared.types.Op.{Op}
 use Rattle.frames.specs.declared.types.Op.TheVariants as op
 use Rattle.frames.specs.declared.types.Event.{Event}
 use Rattle.frames.specs.declared.types.Event.TheVariants.{Invoke, Got, Wrote, Refused, Void, Stop, Chosen}
 use Rattle.frames.specs.declared.verdict.Reading.{Reading}
-use Rattle.frames.specs.declared.verdict.Verdict.{Verdict}
 use Rattle.frames.specs.declared.verdict.Verdict.TheVariants.{Fresh, Overlap, Stray}
 use Rattle.frames.specs.Behaviour.{Behaviour}
-use Rattle.frames.specs.Verdicts.{Known, initially, after, refusing, returning, invoked_now, last_read, reading, overlaps, judged}
-use Rattle.frames.specs.Regularity.{in_progress, overlapped, OnReturn, EachRead, NotStray, NeverStray, IsRegular, IsAtomic, by_number, IsNumber, Numbered}
+use Rattle.frames.specs.Verdicts.{Known, initially, after, returning, invoked_now, last_read, reading, overlaps}
+use Rattle.frames.specs.Regularity.{in_progress, OnReturn, EachRead, NotStray, NeverStray, IsRegular, IsAtomic, by_number, IsNumber, Numbered}
 use Rattle.frames.proofs.Agreed.{found_last, is_among}
 
 -- a read as it was noted: no more writes had returned than have by now, and the last of them, or the initial value, was fresh

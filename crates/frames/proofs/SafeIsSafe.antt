@@ -1,7 +1,6 @@
 -- A safe bit is safe (Lamport 1986).
-use Rattle.std.proofs.Common.{◌≡◌, ℕ, zero, suc, ◌<◌, ◌≤◌, ◌==◌, List, [], ◌∷◌, length, get_or, set, refl, ap, sym, ◌∙◌, subst, arith, inl, inr, Bool, true, false, Option, Some, None, length-set, IsTrue, rules, eq-eqb}
-use Rattle.std.specs.Prelude.{◌⊎◌, ◌&&◌, if◌then◌else◌, is_some, is_none, not, nat_lt, unwrap_or}
-use Rattle.std.specs.List.{AllByRecursion}
+use Rattle.std.proofs.Common.{◌≡◌, ℕ, zero, suc, ◌<◌, ◌==◌, List, [], ◌∷◌, length, refl, ap, sym, ◌∙◌, subst, arith, Bool, true, false, Option, Some, None, length-set}
+use Rattle.std.specs.Prelude.{◌&&◌, if◌then◌else◌, is_some, is_none, not, nat_lt, unwrap_or}
 use Rattle.std.proofs.lemmas.Bool.{and_parts, eqb-true, ltb-true}
 use Rattle.std.proofs.lemmas.List.{get_or-set_other}
 use Rattle.std.proofs.lemmas.List.Elements.{All-head, All-tail}
@@ -20,7 +19,6 @@ use Rattle.frames.specs.declared.types.Event.{Event}
 use Rattle.frames.specs.declared.types.Event.TheVariants.{Invoke, Got, Wrote}
 use Rattle.frames.specs.declared.types.Step.{Step}
 use Rattle.frames.specs.declared.types.Step.TheVariants as step
-use Rattle.frames.specs.declared.verdict.Verdict.TheVariants.{Fresh, Overlap, Stray}
 use Rattle.frames.specs.declared.safe.SafePoint.{SafePoint}
 use Rattle.frames.specs.declared.safe.SafePoint.TheVariants.{WriteStart, WriteEnd, ReadStart, ReadEnd}
 use Rattle.frames.specs.SafeBit.{safe_behaviour, SafeReaches, bit_of, value_of}
@@ -28,10 +26,10 @@ use Rattle.frames.specs.Fitting.{process_of}
 use Rattle.frames.specs.OneWriter.{HasOneWriter, one_writer}
 use Rattle.frames.specs.Configuration.{running_at, is_stopped, stepped, events_of, fits_step, history, return_of, still_running, chosen_of, in_order}
 use Rattle.frames.specs.Recorded.{Alone, AllFit, first_configuration}
-use Rattle.frames.specs.Regularity.{in_progress, IsSafe, FreshAlone}
+use Rattle.frames.specs.Regularity.{IsSafe, FreshAlone}
 use Rattle.frames.specs.laws.Steps.{IsVoid, void_unless_enabled, stopped_is_void}
 use Rattle.frames.specs.laws.Safe.{safe_lawful}
-use Rattle.frames.proofs.Seen.{Seen, Returned, verdict, among, opening, sees, got, now_last, IsFreshAlone, Always, Allowed}
+use Rattle.frames.proofs.Seen.{Seen, opening, sees, now_last, IsFreshAlone, Always, Allowed}
 use Rattle.frames.proofs.Moves.{moves, StepsTo, step_begins, step_goes, step_stops}
 use Rattle.frames.proofs.Told.{Told, told_begun, told_gone, told_void, told_stop, told_none, told_reads}
 use Rattle.frames.proofs.Agreed.{fresh_alike}

@@ -1,6 +1,5 @@
 -- How far a history has come: writes counted, and the numbers that returned reads are given.
 use Rattle.std.specs.Prelude.{◌≡◌, ⊤, ℕ, ◌+◌, ◌≤◌, Bool, true, false, Option, Some, None}
-use Rattle.frames.specs.declared.types.Op.{Op}
 use Rattle.frames.specs.declared.types.Op.TheVariants.{Read, Write}
 use Rattle.frames.specs.declared.types.Event.{Event}
 use Rattle.frames.specs.declared.types.Event.TheVariants.{Invoke, Got, Wrote, Refused, Void, Chosen, Stop}

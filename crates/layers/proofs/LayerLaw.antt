@@ -1,33 +1,23 @@
 -- The law of layers: what every turn of a layer's programs keeps, where each part alone does as it promises, holds of each history of the layer.
-use Rattle.std.proofs.Common.{◌≡◌, ℕ, zero, suc, ◌+◌, ◌*◌, ◌<◌, List, [], ◌∷◌, ◌++◌, length, get_or, refl, ap, sym, ◌∙◌, subst, arith, Bool, true, false, Option, Some, None, IsTrue, replicate, rules}
-use Rattle.std.specs.List.{AllByRecursion}
-use Rattle.std.proofs.lemmas.List.{length-replicate, get_or-append-add}
-use Rattle.safe_bit.specs.declared.Place.{Place}
-use Rattle.safe_bit.specs.Memory.{Memory, word_at}
+use Rattle.std.proofs.Common.{◌≡◌, ℕ, ◌+◌, ◌*◌, ◌<◌, List, [], ◌∷◌, ◌++◌, length, get_or, refl, ap, sym, ◌∙◌, arith, None}
+use Rattle.std.proofs.lemmas.List.{get_or-append-add}
+use Rattle.safe_bit.specs.Memory.{word_at}
 use Rattle.safe_bit.specs.Parts.{part, HasSize}
 use Rattle.safe_bit.specs.laws.Parts.{same_memory}
 use Rattle.safe_bit.specs.laws.Windows.{window-append}
-use Rattle.frames.specs.declared.types.Op.{Op}
-use Rattle.frames.specs.declared.types.Event.{Event}
-use Rattle.frames.specs.declared.types.Event.TheVariants.{Invoke, Void, Stop}
-use Rattle.frames.specs.declared.types.Reason.{Reason}
 use Rattle.frames.specs.declared.types.StepEvents.{StepEvents}
 use Rattle.frames.specs.declared.types.Step.{Step}
-use Rattle.frames.specs.declared.running.Running.{Running}
 use Rattle.layers.specs.declared.nested.Nested.{Nested}
-use Rattle.frames.specs.Behaviour.{Behaviour, IsLawful}
-use Rattle.frames.specs.Configuration.{Configuration, running_at, is_stopped, in_order, chosen_of, history}
-use Rattle.frames.specs.Parked.{IsConfiguration}
+use Rattle.frames.specs.Configuration.{running_at, history}
 use Rattle.frames.specs.Recorded.{Alone, AllFit, first_configuration}
-use Rattle.frames.specs.laws.Steps.{initial_keeps}
-use Rattle.frames.proofs.Seen.{Seen, Returned, opening, after_step, read_in, reads, refuses, refuses_none, Always, Allowed, sees, got}
+use Rattle.frames.proofs.Seen.{Seen, Returned, opening, Always, Allowed}
 use Rattle.frames.specs.OneWriter.{HasOneWriter}
 use Rattle.frames.specs.Verdicts.{Known}
 use Rattle.frames.specs.Regularity.{AlwaysReads}
-use Rattle.frames.proofs.Reached.{IsFine, reached_first}
+use Rattle.frames.proofs.Reached.{reached_first}
 use Rattle.frames.proofs.Agreed.{Alike}
 use Rattle.frames.proofs.Agreement.{always_known, always_seen}
-use Rattle.layers.specs.Nested.{Table, part_place, own_words, layered, layer_initial, gathered}
+use Rattle.layers.specs.Nested.{part_place, own_words, layered, layer_initial, gathered}
 use Rattle.layers.specs.Sound.{LayerHolds, LayerReaches}
 use Rattle.layers.specs.laws.Nested.{row_fits}
 use Rattle.layers.specs.laws.Gathered.{length-gathered, window-gathered, get_or-gathered}
@@ -38,7 +28,7 @@ use Rattle.layers.proofs.Links.{below_of}
 pub use Rattle.frames.proofs.Told.{Told, told_begun, told_gone, told_void, told_stop, told_none, told_reads}
 use Rattle.frames.proofs.Pending.{none_at, awake_at, first_well}
 use Rattle.layers.proofs.Turns.{standing_of}
-use Rattle.layers.proofs.LayerSteps.{Joint, steps_joint}
+use Rattle.layers.proofs.LayerSteps.{steps_joint}
 
 module _ {Task P : Type 0} (l : LayerOver Task P) (user : ℕ → ℕ → ℕ) (is_user : IsUser l.table l.Stands user) where
   first_value : (v k : ℕ) → v < l.table.values → k < l.table.parts → l.table.first v k < l.below.values

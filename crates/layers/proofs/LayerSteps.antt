@@ -1,7 +1,6 @@
 -- Every step of a layer keeps what is to be kept, and links each part to its own list.
-use Rattle.std.proofs.Common.{zero, suc, ◌≡◌, ℕ, ◌+◌, ◌*◌, ◌<◌, ◌≤◌, ◌==◌, List, [], ◌∷◌, length, get_or, set, refl, ap, sym, ◌∙◌, subst, arith, inl, inr, Bool, true, false, Option, Some, None, IsTrue, rules}
-use Rattle.std.specs.Prelude.{nat_lt, ◌⊎◌, ◌&&◌, is_none, is_some, not}
-use Rattle.std.specs.List.{AllByRecursion}
+use Rattle.std.proofs.Common.{zero, suc, ◌≡◌, ℕ, ◌+◌, ◌<◌, ◌≤◌, ◌==◌, List, [], ◌∷◌, length, get_or, set, refl, ap, sym, ◌∙◌, subst, arith, inl, inr, Bool, true, false, Option, Some, None}
+use Rattle.std.specs.Prelude.{nat_lt, ◌&&◌, is_none, is_some, not}
 use Rattle.std.proofs.lemmas.Bool.{cases_eq, and_parts, ltb-true}
 use Rattle.std.proofs.lemmas.Bool.Decides.{nat_tests}
 use Rattle.std.proofs.lemmas.List.Elements.{All-head, All-tail}
@@ -12,7 +11,7 @@ use Rattle.safe_bit.specs.Parts.{part, with_part, HasSize}
 use Rattle.frames.specs.declared.types.Op.{Op}
 use Rattle.frames.specs.declared.types.Op.TheVariants as op
 use Rattle.frames.specs.declared.types.Event.{Event}
-use Rattle.frames.specs.declared.types.Event.TheVariants.{Invoke, Void, Stop}
+use Rattle.frames.specs.declared.types.Event.TheVariants.{Invoke}
 use Rattle.frames.specs.declared.types.StepEvents.{StepEvents}
 use Rattle.frames.specs.declared.types.Step.{Step}
 use Rattle.frames.specs.declared.types.Step.TheVariants as step
@@ -21,21 +20,21 @@ use Rattle.layers.specs.declared.nested.Nested.{Nested}
 use Rattle.frames.specs.Behaviour.{Behaviour, Begun, Moved}
 use Rattle.frames.specs.Fitting.{process_of}
 use Rattle.frames.specs.Flat.{IsReached}
-use Rattle.frames.specs.Configuration.{Configuration, running_at, is_stopped, is_ready, is_enabled, stepped, events_of, return_of, still_running, chosen_of, in_order, fits_step, history}
+use Rattle.frames.specs.Configuration.{running_at, is_stopped, stepped, events_of, return_of, still_running, chosen_of, in_order, fits_step, history}
 use Rattle.frames.specs.Parked.{IsConfiguration}
 use Rattle.frames.specs.Recorded.{Alone, AllFit}
 use Rattle.frames.specs.laws.Steps.{IsVoid, void_unless_enabled, stopped_is_void, step_keeps}
-use Rattle.frames.proofs.Seen.{Seen, after_step, sees, got, Always, Allowed, ended}
+use Rattle.frames.proofs.Seen.{Seen, after_step, sees, Always, Allowed, ended}
 use Rattle.frames.proofs.Reached.{Reached, IsFine, reached_more, reached_fine}
 use Rattle.frames.proofs.Pointwise.{put, put_same, put_again, put_is}
-use Rattle.layers.specs.Nested.{Table, part_place, own_words, pushed, behind_part, advance, resume, layered}
+use Rattle.layers.specs.Nested.{part_place, own_words, behind_part, advance, resume, layered}
 use Rattle.layers.specs.Sound.{LayerHolds, LayerReaches}
 use Rattle.layers.specs.laws.Nested.{asks_fit, holds_with_part}
 use Rattle.layers.specs.laws.Layered.{layer_lawful}
 use Rattle.layers.specs.laws.Over.{LayerOver}
 use Rattle.layers.proofs.Law.{Standing, View, Watch, IsKept, IsUser}
-use Rattle.layers.proofs.Links.{moves, StepsTo, StopsTo, step_begins, step_goes, step_stops, step_of, nested, below_of, below_of-same, below_of-other, Linked, word_behind, links_move, link_same, gone_seen, gone_reads}
-use Rattle.layers.proofs.Turns.{standing_of, Mid, Ran, run_on, behind_ran, stands_here}
+use Rattle.layers.proofs.Links.{moves, StepsTo, step_begins, step_goes, step_stops, step_of, nested, below_of, below_of-same, below_of-other, Linked, word_behind, links_move, link_same, gone_seen, gone_reads}
+use Rattle.layers.proofs.Turns.{standing_of, Ran, run_on, behind_ran, stands_here}
 
 -- what links a configuration of the layer, its view, and each part alone
 pub record Joint {Task P U : Type 0} (l : LayerOver Task P) (user : ℕ → ℕ → ℕ) (value : ℕ → ℕ) (w : Watch Task U) (c : Alone (Nested Task P)) (u : U) : Type 0 where

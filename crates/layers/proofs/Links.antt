@@ -1,36 +1,26 @@
 -- Each part of a layer alone, after its own list of steps, and what a step of one part makes of all.
-use Rattle.std.proofs.Common.{◌≡◌, ℕ, ◌+◌, ◌*◌, ◌<◌, ◌≤◌, ◌==◌, List, [], ◌∷◌, ◌++◌, length, get_or, set, refl, ap, sym, ◌∙◌, subst, arith, inl, inr, Bool, true, false, Option, Some, None, IsTrue, eq-eqb, append-nil}
-use Rattle.std.specs.Prelude.{◌⊎◌, if◌then◌else◌}
-use Rattle.std.specs.List.{AllByRecursion}
+use Rattle.std.proofs.Common.{◌≡◌, ℕ, ◌+◌, ◌*◌, ◌<◌, ◌==◌, refl, ap, sym, ◌∙◌, subst, arith, inl, inr, Bool, true, false, Option, Some, None, eq-eqb}
+use Rattle.std.specs.Prelude.{if◌then◌else◌}
 use Rattle.std.proofs.lemmas.Bool.{ne_eqb, cases_eq}
-use Rattle.std.proofs.lemmas.List.{get_or-set_other, set-get_or}
+use Rattle.std.proofs.lemmas.List.{get_or-set_other}
 use Rattle.std.proofs.lemmas.Grind.{get_or-set_at}
-use Rattle.safe_bit.specs.declared.Place.{Place}
 use Rattle.safe_bit.specs.Memory.{Memory, word_at, with_word}
-use Rattle.safe_bit.specs.Parts.{part, with_part, LiesIn, HasSize}
+use Rattle.safe_bit.specs.Parts.{part, with_part, HasSize}
 use Rattle.safe_bit.specs.laws.Parts.{same_memory, part-with_part, part-with_part_beside, LiesIn-of_size}
 use Rattle.safe_bit.specs.laws.Windows.{get_or-splice_after, window-set_behind}
 use Rattle.frames.specs.declared.types.Op.{Op}
-use Rattle.frames.specs.declared.types.Op.TheVariants as op
-use Rattle.frames.specs.declared.types.Outcome.{Outcome}
-use Rattle.frames.specs.declared.types.Outcome.TheVariants.{Value, Written, Spent}
 use Rattle.frames.specs.declared.types.Next.{Next}
 use Rattle.frames.specs.declared.types.Next.TheVariants.{Pending, Done}
 use Rattle.frames.specs.declared.types.Event.{Event}
-use Rattle.frames.specs.declared.types.Event.TheVariants.{Invoke, Stop}
-use Rattle.frames.specs.declared.types.StepEvents.{StepEvents}
 use Rattle.frames.specs.declared.types.Step.{Step}
-use Rattle.frames.specs.declared.types.Step.TheVariants as step
 use Rattle.frames.specs.declared.running.Running.{Running}
 use Rattle.layers.specs.declared.nested.Nested.{Nested}
-use Rattle.frames.specs.Behaviour.{Behaviour, Moved, IsLawful}
-use Rattle.frames.specs.Fitting.{process_of}
-use Rattle.frames.specs.Configuration.{Configuration, running_at, is_stopped, stepped, events_of, acted_on, acting, acting_unless, invoking, going, put_acted, mark, return_of, still_running, chosen_of, in_order, fits_step, only_records}
+use Rattle.frames.specs.Configuration.{running_at, is_stopped, stepped, return_of, still_running, in_order, fits_step}
 use Rattle.frames.specs.Parked.{IsConfiguration}
 use Rattle.frames.specs.Recorded.{Alone}
 use Rattle.frames.specs.laws.Steps.{step_keeps}
-use Rattle.frames.proofs.Seen.{Seen, Returned, opening, after_step, read_in, seen, sees, got, refuses}
-use Rattle.frames.proofs.Reached.{Reached, IsFine, reached_more}
+use Rattle.frames.proofs.Seen.{Seen, after_step}
+use Rattle.frames.proofs.Reached.{Reached, reached_more}
 pub use Rattle.frames.proofs.Moves.{step_of, fits_of, moves, StepsTo, step_begins, step_goes, StopsTo, step_stops}
 pub use Rattle.frames.proofs.Told.{begun_seen, gone_seen, gone_reads}
 use Rattle.frames.proofs.Pointwise.{put, put_same, put_other}

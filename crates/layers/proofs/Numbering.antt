@@ -1,9 +1,9 @@
 -- Where reads can be numbered step by step, they can be by what is known: a register with one writer and one reader is atomic then.
-use Rattle.std.proofs.Common.{◌≡◌, ℕ, zero, suc, ◌+◌, ◌<◌, ◌≤◌, Bool, true, false, cond, List, [], ◌∷◌, ◌++◌, length, Option, Some, None, inl, inr, refl, sym, ap, subst, ◌∙◌, arith, eq-eqb, get_or, set, replicate, append-nil, append_assoc, length-append}
-use Rattle.std.specs.Prelude.{◌==◌, ⊤, reverse, if◌then◌else◌}
-use Rattle.std.specs.Option.{option_map, unwrap_or}
-use Rattle.std.proofs.lemmas.Bool.{cases_eq, ne_eqb}
-use Rattle.std.proofs.lemmas.List.{get_or-set_same, get_or-set_other, get_or_append_left, get_or_at}
+use Rattle.std.proofs.Common.{◌≡◌, ℕ, ◌+◌, ◌<◌, ◌≤◌, Bool, true, false, List, [], ◌∷◌, ◌++◌, length, Option, Some, None, inl, inr, refl, sym, ap, subst, ◌∙◌, arith, get_or, append-nil, append_assoc, length-append}
+use Rattle.std.specs.Prelude.{◌==◌}
+use Rattle.std.specs.Option.{unwrap_or}
+use Rattle.std.proofs.lemmas.Bool.{cases_eq}
+use Rattle.std.proofs.lemmas.List.{get_or_append_left, get_or_at}
 use Rattle.std.proofs.lemmas.List.Elements.{All-head, All-tail}
 use Rattle.safe_bit.specs.Memory.{Memory}
 use Rattle.frames.specs.declared.types.Op.{Op}
@@ -22,15 +22,15 @@ use Rattle.frames.specs.declared.verdict.Reading.{Reading}
 use Rattle.frames.specs.Behaviour.{Behaviour, IsLawful, StandsWell, Answers}
 use Rattle.frames.specs.Fitting.{process_of}
 use Rattle.frames.specs.OneWriter.{HasOneWriter}
-use Rattle.frames.specs.Configuration.{Configuration, running_at, is_stopped, fits_step, stepped, history, events_of, acted_on, acting, acting_unless, invoking, going, return_of, still_running, chosen_of, in_order}
+use Rattle.frames.specs.Configuration.{running_at, is_stopped, fits_step, stepped, history, events_of, acted_on, acting, acting_unless, invoking, going, return_of, still_running, chosen_of, in_order}
 use Rattle.frames.specs.Parked.{IsConfiguration}
 use Rattle.frames.specs.Recorded.{AllFit, Alone, at_index, indexed, first_configuration}
 use Rattle.frames.specs.Verdicts.{Known, initially, after, invoked_now, returning, last_read, reading}
 use Rattle.frames.specs.Regularity.{in_progress, OnReturn, by_number, IsNumber, Numbered, IsAtomic}
-use Rattle.frames.specs.laws.Steps.{IsReached, initial_keeps, step_keeps, process_there}
+use Rattle.frames.specs.laws.Steps.{IsReached, step_keeps, process_there}
 use Rattle.frames.specs.laws.OneWriter.{writer_zero, reader_some, reader_few}
 use Rattle.frames.proofs.Seen.{refuses, Allowed}
-use Rattle.frames.proofs.Agreed.{found_last, wrote_quiet}
+use Rattle.frames.proofs.Agreed.{found_last}
 use Rattle.frames.proofs.Agreement.{afters}
 use Rattle.frames.proofs.Pending.{op_of, ops_of, ops_after, none_at, first_well}
 use Rattle.frames.proofs.Pointwise.{put, put_same, put_other, put_is, put_put}

@@ -1,10 +1,8 @@
 -- A process's program runs on, up to its next bit action or its end: what is to be kept is kept, and each part stays linked to its own list.
-use Rattle.std.proofs.Common.{◌≡◌, ℕ, ◌+◌, ◌*◌, ◌<◌, ◌≤◌, ◌==◌, List, [], ◌∷◌, length, get_or, set, refl, ap, sym, ◌∙◌, subst, arith, inl, inr, Bool, true, false, Option, Some, None, IsTrue}
-use Rattle.std.specs.Prelude.{◌⊎◌}
+use Rattle.std.proofs.Common.{◌≡◌, ℕ, ◌+◌, ◌<◌, length, refl, ap, sym, ◌∙◌, subst, arith, inl, inr, Bool, true, false, Option, Some, None}
 use Rattle.std.specs.List.{AllByRecursion}
 use Rattle.std.proofs.lemmas.Bool.{cases_eq}
 use Rattle.std.proofs.lemmas.List.{get_or-set_same, get_or-set_other}
-use Rattle.safe_bit.specs.declared.Place.{Place}
 use Rattle.safe_bit.specs.Memory.{Memory, word_at, with_word}
 use Rattle.safe_bit.specs.Parts.{part, with_part, HasSize}
 use Rattle.frames.specs.declared.types.Op.{Op}
@@ -16,12 +14,12 @@ use Rattle.frames.specs.declared.types.Event.{Event}
 use Rattle.frames.specs.declared.types.Event.TheVariants.{Invoke}
 use Rattle.frames.specs.declared.running.Running.{Running}
 use Rattle.layers.specs.declared.nested.Nested.{Nested}
-use Rattle.frames.specs.Behaviour.{Behaviour, Begun, StandsWell, Answers}
-use Rattle.frames.specs.Configuration.{running_at, is_stopped, return_of, still_running, in_order, events_of, fits_step}
-use Rattle.frames.proofs.Seen.{Seen, Returned, sees, got, refuses, Always, ended, after_step}
+use Rattle.frames.specs.Behaviour.{Begun, StandsWell, Answers}
+use Rattle.frames.specs.Configuration.{running_at, return_of, still_running, in_order, fits_step}
+use Rattle.frames.proofs.Seen.{Seen, sees, got, refuses, Always, ended, after_step}
 use Rattle.frames.proofs.Reached.{IsFine, reached_fine}
 use Rattle.frames.proofs.Pointwise.{put, put_same, put_other, put_is}
-use Rattle.layers.specs.Nested.{Program, Ends, Asks, Reads, Sets, Table, part_place, own_words, asked, behind_part, advance}
+use Rattle.layers.specs.Nested.{Program, Ends, Asks, Reads, Sets, part_place, own_words, behind_part, advance}
 use Rattle.layers.specs.Sound.{LayerHolds, IsSound, IsNotSpent}
 use Rattle.layers.specs.laws.Nested.{asks_fit, holds_with_part, holds_with_word}
 use Rattle.layers.specs.laws.Over.{LayerOver}
