@@ -1,8 +1,7 @@
 -- Copies of a safe register are safe.
-use Rattle.std.proofs.Common.{◌≡◌, ℕ, zero, suc, Bool, true, false, Option, Some, None, ◌<◌, ◌≤◌, ◌==◌, ◌+◌, ◌-◌, IsTrue, refl, sym, ap, ◌∙◌, subst, rules, arith, eq-eqb, List, [], ◌∷◌, inl, inr}
-use Rattle.std.specs.Prelude.{◌⊎◌, if◌then◌else◌}
+use Rattle.std.proofs.Common.{◌≡◌, ℕ, zero, suc, Bool, true, Option, Some, None, ◌<◌, ◌≤◌, ◌+◌, ◌-◌, refl, sym, ap, ◌∙◌, subst, arith, [], inl, inr}
 use Rattle.std.specs.List.{AllByRecursion}
-use Rattle.std.proofs.lemmas.Bool.{cases_eq, eqb-true}
+use Rattle.std.proofs.lemmas.Bool.{cases_eq}
 use Rattle.safe_bit.specs.Memory.{Memory}
 use Rattle.frames.specs.declared.types.Op.{Op}
 use Rattle.frames.specs.declared.types.Op.TheVariants.{Read, Write}
@@ -10,19 +9,18 @@ use Rattle.frames.specs.declared.types.Outcome.{Outcome}
 use Rattle.frames.specs.declared.types.Outcome.TheVariants.{Value, Written, Spent}
 use Rattle.frames.specs.declared.types.Event.{Event}
 use Rattle.frames.specs.declared.types.Event.TheVariants.{Invoke, Got, Wrote}
-use Rattle.frames.specs.declared.verdict.Verdict.TheVariants.{Fresh, Overlap, Stray}
 use Rattle.frames.specs.Behaviour.{Behaviour, IsLawful, Answers}
 use Rattle.frames.specs.Configuration.{in_order, chosen_of}
 use Rattle.frames.specs.OneWriter.{one_writer}
 use Rattle.frames.specs.laws.OneWriter as writer
 use Rattle.frames.specs.Regularity.{in_progress, IsSafe}
-use Rattle.frames.proofs.Seen.{Seen, Returned, verdict, among, opening, sees, got, now_last, IsFreshAlone, ended}
+use Rattle.frames.proofs.Seen.{Seen, Returned, opening, sees, got, now_last, IsFreshAlone, ended}
 use Rattle.frames.proofs.Agreed.{fresh_alike}
 use Rattle.frames.proofs.Judged.{none_in, is_fresh, fresh_value}
 use Rattle.frames.proofs.Pointwise.{put, put_same, put_other, put_zero, put_back, put_all}
-use Rattle.layers.specs.Nested.{Program, Ends, Asks, Table, layered}
+use Rattle.layers.specs.Nested.{Ends, Table, layered}
 use Rattle.layers.specs.Sound.{IsNotSpent, IsSoundTable, FitsBelow}
-use Rattle.layers.specs.laws.Over.{LayerOver, over}
+use Rattle.layers.specs.laws.Over.{over}
 use Rattle.layers.proofs.Law.{Standing, View, Watch, Runs, IsKept, IsUser}
 use Rattle.layers.proofs.LayerLaw.{Told, told_begun, told_gone, told_void, told_stop, layer_promises}
 use Rattle.reader_copies.specs.declared.task.CopiesTask.{CopiesTask}

@@ -1,15 +1,14 @@
 -- A regular bit over a safe register is regular.
-use Rattle.std.proofs.Common.{◌≡◌, ℕ, zero, suc, Bool, true, false, Option, Some, None, ◌<◌, ◌≤◌, ◌==◌, IsTrue, refl, sym, ap, ◌∙◌, subst, rules, arith, eq-eqb, List, [], ◌∷◌, inl, inr}
-use Rattle.std.specs.Prelude.{◌⊎◌, ◌≢◌, ◌||◌, if◌then◌else◌}
-use Rattle.std.specs.List.{list_any, AllByRecursion}
-use Rattle.std.proofs.lemmas.Bool.{ne_eqb, eqb-true, eqb-false, cases_eq}
+use Rattle.std.proofs.Common.{◌≡◌, ℕ, Bool, true, false, Option, Some, None, ◌<◌, ◌≤◌, ◌==◌, IsTrue, refl, sym, ap, ◌∙◌, subst, arith, eq-eqb, List, [], ◌∷◌, inl, inr}
+use Rattle.std.specs.Prelude.{◌⊎◌, ◌||◌, if◌then◌else◌}
+use Rattle.std.specs.List.{AllByRecursion}
+use Rattle.std.proofs.lemmas.Bool.{eqb-true, eqb-false, cases_eq}
 use Rattle.frames.specs.declared.types.Op.{Op}
 use Rattle.frames.specs.declared.types.Op.TheVariants.{Read, Write}
 use Rattle.frames.specs.declared.types.Outcome.{Outcome}
 use Rattle.frames.specs.declared.types.Outcome.TheVariants.{Value, Written, Spent}
 use Rattle.frames.specs.declared.types.Event.{Event}
 use Rattle.frames.specs.declared.types.Event.TheVariants.{Invoke, Got, Wrote}
-use Rattle.frames.specs.declared.verdict.Verdict.{Verdict}
 use Rattle.frames.specs.declared.verdict.Verdict.TheVariants.{Fresh, Overlap, Stray}
 use Rattle.safe_bit.specs.Memory.{Memory}
 use Rattle.frames.specs.Behaviour.{Behaviour, IsLawful, Answers}
@@ -18,12 +17,12 @@ use Rattle.frames.specs.OneWriter.{one_writer}
 use Rattle.frames.specs.laws.OneWriter as writer
 use Rattle.frames.specs.Regularity.{in_progress, IsSafe, IsRegular}
 use Rattle.frames.proofs.Agreed.{fresh_alike, stray_alike}
-use Rattle.frames.proofs.Seen.{Seen, Returned, verdict, among, opening, sees, got, now_last, IsFreshAlone, IsNotStray, Always, ended}
+use Rattle.frames.proofs.Seen.{Seen, Returned, among, opening, sees, got, now_last, IsFreshAlone, IsNotStray, ended}
 use Rattle.frames.proofs.Judged.{fresh_value}
 use Rattle.frames.proofs.Pointwise.{put, put_same, put_other}
-use Rattle.layers.specs.Nested.{Program, Ends, Asks, Reads, Sets, Table, layered}
+use Rattle.layers.specs.Nested.{Ends, Asks, Sets, Table, layered}
 use Rattle.layers.specs.Sound.{IsNotSpent, IsSoundTable, FitsBelow}
-use Rattle.layers.specs.laws.Over.{LayerOver, over}
+use Rattle.layers.specs.laws.Over.{over}
 use Rattle.layers.proofs.Law.{Standing, View, Watch, Runs, IsKept, IsUser}
 use Rattle.layers.proofs.LayerLaw.{Told, told_begun, told_gone, told_void, told_stop, layer_promises}
 use Rattle.regular_bit.specs.declared.task.RegularTask.{RegularTask}

@@ -1,8 +1,8 @@
 -- A stamped register over a regular one: its returned reads can be numbered.
-use Rattle.std.proofs.Common.{◌≡◌, ℕ, zero, suc, Bool, true, false, Option, Some, None, ◌<◌, ◌≤◌, ◌==◌, ◌+◌, ◌*◌, IsTrue, refl, sym, ap, ◌∙◌, subst, rules, arith, get_or, eq-eqb, List, [], ◌∷◌, inl, inr}
-use Rattle.std.specs.Prelude.{◌⊎◌, ◌≢◌, ◌||◌, ◌%◌, max, if◌then◌else◌}
-use Rattle.std.specs.List.{list_any, AllByRecursion}
-use Rattle.std.proofs.lemmas.Bool.{ne_eqb, eqb-true, eqb-false, cases_lt, cases_eq}
+use Rattle.std.proofs.Common.{◌≡◌, ℕ, suc, Bool, true, false, Option, Some, None, ◌<◌, ◌≤◌, ◌==◌, ◌+◌, ◌*◌, IsTrue, refl, sym, ap, ◌∙◌, subst, arith, List, inl, inr}
+use Rattle.std.specs.Prelude.{◌||◌, ◌%◌, max, if◌then◌else◌}
+use Rattle.std.specs.List.{AllByRecursion}
+use Rattle.std.proofs.lemmas.Bool.{eqb-true, cases_lt, cases_eq}
 use Rattle.std.proofs.lemmas.Nat.{mod-mul-add}
 use Rattle.std.proofs.Math.Nat.{mul-le-mul_right, suc-mul}
 use Rattle.safe_bit.specs.Memory.{Memory}
@@ -12,17 +12,15 @@ use Rattle.frames.specs.declared.types.Layer.TheVariants.{Stamped}
 use Rattle.frames.specs.declared.types.Outcome.{Outcome}
 use Rattle.frames.specs.declared.types.Outcome.TheVariants.{Value, Written, Spent}
 use Rattle.frames.specs.declared.types.Event.{Event}
-use Rattle.frames.specs.declared.types.Event.TheVariants.{Invoke, Got, Wrote, Refused, Chosen}
-use Rattle.frames.specs.declared.types.StepEvents.{StepEvents}
+use Rattle.frames.specs.declared.types.Event.TheVariants.{Invoke, Got, Wrote, Chosen}
 use Rattle.frames.specs.declared.types.Step.{Step}
-use Rattle.frames.specs.declared.verdict.Verdict.TheVariants.{Fresh, Overlap, Stray}
 use Rattle.frames.specs.Behaviour.{Behaviour, IsLawful, Answers}
 use Rattle.frames.specs.Configuration.{in_order, chosen_of, history}
 use Rattle.frames.specs.OneWriter.{one_writer}
 use Rattle.frames.specs.laws.OneWriter as writer
 use Rattle.frames.specs.Recorded.{AllFit, first_configuration}
 use Rattle.frames.specs.Regularity.{in_progress, IsRegular, NotStray}
-use Rattle.frames.proofs.Seen.{Seen, Returned, verdict, among, opening, sees, got, now_last, IsNotStray, refuses, ended, Allowed}
+use Rattle.frames.proofs.Seen.{Seen, Returned, among, opening, sees, got, now_last, IsNotStray, refuses, ended, Allowed}
 use Rattle.frames.proofs.Agreed.{stray_alike}
 use Rattle.frames.proofs.Agreement.{always_seen}
 use Rattle.frames.specs.Regularity.{IsAtomic}
@@ -32,10 +30,10 @@ use Rattle.layers.proofs.Numbering.{numbered_atomic}
 use Rattle.layers.specs.Sound.{LayerHolds, LayerReaches}
 use Rattle.layers.specs.laws.Layered.{layer_lawful}
 use Rattle.layers.proofs.Counted.{Counted, uncounted, Counts, NumberedIf, NumberedStep}
-use Rattle.layers.specs.Nested.{Program, Ends, Asks, Reads, Sets, Table, layered}
+use Rattle.layers.specs.Nested.{Ends, Asks, Sets, Table, layered}
 use Rattle.layers.specs.Sound.{IsNotSpent, IsSoundTable, FitsBelow}
-use Rattle.layers.specs.laws.Over.{LayerOver, over}
-use Rattle.layers.proofs.Law.{Standing, View, Watch, Runs, IsKept, IsUser}
+use Rattle.layers.specs.laws.Over.{over}
+use Rattle.layers.proofs.Law.{View, Watch, Runs, IsKept, IsUser}
 use Rattle.layers.proofs.LayerLaw.{layer_law}
 use Rattle.stamped.specs.declared.task.StampedTask.{StampedTask}
 use Rattle.stamped.specs.declared.task.StampedTask.TheVariants.{Writing, Reading}

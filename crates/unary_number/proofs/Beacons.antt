@@ -1,19 +1,13 @@
 -- Beacons: from a bit on, a bit that is lit and whose index a read may give.
-use Rattle.std.proofs.Common.{eq-eqb, ◌+◌, ◌-◌, ◌≡◌, ℕ, zero, suc, Bool, true, false, Option, Some, None, ◌<◌, ◌≤◌, ◌==◌, IsTrue, refl, sym, ap, ◌∙◌, subst, rules, arith, List, [], ◌∷◌, inl, inr}
-use Rattle.std.specs.Prelude.{◌⊎◌, ◌≢◌, ◌||◌, if◌then◌else◌}
-use Rattle.std.specs.List.{list_any, AllByRecursion}
-use Rattle.std.proofs.lemmas.Bool.{ne_eqb, eqb-true, eqb-false, cases_lt, cases_eq}
-use Rattle.frames.specs.declared.types.Op.{Op}
+use Rattle.std.proofs.Common.{eq-eqb, ◌+◌, ◌≡◌, ℕ, suc, Bool, true, false, Option, Some, None, ◌<◌, ◌≤◌, ◌==◌, IsTrue, refl, sym, ap, ◌∙◌, subst, arith, List, ◌∷◌, inl, inr}
+use Rattle.std.specs.Prelude.{◌⊎◌, ◌||◌}
+use Rattle.std.proofs.lemmas.Bool.{eqb-true, cases_lt, cases_eq}
 use Rattle.frames.specs.declared.types.Op.TheVariants.{Read, Write}
-use Rattle.frames.specs.declared.types.Event.{Event}
-use Rattle.frames.specs.declared.types.Event.TheVariants.{Invoke, Got, Wrote}
-use Rattle.frames.specs.declared.verdict.Verdict.{Verdict}
-use Rattle.frames.specs.declared.verdict.Verdict.TheVariants.{Fresh, Overlap, Stray}
+use Rattle.frames.specs.declared.types.Event.TheVariants.{Invoke, Wrote}
 use Rattle.frames.specs.Regularity.{in_progress}
-use Rattle.frames.proofs.Seen.{Seen, Returned, verdict, among, opening, sees, got, now_last, IsNotStray, ended, refuses}
+use Rattle.frames.proofs.Seen.{Seen, Returned, among, sees, now_last, IsNotStray}
 use Rattle.frames.proofs.Judged.{not_stray_is}
 use Rattle.frames.proofs.Pointwise.{put, put_same, put_other, put_all}
-use Rattle.layers.proofs.Law.{Standing, View, Watch, Runs, IsKept, IsUser}
 
 -- the bit is 1, and no write of 0 to it is in progress
 pub record IsLit (s : Seen) : Type 0 where

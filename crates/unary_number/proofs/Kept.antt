@@ -1,16 +1,15 @@
 -- A unary number over a regular bit is regular, and no scan reads its last bit as 0.
-use Rattle.std.proofs.Common.{eq-eqb, ◌+◌, ◌-◌, ◌≡◌, ℕ, zero, suc, Bool, true, false, Option, Some, None, ◌<◌, ◌≤◌, ◌==◌, IsTrue, refl, sym, ap, ◌∙◌, subst, rules, arith, List, [], ◌∷◌, inl, inr}
-use Rattle.std.specs.Prelude.{◌⊎◌, ◌≢◌, ◌||◌, if◌then◌else◌}
-use Rattle.std.specs.List.{list_any, AllByRecursion}
-use Rattle.std.proofs.lemmas.Bool.{ne_eqb, eqb-true, eqb-false, cases_lt, cases_eq}
+use Rattle.std.proofs.Common.{eq-eqb, ◌+◌, ◌-◌, ◌≡◌, ℕ, zero, suc, Bool, true, false, Option, Some, None, ◌<◌, ◌≤◌, ◌==◌, IsTrue, refl, sym, ap, ◌∙◌, subst, arith, [], inl, inr}
+use Rattle.std.specs.Prelude.{if◌then◌else◌}
+use Rattle.std.specs.List.{AllByRecursion}
+use Rattle.std.proofs.lemmas.Bool.{ne_eqb, eqb-true, eqb-false, cases_eq}
 use Rattle.frames.specs.declared.types.Op.{Op}
 use Rattle.frames.specs.declared.types.Op.TheVariants.{Read, Write}
 use Rattle.frames.specs.declared.types.Event.{Event}
 use Rattle.frames.specs.declared.types.Event.TheVariants.{Invoke, Got, Wrote}
-use Rattle.frames.specs.declared.verdict.Verdict.{Verdict}
 use Rattle.frames.specs.declared.verdict.Verdict.TheVariants.{Fresh, Overlap, Stray}
 use Rattle.frames.specs.Regularity.{in_progress}
-use Rattle.frames.proofs.Seen.{Seen, Returned, verdict, among, opening, sees, got, now_last, IsNotStray, ended, refuses}
+use Rattle.frames.proofs.Seen.{Seen, among, opening, sees, got, IsNotStray, ended}
 use Rattle.layers.proofs.Law.{Standing, View, Watch, Runs, IsKept, IsUser}
 use Rattle.unary_number.specs.declared.task.UnaryTask.{UnaryTask}
 use Rattle.unary_number.specs.declared.task.UnaryTask.TheVariants.{Setting, Clearing, Looking}
@@ -24,12 +23,12 @@ use Rattle.frames.specs.laws.OneWriter as writer
 use Rattle.frames.specs.Regularity.{IsRegular}
 use Rattle.frames.proofs.Agreed.{stray_alike}
 use Rattle.frames.proofs.Pointwise.{put, put_same, put_other, put_zero, put_back, put_over, put_all}
-use Rattle.layers.specs.Nested.{Program, Ends, Asks, Reads, Sets, Table, layered}
+use Rattle.layers.specs.Nested.{Program, Ends, Asks, Table, layered}
 use Rattle.layers.specs.Sound.{IsNotSpent, IsSoundTable, FitsBelow}
-use Rattle.layers.specs.laws.Over.{LayerOver, over}
+use Rattle.layers.specs.laws.Over.{over}
 use Rattle.layers.proofs.LayerLaw.{Told, told_begun, told_gone, told_void, told_stop, layer_promises}
 use Rattle.unary_number.specs.Program.{unary_table_with, unary_program, unary_rest, clears_below, looks_above, behind_look, UnaryStands}
-use Rattle.unary_number.proofs.Beacons.{IsLit, MayShow, Beacon, raised, lowered, written, MayGive, MayGiveNow, among_more, among_here, Looks, beacon_raise, beacon_raised, beacon_lower, beacon_jump, beacon_lowered, beacon_more, beacon_read, looking_begin, looking_written, looking_lower, looking_other, looking_mine, looked_one, looked_zero, no_one}
+use Rattle.unary_number.proofs.Beacons.{Beacon, raised, lowered, written, MayGive, MayGiveNow, among_here, Looks, beacon_more, beacon_read, looking_other, looking_mine, looked_one, looked_zero}
 use Rattle.unary_number.proofs.Phases.{Idle, Rising, Cleared, Falling, WriterAt, WriterSays, ReaderAt, ReaderSays, Lights, reader_map, lights_begin, lights_raised, lights_lower, lights_lowered, lights_end, idle_end, rising_begin, rising_end, falling_begin, falling_end}
 
 pub record UnaryInv (top : ℕ) (u : Seen) (j : View UnaryTask) : Type 0 where

@@ -1,21 +1,15 @@
 -- Where the writer stands, with the bits as it left them, and what each read in progress has before it.
-use Rattle.std.proofs.Common.{eq-eqb, ◌+◌, ◌-◌, ◌≡◌, ℕ, zero, suc, Bool, true, false, Option, Some, None, ◌<◌, ◌≤◌, ◌==◌, IsTrue, refl, sym, ap, ◌∙◌, subst, rules, arith, List, [], ◌∷◌, inl, inr}
-use Rattle.std.specs.Prelude.{◌⊎◌, ◌≢◌, ◌||◌, if◌then◌else◌}
-use Rattle.std.specs.List.{list_any, AllByRecursion}
-use Rattle.std.proofs.lemmas.Bool.{ne_eqb, eqb-true, eqb-false, cases_lt, cases_eq}
-use Rattle.frames.specs.declared.types.Op.{Op}
-use Rattle.frames.specs.declared.types.Op.TheVariants.{Read, Write}
-use Rattle.frames.specs.declared.types.Event.{Event}
-use Rattle.frames.specs.declared.types.Event.TheVariants.{Invoke, Got, Wrote}
-use Rattle.frames.specs.declared.verdict.Verdict.{Verdict}
-use Rattle.frames.specs.declared.verdict.Verdict.TheVariants.{Fresh, Overlap, Stray}
-use Rattle.frames.specs.Regularity.{in_progress}
-use Rattle.frames.proofs.Seen.{Seen, Returned, verdict, among, opening, sees, got, now_last, IsNotStray, ended, refuses}
+use Rattle.std.proofs.Common.{◌≡◌, ℕ, suc, Option, Some, None, ◌<◌, ◌≤◌, IsTrue, refl, sym, ap, ◌∙◌, subst, arith, ◌∷◌, inl, inr}
+use Rattle.std.specs.Prelude.{◌⊎◌}
+use Rattle.std.proofs.lemmas.Bool.{cases_eq}
+use Rattle.frames.specs.declared.types.Op.TheVariants.{Write}
+use Rattle.frames.specs.declared.types.Event.TheVariants.{Invoke, Wrote}
+use Rattle.frames.proofs.Seen.{Seen, among, sees, now_last}
 use Rattle.frames.proofs.Pointwise.{put, put_same, put_other, put_all}
-use Rattle.layers.proofs.Law.{Standing, View, Watch, Runs, IsKept, IsUser}
+use Rattle.layers.proofs.Law.{Standing}
 use Rattle.unary_number.specs.declared.task.UnaryTask.{UnaryTask}
 use Rattle.unary_number.specs.declared.task.UnaryTask.TheVariants.{Setting, Clearing, Looking}
-use Rattle.unary_number.proofs.Beacons.{IsLit, MayShow, Beacon, raised, lowered, written, MayGive, MayGiveNow, among_more, among_here, Looks, beacon_raise, beacon_raised, beacon_lower, beacon_jump, beacon_lowered, beacon_more, beacon_read, looking_begin, looking_written, looking_lower, looking_other, looking_mine, looked_one, looked_zero, no_one}
+use Rattle.unary_number.proofs.Beacons.{MayShow, Beacon, raised, lowered, written, MayGive, MayGiveNow, among_here, Looks, beacon_raise, beacon_raised, beacon_lower, beacon_jump, beacon_lowered, beacon_more, looking_begin, looking_written, looking_lower}
 
 -- where the writer stands, with the bits as it left them
 

@@ -1,8 +1,6 @@
 use Rattle.frames.specs.declared.types.Outcome.TheVariants.{Spent}
-use Rattle.layers.specs.Sound.{FitsBelow}
-use Rattle.unary_number.specs.Program.{unary_table_with}
 use Rattle.unary_number.specs.Sound.{unary_left, unary_sound, table_sound}
-use Rattle.std.specs.Prelude.{◌-◌, ◌≤◌}
+use Rattle.std.specs.Prelude.{◌-◌}
 use Rattle.frames.specs.declared.types.Outcome.TheVariants.{Value}
 use Rattle.unary_number.proofs.Kept.{unary_over_regular}
 use Rattle.unary_number.proofs.laws.regular.Goals as goal
