@@ -4,7 +4,8 @@ use Rattle.frames.specs.declared.types.Step.{Step}
 use Rattle.frames.specs.declared.types.StepEvents.{StepEvents}
 use Rattle.frames.specs.Behaviour.{Behaviour}
 use Rattle.frames.specs.Configuration.{Configuration, replayed, history}
-use Rattle.checkpoints.specs.Segment.{AllFit, IsRun}
+use Rattle.checkpoints.specs.Segment.{IsRun}
+use Rattle.frames.specs.Recorded.{AllFit}
 
 -- the run's entry, and the configuration that the steps were made from, are both copies of one
 pub is_run : {R P : Type 0} (is : R → Behaviour P) (entry kept made_from exit : Configuration R P) (steps list : List Step) (events : List StepEvents)

@@ -1,7 +1,7 @@
 //! The events of steps made one after another.
 
 ghost use Rattle.std.specs.Prelude.{◌≡◌, [], ◌∷◌, ◌++◌, IfOk, OnOk, OnErr};
-ghost use Rattle.checkpoints.specs.Events.{at_index, indexed};
+ghost use Rattle.frames.specs.Recorded.{at_index, indexed};
 
 use frames::types::{Event, StepEvents};
 use std::alloc::{AllocError, Global};

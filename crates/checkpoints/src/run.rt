@@ -1,7 +1,8 @@
 //! Runs of a segment: its steps, made from where it begins.
 
 ghost use Rattle.std.specs.Prelude.{◌≡◌, IfOk};
-ghost use Rattle.checkpoints.specs.Segment.{AllFit, IsRun};
+ghost use Rattle.checkpoints.specs.Segment.{IsRun};
+ghost use Rattle.frames.specs.Recorded.{AllFit};
 
 use crate::events::Events;
 use crate::replay::replay_from;

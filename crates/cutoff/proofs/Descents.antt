@@ -7,7 +7,8 @@ use Rattle.std.proofs.lemmas.List.{map-append}
 use Rattle.frames.specs.Behaviour.{Behaviour}
 use Rattle.frames.specs.Configuration.{Configuration, replayed, fits_step}
 use Rattle.frames.specs.Equality.{SameConfiguration}
-use Rattle.checkpoints.specs.Segment.{SegmentRun, IsRun, AllFit}
+use Rattle.checkpoints.specs.Segment.{SegmentRun, IsRun}
+use Rattle.frames.specs.Recorded.{AllFit}
 use Rattle.schedule_trie.specs.Forest.{step_of}
 use Rattle.schedule_trie.specs.Cut.{Cut, piece_at, slots_of, note_of, line, has}
 use Rattle.schedule_trie.proofs.Once.{has_cases}

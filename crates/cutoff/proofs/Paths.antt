@@ -3,7 +3,8 @@ use Rattle.std.proofs.Common.{◌≡◌, ℕ, zero, suc, ◌<◌, ◌≤◌, Boo
 use Rattle.std.proofs.lemmas.Bool.Decides.{nat_tests}
 use Rattle.frames.specs.Behaviour.{Behaviour}
 use Rattle.frames.specs.Configuration.{Configuration, replayed}
-use Rattle.checkpoints.specs.Segment.{SegmentRun, AllFit}
+use Rattle.checkpoints.specs.Segment.{SegmentRun}
+use Rattle.frames.specs.Recorded.{AllFit}
 use Rattle.schedule_trie.specs.Forest.{step_of}
 use Rattle.schedule_trie.specs.Cut.{Cut, Strand, piece_at, line, forest, has, keys_in, SharesAbove, IsCut}
 use Rattle.schedule_trie.proofs.Lines.{slots_in_on}

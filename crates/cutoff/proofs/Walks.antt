@@ -12,7 +12,8 @@ use Rattle.frames.specs.declared.types.Step.{Step}
 use Rattle.frames.specs.Behaviour.{Behaviour}
 use Rattle.frames.specs.Configuration.{Configuration, replayed, fits_step}
 use Rattle.frames.specs.Equality.{SameConfiguration}
-use Rattle.checkpoints.specs.Segment.{SegmentRun, IsRun, AllFit}
+use Rattle.checkpoints.specs.Segment.{SegmentRun, IsRun}
+use Rattle.frames.specs.Recorded.{AllFit}
 use Rattle.schedule_trie.specs.Forest.{step_of}
 use Rattle.schedule_trie.specs.Cut.{Cut, Piece, piece_at, slots_of, note_of, with_note, line, has, Once, keys_in, IsNoted, IsCut}
 use Rattle.schedule_trie.proofs.Once.{has-head, has-tail, Once-from_linked}

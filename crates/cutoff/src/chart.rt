@@ -2,13 +2,13 @@
 
 ghost use Rattle.std.specs.Prelude.{◌≡◌, ◌<◌, Some, IsSome, length, map, IfOk, IfErr, OnOk, Ok, Err};
 ghost use Rattle.frames.specs.Configuration.{initial_configuration};
-ghost use Rattle.checkpoints.specs.Segment.{AllFit};
+ghost use Rattle.frames.specs.Recorded.{AllFit};
 ghost use Rattle.schedule_trie.specs.Forest.{index_of, opened, IsRefused, len_of, name_in, cell_at, place_of, path_of, AreNamedApart};
 ghost use Rattle.std.specs.Arc.{arc_value};
 ghost use Rattle.cutoff.specs.Plans.{IsPlan};
 ghost use Rattle.cutoff.specs.Installs.{Installs};
 ghost use Rattle.cutoff.specs.Fitting.{part_of, KeepsRuns, IsMissed};
-ghost use Rattle.cutoff.specs.Held.{IsSettled, look, reached_by};
+ghost use Rattle.cutoff.specs.Held.{IsSettled, StepsFit, look, reached_by};
 ghost use Rattle.schedule_trie.specs.Cut.{AreLimits, IsCut, IsBlank, forest, if_lacks};
 
 mod edits;
@@ -99,6 +99,15 @@ impl<R: Register> Chart<R> {
         ensures within { result < (R.is self.now.start.register).values }
     {
         self.value
+    }
+
+    /// Each step of each branch fits, and the value is the register's. It does nothing: callers learn this
+    /// by its contract.
+    pub fn steps_fit(&self)
+        ensures fit { StepsFit (R.is self.now.start.register) (forest self.now.cut) }
+        ensures within { self.now.value < (R.is self.now.start.register).values }
+    {
+        let _start = &self.start;
     }
 
     /// How many cells were ever made.

@@ -2,7 +2,7 @@
 
 ghost use Rattle.std.specs.Prelude.{◌≡◌, ℕ, [], ◌∷◌, Option, None, Some, OnOk, IfOk, map};
 ghost use Rattle.frames.specs.Configuration.{Configuration};
-ghost use Rattle.checkpoints.specs.Segment.{AllFit};
+ghost use Rattle.frames.specs.Recorded.{AllFit};
 ghost use Rattle.schedule_trie.specs.Forest.{step_of};
 ghost use Rattle.schedule_trie.specs.Cut.{piece_at, line, has, keys_in, forest};
 ghost use Rattle.cutoff.specs.Fitting.{steps_at};
@@ -29,7 +29,7 @@ pub struct Job<R: Register> {
 }
 
 impl<R: Register> Model for Job<R> {
-    ghost use Rattle.checkpoints.specs.Segment.{AllFit};
+    ghost use Rattle.frames.specs.Recorded.{AllFit};
     ghost use Rattle.cutoff.specs.Plans.{Planned};
 
     ghost Value = { Planned R R.Pending };

@@ -2,7 +2,7 @@
 
 ghost use Rattle.std.specs.Prelude.{◌≡◌, ◌≤◌, ◌⊎◌, ℕ, None, Some, IfOk, OnErr, MatchOption, length, map, ◌+◌};
 ghost use Rattle.std.specs.Arc.{arc_value};
-ghost use Rattle.checkpoints.specs.Segment.{AllFit};
+ghost use Rattle.frames.specs.Recorded.{AllFit};
 ghost use Rattle.schedule_trie.specs.Forest.{step_of};
 ghost use Rattle.schedule_trie.specs.Cut.{piece_at, note_of, keys_in, line, IsCut};
 ghost use Rattle.cutoff.specs.Fitting.{RunFits, Fits, IsSegmentSettled, steps_at, exit_of, part_of, reached, Settles, IsMissed, KeepsRuns, counted};

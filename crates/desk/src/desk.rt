@@ -1,7 +1,7 @@
 //! The desk and its calls.
 
 ghost use Rattle.std.specs.Prelude.{◌≡◌, ◌≤◌, ◌<◌, ◌+◌, [], Ok, OnOk, IfOk, IfErr, MatchResult, length};
-ghost use Rattle.checkpoints.specs.Segment.{AllFit};
+ghost use Rattle.frames.specs.Recorded.{AllFit};
 ghost use Rattle.schedule_trie.specs.Forest.{IsRefused, opened};
 ghost use Rattle.schedule_trie.specs.Forest as forests;
 ghost use Rattle.schedule_trie.specs.Cut.{AreLimits};

@@ -18,7 +18,7 @@ use Rattle.cutoff.specs.Links.{alone}
 use Rattle.cutoff.proofs.Fits.{register_kept, alone_same}
 use Rattle.views.specs.declared.breakpoint.Break.{Break}
 use Rattle.views.specs.Breaks.{is_met}
-use Rattle.views.specs.Shown.{Alone, first_configuration, shown}
+use Rattle.frames.specs.Recorded.{Alone, first_configuration, shown}
 use Rattle.views.specs.Looks.{steps_in}
 use Rattle.views.proofs.Spots.{steps_named}
 use Rattle.views.proofs.Alone.{replayed_alone, history_alone, replayed-append, history-append}

@@ -7,7 +7,7 @@ use Rattle.frames.specs.Behaviour.{Behaviour}
 use Rattle.frames.specs.Configuration.{history}
 use Rattle.views.specs.declared.breakpoint.Break.{Break}
 use Rattle.views.specs.Breaks.{is_met}
-use Rattle.views.specs.Shown.{first_configuration, shown}
+use Rattle.frames.specs.Recorded.{first_configuration, shown}
 use Rattle.sessions.specs.declared.way.Way.{Way}
 use Rattle.sessions.specs.declared.way.Way.TheVariants.{Forth, Back}
 

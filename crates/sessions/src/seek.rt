@@ -5,7 +5,7 @@ ghost use Rattle.std.specs.List.{list_any};
 ghost use Rattle.std.specs.Option.{option_or};
 ghost use Rattle.safe_bit.specs.Parts.{HasSize};
 ghost use Rattle.frames.specs.Configuration.{history, replayed};
-ghost use Rattle.checkpoints.specs.Segment.{AllFit};
+ghost use Rattle.frames.specs.Recorded.{AllFit};
 ghost use Rattle.schedule_trie.specs.Cut.{forest};
 ghost use Rattle.cutoff.specs.Fitting.{counted, part_of};
 ghost use Rattle.views.specs.Breaks as breaks_spec;

@@ -2,7 +2,7 @@
 
 ghost use Rattle.std.specs.Prelude.{◌≡◌, ◌<◌, Some, OnOk, IfErr};
 ghost use Rattle.std.specs.Option.{option_map};
-ghost use Rattle.checkpoints.specs.Segment.{AllFit};
+ghost use Rattle.frames.specs.Recorded.{AllFit};
 ghost use Rattle.conversation.specs.Scripts.{answers_to};
 ghost use Rattle.script.specs.Answers.{answer_line};
 ghost use Rattle.command_line.specs.Ranges.{AreLimits, limits_of};

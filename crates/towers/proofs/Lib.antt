@@ -1,1 +1,2 @@
 mod OneWriters
+mod NumberedReads

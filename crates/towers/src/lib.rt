@@ -2,6 +2,7 @@
 //! unary number, a stamped register, and a matrix of stamped registers for many writers.
 #![tactic(auto)]
 
+pub mod laws;
 mod unary_tower;
 
 ghost use Rattle.std.specs.Prelude.{◌≡◌, ◌<◌, ◌≤◌, ◌+◌, ◌*◌, ℕ};

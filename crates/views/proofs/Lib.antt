@@ -8,3 +8,5 @@ pub mod VerdictKnown
 pub mod VerdictWords
 pub mod VerdictOverlaps
 pub mod VerdictHistories
+pub mod Strays
+pub mod LawWords

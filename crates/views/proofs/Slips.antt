@@ -3,10 +3,10 @@ use Rattle.std.proofs.Common.{◌≡◌, ℕ, List, take, length, ap, ◌∙◌}
 use Rattle.frames.specs.declared.types.Step.{Step}
 use Rattle.frames.specs.Behaviour.{Behaviour}
 use Rattle.frames.specs.Configuration.{Configuration}
-use Rattle.checkpoints.specs.Events.{indexed}
+use Rattle.frames.specs.Recorded.{indexed}
 use Rattle.cutoff.specs.Fitting.{RunPart}
 use Rattle.views.specs.declared.query.PlaceKind.{PlaceKind}
-use Rattle.views.specs.Shown.{shown}
+use Rattle.frames.specs.Recorded.{shown}
 use Rattle.views.specs.Spots.{end_of, events_of, IsSpotOf}
 use Rattle.views.specs.Pages.{page_at}
 use Rattle.views.specs.RunPages.{run_page}

@@ -20,7 +20,7 @@ use Rattle.cutoff.specs.Fitting.{StoredRun, RunPart, RunFits, Settles, steps_at,
 use Rattle.cutoff.specs.Held.{Charted, keys_named, IsSettled}
 use Rattle.cutoff.specs.Links.{alone}
 use Rattle.cutoff.proofs.Fits.{register_kept, replayed_same, alone_same}
-use Rattle.views.specs.Shown.{first_configuration}
+use Rattle.frames.specs.Recorded.{first_configuration}
 use Rattle.views.specs.Spots.{part_end, part_events, end_of, events_of, IsSpotOf}
 use Rattle.views.specs.Looks.{steps_in}
 use Rattle.views.proofs.Alone.{replayed_alone, history_alone, replayed-append, history-append, history_same}

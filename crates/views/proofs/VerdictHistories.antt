@@ -28,9 +28,9 @@ use Rattle.frames.specs.Configuration.{Configuration, running_at, is_stopped, fi
 use Rattle.frames.specs.Parked.{IsConfiguration}
 use Rattle.frames.specs.laws.Steps.{IsReached, initial_keeps, step_keeps}
 use Rattle.frames.specs.laws.OneWriter.{writer_zero, reader_some}
-use Rattle.checkpoints.specs.Events.{at_index, indexed}
-use Rattle.checkpoints.specs.Segment.{AllFit}
-use Rattle.views.specs.Shown.{first_configuration, recorded}
+use Rattle.frames.specs.Recorded.{at_index, indexed}
+use Rattle.frames.specs.Recorded.{AllFit}
+use Rattle.frames.specs.Recorded.{first_configuration, recorded}
 use Rattle.views.specs.VerdictWords.{is_turn, IsQuiet, InProgress, has_role, Follows, IsHistory, RecordsHistories, RecordsJudged}
 use Rattle.views.proofs.VerdictKnown.{}
 use Rattle.views.proofs.VerdictOverlaps.{parted_at, goes_on}

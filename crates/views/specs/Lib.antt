@@ -1,11 +1,11 @@
 pub mod Numbered
 pub mod Breaks
-pub mod Verdicts
 pub mod page
 pub mod Pages
-pub mod Shown
 pub mod Spots
 pub mod RunPages
 pub mod Slips
 pub mod Looks
 pub mod VerdictWords
+pub mod Strays
+pub mod LawWords

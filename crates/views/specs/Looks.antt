@@ -14,7 +14,7 @@ use Rattle.views.specs.declared.query.Query.{Query}
 use Rattle.views.specs.declared.query.Query.TheVariants.{State, Process, Bits, Pending, History, Verdict, Branches, Cursor, Steps}
 use Rattle.views.specs.declared.page.Page.{Page}
 use Rattle.views.specs.declared.page.Page.TheVariants as page
-use Rattle.views.specs.Shown.{shown, recorded}
+use Rattle.frames.specs.Recorded.{shown, recorded}
 use Rattle.views.specs.Pages.{page_at}
 
 -- a look at a branch leaves the forest: NoBranch where there is no such branch, NoPlace where it is shorter. A branch's steps are

@@ -2,7 +2,7 @@
 use Rattle.std.specs.Prelude.{⊤, List}
 use Rattle.frames.specs.Behaviour.{Behaviour}
 use Rattle.frames.specs.Configuration.{Configuration}
-use Rattle.checkpoints.specs.Events.{indexed}
+use Rattle.frames.specs.Recorded.{indexed}
 use Rattle.cutoff.specs.Fitting.{RunPart}
 use Rattle.views.specs.declared.query.PlaceKind.{PlaceKind}
 use Rattle.views.specs.declared.query.PlaceKind.TheVariants.{State, Process, Bits, Pending, History, Verdict}

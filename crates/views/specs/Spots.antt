@@ -6,7 +6,7 @@ use Rattle.frames.specs.Behaviour.{Behaviour}
 use Rattle.frames.specs.Configuration.{Configuration, replayed, history}
 use Rattle.cutoff.specs.Fitting.{RunPart}
 use Rattle.cutoff.specs.Links.{alone}
-use Rattle.views.specs.Shown.{first_configuration, shown}
+use Rattle.frames.specs.Recorded.{first_configuration, shown}
 
 module _ {R P : Type 0} (is : R → Behaviour P) where
   -- what the steps of a part that count come to from its entry, and their events

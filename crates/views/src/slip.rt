@@ -1,6 +1,6 @@
 //! Slips: what a look found, from which its page is made later.
 
-ghost use Rattle.std.specs.Prelude.{◌≡◌, Some, true, Ok, IfOk, OnOk, IfErr, map};
+ghost use Rattle.std.specs.Prelude.{◌≡◌, ◌<◌, Some, true, Ok, IfOk, OnOk, IfErr, map};
 ghost use Rattle.schedule_trie.specs.Forest.{IsRefused};
 ghost use Rattle.schedule_trie.specs.Cut.{forest};
 ghost use Rattle.cutoff.specs.Fitting.{part_of};
@@ -8,7 +8,10 @@ ghost use Rattle.cutoff.specs.Held.{look};
 ghost use Rattle.views.specs.Spots.{IsSpotOf};
 ghost use Rattle.views.specs.Looks as spec;
 ghost use Rattle.views.specs.Looks.{looked, steps_in, IsKept};
+ghost use Rattle.frames.specs.Recorded.{AllFit};
+ghost use Rattle.frames.specs.Regularity.{NeverStray};
 ghost use Rattle.views.specs.Slips.{IsReady};
+ghost use Rattle.views.specs.Strays.{Judges, JudgesSome, JudgesFrom, ShowsNoStray};
 ghost use Rattle.views.specs.declared.page.Page.TheVariants as spec_page;
 
 use crate::lens::Lens;
@@ -30,7 +33,8 @@ mod content;
 
 use content::{Content, PlaceSlip};
 
-/// What a look found. It stands for the page that is made of it, whatever happens to the branches meanwhile.
+/// What a look found. It stands for the page that is made of it, whatever happens to the branches meanwhile; a page of verdicts
+/// judges what a register of its type records.
 #[derive(Drop)]
 pub struct Slip<R: Register> {
     content: Content<R>,
@@ -39,10 +43,13 @@ pub struct Slip<R: Register> {
 impl<R: Register> Model for Slip<R> {
     ghost use Rattle.views.specs.declared.page.Page.{Page};
     ghost use Rattle.views.specs.Slips.{content_page};
+    ghost use Rattle.views.specs.Strays.{JudgesSome};
 
     ghost Value = { Page };
 
     ghost view = { λ s. content_page s.content };
+
+    ghost invariant = { λ s. JudgesSome R.is (content_page s.content) };
 }
 
 impl<R: Register> Slip<R> {
@@ -58,6 +65,8 @@ impl<R: Register> Slip<R> {
         ensures found { OnOk result (looked query (forest chart.old.cut) ≡ Ok (forest chart.old.cut)) }
         ensures err { IfErr result (IsRefused (looked query (forest chart.old.cut))) }
         ensures kept { IsKept chart.old chart.new }
+        ensures judges { IfOk result (Judges (R.is chart.old.start.register)) }
+        ensures never_stray { NeverStray (R.is chart.old.start.register) → IfOk result ShowsNoStray }
     {
         match query {
             Query::State { branch, place } => {
@@ -107,7 +116,9 @@ impl<R: Register> Slip<R> {
 
     /// Its page, which doesn't depend on what the lens holds.
     pub fn page(&self, alloc: Global, _lens: &mut Lens<R>) -> Result<Page, AllocError>
-        ensures { IfOk result (λ page. page ≡ self.now) }
+        ensures page { IfOk result (λ page. page ≡ self.now) }
+        ensures judges { IfOk result (JudgesSome R.is) }
+        ensures never_stray { ((register : R) → NeverStray (R.is register)) → IfOk result ShowsNoStray }
     {
         match &self.content {
             Content::Place(slip) => slip.page(alloc),
@@ -138,10 +149,12 @@ fn place_slip<R: Register>(
     branch: Name,
     place: u32,
 ) -> Result<Slip<R>, Refusal>
+    requires { JudgesFrom chart.old.value kind }
     ensures page { IfOk result (λ slip. slip ≡ spec.place_page (R.is chart.old.start.register) chart.old.value kind branch place (steps_in (forest chart.old.cut) branch)) }
     ensures found { OnOk result (look (forest chart.old.cut) branch place ≡ Ok (forest chart.old.cut)) }
     ensures err { IfErr result (IsRefused (look (forest chart.old.cut) branch place)) }
     ensures kept { IsKept chart.old chart.new }
+    ensures judges { IfOk result (Judges (R.is chart.old.start.register)) }
 {
     let (len, spot) = settled(alloc, chart, &branch, place)?;
     let Ok(first) = chart.initial().copy(alloc) else {
@@ -169,7 +182,10 @@ fn settled<R: Register>(
     ensures found { OnOk result (look (forest chart.old.cut) branch.now place ≡ Ok (forest chart.old.cut)) }
     ensures err { IfErr result (IsRefused (look (forest chart.old.cut) branch.now place)) }
     ensures kept { IsKept chart.old chart.new }
+    ensures fit { AllFit (R.is chart.old.start.register) (steps_in (forest chart.old.cut) branch.now) }
+    ensures within { chart.old.value < (R.is chart.old.start.register).values }
 {
+    chart.steps_fit();
     let Some(len) = chart.len(branch) else {
         return Err(Refusal::NoBranch);
     };
@@ -186,6 +202,7 @@ fn steps_slip<R: Register>(
     ensures page { IfOk result (λ slip. slip ≡ spec_page.Steps (record { branch = branch; steps = steps_in (forest chart.now.cut) branch })) }
     ensures found { OnOk result (look (forest chart.now.cut) branch 0 ≡ Ok (forest chart.now.cut)) }
     ensures err { IfErr result (IsRefused (look (forest chart.now.cut) branch 0)) }
+    ensures judges { IfOk result (Judges (R.is chart.now.start.register)) }
 {
     let steps = Listed::new(chart.path(alloc, &branch)?);
     let content = Content::Steps(StepsPage { branch, steps });

@@ -2,7 +2,7 @@
 
 ghost use Rattle.std.specs.Prelude.{◌≡◌, IfOk, map, take};
 ghost use Rattle.frames.specs.Configuration.{replayed};
-ghost use Rattle.checkpoints.specs.Segment.{AllFit};
+ghost use Rattle.frames.specs.Recorded.{AllFit};
 ghost use Rattle.cutoff.specs.Fitting.{part_of};
 ghost use Rattle.views.specs.Spots.{end_of, events_of};
 

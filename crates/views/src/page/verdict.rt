@@ -5,8 +5,9 @@ ghost use Rattle.views.specs.page.Verdict as spec;
 
 use crate::listed::Listed;
 use crate::page::head::{Head, push_head};
-use crate::verdict::{ReadVerdict, Verdict, verdicts};
+use crate::verdict::verdicts;
 use frames::types::Event;
+use frames::verdict::{ReadVerdict, Verdict};
 use std::alloc::{AllocError, Global};
 use std::io;
 use std::io::Write;

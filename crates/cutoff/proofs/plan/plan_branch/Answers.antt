@@ -1,5 +1,5 @@
 use Rattle.std.proofs.Common.{Some, None, refl, sym, subst}
-use Rattle.checkpoints.specs.Segment.{AllFit}
+use Rattle.frames.specs.Recorded.{AllFit}
 use Rattle.cutoff.specs.Fitting.{steps_at}
 use Rattle.cutoff.specs.Plans.{Descends}
 use Rattle.cutoff.proofs.Edits.{on_ok_map}

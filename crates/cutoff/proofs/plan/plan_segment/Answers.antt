@@ -1,5 +1,5 @@
 use Rattle.std.proofs.Common.{sym, subst}
-use Rattle.checkpoints.specs.Segment.{AllFit}
+use Rattle.frames.specs.Recorded.{AllFit}
 use Rattle.cutoff.specs.Fitting.{steps_at}
 use Rattle.cutoff.proofs.plan.plan_segment.Goals as goal
 

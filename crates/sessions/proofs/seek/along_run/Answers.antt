@@ -1,7 +1,7 @@
 use Rattle.std.proofs.Common.{◌≡◌, ◌∙◌, ◌<◌, ◌+◌, ℕ, Bool, sym, ap, subst, true, length, take, slice_index_or}
 use Rattle.std.proofs.lemmas.List.Elements.{All-take}
 use Rattle.frames.specs.Configuration.{fits_step, history, replayed}
-use Rattle.checkpoints.specs.Segment.{AllFit}
+use Rattle.frames.specs.Recorded.{AllFit}
 use Rattle.views.specs.Breaks.{is_met}
 use Rattle.sessions.specs.Seeks.{next_of, no_events, places_with}
 use Rattle.sessions.specs.Walks.{records_any}

@@ -1,7 +1,7 @@
 use Rattle.std.proofs.Common.{◌≡◌, ◌∙◌, ap, sym, subst, true, take}
 use Rattle.std.proofs.lemmas.List.Elements.{All-take}
 use Rattle.frames.specs.Configuration.{fits_step}
-use Rattle.checkpoints.specs.Segment.{AllFit}
+use Rattle.frames.specs.Recorded.{AllFit}
 use Rattle.views.proofs.spot.config_in.Goals as goal
 
 pub make-requires : goal.make-requires

@@ -1,5 +1,5 @@
 use Rattle.std.proofs.Common.{◌≡◌, ◌++◌, drop}
-use Rattle.views.specs.Verdicts.{verdicts_from, verdicts}
+use Rattle.frames.specs.Verdicts.{verdicts_from, verdicts}
 use Rattle.views.proofs.verdict.verdicts.Given as goal
 
 -- the verdicts so far, and those on what is still to come

@@ -1,5 +1,5 @@
 use Rattle.frames.specs.SafeBit.{safe_behaviour}
-use Rattle.checkpoints.specs.Segment.{AllFit}
+use Rattle.frames.specs.Recorded.{AllFit}
 use Rattle.branch_tests.proofs.charts.rows.writes.Given as goal
 
 abbrev pub invariant-loop-index : goal.invariant-loop-index

@@ -1,5 +1,5 @@
 use Rattle.std.proofs.Common.{◌≡◌, ◌++◌, drop}
-use Rattle.checkpoints.specs.Events.{indexed}
+use Rattle.frames.specs.Recorded.{indexed}
 use Rattle.checkpoints.proofs.events.Events.indexed.Given as goal
 
 abbrev pub invariant-loop-index : goal.invariant-loop-index

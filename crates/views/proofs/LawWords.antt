@@ -1,0 +1,178 @@
+-- The law's words, by what is known as a read returns, say what Lamport's say.
+use Rattle.std.proofs.Common.{◌≡◌, ◌≢◌, ℕ, true, false, ◌||◌, List, [], ◌∷◌, ◌++◌, length, drop, Option, Some, None, ◌⊎◌, inl, inr, refl, sym, ap, subst, ◌∙◌, true≢false, eq-eqb}
+use Rattle.std.specs.Prelude.{◌==◌}
+use Rattle.std.specs.List.{list_any}
+use Rattle.frames.specs.declared.types.Op.TheVariants as op
+use Rattle.frames.specs.declared.types.Event.{Event}
+use Rattle.frames.specs.declared.types.Event.TheVariants.{Invoke, Got, Wrote, Refused, Void, Stop, Chosen}
+use Rattle.frames.specs.declared.verdict.Reading.{Reading}
+use Rattle.frames.specs.declared.verdict.Verdict.{Verdict}
+use Rattle.frames.specs.declared.verdict.Verdict.TheVariants.{Fresh, Overlap, Stray}
+use Rattle.frames.specs.Behaviour.{Behaviour}
+use Rattle.frames.specs.OneWriter.{HasOneWriter}
+use Rattle.frames.specs.Recorded.{recorded}
+use Rattle.frames.specs.Verdicts.{Known, initially, invoked_now, after, reading, is_value, judged}
+use Rattle.frames.specs.Regularity.{in_progress, overlapped, OnReturn, EachRead, FreshAlone, NotStray, IsSafe, IsRegular}
+use Rattle.views.specs.VerdictWords.{InProgress, IsHistory, ReturnedRead, MatchVerdict, RecordsHistories}
+use Rattle.views.specs.LawWords.{Overlaps, FreshIfAlone, FreshOrOverlapping, IsSafeInWords, IsRegularInWords}
+use Rattle.views.proofs.VerdictKnown.{known, reading_of_progress}
+use Rattle.views.proofs.VerdictOverlaps.{crossing_of_words, words_of_crossing}
+use Rattle.views.proofs.VerdictWords.{history-left, verdict_words, test_of_crossing, crossing_of_test}
+
+-- what comes before a read's return, and what is known then
+abbrev before : {history : List (ℕ × Event)} → ReturnedRead history → List (ℕ × Event)
+before r = r.earlier ++ (r.invoked, Invoke r.process op.Read) ∷ r.since
+
+abbrev then_known : {history : List (ℕ × Event)} → ℕ → ReturnedRead history → Known
+then_known initial r = known (initially initial) (before r)
+
+module _ (Says : Known → ℕ → ℕ → Type 0) where
+  at_return : (k : Known) (xs : List (ℕ × Event)) (i p v : ℕ) (ys : List (ℕ × Event)) → EachRead Says k (xs ++ (i, Got p v) ∷ ys) → Says (known k xs) p v
+  at_return k [] i p v ys h = h.0
+  at_return k (x ∷ xs) i p v ys h = at_return (after k x.1) xs i p v ys h.1
+
+  at_each_return : (k : Known) (history : List (ℕ × Event))
+      → ((xs : List (ℕ × Event)) (i p v : ℕ) (ys : List (ℕ × Event)) → history ≡ xs ++ (i, Got p v) ∷ ys → Says (known k xs) p v) → EachRead Says k history
+  at_each_return k [] f = tt
+  at_each_return k ((i, e) ∷ es) f = (by e refl, at_each_return (after k e) es (λ xs j p v ys s. f ((i, e) ∷ xs) j p v ys (ap (λ l. (i, e) ∷ l) s)))
+    where
+      by : (event : Event) → e ≡ event → OnReturn Says k event
+      by (Got p v) same = f [] i p v es (ap (λ x. (i, x) ∷ es) same)
+      by (Invoke p o) same = tt
+      by (Wrote p) same = tt
+      by (Refused p layer) same = tt
+      by (Void p reason) same = tt
+      by (Stop p) same = tt
+      by (Chosen p bit v) same = tt
+
+-- what is said of each return, and what is said in words, where they are the same of each read
+module _ (initial : ℕ) (history : List (ℕ × Event)) (h : IsHistory history) (Says : Known → ℕ → ℕ → Type 0) (Words : ReturnedRead history → Type 0) where
+  words_of_each : ((r : ReturnedRead history) → Says (then_known initial r) r.process r.value → Words r) → EachRead Says (initially initial) history → (r : ReturnedRead history) → Words r
+  words_of_each f each r =
+      f r (at_return Says (initially initial) (before r) r.returned r.process r.value r.later (subst (EachRead Says (initially initial)) r.split each))
+
+  each_of_words : ((r : ReturnedRead history) → Words r → Says (then_known initial r) r.process r.value) → ((r : ReturnedRead history) → Words r) → EachRead Says (initially initial) history
+  each_of_words f words = at_each_return Says (initially initial) history (λ xs i p v ys s. at xs i p v ys s (h.follows xs i (Got p v) ys s))
+    where
+      at : (xs : List (ℕ × Event)) (i p v : ℕ) (ys : List (ℕ × Event)) → history ≡ xs ++ (i, Got p v) ∷ ys → InProgress p op.Read xs → Says (known (initially initial) xs) p v
+      at xs i p v ys s w =
+          let r : ReturnedRead history = record {
+            process = p;
+            value = v;
+            earlier = w.earlier;
+            invoked = w.step;
+            since = w.since;
+            returned = i;
+            later = ys;
+            split = s ∙ ap (λ l. l ++ (i, Got p v) ∷ ys) w.split;
+            quiet = w.quiet;
+          } in
+          subst (λ l. Says (known (initially initial) l) p v) (sym w.split) (f r (words r))
+
+-- a verdict, and what is fresh and what overlaps
+seen_unless_stray : (verdict : Verdict) (A B : Type 0) → MatchVerdict verdict A B → verdict ≢ Stray → A ⊎ B
+seen_unless_stray Fresh A B h n = inl h
+seen_unless_stray Overlap A B h n = inr h.1
+seen_unless_stray Stray A B h n = absurd (n refl)
+
+not_stray_if_seen : (verdict : Verdict) (A B : Type 0) → MatchVerdict verdict A B → A ⊎ B → verdict ≢ Stray
+not_stray_if_seen Fresh A B h s = λ e. cc
+not_stray_if_seen Overlap A B h s = λ e. cc
+not_stray_if_seen Stray A B h (inl a) = absurd (h.0 a)
+not_stray_if_seen Stray A B h (inr b) = absurd (h.1 b)
+
+fresh_if_so : (verdict : Verdict) (A B : Type 0) → MatchVerdict verdict A B → verdict ≡ Fresh → A
+fresh_if_so Fresh A B h e = h
+fresh_if_so Overlap A B h e = absurd cc
+fresh_if_so Stray A B h e = absurd cc
+
+so_if_fresh : (verdict : Verdict) (A B : Type 0) → MatchVerdict verdict A B → A → verdict ≡ Fresh
+so_if_fresh Fresh A B h a = refl
+so_if_fresh Overlap A B h a = absurd (h.0 a)
+so_if_fresh Stray A B h a = absurd (h.0 a)
+
+-- no value passes both tests where there is none
+none_among : (xs : List ℕ) (o : Option ℕ) → xs ++ in_progress o ≡ [] → (v : ℕ) → (list_any (λ u. u == v) xs || is_value v o) ≡ false
+none_among [] None e v = refl
+none_among [] (Some u) e v = absurd cc
+none_among (x ∷ xs) o e v = absurd cc
+
+none_if_none : (xs : List ℕ) (o : Option ℕ) → ((v : ℕ) → (list_any (λ u. u == v) xs || is_value v o) ≢ true) → xs ++ in_progress o ≡ []
+none_if_none [] None n = refl
+none_if_none [] (Some u) n = absurd (n u (eq-eqb u u refl))
+none_if_none (x ∷ xs) o n = absurd (n x (ap (λ b. (b || list_any (λ u. u == x) xs) || is_value x o) (eq-eqb x x refl)))
+
+module _ (initial : ℕ) (history : List (ℕ × Event)) (h : IsHistory history) (r : ReturnedRead history) where
+  abbrev during : List (ℕ × Event)
+  during = (r.invoked, Invoke r.process op.Read) ∷ r.since
+
+  abbrev all : Known
+  all = known (initially initial) (r.earlier ++ during)
+
+  whole : IsHistory (r.earlier ++ during)
+  whole = history-left (r.earlier ++ during) ((r.returned, Got r.process r.value) ∷ r.later) (subst IsHistory r.split h)
+
+  invoked : reading r.process all ≡ invoked_now r.process (known (initially initial) r.earlier)
+  invoked = reading_of_progress r.process (initially initial) r.earlier r.since r.invoked r.quiet
+
+  -- it overlaps no write where no value overlaps it
+  alone_in_words : overlapped r.process all ≡ [] → (v : ℕ) → ¬ Overlaps v r
+  alone_in_words e v w =
+      let none : drop (length (known (initially initial) r.earlier).returned) all.returned ++ in_progress all.writing ≡ [] =
+      subst (λ (x : Reading). drop x.since all.returned ++ in_progress all.writing ≡ []) invoked e in
+      let test = test_of_crossing initial v r.earlier during whole.roles (crossing_of_words v r.earlier during whole w) in
+      absurd (true≢false (sym test ∙ none_among _ all.writing none v))
+
+  alone_by_words : ((v : ℕ) → ¬ Overlaps v r) → overlapped r.process all ≡ []
+  alone_by_words n =
+      subst (λ (x : Reading). drop x.since all.returned ++ in_progress all.writing ≡ []) (sym invoked)
+      (none_if_none _ all.writing (λ v test. n v (words_of_crossing v r.earlier during (crossing_of_test initial v r.earlier during whole.roles test))))
+
+  safe_words : FreshAlone all r.process r.value → FreshIfAlone initial r
+  safe_words says alone = fresh_if_so (judged all r.process r.value) _ _ (verdict_words initial history h r) (says (alone_by_words alone))
+
+  words_safe : FreshIfAlone initial r → FreshAlone all r.process r.value
+  words_safe says alone = so_if_fresh (judged all r.process r.value) _ _ (verdict_words initial history h r) (says (alone_in_words alone))
+
+  regular_words : NotStray all r.process r.value → FreshOrOverlapping initial r
+  regular_words says = seen_unless_stray (judged all r.process r.value) _ _ (verdict_words initial history h r) says
+
+  words_regular : FreshOrOverlapping initial r → NotStray all r.process r.value
+  words_regular says = not_stray_if_seen (judged all r.process r.value) _ _ (verdict_words initial history h r) says
+
+module _ {P : Type 0} (b : Behaviour P) (records : HasOneWriter b → RecordsHistories b) where
+  pub safe_in_words : IsSafe b → IsSafeInWords b
+  safe_in_words h = record {
+    one_writer = h.one_writer;
+    refuses_none = h.refuses_none;
+    each_read = λ value steps within fit.
+        let history = records h.one_writer value steps within fit in
+        words_of_each value (recorded b value steps) history FreshAlone (FreshIfAlone value) (safe_words value (recorded b value steps) history) (h.each_read value steps within fit);
+  }
+
+  pub safe_by_words : IsSafeInWords b → IsSafe b
+  safe_by_words h = record {
+    one_writer = h.one_writer;
+    refuses_none = h.refuses_none;
+    each_read = λ value steps within fit.
+        let history = records h.one_writer value steps within fit in
+        each_of_words value (recorded b value steps) history FreshAlone (FreshIfAlone value) (words_safe value (recorded b value steps) history) (h.each_read value steps within fit);
+  }
+
+  pub regular_in_words : IsRegular b → IsRegularInWords b
+  regular_in_words h = record {
+    one_writer = h.one_writer;
+    refuses_none = h.refuses_none;
+    each_read = λ value steps within fit.
+        let history = records h.one_writer value steps within fit in
+        words_of_each value (recorded b value steps) history NotStray (FreshOrOverlapping value) (regular_words value (recorded b value steps) history) (h.each_read value steps within fit);
+  }
+
+  pub regular_by_words : IsRegularInWords b → IsRegular b
+  regular_by_words h = record {
+    one_writer = h.one_writer;
+    refuses_none = h.refuses_none;
+    each_read = λ value steps within fit.
+        let history = records h.one_writer value steps within fit in
+        each_of_words value (recorded b value steps) history NotStray (FreshOrOverlapping value) (words_regular value (recorded b value steps) history) (h.each_read value steps within fit);
+  }

@@ -1,0 +1,135 @@
+-- Where no read of a register is ever stray, no page shows a stray one.
+use Rattle.std.proofs.Common.{◌≡◌, ◌≢◌, ℕ, ◌<◌, Bool, true, false, List, [], ◌∷◌, Option, Some, None, Result, Ok, Err, refl, sym, ap, subst, take}
+use Rattle.std.specs.Prelude.{if◌then◌else◌, IfSome, IfOk}
+use Rattle.std.specs.List.{All}
+use Rattle.std.specs.Option.{unwrap_or}
+use Rattle.std.proofs.lemmas.List.Elements.{All-nil, All-cons, All-append, All-take}
+use Rattle.frames.specs.declared.types.Op.TheVariants as op
+use Rattle.frames.specs.declared.types.Event.{Event}
+use Rattle.frames.specs.declared.types.Event.TheVariants.{Invoke, Got, Wrote, Refused, Void, Stop, Chosen}
+use Rattle.frames.specs.declared.types.Step.{Step}
+use Rattle.frames.specs.declared.verdict.ReadVerdict.{ReadVerdict}
+use Rattle.frames.specs.declared.verdict.Verdict.TheVariants.{Stray}
+use Rattle.frames.specs.Behaviour.{Behaviour}
+use Rattle.frames.specs.Configuration.{Configuration, fits_step}
+use Rattle.frames.specs.Recorded.{AllFit, recorded}
+use Rattle.frames.specs.Verdicts.{Known, initially, after, told, verdicts_from, verdicts}
+use Rattle.frames.specs.Regularity.{OnReturn, EachRead, NotStray}
+use Rattle.frames.specs.Regularity.{NeverStray}
+use Rattle.schedule_trie.specs.Forest.{Forest, index_of, path_by}
+use Rattle.cutoff.specs.Fitting.{RunPart}
+use Rattle.cutoff.specs.Held.{StepsFit}
+use Rattle.views.specs.declared.query.PlaceKind.{PlaceKind}
+use Rattle.views.specs.declared.query.PlaceKind.TheVariants as kind
+use Rattle.views.specs.declared.page.Page.{Page}
+use Rattle.views.specs.declared.page.Page.TheVariants as page
+use Rattle.views.specs.Spots.{IsSpotOf}
+use Rattle.views.specs.RunPages.{run_page}
+use Rattle.views.specs.Looks.{steps_in, place_page, judged_from}
+use Rattle.views.specs.Strays.{OnVerdicts, AreOf, Judges, JudgesSome, ShowsNoStray, JudgesFrom}
+use Rattle.views.proofs.Slips.{slip_told}
+
+NoneStray : List ReadVerdict → Type 0
+NoneStray reads = All (λ read. read.verdict ≢ Stray) reads
+
+told_one : (k : Known) (i : ℕ) (e : Event) → OnReturn NotStray k e → NoneStray (told k i e)
+unfolding NoneStray
+told_one k i (Got p v) h = All-cons (λ read. read.verdict ≢ Stray) _ [] h (All-nil (λ read. read.verdict ≢ Stray))
+told_one k i (Invoke p o) h = All-nil (λ read. read.verdict ≢ Stray)
+told_one k i (Wrote p) h = All-nil (λ read. read.verdict ≢ Stray)
+told_one k i (Refused p layer) h = All-nil (λ read. read.verdict ≢ Stray)
+told_one k i (Void p reason) h = All-nil (λ read. read.verdict ≢ Stray)
+told_one k i (Stop p) h = All-nil (λ read. read.verdict ≢ Stray)
+told_one k i (Chosen p bit v) h = All-nil (λ read. read.verdict ≢ Stray)
+
+none_stray : (k : Known) (events : List (ℕ × Event)) → EachRead NotStray k events → NoneStray (verdicts_from k events)
+unfolding NoneStray
+none_stray k [] h = All-nil (λ read. read.verdict ≢ Stray)
+none_stray k (e ∷ es) h =
+    All-append (λ read. read.verdict ≢ Stray) (told k e.0 e.1) (verdicts_from (after k e.1) es) (told_one k e.0 e.1 h.0) (none_stray (after k e.1) es h.1)
+
+-- what holds of verdicts holds of those that a page shows
+on_verdicts : {A B : List ReadVerdict → Type 0} → ((reads : List ReadVerdict) → A reads → B reads) → (p : Page) → OnVerdicts A p → OnVerdicts B p
+on_verdicts {A} {B} f (page.Verdict p) h = by p.reads h
+  where
+    by : (reads : Option (List ReadVerdict)) → IfSome reads A → IfSome reads B
+    by None h = tt
+    by (Some reads) h = f reads h
+on_verdicts f (page.State p) h = tt
+on_verdicts f (page.Process p) h = tt
+on_verdicts f (page.Bits p) h = tt
+on_verdicts f (page.Pending p) h = tt
+on_verdicts f (page.History p) h = tt
+on_verdicts f (page.Branches p) h = tt
+on_verdicts f (page.Cursor p) h = tt
+on_verdicts f (page.Steps p) h = tt
+
+never_there : {P : Type 0} (b : Behaviour P) → NeverStray b → (reads : List ReadVerdict) → AreOf b reads → NoneStray reads
+never_there b never reads of =
+    subst NoneStray (sym of.judged) (none_stray (initially of.value) (recorded b of.value of.steps) (never of.value of.steps of.within of.fit))
+
+shows_no_stray : {P : Type 0} (b : Behaviour P) → NeverStray b → (p : Page) → Judges b p → ShowsNoStray p
+unfolding NoneStray
+shows_no_stray b never = on_verdicts (never_there b never)
+
+some_shows_no_stray : {R P : Type 0} (is : R → Behaviour P) → ((register : R) → NeverStray (is register)) → (p : Page) → JudgesSome is p → ShowsNoStray p
+unfolding NoneStray
+some_shows_no_stray is never = on_verdicts (λ reads of. never_there (is of.0) (never of.0) reads of.1)
+
+-- the same of an answer
+pub ok_shows_no_stray : {P E : Type 0} (b : Behaviour P) → NeverStray b → (r : Result Page E) → IfOk r (Judges b) → IfOk r ShowsNoStray
+ok_shows_no_stray b never (Ok p) h = shows_no_stray b never p h
+ok_shows_no_stray b never (Err e) h = tt
+
+pub ok_some_shows_no_stray : {R P E : Type 0} (is : R → Behaviour P) → ((register : R) → NeverStray (is register)) → (r : Result Page E) → IfOk r (JudgesSome is) → IfOk r ShowsNoStray
+ok_some_shows_no_stray is never (Ok p) h = some_shows_no_stray is never p h
+ok_some_shows_no_stray is never (Err e) h = tt
+
+-- what judges the history of a register judges that of some
+pub judges_some : {R P : Type 0} (is : R → Behaviour P) (register : R) (p : Page) → Judges (is register) p → JudgesSome is p
+judges_some is register = on_verdicts (λ reads of. (register, of))
+
+-- the page of a place judges what the register records on the branch's first steps
+pub place_judges : {P : Type 0} (b : Behaviour P) (value : ℕ) (what : PlaceKind) (branch : List ℕ) (place : ℕ) (steps : List Step) → value < b.values → AllFit b steps → JudgesFrom value what
+    → Judges b (place_page b value what branch place steps)
+place_judges {P} b value (kind.Verdict from) branch place steps within fit h = by from h
+  where
+    by : (from : Option ℕ) → IfSome from (λ initial. initial ≡ value) → Judges b (place_page b value (kind.Verdict from) branch place steps)
+    by None h = tt
+    by (Some initial) h =
+        record {
+          value = value;
+          steps = take place steps;
+          within = within;
+          fit = All-take (λ s. fits_step b s ≡ true) place steps fit;
+          judged = ap (λ v. verdicts v (recorded b value (take place steps))) h;
+        }
+place_judges b value kind.State branch place steps within fit h = tt
+place_judges b value (kind.Process p) branch place steps within fit h = tt
+place_judges b value kind.Bits branch place steps within fit h = tt
+place_judges b value kind.Pending branch place steps within fit h = tt
+place_judges b value kind.History branch place steps within fit h = tt
+
+-- and so does what a settled place's slip stands for
+pub slip_judges : {R P : Type 0} (is : R → Behaviour P) (start from : Configuration R P) (value : ℕ) (steps : List Step) (place len : ℕ) (parts : List (RunPart R P))
+    → IsSpotOf is start value steps place len parts → from ≡ start → value < (is start.register).values → AllFit (is start.register) steps → (what : PlaceKind) (branch : List ℕ) → JudgesFrom value what
+    → Judges (is start.register) (run_page is what (record { branch = branch; place = place; len = len }) from parts)
+slip_judges is start from value steps place len parts spot is_start within fit what branch judged =
+    subst (Judges (is start.register)) (sym (slip_told is start from value steps place len parts spot is_start what branch))
+    (place_judges (is start.register) value what branch place steps within fit judged)
+
+-- each step of a branch fits
+pub fit_in : {P : Type 0} (b : Behaviour P) (f : Forest) (name : List ℕ) → StepsFit b f → AllFit b (steps_in f name)
+fit_in b f name fits = by (index_of f.branches name)
+  where
+    by : (o : Option ℕ) → AllFit b (unwrap_or (path_by o f) [])
+    by None = All-nil (λ s. fits_step b s ≡ true)
+    by (Some i) = fits i
+
+-- a tower's verdicts are judged from its initial value
+pub judged_from_it : {P : Type 0} (b : Behaviour P) (value : ℕ) → JudgesFrom value (kind.Verdict (judged_from b value))
+judged_from_it b value = by (b.suits 1 (op.Write 0))
+  where
+    by : (t : Bool) → JudgesFrom value (kind.Verdict (if t then None else Some value))
+    by true = tt
+    by false = refl
