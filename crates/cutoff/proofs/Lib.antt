@@ -9,3 +9,4 @@ pub mod Paths
 pub mod Installed
 pub mod Plannings
 pub mod Commands
+pub mod EarlyCutoff

@@ -17,7 +17,7 @@ use Rattle.frames.specs.Recorded.{AllFit}
 use Rattle.schedule_trie.specs.Forest.{step_of}
 use Rattle.schedule_trie.specs.Cut.{Cut, Piece, piece_at, slots_of, note_of, with_note, line, has, Once, keys_in, IsNoted, IsCut}
 use Rattle.schedule_trie.proofs.Once.{has-head, has-tail, Once-from_linked}
-use Rattle.cutoff.specs.Fitting.{StoredRun, RunPart, run_of, RunFits, Fits, IsWork, IsSettledAt, IsSegmentSettled, Settles, IsMissed, KeepsRuns, steps_at, slots_at, run_at, reached, exit_of, counted, part_of}
+use Rattle.cutoff.specs.Fitting.{StoredRun, RunPart, run_of, RunFits, Fits, IsWork, IsSettledAt, IsSegmentSettled, Settles, HasFitting, IsFilled, KeepsRuns, steps_at, slots_at, run_at, reached, exit_of, counted, part_of}
 use Rattle.cutoff.specs.Links.{alone, IsStored, IsTold, IsLinked}
 use Rattle.cutoff.proofs.Edits.{all_left, all_right}
 use Rattle.cutoff.proofs.Fits.{register_kept, same_symm, run_fits_alike, fits_alike, exit_same}
@@ -73,6 +73,13 @@ linked_home {R} {P} E per h g next above c cut e l = record { exits = l.exits; a
     told None t = tt
     told (Some p) t = stored (map step_of p.slots) p.note t
 
+-- a segment stays filled where its stored run stays
+filled_still : {R P : Type 0} (E : R → R → Bool) (b : Behaviour P) (old cut new : Cut (StoredRun R P)) (c : Configuration R P) (ks : List ℕ) (k : ℕ)
+    → run_at new k ≡ run_at cut k → IsFilled E b old cut c ks k → IsFilled E b old new c ks k
+filled_still E b old cut new c [] k same f = f
+filled_still E b old cut new c (j ∷ js) k same (inl f) = inl (f.0, f.1, (f.2.0, ap (run_at new) (sym f.0) ∙ same ∙ ap (run_at cut) f.0 ∙ f.2.1, f.2.2))
+filled_still E b old cut new c (j ∷ js) k same (inr f) = inr (filled_still E b old cut new (replayed b c (steps_at old j)) js k same f)
+
 -- a walk has come behind runs `parts`, with the segments `left` and `rest` cells still to go, and n steps were replayed
 pub record IsWalking {R P : Type 0} (E : R → R → Bool) (b : Behaviour P) (old cut : Cut (StoredRun R P)) (start : Configuration R P) (next : ℕ) (above : Option ℕ)
     (keys left : List ℕ) (place rest n : ℕ) (parts : List (RunPart R P)) : Type 0 where
@@ -80,11 +87,11 @@ pub record IsWalking {R P : Type 0} (E : R → R → Bool) (b : Behaviour P) (ol
   pub home : at.register ≡ start.register
   pub same : SameConfiguration E (exit_of start parts) at
   pub linked : IsLinked E start.register next above (alone (exit_of start parts)) cut
-  pub keeps : KeepsRuns old cut (IsMissed E b old start (reached old place keys))
+  pub keeps : KeepsRuns old cut (IsFilled E b old cut start (reached old place keys))
   pub ahead : (k : ℕ) → has k left ≡ true → piece_at cut.pieces k ≡ piece_at old.pieces k
   pub there : (k : ℕ) → has k left ≡ true → IsSome (piece_at old.pieces k)
   pub small : (k : ℕ) → length (steps_at old k) ≤ 128
-  pub missed : (k : ℕ) → IsMissed E b old at (reached old rest left) k → IsMissed E b old start (reached old place keys) k
+  pub filled : (new : Cut (StoredRun R P)) (k : ℕ) → IsFilled E b old new at (reached old rest left) k → IsFilled E b old new start (reached old place keys) k
   pub settles : (new : Cut (StoredRun R P)) (more : List (RunPart R P)) (m : ℕ) → ((k : ℕ) → has k left ≡ false → run_at new k ≡ run_at cut k)
       → Settles E b old new at rest (reached old rest left) more m → Settles E b old new start place (reached old place keys) (parts ++ more) (n + m)
   pub count : counted parts + rest ≡ place
@@ -114,7 +121,7 @@ module _ {R P : Type 0} (E : R → R → Bool) (equal : IsEquivalence E) (b : Be
     ahead = λ k h. refl;
     there = λ k h. whole.held branch.0 k (subst (λ l. has k l ≡ true) branch.1 h);
     small = small_steps whole;
-    missed = λ k m. m;
+    filled = λ new k f. f;
     settles = λ new more m same s. let e : m ≡ 0 + m = omega arith in subst (Settles E b old new start place (reached old place keys) more) e s;
     count = omega arith;
     enough = within;
@@ -231,22 +238,23 @@ module _ {R P : Type 0} (E : R → R → Bool) (equal : IsEquivalence E) (per : 
     rest_is : rest_after ≡ rest - length (steps_at old k)
     rest_is = let e : length run.steps ≡ length (steps_at old k) = run_len in omega arith
 
-    missed_here : (j : ℕ) → IsMissed E (is start.register) old w.at (k ∷ reached old (rest - length (steps_at old k)) ks) j → IsMissed E (is start.register) old start (reached old place keys) j
-    missed_here j m = w.missed j (subst (λ l. IsMissed E (is start.register) old w.at l j) (sym reached_is) m)
+    filled_here : (last : Cut (StoredRun R P)) (j : ℕ) → IsFilled E (is start.register) old last w.at (k ∷ reached old (rest - length (steps_at old k)) ks) j
+        → IsFilled E (is start.register) old last start (reached old place keys) j
+    filled_here last j m = w.filled last j (subst (λ l. IsFilled E (is start.register) old last w.at l j) (sym reached_is) m)
 
-    runs_kept : (j : ℕ) → (run_at new j ≡ run_at old j) ⊎ IsMissed E (is start.register) old start (reached old place keys) j
+    runs_kept : (j : ℕ) → (run_at new j ≡ run_at old j) ⊎ IsFilled E (is start.register) old new start (reached old place keys) j
     runs_kept j = by_key j k _ here (λ ne. other ne (w.keeps.runs j))
       where
-        other : (j ≡ k → ⊥) → (run_at cut j ≡ run_at old j) ⊎ IsMissed E (is start.register) old start (reached old place keys) j
-            → (run_at new j ≡ run_at old j) ⊎ IsMissed E (is start.register) old start (reached old place keys) j
+        other : (j ≡ k → ⊥) → (run_at cut j ≡ run_at old j) ⊎ IsFilled E (is start.register) old cut start (reached old place keys) j
+            → (run_at new j ≡ run_at old j) ⊎ IsFilled E (is start.register) old new start (reached old place keys) j
         other ne (inl e) = inl (other_run j ne ∙ e)
-        other ne (inr m) = inr m
+        other ne (inr f) = inr (filled_still E (is start.register) old cut new start (reached old place keys) j (other_run j ne) f)
 
-        by : j ≡ k → IsWork E old w.at k run work → (run_at new j ≡ run_at old j) ⊎ IsMissed E (is start.register) old start (reached old place keys) j
+        by : j ≡ k → IsWork E old w.at k run work → (run_at new j ≡ run_at old j) ⊎ IsFilled E (is start.register) old new start (reached old place keys) j
         by e (inl f) = inl (ap (run_at new) e ∙ stored_here ∙ sym f.1 ∙ ap (run_at old) (sym e))
-        by e (inr m) = inr (missed_here j (inl (e, m.0)))
+        by e (inr m) = inr (filled_here new j (inl (e, m.0, (run, stored_here, fits_at))))
 
-        here : j ≡ k → (run_at new j ≡ run_at old j) ⊎ IsMissed E (is start.register) old start (reached old place keys) j
+        here : j ≡ k → (run_at new j ≡ run_at old j) ⊎ IsFilled E (is start.register) old new start (reached old place keys) j
         here e = by e work_was
 
     slots_kept : (j : ℕ) → slots_at new j ≡ slots_at old j
@@ -286,7 +294,7 @@ module _ {R P : Type 0} (E : R → R → Bool) (equal : IsEquivalence E) (per : 
       ahead = λ j h. noted.others j (λ e. true≢false (sym (subst (λ i. has i ks ≡ true) e h) ∙ w.once.0)) ∙ w.ahead j (has-tail j k ks h);
       there = λ j h. w.there j (has-tail j k ks h);
       small = w.small;
-      missed = λ j m. missed_here j (inr (subst (λ r. IsMissed E (is start.register) old goes_to (reached old r ks) j) rest_is m));
+      filled = λ last j m. filled_here last j (inr (subst (λ r. IsFilled E (is start.register) old last goes_to (reached old r ks) j) rest_is m));
       settles = settles_on;
       count = let e : counted (parts ++ part run count ∷ []) ≡ counted parts + count = counted-last parts (part run count) in let c = w.count in omega arith;
       enough = let e = w.enough in let l = len_here in let r = rest_is in omega arith;

@@ -69,10 +69,15 @@ module _ {R P : Type 0} (E : R → R → Bool) (b : Behaviour P) (old : Cut (Sto
       (here : ℕ) × (below : ℕ) × (n ≡ here + below) × IsSettledAt E old new c place k part here
       × Settles new (replayed b c (steps_at old k)) (place - length (steps_at old k)) ks parts below
 
-  -- a segment is among these, and no stored run fits it
-  abbrev pub IsMissed : Configuration R P → List ℕ → ℕ → Type 0
-  IsMissed c [] k = ⊥
-  IsMissed c (j ∷ js) k = ((k ≡ j) × (Fits E old c j → ⊥)) ⊎ IsMissed (replayed b c (steps_at old j)) js k
+  -- a run is stored now that fits a segment where replay has come to c
+  abbrev pub HasFitting : Cut (StoredRun R P) → Configuration R P → ℕ → Type 0
+  HasFitting new c k = (run : SegmentRun R P) × (run_at new k ≡ Some run) × RunFits E c (steps_at old k) run
+
+  -- a segment is among these that no stored run fitted, and one that fits is stored now
+  abbrev pub IsFilled : Cut (StoredRun R P) → Configuration R P → List ℕ → ℕ → Type 0
+  IsFilled new c [] k = ⊥
+  IsFilled new c (j ∷ js) k =
+      ((k ≡ j) × (Fits E old c j → ⊥) × HasFitting new c j) ⊎ IsFilled new (replayed b c (steps_at old j)) js k
 
 -- a fitting run is noted at a segment where replay has come to c, and nothing else is changed
 pub record IsSegmentSettled {R P : Type 0} (E : R → R → Bool) (old new : Cut (StoredRun R P)) (c : Configuration R P) (k : ℕ) (run : SegmentRun R P) (n : ℕ) : Type 0 where
@@ -94,13 +99,13 @@ counted (part ∷ parts) = part.count + counted parts
 abbrev pub slots_at : {R P : Type 0} → Cut (StoredRun R P) → ℕ → Option (List Slot)
 slots_at cut k = option_map (λ p. p.slots) (piece_at cut.pieces k)
 
--- the forest stays as it is cut, and so does each stored run but those that are missed
-pub record KeepsRuns {R P : Type 0} (old new : Cut (StoredRun R P)) (Missed : ℕ → Type 0) : Type 0 where
+-- the forest stays as it is cut, and so does each stored run but those of segments that are filled
+pub record KeepsRuns {R P : Type 0} (old new : Cut (StoredRun R P)) (Filled : ℕ → Type 0) : Type 0 where
   pub strands : new.strands ≡ old.strands
   pub limits : new.limits ≡ old.limits
   pub forest_kept : forest new ≡ forest old
   pub slots : (k : ℕ) → slots_at new k ≡ slots_at old k
-  pub runs : (k : ℕ) → (run_at new k ≡ run_at old k) ⊎ Missed k
+  pub runs : (k : ℕ) → (run_at new k ≡ run_at old k) ⊎ Filled k
 
 abbrev pub part_of : {R P Z : Type 0} → (Arc (SegmentRun R P) Z × ℕ) → RunPart R P
 part_of p = record { run = arc_value p.0; count = p.1 }

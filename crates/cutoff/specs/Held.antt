@@ -7,7 +7,7 @@ use Rattle.schedule_trie.specs.declared.refusal.Refusal.{Refusal}
 use Rattle.schedule_trie.specs.declared.refusal.Refusal.TheVariants.{NoPlace}
 use Rattle.schedule_trie.specs.Forest.{Forest, slots_in, step_of, index_of, on_branch}
 use Rattle.schedule_trie.specs.Cut.{Cut, Strand, IsCut, forest, keys_in}
-use Rattle.cutoff.specs.Fitting.{StoredRun, RunPart, reached, Settles, counted}
+use Rattle.cutoff.specs.Fitting.{StoredRun, RunPart, reached, Settles, KeepsRuns, IsFilled, counted}
 use Rattle.cutoff.specs.Links.{alone, IsLinked}
 
 -- a forest cut into segments with their stored runs, the initial configuration, and its value
@@ -45,6 +45,11 @@ look f name place = on_branch f name (looked_at f place)
 -- the keys of the segments that hold one of the first `place` cells of the branch of a name
 abbrev pub reached_by : {R P : Type 0} → Cut (StoredRun R P) → List ℕ → ℕ → List ℕ
 reached_by cut name place = reached cut place (keys_named cut name)
+
+-- a settle of the first `place` cells of a branch leaves each stored run, but where no run fitted and one that fits is stored now
+abbrev pub KeepsOrFills : {R P : Type 0} → (R → R → Bool) → (R → Behaviour P) → Charted R P → Charted R P → List ℕ → ℕ → Type 0
+KeepsOrFills E is old new name place =
+    KeepsRuns old.cut new.cut (IsFilled E (is old.start.register) old.cut new.cut old.start (reached_by old.cut name place))
 
 -- what a settle of the first `place` cells of a branch answers: runs that are stored at their segments and fit there, `place`
 -- steps of them in all, and how many steps were replayed

@@ -3,3 +3,4 @@ pub mod Links
 pub mod Held
 pub mod Plans
 pub mod Installs
+pub mod EarlyCutoff

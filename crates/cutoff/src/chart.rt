@@ -3,12 +3,12 @@
 ghost use Rattle.std.specs.Prelude.{◌≡◌, ◌<◌, Some, IsSome, length, map, IfOk, IfErr, OnOk, Ok, Err};
 ghost use Rattle.frames.specs.Configuration.{initial_configuration};
 ghost use Rattle.frames.specs.Recorded.{AllFit};
-ghost use Rattle.schedule_trie.specs.Forest.{index_of, opened, IsRefused, len_of, name_in, cell_at, place_of, path_of, AreNamedApart};
+ghost use Rattle.schedule_trie.specs.Forest.{index_of, opened, IsRefused, len_of, name_in, cell_at, place_of, path_of, AreNamedApart, IsForest};
 ghost use Rattle.std.specs.Arc.{arc_value};
 ghost use Rattle.cutoff.specs.Plans.{IsPlan};
 ghost use Rattle.cutoff.specs.Installs.{Installs};
-ghost use Rattle.cutoff.specs.Fitting.{part_of, KeepsRuns, IsMissed};
-ghost use Rattle.cutoff.specs.Held.{IsSettled, StepsFit, look, reached_by};
+ghost use Rattle.cutoff.specs.Fitting.{part_of};
+ghost use Rattle.cutoff.specs.Held.{IsSettled, KeepsOrFills, StepsFit, look};
 ghost use Rattle.schedule_trie.specs.Cut.{AreLimits, IsCut, IsBlank, forest, if_lacks};
 
 mod edits;
@@ -125,6 +125,13 @@ impl<R: Register> Chart<R> {
         self.trie.branches()
     }
 
+    /// What a chart keeps by its type: its branches are a forest. It does nothing: callers learn this by its contract.
+    pub fn held(&self)
+        ensures { IsForest (forest self.now.cut) }
+    {
+        self.trie.held()
+    }
+
     /// The name of a branch, in order of making.
     pub fn name_at(&self, index: u32) -> Option<Name>
         ensures { result ≡ name_in (forest self.now.cut).branches index }
@@ -175,7 +182,7 @@ impl<R: Register> Chart<R> {
         ensures ok { IfOk result (λ spot. IsSettled R.PartialEq.eq (R.is self.old.start.register) self.old self.new branch.now place (map part_of spot.runs.items) spot.replayed) }
         ensures found { OnOk result (look (forest self.old.cut) branch.now place ≡ Ok (forest self.new.cut)) }
         ensures err { IfErr result (IsRefused (look (forest self.old.cut) branch.now place)) }
-        ensures keeps { KeepsRuns self.old.cut self.new.cut (IsMissed R.PartialEq.eq (R.is self.old.start.register) self.old.cut self.old.start (reached_by self.old.cut branch.now place)) }
+        ensures keeps { KeepsOrFills R.PartialEq.eq R.is self.old self.new branch.now place }
         ensures begins { self.old.start ≡ initial_configuration (R.is self.old.start.register) self.old.start.register self.old.value }
         ensures start { self.new.start ≡ self.old.start }
         ensures value { self.new.value ≡ self.old.value }

@@ -7,6 +7,7 @@
 pub mod chart;
 mod descent;
 pub mod install;
+pub mod laws;
 pub mod plan;
 pub mod settle;
 mod stored;

@@ -5,7 +5,7 @@ ghost use Rattle.std.specs.Arc.{arc_value};
 ghost use Rattle.frames.specs.Recorded.{AllFit};
 ghost use Rattle.schedule_trie.specs.Forest.{step_of};
 ghost use Rattle.schedule_trie.specs.Cut.{piece_at, note_of, keys_in, line, IsCut};
-ghost use Rattle.cutoff.specs.Fitting.{RunFits, Fits, IsSegmentSettled, steps_at, exit_of, part_of, reached, Settles, IsMissed, KeepsRuns, counted};
+ghost use Rattle.cutoff.specs.Fitting.{RunFits, Fits, IsSegmentSettled, steps_at, exit_of, part_of, reached, Settles, IsFilled, KeepsRuns, counted};
 ghost use Rattle.cutoff.specs.Links.{IsLinked, alone};
 
 use crate::stored::Stored;
@@ -164,7 +164,7 @@ pub(crate) fn settle_along<R: Register>(
     requires few { length (line (piece_at trie.old.pieces) keys.now) ≤ 4294967295 }
     ensures settles { IfOk result (λ spot. Settles R.PartialEq.eq (R.is start.now.register) trie.old trie.new start.now place (reached trie.old place keys.now) (map part_of spot.runs.items) spot.replayed) }
     ensures counted { IfOk result (λ spot. counted (map part_of spot.runs.items) ≡ place) }
-    ensures keeps { KeepsRuns trie.old trie.new (IsMissed R.PartialEq.eq (R.is start.now.register) trie.old start.now (reached trie.old place keys.now)) }
+    ensures keeps { KeepsRuns trie.old trie.new (IsFilled R.PartialEq.eq (R.is start.now.register) trie.old trie.new start.now (reached trie.old place keys.now)) }
     ensures linked { IsLinked R.PartialEq.eq start.now.register next.new None (alone start.now) trie.new }
 {
     let mut runs = Vec::new(alloc);

@@ -13,7 +13,7 @@ use Rattle.schedule_trie.specs.declared.slot.Slot.{Slot}
 use Rattle.schedule_trie.specs.declared.segment.Segment.{Segment}
 use Rattle.schedule_trie.specs.declared.trie.Trie.TheInside.{Inside}
 use Rattle.schedule_trie.specs.Forest.{slot, cell_of, slots_in, cell_in, only_in, put_last, put_before, everywhere, inserted}
-use Rattle.schedule_trie.specs.Cut.{Cut, Piece, piece, piece_at, slots_of, note_of, forest, branches_on, keys_in, has, has_cell, Once, StandsAt, IsSegment, IsSound, IsWithin, IsWhole, CanGrowAt, IsPushed, IsPutBefore, IsInserted, divided_strand}
+use Rattle.schedule_trie.specs.Cut.{Cut, Piece, piece, piece_at, slots_of, note_of, forest, branches_on, keys_in, has, has_cell, Once, StandsAt, IsSegment, IsSound, IsWithin, IsWhole, CanGrowAt, IsPushed, IsPutBefore, IsInserted, divided_strand, HasChanged}
 use Rattle.schedule_trie.specs.declared.limits.Limits.{Limits}
 use Rattle.schedule_trie.specs.Held.{piece_of, strand_of, cut_of, IsHeld}
 use Rattle.schedule_trie.proofs.Lines.{slots_in_on}
@@ -22,7 +22,7 @@ use Rattle.schedule_trie.proofs.StepSet.{slice_get_some, cell_in_at, piece_seen,
 use Rattle.schedule_trie.proofs.Insertion.{put, grown_put, put_through, put_elsewhere, grown_once, grown_cells, sound_grown, branches_changed}
 use Rattle.schedule_trie.proofs.Division.{Divides, lacked-divided, sound-divided, branches-divided, notes-divided}
 use Rattle.schedule_trie.proofs.DivisionSteps.{divides_from}
-use Rattle.schedule_trie.proofs.Notes.{notes_at, notes_but}
+use Rattle.schedule_trie.proofs.Notes.{notes_at, notes_but, unchanged_kept}
 use Rattle.schedule_trie.proofs.Touched.{ends_before}
 
 pub within_more : (l : Limits) (made branches : ℕ) → IsWithin l made branches → made < l.cells → IsWithin l (made + 1) branches
@@ -85,6 +85,9 @@ module _ {T : Type 0} (t : Inside T) (key offset : ℕ) (step : Step) (v w : Seg
     made = refl;
     limits = refl;
     notes = notes_at (cut_of t) (cut_of after) key change.others (ap note_of change.here ∙ note);
+    changed = λ e.
+        let as_long : length w.slots.items ≡ length v.slots.items = ap length (sym (ap slots_of change.here) ∙ e ∙ ap slots_of was) in
+        omega (arith, len);
     cut = cut_from_sound (cut_of after) (t.made + 1) sound;
   }
 
@@ -118,6 +121,7 @@ module _ {T : Type 0} (old new : Cut T) (index place key offset : ℕ) (step : S
     forest_is = λ i. record { branches = branches i; made = put.made i };
     limits = put.limits;
     notes = λ name found. notes_but old new key (CanGrowAt old name place) put.notes (inl (holds_cell old name place index key offset found stands));
+    unchanged = unchanged_kept old new put.notes.notes (λ k e. subst (HasChanged old new) (sym (put.notes.only k e)) put.changed);
     cut = put.cut;
   }
 
@@ -138,9 +142,10 @@ module _ {T : Type 0} (old new : Cut T) (index place : ℕ) (step : Step) (all :
       notes = pushed.notes.notes;
       only = λ k e. inr (
         ap (option_map (λ i. length (slots_in (forest old).branches i))) found ∙ ap Some all,
-        ends_before old name index found k place (pushed.notes.only k e) all,
+        ends_before old name index found k place (pushed.notes.only k e).0 all,
       );
     };
+    unchanged = unchanged_kept old new pushed.notes.notes (λ k e. (pushed.notes.only k e).1);
     cut = pushed.cut;
   }
 
@@ -210,6 +215,9 @@ module _ {T : Type 0} (c d : Cut T) (key fresh offset : ℕ) (step : Step) (abov
     made = made;
     limits = limits;
     notes = notes-divided c d key fresh above below divides none_above none_below;
+    changed = λ e.
+        let as_long : length below.slots ≡ length (slots_of (piece_at c.pieces key)) = ap length (sym (ap slots_of divides.lower) ∙ e) in
+        omega (arith, sum, least);
     cut = cut_from_sound d d.made sound_after;
   }
 

@@ -33,3 +33,4 @@ pub mod Detaches
 pub mod Notes
 pub mod Touched
 pub mod Apart
+pub mod Shared

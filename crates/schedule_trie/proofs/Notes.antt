@@ -1,7 +1,7 @@
 -- What an edit leaves of notes.
 use Rattle.std.proofs.Common.{◌≡◌, ℕ, Bool, true, false, nat_eq, Option, Some, None, IsSome, ◌⊎◌, inl, inr, refl, sym, ap, subst, ◌∙◌, true≢false, eq-eqb}
 use Rattle.std.proofs.lemmas.Bool.{eqb-true}
-use Rattle.schedule_trie.specs.Cut.{Cut, Piece, piece_at, note_of, KeepsNotes, KeepsNotesBut, IsBlank}
+use Rattle.schedule_trie.specs.Cut.{Cut, Piece, piece_at, slots_of, slots_by, note_of, KeepsNotes, KeepsNotesBut, KeepsUnchanged, HasChanged, IsBlank}
 
 -- whether a number is the touched one
 is_touched : (t : Option ℕ) (k : ℕ) → (t ≡ Some k) ⊎ (t ≡ Some k → ⊥)
@@ -11,6 +11,34 @@ is_touched (Some j) k = by (nat_eq j k) refl
     by : (b : Bool) → nat_eq j k ≡ b → (◌≡◌ {A = Option ℕ} (Some j) (Some k)) ⊎ (◌≡◌ {A = Option ℕ} (Some j) (Some k) → ⊥)
     by true e = inl (ap Some (eqb-true j k e))
     by false e = inr (λ s. let same : j ≡ k = cc in true≢false (sym (eq-eqb j k same) ∙ e))
+
+-- the cells of a segment by those of one that may not be there
+slots_from : {T : Type 0} (o q : Option (Piece T)) → slots_by o ≡ slots_by q → slots_of o ≡ slots_of q
+slots_from None None e = refl
+slots_from None (Some q) e = cc
+slots_from (Some p) None e = cc
+slots_from (Some p) (Some q) e = cc
+
+none_from : {T : Type 0} (o : Option (Piece T)) → slots_by o ≡ None → o ≡ None
+none_from None e = refl
+none_from (Some p) e = cc
+
+-- where a touched segment has other cells, one whose cells stay keeps its note
+pub unchanged_kept : {T : Type 0} (old new : Cut T) (notes : KeepsNotes old new) → ((k : ℕ) → notes.touched ≡ Some k → HasChanged old new k)
+    → KeepsUnchanged old new
+unchanged_kept {T} old new notes changed k same = by (piece_at old.pieces k) refl
+  where
+    by : (o : Option (Piece T)) → piece_at old.pieces k ≡ o → piece_at new.pieces k ≡ piece_at old.pieces k
+    by None e = none_from (piece_at new.pieces k) (same ∙ ap slots_by e) ∙ sym e
+    by (Some p) e = elim (is_touched notes.touched k) [
+      | inl touched ↦ absurd (changed k touched (slots_from (piece_at new.pieces k) (piece_at old.pieces k) same))
+      | inr other ↦ elim (notes.kept k other (subst IsSome (sym e) refl)) [
+        | inl kept ↦ kept
+        | inr gone ↦
+            let none : slots_by (Some p) ≡ None = ap slots_by (sym e) ∙ sym same ∙ ap slots_by gone.0 in
+            absurd (cc)
+      ]
+    ]
 
 -- what holds of each segment, and of each with no note, holds after an edit
 module _ {T : Type 0} (Q : Option (Piece T) → Type 0) (unnoted : (o : Option (Piece T)) → note_of o ≡ None → Q o) where

@@ -43,6 +43,14 @@ same_place above xs ys place k a b e h =
     let places : q.0 ≡ place = omega (arith, p.2, r.2) in
     subst (λ n. slice_get ys n ≡ Some k) places q.1
 
+pub one_place : (above : ℕ → Option ℕ) (xs ys : List ℕ) (m n k : ℕ) → Linked above None xs → Linked above None ys → slice_get xs m ≡ Some k
+    → slice_get ys n ≡ Some k → m ≡ n
+one_place above xs ys m n k a b e f =
+    let p = ups_at above None [] xs m k refl a e in
+    let r = ups_at above None [] ys n k refl b f in
+    let same : length p.0 ≡ length r.0 = Ups-one above (above k) p.0 r.0 p.1 r.1 in
+    omega (arith, p.2, r.2)
+
 -- what is above a key is in each path that has the key
 has_above : (above : ℕ → Option ℕ) (up : Option ℕ) (ks : List ℕ) (j k : ℕ) → Linked above up ks → has k ks ≡ true → above k ≡ Some j → (up ≡ Some j → ⊥) → has j ks ≡ true
 has_above above up [] j k l h e first = absurd (true≢false (sym h))
@@ -54,7 +62,7 @@ has_above above up (i ∷ ks) j k l h e first =
     by rest false f = has-tail j i ks (rest (λ g. let same : j ≡ i = cc in true≢false (sym (eq-eqb j i same) ∙ f)))
 
 -- the key before a place is above the key there
-before_place : (above : ℕ → Option ℕ) (up : Option ℕ) (ks : List ℕ) (place k : ℕ) → Linked above up ks → slice_get ks (suc place) ≡ Some k
+pub before_place : (above : ℕ → Option ℕ) (up : Option ℕ) (ks : List ℕ) (place k : ℕ) → Linked above up ks → slice_get ks (suc place) ≡ Some k
     → (j : ℕ) × (slice_get ks place ≡ Some j) × (above k ≡ Some j)
 before_place above up [] place k l e = absurd (cc)
 before_place above up (i ∷ []) place k l e = absurd (cc)

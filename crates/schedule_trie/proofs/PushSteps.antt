@@ -1,13 +1,14 @@
 -- A push, by what the fields become.
-use Rattle.std.proofs.Common.{◌≡◌, ℕ, ◌+◌, ◌<◌, true, false, ◌||◌, List, [], ◌∷◌, ◌++◌, length, Option, Some, None, IsSome, Result, Ok, Err, refl, sym, ap, subst, ◌∙◌, append-nil}
+use Rattle.std.proofs.Common.{◌≡◌, ℕ, ◌+◌, ◌<◌, true, false, ◌||◌, List, [], ◌∷◌, ◌++◌, length, Option, Some, None, IsSome, Result, Ok, Err, refl, sym, ap, subst, ◌∙◌, append-nil, arith}
 use Rattle.std.specs.Result.{OnErr}
 use Rattle.std.proofs.Math.Seq.{map-set_same}
+use Rattle.std.proofs.lemmas.List.{length_push}
 use Rattle.slab.specs.Slab.{get, with_value}
 use Rattle.frames.specs.declared.types.Step.{Step}
 use Rattle.schedule_trie.specs.declared.segment.Segment.{Segment}
 use Rattle.schedule_trie.specs.declared.trie.Trie.TheInside.{Inside}
 use Rattle.schedule_trie.specs.Forest.{slot}
-use Rattle.schedule_trie.specs.Cut.{piece, piece_at, slots_of, note_of, line, keys_in, set_keys, has, Once, IsOwnEnd, IsEnd, IsPushed}
+use Rattle.schedule_trie.specs.Cut.{piece, piece_at, slots_of, note_of, line, keys_in, set_keys, has, Once, IsOwnEnd, IsChangedEnd, HasChanged, IsPushed}
 use Rattle.schedule_trie.specs.Held.{piece_of, cut_of, IsHeld}
 use Rattle.schedule_trie.proofs.Once.{has-append, Once-from_linked}
 use Rattle.schedule_trie.proofs.Changes.{Changes, piece_at_set}
@@ -77,10 +78,16 @@ module _ {T : Type 0} (t : Inside T) (index key : ℕ) (held : IsHeld t) (end : 
       in_front : (k : ℕ) → has k end.front ≡ true → has k (keys_in (cut_of t).strands index) ≡ true
       in_front k h = subst (λ l. has k l ≡ true) (sym end.last) (has_front k key end.front h)
 
+      changed : HasChanged (cut_of t) (cut_of after) key
+      changed e =
+          let longer : length w.slots.items ≡ length (slots_of (piece_at (cut_of t).pieces key)) + 1 = ap length slots ∙ length_push (slots_of (piece_at (cut_of t).pieces key)) (slot t.made step) in
+          let as_long : length w.slots.items ≡ length (slots_of (piece_at (cut_of t).pieces key)) = ap length (sym (ap slots_of change.here) ∙ e) in
+          omega arith
+
       pub in_held : IsHeld after
       in_held = whole_pushed (cut_of t) (cut_of after) index key step end.front (piece w.slots.items w.note) held room change note slots end.room refl refl strands index_in was kept in_front fresh end.own held.sound.shares
 
       pub in_pushed : IsPushed (cut_of t) (cut_of after) index step
       in_pushed = is_pushed (cut_of t) (cut_of after) index key step end.front (piece w.slots.items w.note) held room change note slots end.room refl refl strands index_in was kept in_front fresh end.own held.sound.shares
-          (notes_but (cut_of t) (cut_of after) key (IsEnd (cut_of t) index) (notes_at (cut_of t) (cut_of after) key change.others (ap note_of change.here ∙ note))
-          (record { front = end.front; last = end.last; some = some_slots t.made (piece_at (cut_of t).pieces key) (subst IsSome (sym seen) refl) (held.sound.segments key) }))
+          (notes_but (cut_of t) (cut_of after) key (IsChangedEnd (cut_of t) (cut_of after) index) (notes_at (cut_of t) (cut_of after) key change.others (ap note_of change.here ∙ note))
+          (record { front = end.front; last = end.last; some = some_slots t.made (piece_at (cut_of t).pieces key) (subst IsSome (sym seen) refl) (held.sound.segments key) }, changed))

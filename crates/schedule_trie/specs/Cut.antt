@@ -149,6 +149,19 @@ note_of (Some p) = p.note
 abbrev pub IsBlank : {T : Type 0} → Cut T → Type 0
 IsBlank c = (k : ℕ) → note_of (piece_at c.pieces k) ≡ None
 
+-- the cells of a segment, if there is one
+abbrev pub slots_by : {T : Type 0} → Option (Piece T) → Option (List Slot)
+slots_by o = option_map (λ p. p.slots) o
+
+-- a segment whose cells stay keeps its note
+abbrev pub KeepsUnchanged : {T : Type 0} → Cut T → Cut T → Type 0
+KeepsUnchanged old new =
+    (k : ℕ) → slots_by (piece_at new.pieces k) ≡ slots_by (piece_at old.pieces k) → piece_at new.pieces k ≡ piece_at old.pieces k
+
+-- a segment has other cells than before
+abbrev pub HasChanged : {T : Type 0} → Cut T → Cut T → ℕ → Type 0
+HasChanged old new key = slots_of (piece_at new.pieces key) ≡ slots_of (piece_at old.pieces key) → ⊥
+
 -- no branch has a cell of these any more
 abbrev pub AreGone : {T : Type 0} → Cut T → List Slot → Type 0
 AreGone new slots = (i x : ℕ) → has_cell x slots ≡ true → has_cell x (slots_in (forest new).branches i) ≡ false
@@ -227,13 +240,17 @@ pub record IsEnd {T : Type 0} (c : Cut T) (index key : ℕ) : Type 0 where
   pub last : keys_in c.strands index ≡ front ++ key ∷ []
   pub some : 0 < length (slots_of (piece_at c.pieces key))
 
+-- the last segment of the branch at an index has other cells than before
+abbrev pub IsChangedEnd : {T : Type 0} → Cut T → Cut T → ℕ → ℕ → Type 0
+IsChangedEnd old new index key = IsEnd old index key × HasChanged old new key
+
 -- a step is put last in the branch at an index, as a new cell
 pub record IsPushed {T : Type 0} (old new : Cut T) (index : ℕ) (step : Step) : Type 0 where
   pub branches : (forest new).branches ≡ only_in index (put_last (slot old.made step)) (forest old).branches
   pub made : new.made ≡ old.made + 1
   pub count : length new.strands ≡ length old.strands
   pub limits : new.limits ≡ old.limits
-  pub notes : KeepsNotesBut old new (IsEnd old index)
+  pub notes : KeepsNotesBut old new (IsChangedEnd old new index)
   pub cut : IsCut new
 
 -- a new cell is put before a cell of a segment: so it is in each branch that holds that one
@@ -243,6 +260,7 @@ pub record IsPutBefore {T : Type 0} (old new : Cut T) (key offset : ℕ) (step :
   pub made : new.made ≡ old.made + 1
   pub limits : new.limits ≡ old.limits
   pub notes : KeepsNotesBut old new (λ k. k ≡ key)
+  pub changed : HasChanged old new key
   pub cut : IsCut new
 
 -- a new cell is put at a place of the branch at an index
@@ -250,6 +268,7 @@ pub record IsInserted {T : Type 0} (old new : Cut T) (index place : ℕ) (step :
   pub forest_is : forest new ≡ inserted (forest old) index place step
   pub limits : new.limits ≡ old.limits
   pub notes : (name : List ℕ) → index_of (forest old).branches name ≡ Some index → KeepsNotesBut old new (CanGrowAt old name place)
+  pub unchanged : KeepsUnchanged old new
   pub cut : IsCut new
 
 -- the keys of the branch at an index, if there is one

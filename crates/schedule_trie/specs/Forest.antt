@@ -1,5 +1,5 @@
 -- The forest of branches, and what each command leaves of it.
-use Rattle.std.specs.Prelude.{◌≡◌, ◌⊎◌, IsOk, ℕ, zero, suc, ◌+◌, Bool, not, nat_eq, nat_le, nat_lt, List, [], ◌∷◌, ◌++◌, Option, Some, None, Result, Ok, Err, length, map, filter, take, position, IfSome, slice_index, slice_get, codes, if◌then◌else◌}
+use Rattle.std.specs.Prelude.{◌≡◌, ◌<◌, ◌⊎◌, IsOk, ℕ, zero, suc, ◌+◌, Bool, not, nat_eq, nat_le, nat_lt, List, [], ◌∷◌, ◌++◌, Option, Some, None, Result, Ok, Err, length, map, filter, take, position, IfSome, slice_index, slice_get, codes, if◌then◌else◌}
 use Rattle.std.specs.List.{flat_map, remove, list_any}
 use Rattle.std.specs.Option.{option_map}
 use Rattle.std.specs.Cmp.Lexicographic.{pointwise}
@@ -64,6 +64,19 @@ name_in branches i = slice_get (map name_of branches) i
 -- no two branches have the same name: each is found by its own
 abbrev pub AreNamedApart : List Branch → Type 0
 AreNamedApart branches = (i : ℕ) → IfSome (name_in branches i) (λ name. index_of branches name ≡ Some i)
+
+-- two branches with a common cell have the same cells up to it, with the same steps; so a branch has a cell once
+abbrev pub ShareUpTo : List Branch → Type 0
+ShareUpTo branches =
+    (i j k l : ℕ) (s t : Slot) → slice_get (slots_in branches i) k ≡ Some s → slice_get (slots_in branches j) l ≡ Some t
+    → s.cell ≡ t.cell → take (suc k) (slots_in branches i) ≡ take (suc l) (slots_in branches j)
+
+-- what every command keeps of a forest: its branches have names of their own, share what comes before a common cell, and have
+-- cells with numbers that were given out
+pub record IsForest (f : Forest) : Type 0 where
+  pub apart : AreNamedApart f.branches
+  pub shared : ShareUpTo f.branches
+  pub given : (i k : ℕ) → IfSome (slice_get (slots_in f.branches i) k) (λ s. s.cell < f.made)
 
 -- how many cells the branch of a name has
 abbrev pub len_of : Forest → List ℕ → Option ℕ

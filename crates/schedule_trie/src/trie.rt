@@ -3,7 +3,7 @@
 ghost use Rattle.std.specs.Prelude.{◌<◌, ◌≤◌, length, IfSome, IfNone, Ok, Err, OnOk, IfErr, OnErr, IfOk, false, [], Some, None, map, slice_get, ◌++◌, ◌≡◌};
 ghost use Rattle.std.specs.Option.{option_map, option_copied};
 ghost use Rattle.std.specs.List.{position};
-ghost use Rattle.schedule_trie.specs.Forest.{path_of, step_of, cell_at, place_of, is_cell, opened, opening, IsRefused, replace_step, index_of, slots_in, name_in, len_of, AreNamedApart};
+ghost use Rattle.schedule_trie.specs.Forest.{path_of, step_of, cell_at, place_of, is_cell, opened, opening, IsRefused, replace_step, index_of, slots_in, name_in, len_of, AreNamedApart, IsForest};
 ghost use Rattle.schedule_trie.specs.Cut.{IsBlank, IsNoted, above_of, before_key, keys_by, if_lacks, note_of, AreLimits, has, IsOwnEnd, IsPushed, LackedByOthers, forest, IsCut, KeepsNotesBut, HoldsCellAt, IsStepSet, piece_at, slots_of, keys_in, line, StandsAt};
 
 mod detach;
@@ -119,6 +119,13 @@ impl<T: Drop> Trie<T> {
         ensures apart { AreNamedApart (forest self.now).branches }
     {
         self.branches.len() as u32
+    }
+
+    /// What a trie keeps by its type: its branches are a forest. It does nothing: callers learn this by its contract.
+    pub fn held(&self)
+        ensures { IsForest (forest self.now) }
+    {
+        let _count = self.branches.len();
     }
 
     /// The name of a branch, in order of making.

@@ -3,7 +3,7 @@
 ghost use Rattle.std.specs.Prelude.{◌≡◌, true, Ok, Err, OnOk, OnErr, IfErr};
 ghost use Rattle.frames.specs.Configuration.{fits_step};
 ghost use Rattle.schedule_trie.specs.Forest.{IsRefused, insert, remove_cell, replace_step, fork, detach, drop_branch};
-ghost use Rattle.schedule_trie.specs.Cut.{IsCut, KeepsNotesBut, KeepsAllNotes, HoldsCellAt, CanGrowAt, IsParted, forest};
+ghost use Rattle.schedule_trie.specs.Cut.{IsCut, KeepsNotesBut, KeepsUnchanged, KeepsAllNotes, HoldsCellAt, CanGrowAt, IsParted, forest};
 
 use super::Chart;
 use frames::register::Register;
@@ -32,6 +32,7 @@ impl<R: Register> Chart<R> {
         ensures err { IfErr result (IsRefused (insert self.old.cut.limits (forest self.old.cut) branch.now place step)) }
         ensures unchanged { OnErr result (self.new ≡ self.old) }
         ensures notes { OnOk result (KeepsNotesBut self.old.cut self.new.cut (CanGrowAt self.old.cut branch.now place)) }
+        ensures others { OnOk result (KeepsUnchanged self.old.cut self.new.cut) }
         ensures cut { OnOk result (IsCut self.new.cut) }
         ensures limits { self.new.cut.limits ≡ self.old.cut.limits }
         ensures start { self.new.start ≡ self.old.start }

@@ -3,7 +3,7 @@
 ghost use Rattle.std.specs.Prelude.{◌≡◌, ◌<◌, ◌≤◌, ◌++◌, length, Ok, OnOk, IfOk, IfErr, OnErr};
 ghost use Rattle.std.specs.List.{insert as inserted_at};
 ghost use Rattle.schedule_trie.specs.Forest.{insert, slots_in, IsRefused};
-ghost use Rattle.schedule_trie.specs.Cut.{forest, piece_at, slots_of, IsCut, KeepsNotesBut, CanGrowAt, IsPutBefore, IsInserted};
+ghost use Rattle.schedule_trie.specs.Cut.{forest, piece_at, slots_of, IsCut, KeepsNotesBut, KeepsUnchanged, CanGrowAt, IsPutBefore, IsInserted};
 
 use super::Trie;
 use super::division::{divide, reserve_division};
@@ -36,6 +36,7 @@ impl<T: Drop> Trie<T> {
         ensures err { IfErr result (IsRefused (insert self.old.limits (forest self.old) branch.now place step)) }
         ensures unchanged { OnErr result (self.new ≡ self.old) }
         ensures notes { OnOk result (KeepsNotesBut self.old self.new (CanGrowAt self.old branch.now place)) }
+        ensures others { OnOk result (KeepsUnchanged self.old self.new) }
         ensures cut { OnOk result (IsCut self.new) }
         ensures limits { self.new.limits ≡ self.old.limits }
     {

@@ -1,6 +1,6 @@
 use Rattle.std.proofs.Common.{◌≡◌, ◌≤◌, length, sym, subst, ◌∙◌, arith}
 use Rattle.schedule_trie.specs.Cut.{line, piece_at}
-use Rattle.cutoff.specs.Fitting.{KeepsRuns, IsMissed, reached}
+use Rattle.cutoff.specs.Fitting.{KeepsRuns, IsFilled, reached}
 use Rattle.cutoff.specs.Held.{keys_named, reached_by}
 use Rattle.cutoff.proofs.Kept.{keys_there, len_there, fits_there}
 use Rattle.cutoff.proofs.chart.Chart.settle.Goals as goal
@@ -28,14 +28,14 @@ pub returns-in-Ok-clause-keeps : goal.returns-in-Ok-clause-keeps
 returns-in-Ok-clause-keeps g c =
     let b = g.R.Behaves.is c.self.inside.start.register in
     let keys : c.deref.result.now ≡ keys_named c.self.inside.trie c.args.branch.now = c.deref.ensures.value ∙ sym (keys_there b c.self.inside.trie c.args.branch.now c.in_ok-keys.keys.items c.in-Some.len c.in-Some.ensures c.in_ok-keys.ensures.ok) in
-    subst (λ v. KeepsRuns v.cut c.settle_along.new.trie (IsMissed g.R.PartialEq.eq (g.R.Behaves.is v.start.register) v.cut v.start (reached_by v.cut c.args.branch.now c.args.place))) c.self.view_is
-    (subst (λ ks. KeepsRuns c.self.inside.trie c.settle_along.new.trie (IsMissed g.R.PartialEq.eq b c.self.inside.trie c.self.inside.start (reached c.self.inside.trie c.args.place ks))) keys
+    subst (λ v. KeepsRuns v.cut c.settle_along.new.trie (IsFilled g.R.PartialEq.eq (g.R.Behaves.is v.start.register) v.cut c.settle_along.new.trie v.start (reached_by v.cut c.args.branch.now c.args.place))) c.self.view_is
+    (subst (λ ks. KeepsRuns c.self.inside.trie c.settle_along.new.trie (IsFilled g.R.PartialEq.eq b c.self.inside.trie c.settle_along.new.trie c.self.inside.start (reached c.self.inside.trie c.args.place ks))) keys
     c.in-Ok.ensures.keeps)
 
 pub returns-clause-keeps : goal.returns-clause-keeps
 returns-clause-keeps g c =
     let b = g.R.Behaves.is c.self.inside.start.register in
     let keys : c.deref.result.now ≡ keys_named c.self.inside.trie c.args.branch.now = c.deref.ensures.value ∙ sym (keys_there b c.self.inside.trie c.args.branch.now c.in_ok-keys.keys.items c.in-Some.len c.in-Some.ensures c.in_ok-keys.ensures.ok) in
-    subst (λ v. KeepsRuns v.cut c.settle_along.new.trie (IsMissed g.R.PartialEq.eq (g.R.Behaves.is v.start.register) v.cut v.start (reached_by v.cut c.args.branch.now c.args.place))) c.self.view_is
-    (subst (λ ks. KeepsRuns c.self.inside.trie c.settle_along.new.trie (IsMissed g.R.PartialEq.eq b c.self.inside.trie c.self.inside.start (reached c.self.inside.trie c.args.place ks))) keys
+    subst (λ v. KeepsRuns v.cut c.settle_along.new.trie (IsFilled g.R.PartialEq.eq (g.R.Behaves.is v.start.register) v.cut c.settle_along.new.trie v.start (reached_by v.cut c.args.branch.now c.args.place))) c.self.view_is
+    (subst (λ ks. KeepsRuns c.self.inside.trie c.settle_along.new.trie (IsFilled g.R.PartialEq.eq b c.self.inside.trie c.settle_along.new.trie c.self.inside.start (reached c.self.inside.trie c.args.place ks))) keys
     c.in-Err.ensures.keeps)
