@@ -2,12 +2,12 @@
 use Rattle.std.proofs.Common.{Result, Ok, Err, OnOk, ◌≡◌, ℕ, ◌+◌, ◌<◌, ◌≤◌, Bool, true, false, cond, nat_eq, nat_lt, List, [], ◌∷◌, ◌++◌, length, take, refl, sym, ap, ◌∙◌, arith, append_assoc, append-nil, eq-eqb}
 use Rattle.std.proofs.lemmas.Bool.Decides.{nat_tests}
 use Rattle.std.specs.List.{fold}
-use Rattle.std.proofs.lemmas.List.Sums.{fold_push, fold-append}
+use Rattle.std.proofs.lemmas.List.Sums.{fold_push}
 use Rattle.conversation.specs.Scripts.{Definition, Marks, Progress, beginning, further, next_line, after_lines, answers_to, lines_of, all_but_last, whole_lines, is_line_end, IsAnswer}
 use Rattle.conversation.specs.Told.{Told}
-use Rattle.conversation.specs.Conversations.{IsFront}
 use Rattle.conversation.proofs.Splits.{split-push, split-push_cut}
 use Rattle.conversation.proofs.Fronts.{front_push}
+use Rattle.conversation.specs.declared.limits.TheConstants.{KEPT_BYTES}
 
 -- the marks, with line n marked so
 abbrev mark : Marks → ℕ → Bool → Marks
@@ -29,24 +29,35 @@ but_last [] rest = refl
 but_last (line ∷ []) rest = refl
 but_last (line ∷ next ∷ lines) rest = ap (λ (ls : List (List ℕ)). line ∷ ls) (but_last (next ∷ lines) rest)
 
--- a text that goes on keeps its whole lines
-go_on : (seen more : List ℕ) (whole : List (List ℕ)) (rest : List ℕ) → lines_of seen ≡ whole ++ rest ∷ [] → (others : List (List ℕ)) × (lines_of (seen ++ more) ≡ whole ++ others)
-go_on seen [] whole rest e = (rest ∷ [], ap lines_of (append-nil seen) ∙ e)
+-- what a text's lines are that goes on: its whole lines, and at least one more
+record GoesOn (whole ls : List (List ℕ)) : Type 0 where
+  pub next : List ℕ
+  pub others : List (List ℕ)
+  pub same : ls ≡ whole ++ next ∷ others
+
+go_on : (seen more : List ℕ) (whole : List (List ℕ)) (rest : List ℕ) → lines_of seen ≡ whole ++ rest ∷ [] → GoesOn whole (lines_of (seen ++ more))
+go_on seen [] whole rest e = record { next = rest; others = []; same = ap lines_of (append-nil seen) ∙ e }
 go_on seen (b ∷ more) whole rest e = step (is_line_end b) refl (λ w r cut. go_on (seen ++ b ∷ []) more w r cut)
   where
     joined : lines_of (seen ++ b ∷ more) ≡ lines_of ((seen ++ b ∷ []) ++ more)
     joined = ap lines_of (sym (append_assoc seen (b ∷ []) more))
 
     step : (t : Bool) → is_line_end b ≡ t
-        → ((w : List (List ℕ)) (r : List ℕ) → lines_of (seen ++ b ∷ []) ≡ w ++ r ∷ [] → (others : List (List ℕ)) × (lines_of ((seen ++ b ∷ []) ++ more) ≡ w ++ others))
-        → (others : List (List ℕ)) × (lines_of (seen ++ b ∷ more) ≡ whole ++ others)
+        → ((w : List (List ℕ)) (r : List ℕ) → lines_of (seen ++ b ∷ []) ≡ w ++ r ∷ [] → GoesOn w (lines_of ((seen ++ b ∷ []) ++ more)))
+        → GoesOn whole (lines_of (seen ++ b ∷ more))
     step true h later =
         let cut : lines_of (seen ++ b ∷ []) ≡ (whole ++ rest ∷ []) ++ [] ∷ [] = split-push_cut is_line_end seen b h ∙ ap (λ ls. ls ++ [] ∷ []) e in
         let on = later (whole ++ rest ∷ []) [] cut in
-        (rest ∷ on.0, joined ∙ on.1 ∙ append_assoc whole (rest ∷ []) on.0)
+        record { next = rest; others = on.next ∷ on.others; same = joined ∙ on.same ∙ append_assoc whole (rest ∷ []) (on.next ∷ on.others) }
     step false h later =
         let on = later whole (rest ++ b ∷ []) (split-push is_line_end seen b whole rest h e) in
-        (on.0, joined ∙ on.1)
+        record { next = on.next; others = on.others; same = joined ∙ on.same }
+
+-- the first whole lines are those of the text before
+first_lines : (whole : List (List ℕ)) (next : List ℕ) (others : List (List ℕ)) → take (length whole) (all_but_last (whole ++ next ∷ others)) ≡ whole
+first_lines [] next others = refl
+first_lines (line ∷ []) next others = refl
+first_lines (line ∷ more ∷ whole) next others = ap (λ (ls : List (List ℕ)). line ∷ ls) (first_lines (more ∷ whole) next others)
 
 module _ {W : Type 0} (define : Definition W) where
   -- what lines leave depends on their own marks alone
@@ -61,21 +72,7 @@ module _ {W : Type 0} (define : Definition W) where
   count_lines marks [] p = omega arith
   count_lines marks (line ∷ lines) p = omega (arith, count_lines marks lines (next_line define marks p line))
 
-  -- answers come behind those before them
-  grows : (marks : Marks) (lines : List (List ℕ)) (p : Progress W) → IsFront p.text (fold (next_line define marks) p lines).text
-  grows marks [] p = ([], sym (append-nil p.text))
-  grows marks (line ∷ lines) p =
-      let q = next_line define marks p line in
-      let more = grows marks lines q in
-      let own = (define (marks (p.lines + 1)) (p.lines + 1) line p.world).text in
-      (own ++ more.0, more.1 ∙ append_assoc p.text own more.0)
-
   module _ (start : W) where
-    front_of_answers : (marks : Marks) (whole others : List (List ℕ)) → IsFront (answers_to define start whole marks) (answers_to define start (whole ++ others) marks)
-    front_of_answers marks whole others =
-        let more = grows marks others (after_lines define start whole marks) in
-        (more.0, ap (λ q. q.text) (fold-append (next_line define marks) (beginning start) whole others) ∙ more.1)
-
     module _ (seen : List ℕ) (world : W) (lines : ℕ) (line text : List ℕ) where
       pub told_start : seen ≡ [] → world ≡ start → lines ≡ 0 → line ≡ [] → text ≡ [] → Told define start seen world lines line text
       told_start s w n l t = record {
@@ -94,15 +91,14 @@ module _ {W : Type 0} (define : Definition W) where
         pub told_whole : text ≡ answers_to define start (whole_lines seen) t.marks
         told_whole = t.same_text ∙ ap (λ ls. answers_to define start ls t.marks) (sym (ap all_but_last t.cut ∙ but_last t.whole t.rest))
 
-        -- and the front of those to all lines, whatever comes behind
-        pub told_front : (more : List ℕ) → IsFront text (answers_to define start (lines_of (seen ++ more)) t.marks)
-        told_front more =
+        -- and to the first whole lines of what is seen later
+        pub told_first : (more : List ℕ) → text ≡ answers_to define start (take (length t.whole) (whole_lines (seen ++ more))) t.marks
+        told_first more =
             let on = go_on seen more t.whole t.rest t.cut in
-            let front = front_of_answers t.marks t.whole on.0 in
-            (front.0, ap (λ ls. answers_to define start ls t.marks) on.1 ∙ front.1 ∙ ap (λ xs. xs ++ front.0) (sym t.same_text))
+            t.same_text ∙ ap (λ ls. answers_to define start ls t.marks) (sym (ap (λ ls. take (length t.whole) (all_but_last ls)) on.same ∙ first_lines t.whole on.next on.others))
 
         pub told_other : (b : ℕ) (new_world : W) (new_lines : ℕ) (new_line new_text : List ℕ) → is_line_end b ≡ false
-            → new_world ≡ world → new_lines ≡ lines → new_line ≡ cond (nat_lt (length line) 256) (line ++ b ∷ []) line → new_text ≡ text
+            → new_world ≡ world → new_lines ≡ lines → new_line ≡ cond (nat_lt (length line) KEPT_BYTES) (line ++ b ∷ []) line → new_text ≡ text
             → Told define start (seen ++ b ∷ []) new_world new_lines new_line new_text
         told_other b new_world new_lines new_line new_text h w n l same = record {
           marks = t.marks;
@@ -122,7 +118,7 @@ pub record ToldAll {W : Type 0} (define : Definition W) (start : W) (script : Li
   pub same_lines : lines ≡ (after_lines define start (lines_of script) marks).lines
   pub same_text : text ≡ answers_to define start (lines_of script) marks
 
-module _ {W : Type 0} (define : Definition W) (front : (memory : Bool) (number : ℕ) (line : List ℕ) (w : W) → define memory number (take 256 line) w ≡ define memory number line w)
+module _ {W : Type 0} (define : Definition W) (front : (memory : Bool) (number : ℕ) (line : List ℕ) (w : W) → define memory number (take KEPT_BYTES line) w ≡ define memory number line w)
     (start : W) (seen : List ℕ) (world : W) (lines : ℕ) (line text : List ℕ) (t : Told define start seen world lines line text) where
   pub told_all : (new_world : W) (new_text : List ℕ) → IsAnswer define (lines + 1) line world new_world text new_text → ToldAll define start seen new_world (lines + 1) new_text
   told_all new_world new_text a = record {

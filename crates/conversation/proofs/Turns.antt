@@ -1,5 +1,5 @@
 -- What a turn and the end of a conversation come to.
-use Rattle.std.proofs.Common.{◌≡◌, ℕ, ◌+◌, ◌^◌, ◌<◌, ◌≤◌, Bool, List, [], ◌++◌, length, take, Option, refl, sym, ap, subst, ◌∙◌, arith, append_assoc, append-nil, length-append}
+use Rattle.std.proofs.Common.{◌≡◌, ℕ, ◌+◌, ◌^◌, ◌<◌, ◌≤◌, Bool, List, [], ◌++◌, length, take, Option, refl, sym, ap, subst, ◌∙◌, arith, append_assoc, append-nil, length-append, inl, inr}
 use Rattle.std.specs.Io.KnownBytes.{Appends, Consumes, IsAtEnd}
 use Rattle.conversation.specs.declared.fault.StreamFault.TheVariants.{Read, Write, TooLong, Memory}
 use Rattle.conversation.specs.Scripts.{Definition, answers_to, lines_of, IsAnswer}
@@ -8,11 +8,9 @@ use Rattle.std.specs.Result.{IsErr, IsErrAnd}
 use Rattle.conversation.specs.declared.fault.StreamFault.{StreamFault}
 use Rattle.conversation.specs.Told.{Told, Reached, Finished}
 use Rattle.conversation.specs.Conversations.{IsAnswered, Breaks, IsFront}
-use Rattle.conversation.proofs.Tellings.{ToldAll, told_start, told_whole, told_front, told_all, behind}
+use Rattle.conversation.proofs.Tellings.{ToldAll, told_start, told_whole, told_first, told_all, behind}
 use Rattle.conversation.proofs.Known.{appends_none, appends_more, consumes_start, consumes_more, consumes_kept}
-
-front_more : (a b c : List ℕ) → IsFront a b → IsFront b c → IsFront a c
-front_more a b c h k = (h.0 ++ k.0, k.1 ∙ ap (λ xs. xs ++ k.0) h.1 ∙ append_assoc a h.0 k.0)
+use Rattle.conversation.specs.declared.limits.TheConstants.{KEPT_BYTES, MOST_BYTES}
 
 front_behind : (text front out : List ℕ) → IsFront front out → IsFront (text ++ front) (text ++ out)
 front_behind text front out h = (h.0, ap (λ xs. text ++ xs) h.1 ∙ sym (append_assoc text front h.0))
@@ -32,7 +30,7 @@ module _ {W : Type 0} (define : Definition W) (start : W) where
     pub reached_kept : (next : Option (List ℕ)) → Consumes now next [] → Reached define start old next before after count world lines line
     reached_kept next k = record { seen = r.seen; text = r.text; read = consumes_kept old now next r.seen r.read k; counted = r.counted; wrote = r.wrote; told = r.told }
 
-    pub breaks_read : (next : Option (List ℕ)) → Consumes now next [] → count ≤ 2 ^ 24 → Breaks (answers_to define start) Read old next before after
+    pub breaks_read : (next : Option (List ℕ)) → Consumes now next [] → count ≤ MOST_BYTES → Breaks (answers_to define start) Read old next before after
     breaks_read next k few = record {
       seen = r.seen;
       marks = r.told.marks;
@@ -43,7 +41,7 @@ module _ {W : Type 0} (define : Definition W) (start : W) where
       went = told_whole define start r.seen world lines line r.text r.told;
     }
 
-    pub breaks_long : count ≤ 2 ^ 24 → Breaks (answers_to define start) TooLong old now before after
+    pub breaks_long : count ≤ MOST_BYTES → Breaks (answers_to define start) TooLong old now before after
     breaks_long few = record {
       seen = r.seen;
       marks = r.told.marks;
@@ -55,7 +53,7 @@ module _ {W : Type 0} (define : Definition W) (start : W) where
     }
 
     -- what was read in a turn that memory ends goes unanswered
-    pub breaks_memory : (next : Option (List ℕ)) (piece : List ℕ) → Consumes now next piece → count + length piece ≤ 2 ^ 24
+    pub breaks_memory : (next : Option (List ℕ)) (piece : List ℕ) → Consumes now next piece → count + length piece ≤ MOST_BYTES
         → Breaks (answers_to define start) Memory old next before after
     breaks_memory next piece k few = record {
       seen = r.seen ++ piece;
@@ -64,7 +62,7 @@ module _ {W : Type 0} (define : Definition W) (start : W) where
       read = consumes_more old now next r.seen piece r.read k;
       few = omega (arith, r.counted, length-append r.seen piece);
       wrote = r.wrote;
-      went = told_front define start r.seen world lines line r.text r.told piece;
+      went = (length r.told.whole, told_first define start r.seen world lines line r.text r.told piece);
     }
 
     -- a turn's answers, and what of them the writer took
@@ -90,10 +88,11 @@ module _ {W : Type 0} (define : Definition W) (start : W) where
         };
       }
 
-      pub breaks_write : (last : Option (List ℕ)) (front : List ℕ) → IsFront front out → Appends after last front → count + n ≤ 2 ^ 24
+      pub breaks_write : (last : Option (List ℕ)) (front : List ℕ) → IsFront front out → Appends after last front → count + n ≤ MOST_BYTES
           → Breaks (answers_to define start) Write old next before last
       breaks_write last front f w few =
-          let all = told_front define start (r.seen ++ piece) new_world new_lines new_line (r.text ++ out) t [] in
+          let h = front_behind r.text front out f in
+          let all = told_whole define start (r.seen ++ piece) new_world new_lines new_line (r.text ++ out) t in
           record {
             seen = r.seen ++ piece;
             marks = t.marks;
@@ -101,7 +100,7 @@ module _ {W : Type 0} (define : Definition W) (start : W) where
             read = consumes_more old now next r.seen piece r.read k;
             few = omega (arith, r.counted, size, length-append r.seen piece);
             wrote = appends_more before after last r.text front r.wrote w;
-            went = front_more (r.text ++ front) (r.text ++ out) _ (front_behind r.text front out f) (all.0, ap (λ s. answers_to define start (lines_of s) t.marks) (sym (append-nil (r.seen ++ piece))) ∙ all.1);
+            went = inl (h.0, sym all ∙ h.1);
           }
 
     -- nothing is kept back between turns
@@ -118,8 +117,8 @@ module _ {W : Type 0} (define : Definition W) (start : W) where
     }
 
     -- the end: the last line is answered too
-    module _ (reads_front : (memory : Bool) (number : ℕ) (line : List ℕ) (w : W) → define memory number (take 256 line) w ≡ define memory number line w)
-        (ended : IsAtEnd now) (short : count < 2 ^ 24) (new_world : W) (sent out : List ℕ) (none : sent ≡ []) (a : IsAnswer define (lines + 1) line world new_world sent out) where
+    module _ (reads_front : (memory : Bool) (number : ℕ) (line : List ℕ) (w : W) → define memory number (take KEPT_BYTES line) w ≡ define memory number line w)
+        (ended : IsAtEnd now) (short : count < MOST_BYTES) (new_world : W) (sent out : List ℕ) (none : sent ≡ []) (a : IsAnswer define (lines + 1) line world new_world sent out) where
       onto : IsAnswer define (lines + 1) line world new_world r.text (r.text ++ out)
       onto =
           let b = behind define (lines + 1) line world new_world sent out r.text a in
@@ -148,7 +147,7 @@ module _ {W : Type 0} (define : Definition W) (start : W) where
             read = r.read;
             few = omega (arith, r.counted);
             wrote = appends_more before after last r.text front r.wrote w;
-            went = (h.0, sym all.same_text ∙ h.1);
+            went = inr (ended, (h.0, sym all.same_text ∙ h.1));
           }
 
   -- an end that went well or didn't, clause by clause

@@ -1,7 +1,9 @@
 -- How far a conversation has come.
-use Rattle.std.specs.Prelude.{ℕ, ◌≡◌, ◌+◌, ◌≤◌, List, ◌∷◌, [], ◌++◌, Option, Some, None, Result, Ok, Err, ⊤, take, length}
+use Rattle.std.specs.Prelude.{ℕ, ◌≡◌, ◌+◌, ◌≤◌, List, ◌∷◌, [], ◌++◌, Option, Some, None, Result, Ok, Err, ⊤, take, length, nat_lt, if◌then◌else◌}
 use Rattle.std.specs.Io.KnownBytes.{Appends, Consumes, IsAtEnd}
+use Rattle.conversation.specs.declared.converse.Conversation.{Conversation}
 use Rattle.conversation.specs.declared.fault.StreamFault.{StreamFault}
+use Rattle.conversation.specs.declared.limits.TheConstants.{KEPT_BYTES}
 use Rattle.conversation.specs.Scripts.{Definition, Marks, lines_of, after_lines, answers_to}
 use Rattle.conversation.specs.Conversations.{IsAnswered, Breaks}
 
@@ -12,10 +14,20 @@ pub record Told {W : Type 0} (define : Definition W) (start : W) (seen : List �
   pub whole : List (List ℕ)
   pub rest : List ℕ
   pub cut : lines_of seen ≡ whole ++ rest ∷ []
-  pub kept : line ≡ take 256 rest
+  pub kept : line ≡ take KEPT_BYTES rest
   pub same_world : world ≡ (after_lines define start whole marks).world
   pub same_lines : lines ≡ (after_lines define start whole marks).lines
   pub same_text : text ≡ (after_lines define start whole marks).text
+
+-- What had been told of what was seen, behind whatever went out before, is told of this piece more.
+abbrev pub TellsOn : {W : Type 0} → Definition W → W → Conversation → W → Conversation → List ℕ → Type 0
+TellsOn {W} define old before new after piece = (start : W) (seen front : List ℕ)
+    → Told define start seen old before.lines before.line.items (front ++ before.out.items)
+    → Told define start (seen ++ piece) new after.lines after.line.items (front ++ after.out.items)
+
+-- what is kept of a line with a byte more
+abbrev pub kept_with : List ℕ → ℕ → List ℕ
+kept_with line byte = if nat_lt (length line) KEPT_BYTES then line ++ byte ∷ [] else line
 
 -- The reader, which had `old` left, gave so many bytes, and the writer, which held `before`, took the answers to their whole lines.
 pub record Reached {W : Type 0} (define : Definition W) (start : W) (old now before after : Option (List ℕ)) (count : ℕ) (world : W) (lines : ℕ) (line : List ℕ) : Type 0 where

@@ -2,27 +2,20 @@
 
 ghost use Rattle.std.specs.Prelude.{◌≡◌, ◌++◌, ◌∷◌, [], ◌<◌, ◌≤◌, ◌+◌, ◌^◌, ℕ, List, Option, OnOk, OnErr, IfOk, IfErr, IfSome, length, nat_lt, if◌then◌else◌};
 ghost use Rattle.std.specs.Io.KnownBytes.{Appends, IsAtEnd};
+ghost use Rattle.conversation.specs.declared.limits.TheConstants.{KEPT_BYTES, MOST_BYTES};
 ghost use Rattle.conversation.specs.Scripts.{answers_to, AnswersBy, IsAnswer};
-ghost use Rattle.conversation.specs.Told.{Told, Reached, Turned, Finished};
-ghost use Rattle.conversation.specs.Conversations.{IsAnswered, Breaks, IsFront};
+ghost use Rattle.conversation.specs.Told.{kept_with, TellsOn, Reached, Turned, Finished};
+ghost use Rattle.conversation.specs.Conversations.{IsAnswered, Breaks, WroteFront};
 
 use crate::answering::Answers;
 use crate::fault::StreamFault;
+use crate::limits::{KEPT_BYTES, MOST_BYTES, MOST_READS};
 use crate::streams::{read_piece, write_whole};
 use std::alloc::{AllocError, Global};
 use std::io::{Read, Write};
 
-/// The bytes that a script doesn't reach.
-const MOST_BYTES: u32 = 1 << 24;
-
-/// The most reads of a script.
-const MOST_READS: u32 = 1 << 25;
-
 /// The most bytes of one read.
 const PIECE_BYTES: usize = 4096;
-
-/// A line is kept up to this many bytes: no call is as long.
-const KEPT_BYTES: usize = 256;
 
 /// The line that has not ended yet, how many lines have, and the answers that have not gone out.
 #[derive(Drop)]
@@ -56,9 +49,8 @@ impl Conversation {
         requires few { self.old.lines + length piece.now < 2 ^ 32 }
         requires callable { F.IsAlwaysCallable answer.now }
         requires answers { AnswersBy A.define A.world (F.post answer.now) }
-        ensures told { OnOk result ((start : A.Worlds) (seen front : List ℕ)
-            → Told A.define start seen (A.world answers.old) self.old.lines self.old.line.items (front ++ self.old.out.items)
-            → Told A.define start (seen ++ piece.now) (A.world answers.new) self.new.lines self.new.line.items (front ++ self.new.out.items)) }
+        ensures told { OnOk result (TellsOn A.define (A.world answers.old) self.old
+            (A.world answers.new) self.new piece.now) }
         ensures lines { self.new.lines ≤ self.old.lines + length piece.now }
     {
         for byte in piece {
@@ -77,9 +69,8 @@ impl Conversation {
         requires few { self.old.lines + 1 < 2 ^ 32 }
         requires callable { F.IsAlwaysCallable answer.now }
         requires answers { AnswersBy A.define A.world (F.post answer.now) }
-        ensures told { OnOk result ((start : A.Worlds) (seen front : List ℕ)
-            → Told A.define start seen (A.world answers.old) self.old.lines self.old.line.items (front ++ self.old.out.items)
-            → Told A.define start (seen ++ byte ∷ []) (A.world answers.new) self.new.lines self.new.line.items (front ++ self.new.out.items)) }
+        ensures told { OnOk result (TellsOn A.define (A.world answers.old) self.old
+            (A.world answers.new) self.new (byte ∷ [])) }
         ensures lines { self.new.lines ≤ self.old.lines + 1 }
     {
         if byte == b'\n' {
@@ -99,7 +90,8 @@ impl Conversation {
         requires answers { AnswersBy A.define A.world (F.post answer.now) }
         ensures lines { self.new.lines ≡ self.old.lines + 1 }
         ensures line { OnOk result (self.new.line.items ≡ []) }
-        ensures answer { OnOk result (IsAnswer A.define (self.old.lines + 1) self.old.line.items (A.world answers.old) (A.world answers.new) self.old.out.items self.new.out.items) }
+        ensures answer { OnOk result (IsAnswer A.define (self.old.lines + 1) self.old.line.items
+            (A.world answers.old) (A.world answers.new) self.old.out.items self.new.out.items) }
     {
         self.lines += 1;
         let text = answer(answers, self.lines, &self.line)?;
@@ -112,7 +104,7 @@ impl Conversation {
     fn keep(&mut self, byte: u8) -> Result<(), AllocError>
         ensures out { self.new.out ≡ self.old.out }
         ensures lines { self.new.lines ≡ self.old.lines }
-        ensures line { OnOk result (self.new.line.items ≡ (if nat_lt (length self.old.line.items) 256 then self.old.line.items ++ byte ∷ [] else self.old.line.items)) }
+        ensures line { OnOk result (self.new.line.items ≡ kept_with self.old.line.items byte) }
     {
         if self.line.len() < KEPT_BYTES {
             self.line.push(byte)?;
@@ -124,9 +116,11 @@ impl Conversation {
     fn send<W: Write>(&mut self, writer: &mut W) -> Result<(), StreamFault>
         ensures line { self.new.line ≡ self.old.line }
         ensures lines { self.new.lines ≡ self.old.lines }
-        ensures sent { OnOk result (Appends (W.contents writer.old) (W.contents writer.new) self.old.out.items) }
+        ensures sent { OnOk result
+            (Appends (W.contents writer.old) (W.contents writer.new) self.old.out.items) }
         ensures out { OnOk result (self.new.out.items ≡ []) }
-        ensures front { OnErr result ((front : List ℕ) × IsFront front self.old.out.items × Appends (W.contents writer.old) (W.contents writer.new) front) }
+        ensures front { OnErr result
+            (WroteFront (W.contents writer.old) (W.contents writer.new) self.old.out.items) }
         ensures fault { IfErr result (λ e. e ≡ StreamFault.Write) }
     {
         if self.out.is_empty() {
@@ -161,11 +155,15 @@ impl Conversation {
         requires callable { F.IsAlwaysCallable answer.now }
         requires answers { AnswersBy A.define A.world (F.post answer.now) }
         ensures out { OnOk result (self.new.out.items ≡ []) }
-        ensures lines { IfOk result (λ taken. IfSome taken (λ n. self.new.lines ≤ self.old.lines + n)) }
+        ensures lines { IfOk result (λ taken. IfSome taken
+            (λ n. self.new.lines ≤ self.old.lines + n)) }
         ensures last { IfOk result (λ taken. taken ≡ None → self.new.lines ≡ self.old.lines) }
-        ensures turned { (start : A.Worlds) (old before : Option (List ℕ)) (count : ℕ) → count + room ≤ 2 ^ 24
-            → Reached A.define start old (R.remaining reader.old) before (W.contents writer.old) count (A.world answers.old) self.old.lines self.old.line.items
-            → Turned A.define start old (R.remaining reader.new) before (W.contents writer.new) room count (A.world answers.new) self.new.lines self.new.line.items result }
+        ensures turned { (start : A.Worlds) (old before : Option (List ℕ)) (count : ℕ)
+            → count + room ≤ MOST_BYTES
+            → Reached A.define start old (R.remaining reader.old) before (W.contents writer.old)
+            count (A.world answers.old) self.old.lines self.old.line.items
+            → Turned A.define start old (R.remaining reader.new) before (W.contents writer.new) room
+            count (A.world answers.new) self.new.lines self.new.line.items result }
     {
         let mut buffer = [0; PIECE_BYTES];
         let most = PIECE_BYTES.min(room as usize);
@@ -195,8 +193,10 @@ impl Conversation {
         requires sent { self.old.out.items ≡ [] }
         requires callable { F.IsAlwaysCallable answer.now }
         requires answers { AnswersBy A.define A.world (F.post answer.now) }
-        ensures { (start : A.Worlds) (old now before : Option (List ℕ)) (count : ℕ) → count < 2 ^ 24 → IsAtEnd now
-            → Reached A.define start old now before (W.contents writer.old) count (A.world answers.old) self.old.lines self.old.line.items
+        ensures { (start : A.Worlds) (old now before : Option (List ℕ)) (count : ℕ)
+            → count < MOST_BYTES → IsAtEnd now
+            → Reached A.define start old now before (W.contents writer.old) count
+            (A.world answers.old) self.old.lines self.old.line.items
             → Finished A.define start old now before (W.contents writer.new) result }
     {
         let Ok(()) = self.end_line(answers, answer) else {
@@ -224,8 +224,12 @@ pub fn converse<
 ) -> Result<(), StreamFault>
     requires callable { F.IsAlwaysCallable answer.now }
     requires answers { AnswersBy A.define A.world (F.post answer.now) }
-    ensures done { OnOk result (IsAnswered (answers_to A.define (A.world answers.old)) (R.remaining reader.old) (R.remaining reader.new) (W.contents writer.old) (W.contents writer.new)) }
-    ensures fault { IfErr result (λ e. Breaks (answers_to A.define (A.world answers.old)) e (R.remaining reader.old) (R.remaining reader.new) (W.contents writer.old) (W.contents writer.new)) }
+    ensures done { OnOk result (IsAnswered (answers_to A.define (A.world answers.old))
+        (R.remaining reader.old) (R.remaining reader.new)
+        (W.contents writer.old) (W.contents writer.new)) }
+    ensures fault { IfErr result (λ e. Breaks (answers_to A.define (A.world answers.old)) e
+        (R.remaining reader.old) (R.remaining reader.new)
+        (W.contents writer.old) (W.contents writer.new)) }
 {
     let mut conversation = Conversation::new(alloc);
     let mut room = MOST_BYTES;

@@ -4,4 +4,5 @@
 pub mod answering;
 pub mod converse;
 pub mod fault;
+pub mod limits;
 pub mod streams;

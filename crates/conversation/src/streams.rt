@@ -2,7 +2,7 @@
 
 ghost use Rattle.std.specs.Prelude.{◌≡◌, [], ◌<◌, ◌≤◌, ℕ, List, OnErr, OnOk, IfOk, IfErr, IfSome, MatchOption, length, take};
 ghost use Rattle.std.specs.Io.KnownBytes.{Appends, Consumes, IsAtEnd};
-ghost use Rattle.conversation.specs.Conversations.{IsFront};
+ghost use Rattle.conversation.specs.Conversations.{IsFront, WroteFront};
 
 use crate::fault::StreamFault;
 use std::io::{ErrorKind, Read, Write};
@@ -18,7 +18,8 @@ pub fn read_piece<R: Read>(
     requires room { most ≤ length buffer.old }
     ensures bound { IfOk result (λ taken. IfSome taken (λ n. n ≤ most)) }
     ensures bytes { IfOk result (λ taken. MatchOption taken
-        (Consumes (R.remaining reader.old) (R.remaining reader.new) [] × IsAtEnd (R.remaining reader.new))
+        (Consumes (R.remaining reader.old) (R.remaining reader.new) []
+        × IsAtEnd (R.remaining reader.new))
         (λ n. Consumes (R.remaining reader.old) (R.remaining reader.new) (take n buffer.new))) }
     ensures kept { OnErr result (Consumes (R.remaining reader.old) (R.remaining reader.new) []) }
     ensures fault { IfErr result (λ e. e ≡ StreamFault.Read) }
@@ -33,8 +34,10 @@ pub fn read_piece<R: Read>(
 
 /// Writes all bytes; where a write fails, or takes none, a front of them was written.
 pub fn write_whole<W: Write>(writer: &mut W, bytes: &[u8]) -> Result<(), StreamFault>
-    ensures written { OnOk result (Appends (W.contents writer.old) (W.contents writer.new) bytes.now) }
-    ensures front { OnErr result ((front : List ℕ) × IsFront front bytes.now × Appends (W.contents writer.old) (W.contents writer.new) front) }
+    ensures written { OnOk result
+        (Appends (W.contents writer.old) (W.contents writer.new) bytes.now) }
+    ensures front { OnErr result
+        (WroteFront (W.contents writer.old) (W.contents writer.new) bytes.now) }
     ensures fault { IfErr result (λ e. e ≡ StreamFault.Write) }
 {
     let mut rest = bytes;

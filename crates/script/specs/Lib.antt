@@ -1,4 +1,5 @@
 pub mod Lines
+pub mod Spelling
 pub mod Texts
 pub mod Answers
 pub mod LineFronts

@@ -1,9 +1,10 @@
--- A line reads as its first 256 bytes do.
+-- A line reads as its first bytes do, as many as are kept of it.
 use Rattle.std.proofs.Common.{◌≡◌, ℕ, ◌<◌, Bool, false, cond, ◌&&◌, nat_le, ◌==◌, List, [], ◌∷◌, length, take, refl, sym, ap, ◌∙◌, arith, inl, inr}
 use Rattle.std.proofs.lemmas.List.{take_all, length-take}
 use Rattle.std.proofs.lemmas.Bool.{cases_lt}
 use Rattle.std.proofs.lemmas.Bool.Decides.{nat_tests}
 use Rattle.std.specs.List.{list_all}
+use Rattle.conversation.specs.declared.limits.TheConstants.{KEPT_BYTES}
 use Rattle.words.specs.Words.{words}
 use Rattle.script.specs.declared.call.Line.TheVariants as line
 use Rattle.script.specs.Lines.{called, call_or_bad, call_of, read_line, is_plain}
@@ -22,9 +23,9 @@ called-front b bs = elim (cases_lt (length bs) 255) [
   | inr long ↦ called_long (b ∷ take 255 bs) (omega (arith, length-take 255 bs)) ∙ sym (called_long (b ∷ bs) (omega arith))
 ]
 
-pub read_line-front : (text : List ℕ) → read_line (take 256 text) ≡ read_line text
+pub read_line-front : (text : List ℕ) → read_line (take KEPT_BYTES text) ≡ read_line text
 read_line-front [] = refl
 read_line-front (b ∷ bs) = ap (λ l. cond (b == 35) line.Blank l) (called-front b bs)
 
-pub answer_line-front : {P : Type 0} (memory : Bool) (n : ℕ) (text : List ℕ) (w : World P) → answer_line memory n (take 256 text) w ≡ answer_line memory n text w
+pub answer_line-front : {P : Type 0} (memory : Bool) (n : ℕ) (text : List ℕ) (w : World P) → answer_line memory n (take KEPT_BYTES text) w ≡ answer_line memory n text w
 answer_line-front memory n text w = ap (λ l. answer_to memory n l w) (read_line-front text)

@@ -2,6 +2,7 @@
 #![tactic(auto)]
 
 pub mod call;
+pub mod laws;
 pub mod line;
 pub mod look;
 pub mod text;

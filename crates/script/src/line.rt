@@ -2,7 +2,9 @@
 
 ghost use Rattle.std.specs.Prelude.{◌≡◌};
 ghost use Rattle.std.specs.List.{list_all};
+ghost use Rattle.script.specs.declared.call.Line.{Line};
 ghost use Rattle.script.specs.Lines as spec;
+ghost use Rattle.script.specs.Spelling.{Says};
 
 use crate::call::{Call, Line, Request};
 use crate::look::{branch, branch_of, is_look, look_of, place_of};
@@ -19,6 +21,16 @@ const MOST_BYTES: usize = 255;
 
 /// Reads a line.
 pub fn read_line(line: &[u8]) -> Line
+    ensures read { result ≡ spec.read_line line.now }
+    // It is what the line says by the texts of calls, and a line says one thing alone.
+    ensures says { Says line.now result }
+    ensures only { (said : Line) → Says line.now said → result ≡ said }
+{
+    reading(line)
+}
+
+/// Reads a line, word by word.
+fn reading(line: &[u8]) -> Line
     ensures { result ≡ spec.read_line line.now }
 {
     match line.first() {

@@ -1,17 +1,20 @@
 -- Reading steps one after the other, as a loop does.
-use Rattle.std.proofs.Common.{◌≡◌, ℕ, ◌+◌, true, false, cond, List, [], ◌∷◌, ◌++◌, length, Option, Some, None, Result, Ok, Err, refl, sym, ap, ◌∙◌, append_assoc}
+use Rattle.std.proofs.Common.{◌≡◌, ◌==◌, ℕ, ◌+◌, ◌<◌, ◌≤◌, ◌^◌, Bool, true, false, cond, List, [], ◌∷◌, ◌++◌, length, Option, Some, None, Result, Ok, Err, refl, sym, ap, ◌∙◌, subst, append_assoc, arith}
 use Rattle.std.specs.Option.{ok_or}
-use Rattle.std.proofs.lemmas.Bool.{eq-eqb, ne_eqb}
+use Rattle.std.specs.Prelude.{IfErr}
+use Rattle.std.specs.Result.{IsErr, IsErrAnd}
 use Rattle.std.proofs.lemmas.List.{append-nil}
+use Rattle.std.proofs.lemmas.List.Splits.{length-slice_split}
+use Rattle.std.proofs.lemmas.List.Sums.{count_by-le-length}
 use Rattle.frames.specs.declared.types.Step.{Step}
 use Rattle.tower_file.specs.declared.version.Version.{Version}
 use Rattle.tower_file.specs.declared.tower.TowerSpec.{TowerSpec}
-use Rattle.tower_file.specs.declared.fault.FaultKind.TheVariants.{BadStep}
+use Rattle.tower_file.specs.declared.fault.FaultKind.TheVariants.{BadStep, Memory}
 use Rattle.tower_file.specs.declared.fault.FileFault.{FileFault}
-use Rattle.tower_file.specs.Faults.{fault}
-use Rattle.words.specs.Words.{next, after_next, is_end}
+use Rattle.tower_file.specs.Faults.{fault, Fails, Gives}
+use Rattle.words.specs.Words.{lines, next, after_next, is_end}
 use Rattle.tower_file.specs.Lines.{fitting_step}
-use Rattle.tower_file.specs.Reading.{◌>>=◌, steps_of}
+use Rattle.tower_file.specs.Reading.{◌>>=◌, next_step, steps_of, HasStep}
 
 -- what was read before, and what is still read
 abbrev pub with_front : List Step → Result (List Step) FileFault → Result (List Step) FileFault
@@ -21,42 +24,75 @@ regroup : (front : List Step) (s : Step) (read : Result (List Step) FileFault) �
 regroup front s (Ok ss) = ap (λ (xs : List Step). Ok xs) (sym (append_assoc front (s ∷ []) ss))
 regroup front s (Err f) = refl
 
-pub no_line : (v : Version) (t : TowerSpec) (n : ℕ) (front : List Step) (ls : List (List ℕ)) (total : Result (List Step) FileFault) → is_end ls ≡ true → with_front front (steps_of v t n ls) ≡ total → total ≡ Ok front
-unfolding steps_of
-no_line v t n front [] total e so_far = sym so_far ∙ ap (λ (xs : List Step). Ok xs) (append-nil front)
-no_line v t n front (l ∷ ls) total e so_far = absurd cc
+-- what steps are read, by the step of the next line
+abbrev with_next : Version → TowerSpec → ℕ → List (List ℕ) → Result (Option Step) FileFault → Result (List Step) FileFault
+with_next v t n others (Err e) = Err e
+with_next v t n others (Ok None) = Ok []
+with_next v t n others (Ok (Some s)) = steps_of v t (n + 1) others >>= λ ss. Ok (s ∷ ss)
 
-pub nothing_left : (v : Version) (t : TowerSpec) (n : ℕ) (front : List Step) (ls : List (List ℕ)) (total : Result (List Step) FileFault) → is_end ls ≡ false → is_end (after_next ls) ≡ true → length (next ls) ≡ 0
-    → with_front front (steps_of v t n ls) ≡ total → total ≡ Ok front
+by_next : (v : Version) (t : TowerSpec) (n : ℕ) (ls : List (List ℕ)) → steps_of v t n ls ≡ with_next v t n (after_next ls) (next_step v t n ls)
 unfolding steps_of
-nothing_left v t n front [] total some last empty so_far = absurd cc
-nothing_left v t n front (l ∷ []) total some last empty so_far =
-    sym so_far ∙ ap (λ b. with_front front (cond b (Ok []) (Err (fault BadStep n)))) (eq-eqb (length l) 0 empty) ∙ ap (λ (xs : List Step). Ok xs) (append-nil front)
-nothing_left v t n front (l ∷ k ∷ ls) total some last empty so_far = absurd cc
+by_next v t n [] = refl
+by_next v t n (l ∷ []) = elim (length l == 0) as (λ b. cond b (Ok []) (Err (fault BadStep n)) ≡ with_next v t n [] (cond b (Ok None) (Err (fault BadStep n)))) [
+  | true ↦ refl
+  | false ↦ refl
+]
+by_next v t n (l ∷ k ∷ ls) = by_step (fitting_step v t l)
+  where
+    by_step : (o : Option Step) → (ok_or o (fault BadStep n) >>= λ s. steps_of v t (n + 1) (k ∷ ls) >>= λ ss. Ok (s ∷ ss)) ≡ with_next v t n (k ∷ ls) (ok_or o (fault BadStep n) >>= λ s. Ok (Some s))
+    by_step None = refl
+    by_step (Some s) = refl
 
-pub cut_off : (v : Version) (t : TowerSpec) (n m : ℕ) (front : List Step) (ls : List (List ℕ)) (total : Result (List Step) FileFault) → is_end ls ≡ false → is_end (after_next ls) ≡ true → (length (next ls) ≡ 0 → ⊥) → m ≡ n
-    → with_front front (steps_of v t n ls) ≡ total → total ≡ Err (fault BadStep m)
-unfolding steps_of
-cut_off v t n m front [] total some last full same so_far = absurd cc
-cut_off v t n m front (l ∷ []) total some last full same so_far =
-    sym so_far ∙ ap (λ b. with_front front (cond b (Ok []) (Err (fault BadStep n)))) (ne_eqb (length l) 0 full) ∙ ap (λ i. Err (fault BadStep i)) (sym same)
-cut_off v t n m front (l ∷ k ∷ ls) total some last full same so_far = absurd cc
+-- a line that has a step has its line end, behind which there is more
+pub more_lines : (v : Version) (t : TowerSpec) (n : ℕ) (ls : List (List ℕ)) (s : Step) → next_step v t n ls ≡ Ok (Some s) → length (after_next ls) < length ls
+more_lines v t n [] s e = absurd cc
+more_lines v t n (l ∷ ls) s e = omega arith
 
-pub no_step : (v : Version) (t : TowerSpec) (n m : ℕ) (front : List Step) (ls : List (List ℕ)) (total : Result (List Step) FileFault) → is_end (after_next ls) ≡ false → fitting_step v t (next ls) ≡ None → m ≡ n
-    → with_front front (steps_of v t n ls) ≡ total → total ≡ Err (fault BadStep m)
-unfolding steps_of
-no_step v t n m front [] total more bad same so_far = absurd cc
-no_step v t n m front (l ∷ []) total more bad same so_far = absurd cc
-no_step v t n m front (l ∷ k ∷ ls) total more bad same so_far =
-    sym so_far ∙ ap (λ (o : Option Step). with_front front (ok_or o (fault BadStep n) >>= λ s. steps_of v t (n + 1) (k ∷ ls) >>= λ ss. Ok (s ∷ ss))) bad ∙ ap (λ i. Err (fault BadStep i)) (sym same)
+module _ (v : Version) (t : TowerSpec) (n : ℕ) (front : List Step) (ls : List (List ℕ)) (total : Result (List Step) FileFault) (so_far : with_front front (steps_of v t n ls) ≡ total) where
+  pub ends : next_step v t n ls ≡ Ok None → total ≡ Ok front
+  ends e = sym so_far ∙ ap (with_front front) (by_next v t n ls) ∙ ap (λ (r : Result (Option Step) FileFault). with_front front (with_next v t n (after_next ls) r)) e ∙ ap (λ (xs : List Step). Ok xs) (append-nil front)
 
-pub goes_on : (v : Version) (t : TowerSpec) (n m : ℕ) (front : List Step) (ls : List (List ℕ)) (s : Step) (total : Result (List Step) FileFault) → is_end (after_next ls) ≡ false → fitting_step v t (next ls) ≡ Some s → m ≡ n + 1
-    → with_front front (steps_of v t n ls) ≡ total → with_front (front ++ s ∷ []) (steps_of v t m (after_next ls)) ≡ total
-unfolding steps_of
-goes_on v t n m front [] s total more good after so_far = absurd cc
-goes_on v t n m front (l ∷ []) s total more good after so_far = absurd cc
-goes_on v t n m front (l ∷ k ∷ ls) s total more good after so_far =
-    ap (λ i. with_front (front ++ s ∷ []) (steps_of v t i (k ∷ ls))) after
-    ∙ sym (regroup front s (steps_of v t (n + 1) (k ∷ ls)))
-    ∙ ap (λ (o : Option Step). with_front front (ok_or o (fault BadStep n) >>= λ s. steps_of v t (n + 1) (k ∷ ls) >>= λ ss. Ok (s ∷ ss))) (sym good)
-    ∙ so_far
+  pub fails : (e : FileFault) → next_step v t n ls ≡ Err e → total ≡ Err e
+  fails e h = sym so_far ∙ ap (with_front front) (by_next v t n ls) ∙ ap (λ (r : Result (Option Step) FileFault). with_front front (with_next v t n (after_next ls) r)) h
+
+  pub goes_on : (s : Step) → next_step v t n ls ≡ Ok (Some s) → with_front (front ++ s ∷ []) (steps_of v t (n + 1) (after_next ls)) ≡ total
+  goes_on s e =
+      sym (regroup front s (steps_of v t (n + 1) (after_next ls)))
+      ∙ ap (λ (r : Result (Option Step) FileFault). with_front front (with_next v t n (after_next ls) r)) (sym e)
+      ∙ ap (with_front front) (sym (by_next v t n ls)) ∙ so_far
+
+-- the lines behind a file's first two are no more than its bytes
+pub few_lines : (bytes : List ℕ) (ls : List (List ℕ)) → ls ≡ after_next (after_next (lines bytes)) → length bytes < 2 ^ 63 → length ls ≤ 2 ^ 63
+few_lines bytes ls e few =
+    omega (arith, ap length e, fewer (lines bytes), fewer (after_next (lines bytes)), length-slice_split (λ b. b == 10) bytes, count_by-le-length (λ b. b == 10) bytes)
+  where
+    fewer : (xs : List (List ℕ)) → length (after_next xs) ≤ length xs
+    fewer [] = omega arith
+    fewer (x ∷ xs) = omega arith
+
+-- ---- what is handed on
+
+-- steps that are kept are some
+pub some_step : (total : Result (List Step) FileFault) (front : List Step) → total ≡ Ok front → 0 < length front → HasStep total
+some_step total [] e l = absurd (omega arith)
+some_step total (s ∷ ss) e l = (s, ss, e)
+
+module _ {X : Type 0} (r : Result X FileFault) (e : FileFault) (Is : FileFault → Type 0) (failed : IsErr r) (is : IsErrAnd r Is) (same : (x : FileFault) → Is x → x ≡ e) where
+  pub given_fault : (view : X → List Step) (total : Result (List Step) FileFault) (n : ℕ) → e ≡ fault BadStep n → total ≡ Err e → Gives view r total
+  given_fault view total n bad t = by r failed is
+    where
+      by : (q : Result X FileFault) → IsErr q → IsErrAnd q Is → Gives view q total
+      by (Ok x) f i = absurd i
+      by (Err x) f i = subst (λ (y : FileFault). Fails y.kind y total) (sym (same x i ∙ bad)) (t ∙ ap (λ (y : FileFault). Err y) bad)
+
+  pub want_of_memory : (P : Type 0) → (e.kind ≡ Memory → P) → IfErr r (λ x. x.kind ≡ Memory → P)
+  want_of_memory P h = by r failed is
+    where
+      by : (q : Result X FileFault) → IsErr q → IsErrAnd q Is → IfErr q (λ x. x.kind ≡ Memory → P)
+      by (Ok x) f i = absurd i
+      by (Err x) f i = λ k. h (ap (λ (y : FileFault). y.kind) (sym (same x i)) ∙ k)
+
+pub bad_step_is_known : (e : FileFault) (n : ℕ) → e ≡ fault BadStep n → e.kind ≡ Memory → ⊥
+bad_step_is_known e n bad k =
+    let clash : BadStep ≡ Memory = sym (ap (λ (y : FileFault). y.kind) bad) ∙ k in
+    absurd cc

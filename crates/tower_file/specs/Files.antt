@@ -1,5 +1,5 @@
 -- What a tower file says.
-use Rattle.std.specs.Prelude.{◌≡◌, Bool, true, ◌&&◌, List}
+use Rattle.std.specs.Prelude.{◌≡◌, Bool, true, ◌&&◌, List, Option, Some, None, if◌then◌else◌}
 use Rattle.std.specs.List.{list_all}
 use Rattle.frames.specs.declared.types.Step.{Step}
 use Rattle.tower_file.specs.declared.tower.TowerSpec.{TowerSpec}
@@ -19,6 +19,10 @@ file_of v t steps = record { version = v; spec = t; steps = steps }
 -- the tower is lawful, and each step is one of the version and fits it
 abbrev pub is_lawful : File → Bool
 is_lawful f = is_lawful_tower f.spec && list_all (may_have f.version f.spec) f.steps
+
+-- the file of these, where it is lawful
+abbrev pub checked_file : Version → TowerSpec → List Step → Option File
+checked_file v t steps = if is_lawful (file_of v t steps) then Some (file_of v t steps) else None
 
 abbrev pub IsLawful : File → Type 0
 IsLawful f = is_lawful f ≡ true

@@ -58,6 +58,12 @@ second_line is_cut ws = ok_or (tower_name (next ws)) (fault UnknownTower 2) >>= 
 abbrev pub tower_of : List (List ℕ) → Result TowerSpec FileFault
 tower_of ls = second_line (is_end (after_next ls)) (words (next ls))
 
+-- the step of line n, if it has its line end; none behind the last line end
+abbrev pub next_step : Version → TowerSpec → ℕ → List (List ℕ) → Result (Option Step) FileFault
+next_step v t n ls =
+    if is_end (after_next ls) then (if length (next ls) == 0 then Ok None else Err (fault BadStep n))
+    else (ok_or (fitting_step v t (next ls)) (fault BadStep n) >>= λ s. Ok (Some s))
+
 -- The steps from line n on. What stands behind the last line end has to be nothing.
 unfoldable pub steps_of : Version → TowerSpec → ℕ → List (List ℕ) → Result (List Step) FileFault
 steps_of v t n [] = Ok []
@@ -83,6 +89,6 @@ reading_from None bytes = file_of_lines (lines bytes)
 abbrev pub reading : List ℕ → Result File FileFault
 reading bytes = reading_from (first_odd bytes) bytes
 
--- each byte is plain, and the header and the tower have no fault
-abbrev pub HasTower : List ℕ → Type 0
-HasTower bytes = (first_odd bytes ≡ None) × (v : Version) × (version_of (lines bytes) ≡ Some v) × (t : TowerSpec) × (tower_of (after_next (lines bytes)) ≡ Ok t)
+-- steps are read, and there is one: for steps alone is memory asked
+abbrev pub HasStep : Result (List Step) FileFault → Type 0
+HasStep read = (s : Step) × (ss : List Step) × (read ≡ Ok (s ∷ ss))

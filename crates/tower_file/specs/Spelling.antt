@@ -1,5 +1,5 @@
 -- The one spelling of each tower file.
-use Rattle.std.specs.Prelude.{◌≡◌, ℕ, List, [], ◌∷◌, ◌++◌, codes}
+use Rattle.std.specs.Prelude.{◌≡◌, ◌<◌, ℕ, List, [], ◌∷◌, ◌++◌, codes, length}
 use Rattle.std.specs.List.{flat_map}
 use Rattle.tower_file.specs.declared.tower.TowerSpec.{TowerSpec}
 use Rattle.tower_file.specs.declared.tower.TowerSpec.TheVariants.{Safe, Copies, Regular, Unary, Stamped, Matrix}
@@ -27,3 +27,9 @@ spelling f = line (header f.version) ++ line (tower_text f.spec) ++ flat_map (λ
 pub record Spells (bytes : List ℕ) (f : File) : Type 0 where
   pub lawful : IsLawful f
   pub spelled : bytes ≡ spelling f
+
+-- These bytes spell a tower file with steps, for which memory is asked.
+pub record SpellsSteps (bytes : List ℕ) : Type 0 where
+  pub file : File
+  pub spells : Spells bytes file
+  pub some : 0 < length file.steps

@@ -73,7 +73,7 @@ pub struct FileFault {
 }
 
 /// A growth was refused.
-const OUT_OF_MEMORY: FileFault = FileFault {
+pub(crate) const OUT_OF_MEMORY: FileFault = FileFault {
     kind: FaultKind::Memory,
     line: 0,
 };

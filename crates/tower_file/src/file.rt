@@ -1,6 +1,6 @@
 //! What a tower file says.
 
-ghost use Rattle.std.specs.Prelude.{◌≡◌, true, if◌then◌else◌};
+ghost use Rattle.std.specs.Prelude.{◌≡◌, true};
 
 use crate::tower::TowerSpec;
 use crate::version::{Version, may_have_all};
@@ -29,12 +29,12 @@ impl TowerFile {
     ghost use Rattle.std.specs.List.{list_all};
     ghost use Rattle.tower_file.specs.Towers.{is_lawful_tower, fits};
     ghost use Rattle.tower_file.specs.Versions.{may_have};
-    ghost use Rattle.tower_file.specs.Files.{File, IsLawful, is_lawful, file_of};
+    ghost use Rattle.tower_file.specs.Files.{File, IsLawful, checked_file, file_of};
 
     /// The file of a version, a tower and its steps; none where the tower isn't lawful, or a step
     /// isn't one of the version or doesn't fit.
     pub fn new(version: Version, spec: TowerSpec, steps: Vec<Step>) -> Option<TowerFile>
-        ensures { result ≡ (if is_lawful (file_of version spec steps.items) then Some (file_of version spec steps.items) else None) }
+        ensures { result ≡ checked_file version spec steps.items }
     {
         if spec.is_lawful() && may_have_all(version, &spec, &steps) {
             Some(TowerFile {
@@ -49,7 +49,7 @@ impl TowerFile {
 
     /// The file of a lawful tower and steps that it may have.
     pub(crate) fn of_lawful(version: Version, spec: TowerSpec, steps: Vec<Step>) -> TowerFile
-        requires { IsLawful (file_of version spec steps.items) }
+        requires lawful { IsLawful (file_of version spec steps.items) }
         ensures { result ≡ file_of version spec steps.items }
     {
         TowerFile {

@@ -1,16 +1,16 @@
 //! Reading a tower file.
 
-ghost use Rattle.std.specs.Prelude.{◌≡◌, ◌≢◌, ◌∷◌, ◌≤◌, ◌<◌, length, true, Ok, Err, OnOk, IfOk, IfErr};
+ghost use Rattle.std.specs.Prelude.{◌≡◌, ◌≢◌, ◌∷◌, [], ◌++◌, ◌≤◌, ◌<◌, ◌^◌, length, true, Ok, Err, OnOk, IfOk, IfErr};
 ghost use Rattle.tower_file.specs.declared.fault.FaultKind.TheVariants.{Memory};
 ghost use Rattle.tower_file.specs.Faults as faults;
 ghost use Rattle.tower_file.specs.Faults.{Gives, out_of_memory};
 ghost use Rattle.tower_file.specs.Towers.{is_lawful_tower};
 ghost use Rattle.tower_file.specs.Files.{File, IsLawful, file_of};
 ghost use Rattle.words.specs.Words.{lines, after_next, is_end};
-ghost use Rattle.tower_file.specs.Spelling.{Spells};
+ghost use Rattle.tower_file.specs.Spelling.{Spells, SpellsSteps};
 ghost use Rattle.tower_file.specs.Reading as spec;
 
-use crate::fault::{FaultKind, FileFault};
+use crate::fault::{FaultKind, FileFault, OUT_OF_MEMORY};
 use crate::file::TowerFile;
 use crate::line::{fields_of, fitting_step, tower_name};
 use crate::tower::TowerSpec;
@@ -36,7 +36,7 @@ fn is_plain(b: u8) -> bool
 
 /// The line of the byte at a place.
 fn line_at(place: usize, bytes: &[u8]) -> u64
-    requires { place ≤ length bytes.now }
+    requires inside { place ≤ length bytes.now }
     ensures { result ≡ spec.line_at place bytes.now }
 {
     bytes[..place].iter().filter(|b| **b == b'\n').count() as u64 + 1
@@ -71,6 +71,7 @@ fn version_of(lines: &mut Parts<'_>) -> Option<Version>
 fn tower_of(lines: &mut Parts<'_>) -> Result<TowerSpec, FileFault>
     ensures tower { result ≡ spec.tower_of lines.old }
     ensures lawful { IfOk result (λ tower. is_lawful_tower tower ≡ true) }
+    ensures known { IfErr result (λ e. e.kind ≢ Memory) }
     ensures left { OnOk result (lines.new ≡ after_next lines.old) }
 {
     let line = lines.next();
@@ -91,38 +92,74 @@ fn tower_of(lines: &mut Parts<'_>) -> Result<TowerSpec, FileFault>
     Ok(tower)
 }
 
-/// Reads the steps: the lines that are left, of which the first is the file's third.
+/// Reads the step of line `number`; none behind the last line end.
+fn next_step(
+    version: Version,
+    tower: &TowerSpec,
+    lines: &mut Parts<'_>,
+    number: u64,
+) -> Result<Option<Step>, FileFault>
+    ensures step { result ≡ spec.next_step version tower.now number lines.old }
+    ensures fault { IfErr result (λ e. e ≡ faults.fault FaultKind.BadStep number) }
+    ensures left { lines.new ≡ after_next lines.old }
+{
+    let line = lines.next();
+    if lines.is_end() {
+        if line.is_empty() {
+            return Ok(None);
+        }
+        return Err(fault(FaultKind::BadStep, number));
+    }
+    let Some(step) = fitting_step(version, tower, line) else {
+        return Err(fault(FaultKind::BadStep, number));
+    };
+    Ok(Some(step))
+}
+
+/// Adds a step where there was room for those before: whether there was, and is for this one.
+fn keep(steps: &mut Vec<Step>, step: Step, had_room: bool) -> bool
+    ensures kept { result ≡ true → steps.new.items ≡ steps.old.items ++ step ∷ [] }
+    ensures had_room { result ≡ true → had_room ≡ true }
+{
+    had_room && steps.push(step).is_ok()
+}
+
+/// Reads the steps: the lines that are left, of which the first is the file's third. A fault of any
+/// of them is told before a growth that was refused.
 fn steps_of(
     alloc: Global,
     version: Version,
     tower: &TowerSpec,
     lines: &mut Parts<'_>,
 ) -> Result<Vec<Step>, FileFault>
-    ensures { Gives (λ steps. steps.items) result (spec.steps_of version tower.now 3 lines.old) }
+    requires few { length lines.old ≤ 2 ^ 63 }
+    ensures read { Gives (λ steps. steps.items) result (spec.steps_of version tower.now 3 lines.old) }
+    ensures memory { IfErr result (λ e. e.kind ≡ Memory
+        → spec.HasStep (spec.steps_of version tower.now 3 lines.old)) }
 {
     let mut steps = Vec::new(alloc);
-    while !lines.is_end() {
-        let line = lines.next();
-        let number = steps.len() as u64 + 3;
-        if lines.is_end() {
-            if line.is_empty() {
-                return Ok(steps);
-            }
-            return Err(fault(FaultKind::BadStep, number));
-        }
-        let Some(step) = fitting_step(version, tower, line) else {
-            return Err(fault(FaultKind::BadStep, number));
+    let mut has_room = true;
+    let mut number = 3;
+    'reading: loop {
+        let next = next_step(version, tower, lines, number)?;
+        let Some(step) = next else {
+            break;
         };
-        steps.push(step)?;
+        has_room = keep(&mut steps, step, has_room);
+        number += 1;
+    }
+    if !has_room {
+        return Err(OUT_OF_MEMORY);
     }
     Ok(steps)
 }
 
-/// Reads a file. A growth is asked for behind the tower alone.
+/// Reads a file. Memory is asked for steps alone.
 fn file_of(alloc: Global, bytes: &[u8]) -> Result<TowerFile, FileFault>
     ensures exact { Gives (λ f. f) result (spec.reading bytes.now) }
-    ensures memory { IfErr result (λ e. e.kind ≡ Memory → spec.HasTower bytes.now) }
+    ensures memory { IfErr result (λ e. e.kind ≡ Memory → SpellsSteps bytes.now) }
 {
+    prove!(bytes.len() < 1 << 63);
     if let Some(place) = first_odd(bytes) {
         return Err(fault(FaultKind::NotAscii, line_at(place, bytes)));
     }
@@ -144,9 +181,8 @@ pub fn parse(alloc: Global, bytes: &[u8]) -> Result<TowerFile, FileFault>
     // Else the first fault is told, unless a growth is refused.
     ensures exact { Gives (λ f. f) result (spec.reading bytes.now) }
     ensures fault { IfErr result (λ e. e.kind ≢ Memory → (f : File) → Spells bytes.now f → ⊥) }
-    // A growth is asked for only where none of the faults of the first two lines is there, nor a byte
-    // that isn't plain.
-    ensures memory { IfErr result (λ e. e.kind ≡ Memory → (e.line ≡ 0) × spec.HasTower bytes.now) }
+    // Want of memory is told only where there is no fault, and there are steps.
+    ensures memory { IfErr result (λ e. e.kind ≡ Memory → (e.line ≡ 0) × SpellsSteps bytes.now) }
 {
     file_of(alloc, bytes)
 }

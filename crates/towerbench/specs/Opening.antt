@@ -10,7 +10,8 @@ use Rattle.tower_file.specs.declared.fault.FileFault.{FileFault}
 use Rattle.tower_file.specs.declared.version.Version.TheVariants.{One}
 use Rattle.tower_file.specs.Faults.{Fails}
 use Rattle.tower_file.specs.Files.{File, file_of}
-use Rattle.tower_file.specs.Reading.{reading, HasTower}
+use Rattle.tower_file.specs.Reading.{reading}
+use Rattle.tower_file.specs.Spelling.{SpellsSteps}
 use Rattle.conversation.specs.declared.fault.StreamFault.{StreamFault}
 use Rattle.conversation.specs.declared.fault.StreamFault.TheVariants as streams
 use Rattle.towerbench.specs.declared.fault.Fault.{Fault}
@@ -80,9 +81,9 @@ Ran file limits old now before after = (f : File) × ((opened file ≡ Ok f) × 
 abbrev pub FailsOpen : Option (List ℕ) → Limits → Option (List ℕ) → Option (List ℕ) → Option (List ℕ) → Option (List ℕ) → Fault → Type 0
 FailsOpen file limits old now before after e = (f : File) × ((opened file ≡ Ok f) × FailsOver limits f.steps (answers_on f limits) old now before after e)
 
--- the fault of bytes: the first that they have; or memory was refused behind their tower
+-- the fault of bytes: the first that they have; or memory was refused, where they have none
 abbrev pub IsFileFault : FileFault → List ℕ → Type 0
-IsFileFault e bytes = Fails e.kind e (reading bytes) × (e.kind ≡ kind.Memory → HasTower bytes)
+IsFileFault e bytes = Fails e.kind e (reading bytes) × (e.kind ≡ kind.Memory → SpellsSteps bytes)
 
 -- what a run comes to by a fault: that of its file, where one is named; or one over the file that was opened
 abbrev pub RanInto : Option (List ℕ) → Limits → Option (List ℕ) → Option (List ℕ) → Option (List ℕ) → Option (List ℕ) → Fault → Type 0

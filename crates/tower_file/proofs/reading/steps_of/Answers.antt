@@ -1,42 +1,55 @@
-use Rattle.std.proofs.Common.{◌≡◌, ◌+◌, ◌++◌, ◌∷◌, [], true, false, length, Some, None, rules, arith}
-use Rattle.std.proofs.lemmas.Grind.{common_steps}
-use Rattle.words.specs.Words.{next, after_next, is_end}
-use Rattle.tower_file.specs.Lines.{fitting_step}
-use Rattle.tower_file.specs.Reading.{steps_of}
-use Rattle.tower_file.proofs.Loop.{no_line, nothing_left, cut_off, no_step, goes_on}
+use Rattle.std.proofs.Common.{rules, ◌≡◌, ◌+◌, ◌<◌, ◌++◌, ◌∷◌, [], true, false, length, List, Result, Ok, Err, Option, Some, None, sym, ap, ◌∙◌, arith, length-append}
+use Rattle.frames.specs.declared.types.Step.{Step}
+use Rattle.words.specs.Words.{after_next}
+use Rattle.tower_file.specs.declared.fault.FileFault.{FileFault}
+use Rattle.tower_file.specs.Reading.{next_step, steps_of, HasStep}
+use Rattle.tower_file.proofs.Loop.{with_front, more_lines, ends, fails, goes_on, some_step, given_fault, want_of_memory, bad_step_is_known}
 use Rattle.tower_file.proofs.reading.steps_of.Goals as goal
 
-pub returns-then-is_empty : goal.returns-then-is_empty
-returns-then-is_empty c =
-    let some : is_end c.loop-version.lines ≡ false = search rules in
-    let last : is_end (after_next c.loop-version.lines) ≡ true = search rules in
-    let empty : length (next c.loop-version.lines) ≡ 0 = search rules in
-    nothing_left c.args.version c.args.tower.now (length c.loop-version.steps.items + 3) c.loop-version.steps.items c.loop-version.lines (steps_of c.args.version c.args.tower.now 3 c.args.lines.now) some last empty c.loop-version.invariant
+pub returns-in_err-next-clause-read : goal.returns-in_err-next-clause-read
+returns-in_err-next-clause-read c =
+    let i = c.reading.invariant.read in
+    let total = steps_of c.args.version c.args.tower.now 3 c.args.lines.now in
+    let failed = sym c.next_step.ensures.step ∙ c.in_err-next.was in
+    given_fault c.from_residual.result _ _ c.from_residual.ensures.0 c.from_residual.ensures.1 (λ x h. h) (λ steps. steps.items) total c.reading.number c.in_err-next.ensures.fault
+    (fails c.args.version c.args.tower.now c.reading.number i.0 c.reading.lines total i.1 _ failed)
 
-pub returns-then-is_end : goal.returns-then-is_end
-returns-then-is_end c =
-    let some : is_end c.loop-version.lines ≡ false = search rules in
-    let last : is_end (after_next c.loop-version.lines) ≡ true = search rules in
-    let full : length (next c.loop-version.lines) ≡ 0 → ⊥ = search rules in
-    let same : c.len.result + 3 ≡ length c.loop-version.steps.items + 3 = search rules in
-    rw c.fault.ensures (cut_off c.args.version c.args.tower.now (length c.loop-version.steps.items + 3) (c.len.result + 3) c.loop-version.steps.items c.loop-version.lines (steps_of c.args.version c.args.tower.now 3 c.args.lines.now) some last full same c.loop-version.invariant)
+pub returns-in_err-next-clause-memory : goal.returns-in_err-next-clause-memory
+returns-in_err-next-clause-memory c =
+    want_of_memory c.from_residual.result _ _ c.from_residual.ensures.0 c.from_residual.ensures.1 (λ x h. h) (HasStep (steps_of c.args.version c.args.tower.now 3 c.args.lines.now))
+    (λ k. absurd (bad_step_is_known _ c.reading.number c.in_err-next.ensures.fault k))
 
-pub returns-in_default : goal.returns-in_default
-returns-in_default c =
-    let more : is_end (after_next c.loop-version.lines) ≡ false = search rules in
-    let bad : fitting_step c.args.version c.args.tower.now (next c.loop-version.lines) ≡ None = search rules in
-    let same : c.len.result + 3 ≡ length c.loop-version.steps.items + 3 = search rules in
-    rw c.fault-in_default.ensures (no_step c.args.version c.args.tower.now (length c.loop-version.steps.items + 3) (c.len.result + 3) c.loop-version.steps.items c.loop-version.lines (steps_of c.args.version c.args.tower.now 3 c.args.lines.now) more bad same c.loop-version.invariant)
+pub reading-preserved : goal.reading-preserved
+reading-preserved c =
+    let i = c.reading.invariant.read in
+    let step = c.in-Some.step in
+    let total = steps_of c.args.version c.args.tower.now 3 c.args.lines.now in
+    let has : next_step c.args.version c.args.tower.now c.reading.number c.reading.lines ≡ Ok (Some step) =
+    sym c.next_step.ensures.step ∙ c.in_ok-next.was ∙ ap (λ (o : Option Step). Ok o) c.in-Some.is in
+    let more = more_lines c.args.version c.args.tower.now c.reading.number c.reading.lines step has in
+    record {
+      few = omega (arith, c.reading.invariant.few, more, ap length c.next_step.ensures.left);
+      read = (
+        i.0 ++ step ∷ [],
+        ap (λ (ls : List (List _)). with_front (i.0 ++ step ∷ []) (steps_of c.args.version c.args.tower.now (c.reading.number + 1) ls)) c.next_step.ensures.left
+            ∙ goes_on c.args.version c.args.tower.now c.reading.number i.0 c.reading.lines total i.1 step has,
+        λ h. c.keep-has_room.ensures.kept h ∙ ap (λ (xs : List Step). xs ++ step ∷ []) (i.2 (c.keep-has_room.ensures.had_room h)),
+        λ h. omega (arith, length-append i.0 (step ∷ [])),
+      );
+    }
 
-pub loop-version-preserved : goal.loop-version-preserved
-loop-version-preserved c =
-    let more : is_end (after_next c.loop-version.lines) ≡ false = search rules in
-    let good : fitting_step c.args.version c.args.tower.now (next c.loop-version.lines) ≡ Some c.in-Some.step = search rules in
-    let pushed : c.push.new.self.items ≡ c.loop-version.steps.items ++ c.in-Some.step ∷ [] = c.in_ok-push.ensures.items in
-    let after : length (c.loop-version.steps.items ++ c.in-Some.step ∷ []) + 3 ≡ length c.loop-version.steps.items + 3 + 1 = grind (arith, common_steps) in
-    rw (pushed, c.next-line.ensures.left) (goes_on c.args.version c.args.tower.now (length c.loop-version.steps.items + 3) (length (c.loop-version.steps.items ++ c.in-Some.step ∷ []) + 3) c.loop-version.steps.items c.loop-version.lines c.in-Some.step (steps_of c.args.version c.args.tower.now 3 c.args.lines.now) more good after c.loop-version.invariant)
+pub returns-then-not-has_room-clause-memory : goal.returns-then-not-has_room-clause-memory
+returns-then-not-has_room-clause-memory c =
+    let i = c.reading.invariant.read in
+    let total = steps_of c.args.version c.args.tower.now 3 c.args.lines.now in
+    let none = sym c.next_step.ensures.step ∙ c.in_ok-next.was ∙ ap (λ (o : Option Step). Ok o) c.in_default.is in
+    let full : c.reading.has_room ≡ false = search rules in
+    λ same. some_step total i.0 (ends c.args.version c.args.tower.now c.reading.number i.0 c.reading.lines total i.1 none) (i.3 full)
 
-pub returns : goal.returns
-returns c =
-    let none : is_end c.loop-version.lines ≡ true = search rules in
-    no_line c.args.version c.args.tower.now (length c.loop-version.steps.items + 3) c.loop-version.steps.items c.loop-version.lines (steps_of c.args.version c.args.tower.now 3 c.args.lines.now) none c.loop-version.invariant
+pub returns-clause-read : goal.returns-clause-read
+returns-clause-read c =
+    let i = c.reading.invariant.read in
+    let total = steps_of c.args.version c.args.tower.now 3 c.args.lines.now in
+    let none = sym c.next_step.ensures.step ∙ c.in_ok-next.was ∙ ap (λ (o : Option Step). Ok o) c.in_default.is in
+    let room : c.reading.has_room ≡ true = search rules in
+    ends c.args.version c.args.tower.now c.reading.number i.0 c.reading.lines total i.1 none ∙ ap (λ (xs : List Step). Ok xs) (sym (i.2 room))

@@ -2,6 +2,7 @@ use Rattle.std.proofs.Common.{◌≡◌, ◌≤◌, ◌+◌, ◌^◌, ap, take, 
 use Rattle.std.proofs.lemmas.List.{length-take-le}
 use Rattle.conversation.proofs.Turns.{breaks_read, breaks_memory, breaks_write, reached_more, told_onto}
 use Rattle.conversation.proofs.converse.Conversation.turn.Goals as goal
+use Rattle.conversation.specs.declared.limits.TheConstants.{MOST_BYTES}
 
 pub returns-in_default-clause-turned : goal.returns-in_default-clause-turned
 returns-in_default-clause-turned g c = λ start old before count few r.
@@ -15,7 +16,7 @@ returns-in_default-take-clause-turned g c = λ start old before count few r.
     let bound = rw c.in-Some.is at c.in-Ok.ensures.bound in
     let fits : n ≤ length buffer = omega (arith, bound) in
     let size : length (take n buffer) ≡ n = length-take-le n buffer fits in
-    let room : count + length (take n buffer) ≤ 2 ^ 24 = omega (arith, size, bound, few) in
+    let room : count + length (take n buffer) ≤ MOST_BYTES = omega (arith, size, bound, few) in
     breaks_memory g.A.Answers.define start old _ before _ count _ _ _ r _ (take n buffer) bytes room
 
 pub returns-in_default-send-clause-turned : goal.returns-in_default-send-clause-turned
@@ -26,7 +27,7 @@ returns-in_default-send-clause-turned g c = λ start old before count few r.
     let bound = rw c.in-Some.is at c.in-Ok.ensures.bound in
     let fits : n ≤ length buffer = omega (arith, bound) in
     let size : length (take n buffer) ≡ n = length-take-le n buffer fits in
-    let room : count + n ≤ 2 ^ 24 = omega (arith, bound, few) in
+    let room : count + n ≤ MOST_BYTES = omega (arith, bound, few) in
     let told = c.in-Ok-take.ensures.told start r.seen r.text (told_onto g.A.Answers.define start old _ before _ count _ _ _ r c.args.self.now.out.items c.requires.sent) in
     let front = c.in_default-send.ensures.front in
     breaks_write g.A.Answers.define start old _ before _ count _ _ _ r _ (take n buffer) bytes n size _ _ _ _ told _ front.0 front.1 front.2 room

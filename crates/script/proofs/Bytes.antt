@@ -1,0 +1,172 @@
+-- The bytes of words, and of the text that joins them.
+use Rattle.std.proofs.Common.{◌≡◌, ◌==◌, ℕ, ◌+◌, ◌*◌, ◌<◌, ◌≤◌, ◌^◌, Bool, true, false, cond, ◌&&◌, nat_le, nat_lt, List, [], ◌∷◌, length, map, refl, ap, ◌∙◌, arith, length-append}
+use Rattle.std.specs.List.{list_all, onto_first, join_with_byte}
+use Rattle.std.specs.Char.{is_ascii_digit}
+use Rattle.std.specs.Fmt.{decimal}
+use Rattle.std.specs.Str.Parse.{digits_value}
+use Rattle.std.specs.Prelude.{Some}
+use Rattle.std.proofs.lemmas.Bool.{and_parts, and_from}
+use Rattle.std.proofs.lemmas.Bool.Decides.{nat_tests}
+use Rattle.std.proofs.lemmas.Option.{cond_some}
+use Rattle.words.specs.Words.{words, number, is_number}
+use Rattle.words.proofs.Digits.{digit_bounds}
+use Rattle.words.proofs.Numbers.{digits-decimal, number-decimal}
+use Rattle.words.proofs.Texts.{all_weaker, all_append, is_not, cut_at, no_cut}
+use Rattle.script.specs.Lines.{is_plain}
+use Rattle.script.specs.Spelling.{Word, spelled, is_visible, is_sound}
+use Rattle.script.specs.Spelling.{Text, Number, Guard}
+use Rattle.script.proofs.Shapes.{is_small}
+
+-- bytes of words are all visible
+abbrev pub are_visible : List (List ℕ) → Bool
+are_visible ws = list_all (list_all is_visible) ws
+
+lt_is : (m n : ℕ) → nat_lt m n ≡ true → m < n
+lt_is m n h = grind (arith, nat_tests)
+
+le_is : (m n : ℕ) → nat_le m n ≡ true → m ≤ n
+le_is m n h = grind (arith, nat_tests)
+
+visible_byte : (b : ℕ) → is_plain b ≡ true → (b == 32) ≡ false → is_visible b ≡ true
+visible_byte b h k = grind (arith, nat_tests)
+
+visible_is_plain : (b : ℕ) → is_visible b ≡ true → is_plain b ≡ true
+visible_is_plain b h = grind (arith, nat_tests)
+
+visible_stays : (b : ℕ) → is_visible b ≡ true → is_not 32 b ≡ true
+visible_stays b h = grind (arith, nat_tests)
+
+digit_is_visible : (b : ℕ) → is_ascii_digit b ≡ true → is_visible b ≡ true
+digit_is_visible b h = let d = digit_bounds b h in grind (arith, nat_tests, d)
+
+-- ---- the words of a plain text
+
+onto_visible : (b : ℕ) (ws : List (List ℕ)) → is_visible b ≡ true → are_visible ws ≡ true → are_visible (onto_first b ws) ≡ true
+onto_visible b [] h k = and_from (is_visible b && true) true (and_from (is_visible b) true h refl) refl
+onto_visible b (w ∷ ws) h k =
+    let a = and_parts (list_all is_visible w) (are_visible ws) k in
+    and_from (is_visible b && list_all is_visible w) (are_visible ws) (and_from (is_visible b) (list_all is_visible w) h a.0) a.1
+
+by_byte : (b : ℕ) (ws : List (List ℕ)) (t : Bool) → (b == 32) ≡ t → is_plain b ≡ true → are_visible ws ≡ true → are_visible (cond t ([] ∷ ws) (onto_first b ws)) ≡ true
+by_byte b ws true e h k = k
+by_byte b ws false e h k = onto_visible b ws (visible_byte b h e) k
+
+pub visible_words : (text : List ℕ) → list_all is_plain text ≡ true → are_visible (words text) ≡ true
+visible_words [] h = refl
+visible_words (b ∷ bs) h =
+    let a = and_parts (is_plain b) (list_all is_plain bs) h in
+    by_byte b (words bs) (b == 32) refl a.0 (visible_words bs a.1)
+
+-- words that are within their sizes and visible are sound
+pub sound_words : (shape : List Word) → list_all is_small shape ≡ true → are_visible (map spelled shape) ≡ true → list_all is_sound shape ≡ true
+sound_words [] h k = refl
+sound_words (x ∷ xs) h k =
+    let a = and_parts (is_small x) (list_all is_small xs) h in
+    let v = and_parts (list_all is_visible (spelled x)) (are_visible (map spelled xs)) k in
+    and_from (is_sound x) (list_all is_sound xs) (by x a.0 v.0) (sound_words xs a.1 v.1)
+  where
+    by : (y : Word) → is_small y ≡ true → list_all is_visible (spelled y) ≡ true → is_sound y ≡ true
+    by (Text t) s v = and_from (nat_le 1 (length t) && nat_le (length t) 16) (list_all is_visible t) s v
+    by (Number n) s v = s
+    by (Guard n) s v = s
+
+-- ---- sound words
+
+short_number : (w : List ℕ) (n : ℕ) → number w ≡ Some n → length w ≤ 9
+short_number [] n h = absurd cc
+short_number (d ∷ ds) n h =
+    let a = cond_some (is_number (d ∷ ds)) (digits_value 10 (d ∷ ds)) n h in
+    let b = and_parts _ (list_all is_ascii_digit (d ∷ ds)) a.0 in
+    let c = and_parts (nat_le (length ds) 8) _ b.0 in
+    let few : length ds ≤ 8 = le_is (length ds) 8 c.0 in
+    omega arith
+
+decimal_digits : (n : ℕ) → nat_lt n (10 ^ 9) ≡ true → list_all is_ascii_digit (decimal n) ≡ true
+decimal_digits n h = digits-decimal n (lt_is n (10 ^ 9) h)
+
+decimal_visible : (n : ℕ) → nat_lt n (10 ^ 9) ≡ true → list_all is_visible (decimal n) ≡ true
+decimal_visible n h = all_weaker is_ascii_digit is_visible digit_is_visible (decimal n) (decimal_digits n h)
+
+decimal_short : (n : ℕ) → nat_lt n (10 ^ 9) ≡ true → length (decimal n) ≤ 9
+decimal_short n h = short_number (decimal n) n (number-decimal n (lt_is n (10 ^ 9) h))
+
+word_visible : (x : Word) → is_sound x ≡ true → list_all is_visible (spelled x) ≡ true
+word_visible (Text t) h = (and_parts (nat_le 1 (length t) && nat_le (length t) 16) (list_all is_visible t) h).1
+word_visible (Number n) h = decimal_visible n h
+word_visible (Guard n) h = decimal_visible n h
+
+word_short : (x : Word) → is_sound x ≡ true → length (spelled x) ≤ 16
+word_short (Text t) h =
+    let a = and_parts (nat_le 1 (length t) && nat_le (length t) 16) (list_all is_visible t) h in
+    le_is (length t) 16 (and_parts (nat_le 1 (length t)) (nat_le (length t) 16) a.0).1
+word_short (Number n) h = omega (arith, decimal_short n h)
+word_short (Guard n) h = omega (arith, decimal_short n h)
+
+pub sound_visible : (shape : List Word) → list_all is_sound shape ≡ true → are_visible (map spelled shape) ≡ true
+sound_visible [] h = refl
+sound_visible (x ∷ xs) h =
+    let a = and_parts (is_sound x) (list_all is_sound xs) h in
+    and_from (list_all is_visible (spelled x)) (are_visible (map spelled xs)) (word_visible x a.0) (sound_visible xs a.1)
+
+-- ---- the text that joins words
+
+pub words-join : (w : List ℕ) (ws : List (List ℕ)) → are_visible (w ∷ ws) ≡ true → words (join_with_byte 32 (w ∷ ws)) ≡ w ∷ ws
+words-join w [] h =
+    let a = and_parts (list_all is_visible w) true h in
+    no_cut 32 w (all_weaker is_visible (is_not 32) visible_stays w a.0)
+words-join w (v ∷ vs) h =
+    let a = and_parts (list_all is_visible w) (are_visible (v ∷ vs)) h in
+    cut_at 32 w (join_with_byte 32 (v ∷ vs)) (all_weaker is_visible (is_not 32) visible_stays w a.0) ∙ ap (λ rest. w ∷ rest) (words-join v vs a.1)
+
+pub plain-join : (w : List ℕ) (ws : List (List ℕ)) → are_visible (w ∷ ws) ≡ true → list_all is_plain (join_with_byte 32 (w ∷ ws)) ≡ true
+plain-join w [] h =
+    let a = and_parts (list_all is_visible w) true h in
+    all_weaker is_visible is_plain visible_is_plain w a.0
+plain-join w (v ∷ vs) h =
+    let a = and_parts (list_all is_visible w) (are_visible (v ∷ vs)) h in
+    all_append is_plain w (32 ∷ join_with_byte 32 (v ∷ vs)) (all_weaker is_visible is_plain visible_is_plain w a.0) (plain-join v vs a.1)
+
+-- so many words have at most 17 bytes each, with the space behind it
+pub short-join : (x : Word) (xs : List Word) → list_all is_sound (x ∷ xs) ≡ true → length (join_with_byte 32 (map spelled (x ∷ xs))) + 1 ≤ length (x ∷ xs) * 17
+short-join x [] h =
+    let a = and_parts (is_sound x) true h in
+    omega (arith, word_short x a.0)
+short-join x (y ∷ ys) h =
+    let a = and_parts (is_sound x) (list_all is_sound (y ∷ ys)) h in
+    let rest = join_with_byte 32 (map spelled (y ∷ ys)) in
+    omega (arith, word_short x a.0, short-join y ys a.1, length-append (spelled x) (32 ∷ rest))
+
+-- ---- a text that begins with a number
+
+abbrev begins_with_digit : List ℕ → Bool
+begins_with_digit [] = false
+begins_with_digit (b ∷ bs) = is_ascii_digit b
+
+first_digit : (w : List ℕ) (n : ℕ) → number w ≡ Some n → begins_with_digit w ≡ true
+first_digit [] n h = absurd cc
+first_digit (d ∷ ds) n h =
+    let a = cond_some (is_number (d ∷ ds)) (digits_value 10 (d ∷ ds)) n h in
+    let b = and_parts _ (list_all is_ascii_digit (d ∷ ds)) a.0 in
+    (and_parts (is_ascii_digit d) (list_all is_ascii_digit ds) b.1).0
+
+joined_digit : (w : List ℕ) (ws : List (List ℕ)) → begins_with_digit w ≡ true → begins_with_digit (join_with_byte 32 (w ∷ ws)) ≡ true
+joined_digit [] ws h = absurd cc
+joined_digit (d ∷ ds) [] h = h
+joined_digit (d ∷ ds) (v ∷ vs) h = h
+
+no_comment : (b : ℕ) → is_ascii_digit b ≡ true → (b == 35) ≡ false
+no_comment b h = let d = digit_bounds b h in grind (arith, nat_tests, d)
+
+-- a text that begins so says something
+pub record Speaks (text : List ℕ) : Type 0 where
+  pub first : ℕ
+  pub others : List ℕ
+  pub same : text ≡ first ∷ others
+  pub plain : (first == 35) ≡ false
+
+pub speaks : (w : List ℕ) (ws : List (List ℕ)) (n : ℕ) → number w ≡ Some n → Speaks (join_with_byte 32 (w ∷ ws))
+speaks w ws n h = by (join_with_byte 32 (w ∷ ws)) (joined_digit w ws (first_digit w n h))
+  where
+    by : (text : List ℕ) → begins_with_digit text ≡ true → Speaks text
+    by [] k = absurd cc
+    by (b ∷ bs) k = record { first = b; others = bs; same = refl; plain = no_comment b k }

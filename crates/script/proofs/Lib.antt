@@ -1,0 +1,5 @@
+pub mod Shapes
+pub mod Bytes
+pub mod Sound
+pub mod Again
+pub mod Said
