@@ -19,11 +19,10 @@ use Rattle.sessions.specs.Held.{Held, opening_of}
 use Rattle.sessions.specs.Logs.{IsLegal, entry, is_logged, logged, world_after}
 use Rattle.desk.specs.declared.item.Item.{Item}
 use Rattle.desk.specs.declared.receipt.Receipt.{Receipt}
-use Rattle.desk.specs.declared.report.Report.{Report}
 use Rattle.desk.specs.Items.{made_under, calls_in, items}
 use Rattle.desk.specs.Histories.{IsHistory, seen, own}
 use Rattle.desk.specs.Works.{IsAct, IsReading, IsLook, IsAnswer, IsPaged, NeedsBranch}
-use Rattle.desk.specs.Chairs.{Finds, Stays, Received, Reads, Looked, Filled}
+use Rattle.desk.specs.Chairs.{Finds, Stays, Received, Reads, Looked}
 use Rattle.desk.proofs.Lists.{calls_as, calls_append, length_items, same_first, calls_begin}
 use Rattle.desk.proofs.Works.{paged_so}
 use Rattle.desk.proofs.Logged.{put, put_under, legal_found, logged_last}
@@ -103,7 +102,7 @@ module _ {R P : Type 0} (is : R → Behaviour P) (first : Held R P) (v w : View 
         )
 
     -- what is told may be more than was asked
-    reads_more : (more : ℕ → World P → Type 0) → ((n : ℕ) (world : World P) → tells n world → more n world) → Reads is first tells v w → Reads is first more v w
+    pub reads_more : (more : ℕ → World P → Type 0) → ((n : ℕ) (world : World P) → tells n world → more n world) → Reads is first tells v w → Reads is first more v w
     reads_more more on r = record {
       found = r.found;
       finds = r.finds;
@@ -132,13 +131,6 @@ module _ {R P : Type 0} (is : R → Behaviour P) (first : Held R P) (v w : View 
         let asked : ℕ → World P → Type 0 = λ n world. (at ≡ n) × IsAnswer world query slip in
         let reads = reads_on asked h held in
         (reads_more asked (λ n world. (at ≡ n) × IsAnswer world query result) (λ n world told. (told.0, paged_so world query slip result paged told.1)) reads.0, reads.1)
-
--- what is read first needs a branch, and what was seen stays then
-pub filled_so : {R P A : Type 0} (is : R → Behaviour P) (first : Held R P) (v u w : View (Item R P)) (branch : List ℕ) (planned : Result A Refusal) (result : Result Report Refusal)
-    → ((world : World P) → NeedsBranch branch world planned → NeedsBranch branch world result) → Reads is first (λ n world. NeedsBranch branch world planned) v u → Stays u w
-    → Filled is first branch v w result
-filled_so is first v u w branch planned result on reads stays =
-    (u, reads_more is first v u (λ n world. NeedsBranch branch world planned) (λ n world. NeedsBranch branch world result) (λ n world. on world) reads, stays)
 
 -- a branch that is there, though memory is wanting then
 pub wants_memory : {P A : Type 0} (B : Type 0) (world : World P) (branch : List ℕ) (x : A) → NeedsBranch {A = A} branch world (Ok x) → NeedsBranch {A = B} branch world (Err Memory)

@@ -4,3 +4,4 @@ pub mod Logged
 pub mod Answering
 pub mod Works
 pub mod Holdings
+pub mod Fillings

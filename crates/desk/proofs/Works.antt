@@ -1,10 +1,12 @@
 -- What a book's calls do to the list behind the turn.
 use Rattle.std.proofs.Common.{◌≡◌, ◌⊎◌, ℕ, ◌≤◌, Bool, true, false, cond, nat_le, List, [], ◌∷◌, ◌++◌, length, Option, Some, Result, Ok, Err, IsOk, IfOk, OnOk, IfErr, IsSome, refl, sym, ap, subst, ◌∙◌, arith, inl, inr}
+use Rattle.std.specs.Global.{Vec}
 use Rattle.frames.specs.Behaviour.{Behaviour}
 use Rattle.schedule_trie.specs.declared.refusal.Refusal.{Refusal}
 use Rattle.schedule_trie.specs.declared.refusal.Refusal.TheVariants.{LogFull, Memory}
-use Rattle.schedule_trie.specs.Cut.{if_lacks}
+use Rattle.schedule_trie.specs.Cut.{forest, if_lacks}
 use Rattle.schedule_trie.specs.Forest.{IsRefused, index_of}
+use Rattle.cutoff.specs.Plans.{Planned, IsPlan}
 use Rattle.views.specs.declared.page.Page.{Page}
 use Rattle.views.specs.declared.query.Query.{Query}
 use Rattle.sessions.specs.declared.command.Command.{Command}
@@ -21,7 +23,7 @@ use Rattle.desk.specs.declared.receipt.Receipt.{Receipt}
 use Rattle.desk.specs.declared.item.Item.{Item}
 use Rattle.desk.specs.declared.item.Item.TheVariants.{Call}
 use Rattle.desk.specs.Items.{made_under, as_items, items}
-use Rattle.desk.specs.Works.{IsAct, IsReading, IsLook, IsAnswer, IsPaged, NeedsBranch}
+use Rattle.desk.specs.Works.{IsAct, IsReading, IsLook, IsAnswer, IsPaged, PlansOf}
 use Rattle.desk.proofs.Lists.{items_more}
 use Rattle.desk.proofs.Logged.{put, logged_last}
 
@@ -33,10 +35,12 @@ pub answer_of : {P : Type 0} (w : World P) (query : Query) (r : Result Page Refu
 answer_of w query (Ok page) shown found refused = (found, shown)
 answer_of w query (Err e) shown found refused = refused
 
-needs : {P A : Type 0} (w : World P) (branch : List ℕ) (r : Result A Refusal) → OnOk r (IsSome (index_of w.forest.branches branch))
-    → IfErr r (λ e. if_lacks (index_of w.forest.branches branch) ≡ e) → NeedsBranch branch w r
-needs w branch (Ok x) found refused = found
-needs w branch (Err e) found refused = refused
+-- the chart of a book is one of its world's branches
+plans : {R P : Type 0} (E : R → R → Bool) (is : R → Behaviour P) (h : Held R P) (branch : List ℕ) (r : Result (Vec (Planned R P)) Refusal)
+    → IfOk r (λ jobs. IsPlan E (is h.now.chart.start.register) h.now.chart branch jobs.items) → OnOk r (IsSome (index_of (forest h.now.chart.cut).branches branch))
+    → IfErr r (λ e. if_lacks (index_of (forest h.now.chart.cut).branches branch) ≡ e) → PlansOf E is branch (world_of is h.now) r
+plans E is h branch (Ok jobs) plan found refused = (found, (h.now.chart, refl, plan))
+plans E is h branch (Err e) plan found refused = refused
 
 -- what is made of an answer's slip is the answer too
 pub paged_so : {P : Type 0} (w : World P) (query : Query) (slip result : Result Page Refusal) → IsPaged slip result → IsAnswer w query slip → IsAnswer w query result
@@ -133,7 +137,9 @@ module _ {R P : Type 0} (is : R → Behaviour P) where
     looks_so query at r shown found refused world log is_at =
         reads_so (λ n w. (at ≡ n) × IsAnswer w query r) world log (is_at ∙ ap length log, answer_of (world_of is old.now) query r shown found refused)
 
-    pub plans_so : {A : Type 0} (branch : List ℕ) (r : Result A Refusal) → OnOk r (IsSome (index_of (world_of is old.now).forest.branches branch))
-        → IfErr r (λ e. if_lacks (index_of (world_of is old.now).forest.branches branch) ≡ e) → world_of is new.now ≡ world_of is old.now → new.log ≡ old.log
-        → IsReading is (λ n w. NeedsBranch branch w r) (items first old.log) (items first new.log)
-    plans_so branch r found refused world log = reads_so (λ n w. NeedsBranch branch w r) world log (needs (world_of is old.now) branch r found refused)
+    pub plans_so : (E : R → R → Bool) (branch : List ℕ) (r : Result (Vec (Planned R P)) Refusal)
+        → IfOk r (λ jobs. IsPlan E (is old.now.chart.start.register) old.now.chart branch jobs.items)
+        → OnOk r (IsSome (index_of (forest old.now.chart.cut).branches branch))
+        → IfErr r (λ e. if_lacks (index_of (forest old.now.chart.cut).branches branch) ≡ e) → world_of is new.now ≡ world_of is old.now → new.log ≡ old.log
+        → IsReading is (λ n w. PlansOf E is branch w r) (items first old.log) (items first new.log)
+    plans_so E branch r plan found refused world log = reads_so (λ n w. PlansOf E is branch w r) world log (plans E is old branch r plan found refused)

@@ -3,3 +3,4 @@ pub mod Histories
 pub mod Works
 pub mod Reports
 pub mod Chairs
+pub mod Fills

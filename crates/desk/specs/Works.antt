@@ -1,12 +1,21 @@
 -- What the works at a desk's turn promise: of the list before and after, and of the answer.
-use Rattle.std.specs.Prelude.{ℕ, ◌≡◌, ◌⊎◌, List, Option, Some, IsSome, Result, Ok, Err, length}
+use Rattle.std.specs.Prelude.{ℕ, ◌≡◌, ◌⊎◌, Bool, List, Option, Some, None, IsSome, Result, Ok, Err, length}
+use Rattle.std.specs.Arc.{arc_value}
+use Rattle.std.specs.Global.{Vec}
 use Rattle.frames.specs.Behaviour.{Behaviour}
 use Rattle.schedule_trie.specs.declared.refusal.Refusal.{Refusal}
 use Rattle.schedule_trie.specs.declared.refusal.Refusal.TheVariants.{LogFull, Memory}
-use Rattle.schedule_trie.specs.Cut.{if_lacks}
+use Rattle.schedule_trie.specs.Cut.{if_lacks, forest}
 use Rattle.schedule_trie.specs.Forest.{IsRefused, index_of}
+use Rattle.cutoff.specs.declared.install.Installation.{Installation}
+use Rattle.cutoff.specs.Held.{Charted}
+use Rattle.cutoff.specs.Installs.{Installs}
+use Rattle.cutoff.specs.Plans.{Planned, IsPlan}
 use Rattle.views.specs.declared.page.Page.{Page}
 use Rattle.views.specs.declared.query.Query.{Query}
+use Rattle.workers.specs.declared.job.Outcome.{Outcome}
+use Rattle.workers.specs.declared.job.Outcome.TheVariants.{Ran, NoMemory}
+use Rattle.workers.specs.Segments.{SharedRun}
 use Rattle.sessions.specs.declared.command.Command.{Command}
 use Rattle.sessions.specs.declared.log.Entry.{Entry}
 use Rattle.sessions.specs.declared.reply.Reply.TheVariants.{No}
@@ -32,6 +41,26 @@ IsPaged (Err r) result = result ≡ Err r
 abbrev pub NeedsBranch : {P A : Type 0} → List ℕ → World P → Result A Refusal → Type 0
 NeedsBranch branch w (Ok x) = IsSome (index_of w.forest.branches branch)
 NeedsBranch branch w (Err r) = if_lacks (index_of w.forest.branches branch) ≡ r
+
+-- the run that a job came to, if it came to one
+abbrev pub run_in : {A : Type 0} → Outcome A → Option A
+run_in (Ran run) = Some run
+run_in NoMemory = None
+
+module _ {R P : Type 0} (E : R → R → Bool) (is : R → Behaviour P) where
+  -- in a chart of the world's branches a run that is offered for a key comes to this answer; to none where there is no run
+  abbrev pub Offers : ℕ → Option (SharedRun R P) → World P → Option Installation → Type 0
+  Offers key None w answer = answer ≡ None
+  Offers key (Some run) w None = ⊥
+  Offers key (Some run) w (Some answer) =
+      (old : Charted R P) × (new : Charted R P) × (forest old.cut ≡ w.forest) × Installs E (is old.start.register) old new key (arc_value run) answer
+
+  -- the jobs of a plan for a branch are those that some chart of the world's branches plans; a plan is refused as NoBranch only where the
+  -- branch isn't there, or as Memory
+  abbrev pub PlansOf : List ℕ → World P → Result (Vec (Planned R P)) Refusal → Type 0
+  PlansOf branch w (Ok jobs) =
+      IsSome (index_of w.forest.branches branch) × ((chart : Charted R P) × (forest chart.cut ≡ w.forest) × IsPlan E (is chart.start.register) chart branch jobs.items)
+  PlansOf branch w (Err r) = if_lacks (index_of w.forest.branches branch) ≡ r
 
 module _ {R P : Type 0} (is : R → Behaviour P) where
   -- A command, brought by some chair, finds a legal history and leaves it with the call at its end, unless the call isn't logged; it is

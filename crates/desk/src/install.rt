@@ -2,6 +2,7 @@
 
 ghost use Rattle.std.specs.Prelude.{◌≡◌};
 ghost use Rattle.sessions.specs.Held.{opening_of, world_of};
+ghost use Rattle.desk.specs.Works.{Offers};
 
 use crate::journal::Journal;
 use checkpoints::run::Run;
@@ -20,11 +21,11 @@ pub(crate) struct Install<R: Register> {
 }
 
 impl<R: Register> Work<Journal<R>> for Install<R> {
-    ghost use Rattle.desk.specs.Works.{IsReading};
+    ghost use Rattle.desk.specs.Works.{IsReading, Offers};
 
     type Out = Option<Installation>;
 
-    ghost relation = { λ _ before after _ _. IsReading R.is (λ _ _. Unit {0}) before after };
+    ghost relation = { λ work before after answer _. IsReading R.is (λ _ world. Offers R.PartialEq.eq R.is work.key work.run world answer) before after };
 
     fn work(&mut self, journal: &mut Journal<R>, _number: u32) -> Option<Installation> {
         let book = &mut journal.book;
@@ -40,6 +41,7 @@ fn offer<R: Register>(
     key: SegKey,
     run: Option<Arc<Run<R>>>,
 ) -> Option<Installation>
+    ensures answer { Offers R.PartialEq.eq R.is key run (world_of R.is book.old.now) result }
     ensures world { world_of R.is book.new.now ≡ world_of R.is book.old.now }
     ensures opening { opening_of R.is book.new ≡ opening_of R.is book.old }
     ensures log { book.new.log ≡ book.old.log }

@@ -14,7 +14,6 @@ mod look;
 mod plan;
 mod receipt;
 mod report;
-mod segment_job;
 
 pub use desk::{Chair, Desk};
 pub use item::Item;

@@ -16,11 +16,11 @@ pub(crate) struct Plan<'a> {
 }
 
 impl<R: Register> Work<Journal<R>> for Plan<'_> {
-    ghost use Rattle.desk.specs.Works.{IsReading, NeedsBranch};
+    ghost use Rattle.desk.specs.Works.{IsReading, PlansOf};
 
     type Out = Result<Vec<Job<R>>, Refusal>;
 
-    ghost relation = { λ work before after out _. IsReading R.is (λ _ world. NeedsBranch work.branch.now world out) before after };
+    ghost relation = { λ work before after out _. IsReading R.is (λ _ world. PlansOf R.PartialEq.eq R.is work.branch.now world out) before after };
 
     fn work(&mut self, journal: &mut Journal<R>, _number: u32) -> Result<Vec<Job<R>>, Refusal> {
         let book = &journal.book;

@@ -1,9 +1,11 @@
 //! What a fill comes to.
 
-ghost use Rattle.std.specs.Prelude.{◌≡◌, ◌<◌, ◌+◌, ◌^◌, IfSome};
-ghost use Rattle.desk.specs.Reports.{IsSum};
+ghost use Rattle.std.specs.Prelude.{◌≡◌, ◌<◌, ◌≤◌, ◌+◌, ◌^◌, IfOk, MatchOption};
+ghost use Rattle.std.specs.Bool.{Decides};
+ghost use Rattle.desk.specs.Reports.{Adds, IsIdle, IsSum, both, counted, no_jobs};
 
 use cutoff::install::Installation;
+use schedule_trie::refusal::Refusal;
 
 /// What became of the jobs of a fill.
 #[derive(Clone, Copy, Debug, PartialEq, Eq)]
@@ -23,8 +25,7 @@ pub struct Report {
 impl Report {
     /// A report of no jobs.
     pub(crate) fn new() -> Report
-        ensures sum { IsSum result }
-        ensures none { result.planned ≡ 0 }
+        ensures { result ≡ no_jobs }
     {
         Report {
             planned: 0,
@@ -36,7 +37,9 @@ impl Report {
     }
 
     /// Whether no job was run: there was none, or each was refused memory.
-    pub(crate) fn is_idle(&self) -> bool {
+    pub(crate) fn is_idle(&self) -> bool
+        ensures { Decides result (IsIdle self.now) }
+    {
         self.memory == self.planned
     }
 
@@ -44,8 +47,7 @@ impl Report {
     pub(crate) fn count(&mut self, answer: Option<Installation>)
         requires sum { IsSum self.old }
         requires room { self.old.planned + 1 < 2 ^ 64 }
-        ensures sum { IsSum self.new }
-        ensures planned { self.new.planned ≡ self.old.planned + 1 }
+        ensures { self.new ≡ counted answer self.old }
     {
         self.planned += 1;
         match answer {
@@ -59,7 +61,7 @@ impl Report {
     /// Both reports together; none where a count would pass 64 bits.
     pub(crate) fn plus(self, other: Report) -> Option<Report>
         requires { IsSum self × IsSum other }
-        ensures { IfSome result IsSum }
+        ensures { MatchOption result (2 ^ 64 ≤ self.planned + other.planned) (λ sum. sum ≡ both self other) }
     {
         Some(Report {
             planned: self.planned.checked_add(other.planned)?,
@@ -68,5 +70,17 @@ impl Report {
             gone: self.gone.checked_add(other.gone)?,
             memory: self.memory.checked_add(other.memory)?,
         })
+    }
+
+    /// This report with that of what came later, where there is one; itself where a count would pass 64 bits.
+    pub(crate) fn with(self, later: Result<Report, Refusal>) -> Result<Report, Refusal>
+        requires { IsSum self × IfOk later IsSum }
+        ensures { Adds self later result }
+    {
+        let later = later?;
+        match self.plus(later) {
+            Some(sum) => Ok(sum),
+            None => Ok(self),
+        }
     }
 }

@@ -2,3 +2,4 @@ pub mod Outcomes
 pub mod Hands
 pub mod Slots
 pub mod Owner
+pub mod Segments

@@ -105,13 +105,24 @@ where
     (owner, slots)
 }
 
+/// How many thieves find work: of so many jobs the caller runs one itself.
+fn needed(thieves: u32, jobs: usize) -> u32
+    ensures { result ≤ thieves }
+{
+    if (thieves as usize) < jobs {
+        thieves
+    } else {
+        jobs.saturating_sub(1) as u32
+    }
+}
+
 impl Crew {
     /// Runs each job once: the caller and its thieves take the jobs from one deque, in order. Gives
     /// one outcome for each job, in the order of the jobs. Each job is offered to the gate by the
     /// thread that is about to run it.
     ///
-    /// There are at most 4 thieves. One that can't be started is done without, and with none the
-    /// caller runs all jobs. Room for all outcomes is had before the first job is run; where it is
+    /// There are at most 4 thieves, and no more than can find a job. One that can't be started is
+    /// done without, and with none the caller runs all jobs. Room for all outcomes is had before the first job is run; where it is
     /// refused, the jobs are dropped. A job whose run is refused memory has the outcome `NoMemory`.
     pub fn run<R: Threads + Wait + Sync, J: Job + Sync + Drop, G: Gate<R> + Sync>(
         rt: &R,
@@ -130,6 +141,7 @@ impl Crew {
         let all = Vec::with_capacity(alloc, jobs.len())?;
         let slots = vacant(alloc, jobs.len())?;
         let owner = deal(alloc, jobs.len())?;
+        let thieves = needed(thieves, jobs.len());
         let (owner, slots) = share(rt, alloc, gate, jobs, thieves, owner, slots);
         let (_, slots) = work(rt, alloc, gate, jobs, owner, slots);
         Ok(under_keys(jobs, slots, all))

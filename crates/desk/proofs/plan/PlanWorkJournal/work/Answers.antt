@@ -1,13 +1,14 @@
 use Rattle.std.proofs.Common.{refl, subst}
-use Rattle.desk.specs.Works.{IsReading, NeedsBranch}
+use Rattle.desk.specs.Works.{IsReading, PlansOf}
 use Rattle.desk.proofs.Works.{plans_so}
 use Rattle.desk.proofs.plan.PlanWorkJournal.work.Goals as goal
 
 pub returns-clause-kept : goal.returns-clause-kept
 returns-clause-kept g c =
+    let E = g.R.PartialEq.eq in
     let is = g.R.Behaves.is in
     let inside = c.journal.inside in
     let branch = c.args.self.now.branch.now in
     let told = c.plan.ensures in
-    subst (λ l. IsReading is (λ n w. NeedsBranch branch w c.plan.result) l l) c.journal.view_is
-    (plans_so is inside.first.value inside.book inside.book c.journal.invariant refl c.held.ensures branch c.plan.result told.found told.err refl refl)
+    subst (λ l. IsReading is (λ n w. PlansOf E is branch w c.plan.result) l l) c.journal.view_is
+    (plans_so is inside.first.value inside.book inside.book c.journal.invariant refl c.held.ensures E branch c.plan.result told.ok told.found told.err refl refl)

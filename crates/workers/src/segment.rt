@@ -1,0 +1,31 @@
+//! The jobs of a chart's plan are jobs of a crew.
+
+use crate::job;
+use checkpoints::run::{Run, run_segment};
+use cutoff::plan::Job;
+use frames::register::Register;
+use schedule_trie::trie::SegKey;
+use std::alloc::{AllocError, Global};
+use std::sync::Arc;
+
+impl<R: Register> job::Job for Job<R> {
+    ghost use Rattle.cutoff.specs.Plans.{key_of};
+    ghost use Rattle.workers.specs.Segments.{IsRunOf};
+
+    type Key = SegKey;
+
+    type Run = Arc<Run<R>>;
+
+    ghost named = { key_of };
+
+    ghost gives = { IsRunOf };
+
+    fn key(&self) -> SegKey {
+        self.key()
+    }
+
+    fn run(&self, alloc: Global) -> Result<Arc<Run<R>>, AllocError> {
+        let run = run_segment(alloc, self.entry(), self.steps())?;
+        Ok(Arc::new(alloc, run)?)
+    }
+}
