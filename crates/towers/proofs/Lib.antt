@@ -1,2 +1,1 @@
 mod OneWriters
-mod NumberedReads

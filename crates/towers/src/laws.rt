@@ -4,7 +4,7 @@ ghost use Rattle.frames.specs.Regularity.{NeverStray};
 ghost use Rattle.frames.specs.Regularity.{IsAtomic, IsRegular, IsSafe};
 
 use crate::{CopiesTower, RegularTower, StampedTower, UnaryTower};
-use frames::laws::safe;
+use frames::laws::{never_stray, safe};
 use frames::register::Behaves;
 
 /// Copies of a safe bit are safe.
@@ -40,4 +40,5 @@ pub fn stamped(register: &StampedTower)
 {
     unary(&register.below);
     stamped::laws::atomic(register);
+    never_stray(register);
 }

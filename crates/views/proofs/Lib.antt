@@ -1,5 +1,6 @@
 pub mod Ranges
 pub mod Alone
+pub mod Lenses
 pub mod Spots
 pub mod BranchLengths
 pub mod Slips

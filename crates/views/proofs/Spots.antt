@@ -140,6 +140,18 @@ end_last is c (y ∷ z ∷ rs) x e =
     let less : length (y ∷ z ∷ rs) - 1 ≡ suc (length (z ∷ rs) - 1) = omega arith in
     end_last is (part_end is (part_of y)) (z ∷ rs) x (e ∙ ap (slice_get (y ∷ z ∷ rs)) less)
 
+none_last : {X : Type 0} (x : X) (xs : List X) → None ≡ slice_get (x ∷ xs) (length (x ∷ xs) - 1) → ⊥
+none_last x [] e = cc
+none_last x (y ∷ ys) e =
+    let less : length (x ∷ y ∷ ys) - 1 ≡ suc (length (y ∷ ys) - 1) = omega arith in
+    none_last y ys (e ∙ ap (slice_get (x ∷ y ∷ ys)) less)
+
+-- where there is none, it is where they begin
+pub end_none : {R P Z : Type 0} (is : R → Behaviour P) (c : Configuration R P) (runs : List (Arc (SegmentRun R P) Z × ℕ))
+    → None ≡ slice_get runs (length runs - 1) → end_of is c (map part_of runs) ≡ c
+end_none is c [] e = refl
+end_none is c (x ∷ runs) e = absurd (none_last x runs e)
+
 history-take : {R P : Type 0} (b : Behaviour P) (c : Configuration R P) (n : ℕ) (steps : List Step) → take n (history b c steps) ≡ history b c (take n steps)
 history-take b c zero steps = refl
 history-take b c (suc n) [] = refl

@@ -3,6 +3,8 @@ pub mod Breaks
 pub mod page
 pub mod Pages
 pub mod Spots
+pub mod Lenses
+pub mod laws
 pub mod RunPages
 pub mod Slips
 pub mod Looks

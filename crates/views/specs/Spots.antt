@@ -26,6 +26,11 @@ module _ {R P : Type 0} (is : R → Behaviour P) where
   events_of [] = []
   events_of (part ∷ parts) = part_events part ++ events_of parts
 
+-- a configuration like another one: registers that answer alike, and the same cells, words, pending operations and stopped marks
+pub record IsAlike {R P : Type 0} (is : R → Behaviour P) (c d : Configuration R P) : Type 0 where
+  pub home : is c.register ≡ is d.register
+  pub comes : alone c ≡ alone d
+
 -- parts that a settle answers for the first `place` of a branch's steps: from the register's initial configuration on they come to
 -- what these steps come to, and record their events; the branch is so long
 pub record IsSpotOf {R P : Type 0} (is : R → Behaviour P) (start : Configuration R P) (value : ℕ) (steps : List Step) (place len : ℕ) (parts : List (RunPart R P)) : Type 0 where

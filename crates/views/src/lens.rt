@@ -1,20 +1,195 @@
 //! What is kept between pages.
 
-use frames::register::Register;
-use std::alloc::{AllocError, Global};
-use std::marker::PhantomData;
+ghost use Rattle.std.specs.Prelude.{◌≡◌, ◌≤◌, ◌<◌, IfOk, IfSome, OnErr, length};
+ghost use Rattle.std.specs.Arc.{arc_value};
+ghost use Rattle.views.specs.Spots.{IsAlike, part_end};
 
-/// What pages that were made leave for those that follow. It holds nothing yet.
+use crate::run_place::RunPlace;
+use crate::spot::{front, make};
+use checkpoints::run::Run;
+use frames::config::Config;
+use frames::register::Register;
+use lru::LruCache;
+use std::alloc::{AllocError, Global};
+use std::marker::Model;
+use std::num::NonZeroUsize;
+use std::sync::Arc;
+
+/// How many places a lens keeps.
+const PLACES: usize = 32;
+
+/// How many places who goes backwards passes until steps are replayed again.
+const STRETCH: u32 = 16;
+
+/// What pages that were made leave for those that follow: the configurations of the places of runs that were looked at last. A place is
+/// found by the value of its run, so a lens serves any branches.
 #[derive(Drop)]
 pub struct Lens<R: Register> {
-    register: PhantomData<R>,
+    places: LruCache<RunPlace<R>, Config<R>>,
+}
+
+impl<R: Register> Model for Lens<R> {
+    ghost use Rattle.lru.specs.LruCache.{LruCache};
+    ghost use Rattle.frames.specs.Configuration.{Configuration};
+    ghost use Rattle.cutoff.specs.Fitting.{RunPart};
+    ghost use Rattle.views.specs.Lenses.{AreTrue};
+
+    ghost Value = { LruCache (RunPart R R.Pending) (Configuration R R.Pending) };
+
+    ghost view = { λ l. l.places };
+
+    ghost invariant = { λ l. AreTrue R.is l.places };
 }
 
 impl<R: Register> Lens<R> {
     /// A lens that holds nothing.
-    pub fn new(_alloc: Global) -> Result<Lens<R>, AllocError> {
-        Ok(Lens {
-            register: PhantomData,
-        })
+    pub fn new(alloc: Global) -> Result<Lens<R>, AllocError> {
+        let Some(most) = NonZeroUsize::new(PLACES) else {
+            unreachable!()
+        };
+        let places = LruCache::new(alloc, most)?;
+        Ok(Lens { places })
     }
+
+    /// A configuration like the one that the first `count` steps of a run come to. It goes on from the nearest place that it looks for.
+    pub(crate) fn config_in(
+        &mut self,
+        alloc: Global,
+        run: &Arc<Run<R>>,
+        count: u32,
+    ) -> Result<Config<R>, AllocError>
+        ensures { IfOk result (λ c. IsAlike R.is c (part_end R.is (record { run = arc_value run.now; count = count }))) }
+    {
+        if count as usize >= run.steps().len() {
+            return ended(alloc, run, count);
+        }
+        let (made, config) = self.nearest(alloc, run, count)?;
+        Ok(self.come_to(alloc, run, made, count, config))
+    }
+
+    /// From where the first `count` steps of a run are made: that place, or the one before it, where it is kept, and else the run's entry.
+    fn nearest(
+        &mut self,
+        alloc: Global,
+        run: &Arc<Run<R>>,
+        count: u32,
+    ) -> Result<(u32, Config<R>), AllocError>
+        ensures before { IfOk result (λ r. r.0 ≤ count) }
+        ensures config { IfOk result (λ r. IsAlike R.is r.1 (part_end R.is (record { run = arc_value run.now; count = r.0 }))) }
+    {
+        if let Some(config) = self.find(alloc, run, count) {
+            return Ok((count, config));
+        }
+        let before = count.saturating_sub(1);
+        if let Some(config) = self.find(alloc, run, before) {
+            return Ok((before, config));
+        }
+        let entry = run.entry().copy(alloc)?;
+        Ok((0, entry))
+    }
+
+    /// Goes on from a place of a run to a later one, which is then kept. Who comes from the place behind that one goes backwards, and so the
+    /// places before it are kept too.
+    fn come_to(
+        &mut self,
+        alloc: Global,
+        run: &Arc<Run<R>>,
+        made: u32,
+        count: u32,
+        config: Config<R>,
+    ) -> Config<R>
+        requires order { made ≤ count }
+        requires within { count < length (arc_value run.now).steps }
+        requires from { IsAlike R.is config (part_end R.is (record { run = arc_value run.now; count = made })) }
+        ensures { IsAlike R.is result (part_end R.is (record { run = arc_value run.now; count = count })) }
+    {
+        let goes_back = count - made > 1 && self.has(run, count.saturating_add(1));
+        let passed = if goes_back { STRETCH } else { 1 };
+        let first = made.max(count.saturating_sub(passed));
+        let config = advanced(run, made, first, config);
+        self.walk(alloc, run, first, count, config)
+    }
+
+    /// Goes on from a place of a run to a later one, and keeps each place behind the first.
+    fn walk(
+        &mut self,
+        alloc: Global,
+        run: &Arc<Run<R>>,
+        made: u32,
+        count: u32,
+        config: Config<R>,
+    ) -> Config<R>
+        requires order { made ≤ count }
+        requires within { count < length (arc_value run.now).steps }
+        requires from { IsAlike R.is config (part_end R.is (record { run = arc_value run.now; count = made })) }
+        ensures { IsAlike R.is result (part_end R.is (record { run = arc_value run.now; count = count })) }
+    {
+        let mut config = config;
+        for place in made..count {
+            config = advanced(run, place, place + 1, config);
+            let _ = self.keep(alloc, run, place + 1, &config);
+        }
+        config
+    }
+
+    /// Whether a place is kept.
+    fn has(&self, run: &Arc<Run<R>>, count: u32) -> bool {
+        let Ok(place) = RunPlace::new(run, count) else {
+            return false;
+        };
+        self.places.contains(&place)
+    }
+
+    /// The configuration of a place, where it is kept and there is memory for a copy. The place is then the last to go.
+    fn find(&mut self, alloc: Global, run: &Arc<Run<R>>, count: u32) -> Option<Config<R>>
+        ensures { IfSome result (λ c. IsAlike R.is c (part_end R.is (record { run = arc_value run.now; count = count }))) }
+    {
+        let Ok(place) = RunPlace::new(run, count) else {
+            return None;
+        };
+        let config = self.places.get(&place)?;
+        let Ok(copy) = config.copy(alloc) else {
+            return None;
+        };
+        Some(copy)
+    }
+
+    /// Keeps the configuration of a place, in place of the one that was looked at longest ago. Where memory is refused the lens is as it was.
+    fn keep(
+        &mut self,
+        alloc: Global,
+        run: &Arc<Run<R>>,
+        count: u32,
+        config: &Config<R>,
+    ) -> Result<(), AllocError>
+        requires { IsAlike R.is config.now (part_end R.is (record { run = arc_value run.now; count = count })) }
+        ensures { OnErr result (self.new ≡ self.old) }
+    {
+        let place = RunPlace::new(run, count)?;
+        let config = config.copy(alloc)?;
+        match self.places.put(place, config) {
+            Ok(_) => Ok(()),
+            Err(_) => Err(AllocError),
+        }
+    }
+}
+
+/// A configuration like the one that a run comes to.
+fn ended<R: Register>(alloc: Global, run: &Run<R>, count: u32) -> Result<Config<R>, AllocError>
+    requires { length run.now.steps ≤ count }
+    ensures { IfOk result (λ c. IsAlike R.is c (part_end R.is (record { run = run.now; count = count }))) }
+{
+    run.exit().copy(alloc)
+}
+
+/// Goes on from a place of a run to a later one.
+fn advanced<R: Register>(run: &Run<R>, made: u32, count: u32, config: Config<R>) -> Config<R>
+    requires order { made ≤ count }
+    requires within { count < length run.now.steps }
+    requires from { IsAlike R.is config (part_end R.is (record { run = run.now; count = made })) }
+    ensures { IsAlike R.is result (part_end R.is (record { run = run.now; count = count })) }
+{
+    let mut config = config;
+    make(&mut config, &front(run.steps(), count)[made as usize..]);
+    config
 }

@@ -9,6 +9,7 @@ pub mod lens;
 pub mod listed;
 pub mod page;
 pub mod query;
+mod run_place;
 pub mod slip;
 pub mod spot;
 pub mod verdict;

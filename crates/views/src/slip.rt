@@ -115,13 +115,13 @@ impl<R: Register> Slip<R> {
     }
 
     /// Its page, which doesn't depend on what the lens holds.
-    pub fn page(&self, alloc: Global, _lens: &mut Lens<R>) -> Result<Page, AllocError>
+    pub fn page(&self, alloc: Global, lens: &mut Lens<R>) -> Result<Page, AllocError>
         ensures page { IfOk result (λ page. page ≡ self.now) }
         ensures judges { IfOk result (JudgesSome R.is) }
         ensures never_stray { ((register : R) → NeverStray (R.is register)) → IfOk result ShowsNoStray }
     {
         match &self.content {
-            Content::Place(slip) => slip.page(alloc),
+            Content::Place(slip) => slip.page(alloc, lens),
             Content::Branches(page) => Ok(Page::Branches(page.copy(alloc)?)),
             Content::Cursor(page) => Ok(Page::Cursor(page.copy(alloc)?)),
             Content::Steps(page) => Ok(Page::Steps(page.copy(alloc)?)),

@@ -4,8 +4,9 @@ ghost use Rattle.std.specs.Prelude.{◌≡◌, IfOk, map, take};
 ghost use Rattle.frames.specs.Configuration.{replayed};
 ghost use Rattle.frames.specs.Recorded.{AllFit};
 ghost use Rattle.cutoff.specs.Fitting.{part_of};
-ghost use Rattle.views.specs.Spots.{end_of, events_of};
+ghost use Rattle.views.specs.Spots.{IsAlike, end_of, events_of};
 
+use crate::lens::Lens;
 use checkpoints::events::Events;
 use checkpoints::run::Run;
 use frames::config::Config;
@@ -14,34 +15,23 @@ use frames::types::Step;
 use std::alloc::{AllocError, Global};
 use std::sync::Arc;
 
-/// The configuration that runs one after the other come to, each as far as it counts; the first one where there are none.
-pub fn config_of<R: Register>(
+/// A configuration like the one that runs one after the other come to, each as far as it counts; like the first one where there are none.
+pub(crate) fn config_of<R: Register>(
     alloc: Global,
+    lens: &mut Lens<R>,
     first: &Config<R>,
     runs: &[(Arc<Run<R>>, u32)],
 ) -> Result<Config<R>, AllocError>
-    ensures { IfOk result (λ c. c ≡ end_of R.is first.now (map part_of runs.now)) }
+    ensures { IfOk result (λ c. IsAlike R.is c (end_of R.is first.now (map part_of runs.now))) }
 {
     match runs.last() {
         None => first.copy(alloc),
-        Some((run, count)) => config_in(alloc, run, *count),
+        Some((run, count)) => lens.config_in(alloc, run, *count),
     }
-}
-
-/// The configuration that the first `count` steps of a run come to.
-fn config_in<R: Register>(alloc: Global, run: &Run<R>, count: u32) -> Result<Config<R>, AllocError>
-    ensures { IfOk result (λ c. c ≡ replayed (R.is run.now.entry.register) run.now.entry (take count run.now.steps)) }
-{
-    if count as usize >= run.steps().len() {
-        return run.exit().copy(alloc);
-    }
-    let mut config = run.entry().copy(alloc)?;
-    make(&mut config, front(run.steps(), count));
-    Ok(config)
 }
 
 /// Makes steps one after another.
-fn make<R: Register>(config: &mut Config<R>, steps: &[Step])
+pub(crate) fn make<R: Register>(config: &mut Config<R>, steps: &[Step])
     requires { AllFit (R.is config.old.register) steps.now }
     ensures { config.new ≡ replayed (R.is config.old.register) config.old steps.now }
 {

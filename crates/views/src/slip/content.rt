@@ -9,6 +9,7 @@ ghost use Rattle.views.specs.RunPages as spec;
 ghost use Rattle.views.specs.RunPages.{IsOfConfig};
 ghost use Rattle.views.specs.declared.page.Page.TheVariants as spec_page;
 
+use crate::lens::Lens;
 use crate::listed::Listed;
 use crate::page::Page;
 use crate::page::bits::bits_page;
@@ -61,16 +62,17 @@ impl<R: Register> Model for PlaceSlip<R> {
 
 impl<R: Register> PlaceSlip<R> {
     /// Its page.
-    pub(super) fn page(&self, alloc: Global) -> Result<Page, AllocError>
+    pub(super) fn page(&self, alloc: Global, lens: &mut Lens<R>) -> Result<Page, AllocError>
         ensures { IfOk result (λ page. page ≡ self.now) }
     {
-        run_page(alloc, self.kind, &self.head, &self.first, &self.runs)
+        run_page(alloc, lens, self.kind, &self.head, &self.first, &self.runs)
     }
 }
 
 /// The page of what runs come to from a first configuration on.
 fn run_page<R: Register>(
     alloc: Global,
+    lens: &mut Lens<R>,
     kind: PlaceKind,
     head: &Head,
     first: &Config<R>,
@@ -88,7 +90,7 @@ fn run_page<R: Register>(
             Ok(Page::Verdict(verdict_page(alloc, head, value, &events)?))
         }
         PlaceKind::State | PlaceKind::Process(_) | PlaceKind::Bits | PlaceKind::Pending => {
-            let config = config_of(alloc, first, runs)?;
+            let config = config_of(alloc, lens, first, runs)?;
             config_page(alloc, kind, head, &config)
         }
     }

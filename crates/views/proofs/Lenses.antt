@@ -1,0 +1,118 @@
+-- What a lens keeps stays true, and what is found in it is like what was asked for.
+use Rattle.std.proofs.Common.{◌≡◌, ℕ, zero, suc, ◌≤◌, Bool, true, List, [], ◌∷◌, ◌++◌, take, drop, length, ◌-◌, Contains, Some, refl, sym, ap, subst, ◌∙◌, inl, inr, arith}
+use Rattle.std.specs.Prelude.{Result, Ok, Err, OnOk, OnErr}
+use Rattle.std.specs.Bool.{Decides}
+use Rattle.std.specs.Map.{lookup}
+use Rattle.std.proofs.lemmas.List.{take-append-drop, take_all}
+use Rattle.frames.specs.declared.types.Event.{Event}
+use Rattle.frames.specs.declared.types.Step.{Step}
+use Rattle.frames.specs.Behaviour.{Behaviour}
+use Rattle.frames.specs.Configuration.{Configuration, replayed}
+use Rattle.cutoff.specs.Fitting.{RunPart}
+use Rattle.cutoff.specs.Links.{alone}
+use Rattle.cutoff.proofs.Fits.{register_kept, alone_same}
+use Rattle.checkpoints.specs.Segment.{SegmentRun}
+use Rattle.lru.specs.LruCache.{LruCache, lru_cache, promoted, put_entries}
+use Rattle.lru.proofs.CallerLemmas.{Contains-lookup, Contains-promoted, Contains-put_entries}
+use Rattle.views.specs.declared.query.PlaceKind.{PlaceKind}
+use Rattle.views.specs.declared.page.head.Head.{Head}
+use Rattle.views.specs.Lenses.{AreTrue}
+use Rattle.views.specs.Pages.{page_at}
+use Rattle.views.specs.Spots.{IsAlike, part_end}
+use Rattle.views.specs.laws.Places.{SamePlace, same_place, place_decides}
+use Rattle.views.proofs.Alone.{replayed_alone, replayed-append, page_alone}
+
+pub take-take : (n m : ℕ) (steps : List Step) → n ≤ m → take n (take m steps) ≡ take n steps
+take-take zero m steps h = refl
+take-take (suc n) zero steps h = absurd (omega (arith, h))
+take-take (suc n) (suc m) [] h = refl
+take-take (suc n) (suc m) (s ∷ steps) h = ap (λ later. s ∷ later) (take-take n m steps (omega (arith, h)))
+
+-- what `steps[n..]` is
+pub tail_is : (n : ℕ) (steps : List Step) → take (length steps - n) (drop n steps) ≡ drop n steps
+tail_is zero steps = take_all (length steps - 0) steps (omega arith)
+tail_is (suc n) [] = take_all (length {A = Step} [] - suc n) [] (omega arith)
+tail_is (suc n) (s ∷ steps) =
+    let fewer : length (s ∷ steps) - suc n ≡ length steps - n = omega arith in
+    ap (λ m. take m (drop n steps)) fewer ∙ tail_is n steps
+
+module _ {R P : Type 0} (is : R → Behaviour P) where
+  abbrev behaviour_of : RunPart R P → Behaviour P
+  behaviour_of part = is part.run.entry.register
+
+  -- what a part comes to, but for its register
+  end_alone : (part : RunPart R P) → alone (part_end is part) ≡ replayed (behaviour_of part) (alone part.run.entry) (take part.count part.run.steps)
+  end_alone part = replayed_alone (behaviour_of part) part.run.entry (take part.count part.run.steps)
+
+  pub end_home : (part : RunPart R P) → is (part_end is part).register ≡ behaviour_of part
+  end_home part = ap is (register_kept (behaviour_of part) part.run.entry (take part.count part.run.steps))
+
+  pub itself : (c d : Configuration R P) → c ≡ d → IsAlike is c d
+  itself c d e = record { home = ap (λ x. is x.register) e; comes = ap alone e }
+
+  like_symm : (c d : Configuration R P) → IsAlike is c d → IsAlike is d c
+  like_symm c d e = record { home = sym e.home; comes = sym e.comes }
+
+  like_trans : (c d e : Configuration R P) → IsAlike is c d → IsAlike is d e → IsAlike is c e
+  like_trans c d e f g = record { home = f.home ∙ g.home; comes = f.comes ∙ g.comes }
+
+  -- steps that are made from a place of a run on come to a later place of it
+  pub goes_on : (run : SegmentRun R P) (made count : ℕ) (c d : Configuration R P) → made ≤ count → IsAlike is c (part_end is (record { run = run; count = made }))
+      → d ≡ replayed (is c.register) c (drop made (take count run.steps)) → IsAlike is d (part_end is (record { run = run; count = count }))
+  goes_on run made count c d less like went =
+      let b = is run.entry.register in
+      let rest = drop made (take count run.steps) in
+      let home : is c.register ≡ b = like.home ∙ end_home (record { run = run; count = made }) in
+      let before : take made run.steps ++ rest ≡ take count run.steps =
+      ap (λ first. first ++ rest) (sym (take-take made count run.steps less)) ∙ take-append-drop made (take count run.steps) in
+      record {
+        home = ap (λ x. is x.register) went ∙ ap is (register_kept (is c.register) c rest) ∙ home ∙ sym (end_home (record { run = run; count = count }));
+        comes = ap alone went ∙ replayed_alone (is c.register) c rest ∙ ap (λ x. replayed x (alone c) rest) home ∙ ap (λ x. replayed b x rest) like.comes
+            ∙ sym (replayed_alone b (part_end is (record { run = run; count = made })) rest)
+            ∙ ap alone (sym (replayed-append b run.entry (take made run.steps) rest)) ∙ ap (λ steps. alone (replayed b run.entry steps)) before;
+      }
+
+  module _ (E : R → R → Bool) (F : P → P → Bool) (alike : (x y : R) → E x y ≡ true → is x ≡ is y) (d : (x y : P) → Decides (F x y) (x ≡ y)) where
+    -- equal places come to what is alike
+    ends_alike : (a b : RunPart R P) → SamePlace E a b → IsAlike is (part_end is a) (part_end is b)
+    ends_alike a b same =
+        let behave : behaviour_of a ≡ behaviour_of b = alike a.run.entry.register b.run.entry.register same.entry.register in
+        record {
+          home = end_home a ∙ behave ∙ sym (end_home b);
+          comes = end_alone a ∙ ap (λ x. replayed x (alone a.run.entry) (take a.count a.run.steps)) behave
+              ∙ ap (λ x. replayed (behaviour_of b) x (take a.count a.run.steps)) (alone_same E a.run.entry b.run.entry same.entry)
+              ∙ ap (λ n. replayed (behaviour_of b) (alone b.run.entry) (take n a.run.steps)) same.count
+              ∙ ap (λ steps. replayed (behaviour_of b) (alone b.run.entry) (take b.count steps)) same.steps ∙ sym (end_alone b);
+        }
+
+    module _ (places : LruCache (RunPart R P) (Configuration R P)) (all : AreTrue is places) where
+      pub found : (place : RunPart R P) (c : Configuration R P) → lookup (same_place E F place) places.entries ≡ Some c → IsAlike is c (part_end is place)
+      found place c told =
+          let at = Contains-lookup (same_place E F place) places.entries c told in
+          like_trans c (part_end is at.0) (part_end is place) (all (at.0, c) at.1) (like_symm (part_end is place) (part_end is at.0) (ends_alike place at.0 ((place_decides E F d place at.0).0 at.2)))
+
+      pub still_true : (test : RunPart R P → Bool) → AreTrue is (lru_cache (promoted test places.entries) places.cap)
+      still_true test e among = all e (Contains-promoted test places.entries e among)
+
+      pub put_true : (place : RunPart R P) (c : Configuration R P) → IsAlike is c (part_end is place) → AreTrue is (lru_cache (put_entries (same_place E F) places place c) places.cap)
+      put_true place c like e among = elim (Contains-put_entries (same_place E F) places place c e among) [
+        | inl old ↦ all e old
+        | inr new ↦ elim new.1 [
+          | inl here ↦ subst (λ x. IsAlike is x (part_end is e.0)) (sym new.0) (subst (λ x. IsAlike is c (part_end is x)) (sym here) like)
+          | inr there ↦
+              subst (λ x. IsAlike is x (part_end is e.0)) (sym new.0)
+              (like_trans c (part_end is place) (part_end is e.0) like (ends_alike place e.0 ((place_decides E F d place e.0).0 there.2)))
+        ]
+      ]
+
+      pub put_kept : {X Y : Type 0} (place : RunPart R P) (c : Configuration R P) (new : LruCache (RunPart R P) (Configuration R P)) (result : Result X Y) → IsAlike is c (part_end is place)
+          → OnOk result (new ≡ lru_cache (put_entries (same_place E F) places place c) places.cap) → OnErr result (new ≡ places) → AreTrue is new
+      put_kept place c new (Ok x) like ok err = subst (AreTrue is) (sym ok) (put_true place c like)
+      put_kept place c new (Err x) like ok err = subst (AreTrue is) (sym err) all
+
+  -- pages of what is alike
+  pub like_page : (kind : PlaceKind) (head : Head) (c d : Configuration R P) (events : List (ℕ × Event)) → IsAlike is c d
+      → page_at (is c.register) kind head c events ≡ page_at (is d.register) kind head d events
+  like_page kind head c d events like =
+      page_alone (is c.register) (is d.register) kind head c (alone d) events like.home like.comes
+      ∙ sym (page_alone (is d.register) (is d.register) kind head d (alone d) events refl refl)

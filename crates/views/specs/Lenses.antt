@@ -1,0 +1,11 @@
+-- What a lens keeps.
+use Rattle.std.specs.Prelude.{Contains}
+use Rattle.frames.specs.Behaviour.{Behaviour}
+use Rattle.frames.specs.Configuration.{Configuration}
+use Rattle.cutoff.specs.Fitting.{RunPart}
+use Rattle.lru.specs.LruCache.{LruCache}
+use Rattle.views.specs.Spots.{IsAlike, part_end}
+
+-- each configuration is like the one that the steps of its run that count come to
+abbrev pub AreTrue : {R P : Type 0} → (R → Behaviour P) → LruCache (RunPart R P) (Configuration R P) → Type 0
+AreTrue {R} {P} is places = (e : RunPart R P × Configuration R P) → Contains places.entries e → IsAlike is e.1 (part_end is e.0)
