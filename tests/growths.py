@@ -1,22 +1,26 @@
-"""Growths of memory, refused one by one: the first, the second, the third ..
+"""Growths of memory, refused in turn: the first, the second, the third .. up to the last.
 
-What may come out of a script is
+One is refused in a run, or so many in a row, and what comes behind them is granted. What may come
+out of a script is
 - the ample answers (a fill does without what memory was refused for);
-- the ample answers with one line replaced by the refusal of memory, and behind it those of the
-  script without that line;
-- a front of either, and the fault `towerbench: memory` with status 1;
+- the ample answers, but of lines that are answered the refusal of memory, no more of them than
+  growths were refused: the answers of the other lines are then those of a run of the script without
+  these lines, which is run too;
+- a front of such answers, and the fault `towerbench: memory` with status 1;
 - nothing at all, and the fault of the file or of the opening, `40 Memory`, with status 1.
 Nothing else. Rows through the calls of the desk and of the chart are tried by the built tests of
 their crates, which say themselves what may be answered.
 """
+import collections
 import os
 import re
 import shutil
 import subprocess
+import tempfile
 
 import cases
 
-# The rows that are tried, beside all examples.
+# The rows that are tried, beside all examples: with so many workers where their words tell none.
 ROWS = (
     "thousand-steps-filled",
     "thousand-steps-by-workers",
@@ -29,11 +33,19 @@ ROWS = (
     "script-lines",
     "shared-insert",
 )
-# A crate whose tests are tried where they are built, and the test's name.
+NUMBERS_OF_WORKERS = (0, 4)
+# How many growths are refused in a row where it isn't one, and on which rows.
+MORE_IN_A_ROW = {
+    2: ("detach-replace", "shared-insert"),
+    6: ("breaks", "script-lines", "shared-insert", "thousand-steps-filled"),
+}
+# A crate whose tests are tried where they are built, a test's name, and how many growths are refused
+# in a row: some make a call again that was refused memory, more often than that.
 TESTS = (
-    ("thread_tests", "desks::growths::two_chairs_wanting_memory"),
-    ("thread_tests", "desks::growths::thousand_steps_wanting_memory"),
-    ("branch_tests", "charts::rows::late_run_wanting_memory"),
+    ("thread_tests", "desks::growths::two_chairs_wanting_memory", (1,)),
+    ("thread_tests", "desks::growths::thousand_steps_wanting_memory", (1,)),
+    ("branch_tests", "charts::growths::late_run_wanting_memory", (1, 2, 6)),
+    ("branch_tests", "charts::growths::thousand_steps_wanting_memory", (1, 2, 6)),
 )
 SOURCE = "tests/refuse_growth.c"
 # Past the last growth, so many runs in a row refuse none: threads may grow more or less often.
@@ -42,6 +54,9 @@ MOST_GROWTHS = 4096
 REFUSED = b": refused 40 Memory\n"
 MEMORY = re.compile(rb"^towerbench: memory$", re.MULTILINE)
 UNOPENED = re.compile(rb"^towerbench: (file line 0:|open refused) 40 Memory$", re.MULTILINE)
+
+# name: that of a case; words: more of them; in_a_row: how many growths are refused in a row
+Trial = collections.namedtuple("Trial", "name words in_a_row")
 
 
 class Odd(Exception):
@@ -57,12 +72,32 @@ def compiled(scratch):
     return target
 
 
-def each_refused(refuse, mark, work):
-    """Calls work on each number of a growth and the environment in which that one is refused.
+def ways(name):
+    """Returns the words that a case is tried with, before its own."""
+    words = cases.read(f"{name}.words") if os.path.exists(f"{name}.words") else b""
+    if b"--workers" in words:
+        return [[]]
+    return [["--workers", str(it)] for it in NUMBERS_OF_WORKERS]
 
-    Returns how many were. Work is also called where none is refused, past the last one.
+
+def trials(names, of_rows):
+    """Returns what is tried of the named cases and of the rows, of_rows giving a row's name."""
+    wanted = [(it, 1) for it in [*map(of_rows, ROWS), *names]]
+    wanted += [(of_rows(it), count) for count, rows in MORE_IN_A_ROW.items() for it in rows]
+    return [Trial(name, words, count) for name, count in wanted for words in ways(name)]
+
+
+def each_refused(refuse, mark, in_a_row, work):
+    """Calls work on each number of a growth, as far as there are any, from which on so many are
+    refused, with the environment for that and a call that tells how many were.
+
+    Work returns whether all came out as with ample memory.
     """
-    number = count = past = 0
+    number = total = past = 0
+
+    def refused():
+        return os.path.getsize(mark) if os.path.exists(mark) else 0
+
     while past < RUNS_PAST_THE_LAST:
         number += 1
         if number > MOST_GROWTHS:
@@ -70,60 +105,101 @@ def each_refused(refuse, mark, work):
         if os.path.exists(mark):
             os.remove(mark)
         told = {"LD_PRELOAD": refuse, "REFUSED_GROWTH": str(number), "REFUSED_MARK": mark}
-        is_ample = work(number, {**os.environ, **told})
-        is_refused = os.path.exists(mark)
-        count += is_refused
-        past = past + 1 if is_ample and not is_refused else 0
-    if count == 0:
+        told["REFUSED_COUNT"] = str(in_a_row)
+        is_ample = work(number, {**os.environ, **told}, refused)
+        total += refused()
+        past = past + 1 if is_ample and not refused() else 0
+    if total == 0:
         raise Odd("no growth was refused")
-    return count
 
 
-def allowed_answers(answer, lines):
-    """Returns the ample answers, and those where memory is refused for one of the lines."""
-    found, before = [answer(lines)], b""
-    for k, line in enumerate(lines):
-        behind = answer(lines[: k + 1])
-        own = behind[len(before) :]
-        # (a line that calls nothing isn't refused memory)
-        if own and not own.startswith(b"line "):
-            rest = answer([*lines[:k], b"\n", *lines[k + 1 :]])[len(before) :]
-            found.append(before + line.split()[0] + REFUSED + rest)
-        before = behind
-    return found
+class Answers:
+    """What the lines of a script are answered with ample memory, where some of them are left out."""
+
+    def __init__(self, run, script):
+        """Run gives the output of a script."""
+        self.run, self.lines, self.fronts = run, script.splitlines(keepends=True), {}
+
+    def front(self, count, left_out):
+        """Returns the answers to the first so many lines."""
+        key = count, frozenset(it for it in left_out if it < count)
+        if key not in self.fronts:
+            kept = [b"\n" if k in key[1] else it for k, it in enumerate(self.lines[:count])]
+            self.fronts[key] = self.run(b"".join(kept))
+        return self.fronts[key]
+
+    def rest(self, count, left_out):
+        """Returns the answers to the lines behind the first so many."""
+        return self.front(len(self.lines), left_out)[len(self.front(count, left_out)) :]
+
+    def fault(self, output, is_whole, most_refused):
+        """Returns how an output, or the front of one, isn't as it may be; None: it is.
+
+        So many lines at most may be refused memory.
+        """
+        left_out, place = frozenset(), 0
+        for k, line in enumerate(self.lines):
+            came, ample = output[place:], self.rest(k, left_out)
+            if came == ample or (not is_whole and ample.startswith(came)):
+                break
+            own = ample[: len(ample) - len(self.rest(k + 1, left_out))]
+            # (a line that calls nothing isn't refused memory)
+            refusal = line.split()[0] + REFUSED if own and not own.startswith(b"line ") else None
+            if refusal and (came.startswith(refusal) or (not is_whole and refusal.startswith(came))):
+                left_out, place = left_out | {k}, place + len(refusal)
+            elif came.startswith(own):
+                place += len(own)
+            else:
+                return f"line {k + 1} isn't answered so without lines {sorted(left_out)}"
+        else:
+            if output[place:]:
+                return "there is more behind the last answer"
+        is_more = len(left_out) > most_refused
+        return f"{len(left_out)} lines are refused by {most_refused} growths" if is_more else None
 
 
-def is_allowed(ran, answers):
+def fault_of_run(ran, answers, refused):
+    """Returns how a run in which so many growths were refused isn't as it may be, or None."""
     if ran.status == 0:
-        return ran.output in answers
-    if ran.status != 1:
-        return False
+        return answers.fault(ran.output, True, refused)
+    if ran.status != 1 or refused == 0:
+        return "no such end"
     if MEMORY.search(ran.errors):
-        return any(it.startswith(ran.output) for it in answers)
-    return not ran.output and UNOPENED.search(ran.errors) is not None
+        # (one growth more was refused where it ended)
+        return answers.fault(ran.output, False, refused - 1)
+    if ran.output or not UNOPENED.search(ran.errors):
+        return "no such fault"
+    return None
 
 
-def fault_of_script(name, program, refuse, scratch):
+def fault_of_script(trial, program, refuse, scratch):
     """Refuses each growth of a case's run in turn; returns what is wrong, or None."""
-    case = cases.case_of(name, scratch)
-    script = cases.read(case.script).splitlines(keepends=True)
-    ran = cases.run(program, case.words, case.script)
+    # (other trials of the case make its files side by side)
+    room = tempfile.mkdtemp(dir=scratch)
+    case = cases.case_of(trial.name, room)
+    words = [*trial.words, *case.words]
+    ran = cases.run(program, words, case.script)
     if cases.difference(case, ran):
         return cases.difference(case, ran)
+    ample = Answers(
+        lambda script: cases.run(program, case.words, script).output, cases.read(case.script)
+    )
 
-    def answer(lines):
-        return cases.run(program, case.words, b"".join(lines)).output
+    def work(number, environment, refused):
+        ran = cases.run(program, words, case.script, environment)
+        wrong = fault_of_run(ran, ample, refused())
+        if wrong:
+            raise Odd(f"from growth {number} on, {refused()} refused: {wrong}: {said(ran)}")
+        return ran.status == 0 and ran.output == case.output
 
-    answers = allowed_answers(answer, script)
-
-    def work(number, environment):
-        ran = cases.run(program, case.words, case.script, environment)
-        if not is_allowed(ran, answers):
-            raise Odd(f"growth {number}: not allowed: {said(ran)}")
-        return ran.status == 0 and ran.output == answers[0]
-
-    each_refused(refuse, f"{scratch}/mark-{name.replace('/', '-')}", work)
+    each_refused(refuse, f"{room}/mark", trial.in_a_row, work)
     return None
+
+
+def said_of(trial):
+    """Returns a trial's name."""
+    more = f", {trial.in_a_row} in a row" * (trial.in_a_row > 1)
+    return " ".join([trial.name, *trial.words]) + more
 
 
 def said(ran):
@@ -132,14 +208,14 @@ def said(ran):
     return f"status {ran.status}, output to its end {ends[0]}, standard error {ends[1]}"
 
 
-def fault_of_test(path, test, refuse, scratch):
+def fault_of_test(path, test, in_a_row, refuse, scratch):
     """Refuses growths of a built test in turn, as many as there are; returns what is wrong."""
 
-    def work(number, environment):
+    def work(number, environment, _):
         ran = cases.run(path, [test], b"", environment)
         if ran.status != 0:
-            raise Odd(f"growth {number}: not allowed: {said(ran)}")
+            raise Odd(f"from growth {number} on: not allowed: {said(ran)}")
         return True
 
-    each_refused(refuse, f"{scratch}/mark-{test.replace(':', '-')}", work)
+    each_refused(refuse, f"{tempfile.mkdtemp(dir=scratch)}/mark", in_a_row, work)
     return None

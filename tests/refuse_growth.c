@@ -1,4 +1,5 @@
-/* Loaded before the C library: refuses the growth of memory whose number REFUSED_GROWTH gives, and makes the file REFUSED_MARK as it does. */
+/* Loaded before the C library: refuses growths of memory, of which REFUSED_GROWTH numbers the first and REFUSED_COUNT tells how many in a row.
+   For each it writes a byte to the end of the file REFUSED_MARK. */
 #include <fcntl.h>
 #include <stddef.h>
 #include <stdlib.h>
@@ -7,20 +8,27 @@
 extern void *__libc_malloc(size_t size);
 extern void *__libc_realloc(void *old, size_t size);
 
-static long growths_left;
-static const char *mark;
+static long growths, first, count;
+static int mark = -1;
 
-__attribute__((constructor)) static void read_number(void) {
-    const char *number = getenv("REFUSED_GROWTH");
-    growths_left = number ? atol(number) : 0;
-    mark = getenv("REFUSED_MARK");
+static long number_of(const char *name) {
+    const char *number = getenv(name);
+    return number ? atol(number) : 0;
 }
 
-/* Threads grow side by side, and one of them is refused. */
+__attribute__((constructor)) static void read_environment(void) {
+    const char *path = getenv("REFUSED_MARK");
+    if (path) mark = open(path, O_CREAT | O_APPEND | O_WRONLY, 0600);
+    growths = 0;
+    first = number_of("REFUSED_GROWTH");
+    count = number_of("REFUSED_COUNT");
+}
+
+/* Threads grow side by side, and what one of them is refused counts for all. */
 static int is_refused(void) {
-    if (__atomic_fetch_sub(&growths_left, 1, __ATOMIC_SEQ_CST) != 1) return 0;
-    if (mark) close(open(mark, O_CREAT | O_WRONLY, 0600));
-    return 1;
+    long number = __atomic_add_fetch(&growths, 1, __ATOMIC_SEQ_CST);
+    if (number < first || number >= first + count) return 0;
+    return mark < 0 || write(mark, "x", 1) == 1;
 }
 
 void *malloc(size_t size) {

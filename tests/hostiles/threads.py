@@ -1,9 +1,10 @@
-"""Fills by four workers under valgrind's memcheck and helgrind."""
+"""Fills by four workers, and chairs on threads of their own, under valgrind's memcheck and helgrind."""
+import os
 import re
 import shutil
 import subprocess
 
-from runs import SECONDS, ended, program, shown
+from runs import SECONDS, TOP, ended, program, shown
 
 UNDER_VALGRIND = 40 * SECONDS
 TOOLS = {
@@ -15,6 +16,14 @@ BRANCHES = 6
 STEPS = 900
 CYCLE = ["w 0 1", "r 1"] + ["g 0 0", "g 1 1"] * 11
 TOWERS = ("safe 0", "regular 2 0", "matrix 2 2 1 3")
+# A call that was refused: not what a history tells of an operation.
+REFUSED = re.compile(rb"^(?:line )?[0-9]+: refused ", re.MULTILINE)
+# The built tests of chairs, and those of them that are run.
+CHAIRS = f"{TOP}/crates/thread_tests/out/thread_tests"
+TESTS = (
+    "desks::rows::two_chairs",
+    "desks::threads::two_threads",
+)
 
 
 def tower(room, line):
@@ -71,11 +80,23 @@ def fills(counts, room):
     for line in TOWERS:
         path = tower(room, line)
         alone = ended([path], script())
-        is_good = alone.status == 0 and not alone.errors and b"refused" not in alone.output
+        is_good = alone.status == 0 and not alone.errors and not REFUSED.search(alone.output)
         counts.told(f"{line}, by none", None if is_good else f"{alone}")
         for tool in TOOLS:
             words = [program(), path, "--workers", "4"]
             checked(counts, line, tool, words, script(), alone.output, f"{room}/log")
+    counts.end()
+
+
+def chairs(counts, room):
+    """Two chairs in one thread and in two, by the tests of them."""
+    counts.begin("threads: two chairs")
+    if not os.access(CHAIRS, os.X_OK):
+        counts.skip("all of it", "the tests of thread_tests aren't built here (rt test)")
+        return
+    for test in TESTS:
+        for tool in TOOLS:
+            checked(counts, test, tool, [CHAIRS, test], b"", None, f"{room}/log")
     counts.end()
 
 
@@ -85,3 +106,4 @@ def run(counts, room):
         counts.skip("all of it", "there is no valgrind (Debian's package of that name)")
         return
     fills(counts, room)
+    chairs(counts, room)

@@ -1,4 +1,6 @@
 //! Charts on one safe bit.
 
 mod counting;
+mod growths;
+mod installs;
 mod rows;

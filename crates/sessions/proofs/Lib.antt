@@ -1,6 +1,7 @@
 pub mod Answered
 pub mod LegalLogs
 pub mod Ordinary
+pub mod Lates
 pub mod Books
 pub mod Searches
 pub mod Runs

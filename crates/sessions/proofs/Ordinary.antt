@@ -1,10 +1,10 @@
 -- Every reply to a command that can be logged is logged.
-use Rattle.std.proofs.Common.{◌≡◌, ℕ, ◌+◌, Bool, true, false, not, cond, nat_le, nat_lt, nat_eq, List, [], ◌∷◌, Option, Some, None, Result, Ok, Err, length, map, refl, sym, subst}
+use Rattle.std.proofs.Common.{◌≡◌, ℕ, ◌+◌, Bool, true, false, not, cond, nat_le, nat_lt, nat_eq, List, [], ◌∷◌, Option, Some, None, Result, Ok, Err, length, map, refl, sym, ap, subst, ◌∙◌, inl, inr}
 use Rattle.std.specs.List.{list_any}
 use Rattle.std.specs.Cmp.Lexicographic.{pointwise}
 use Rattle.schedule_trie.specs.declared.limits.Limits.{Limits}
 use Rattle.schedule_trie.specs.declared.refusal.Refusal.{Refusal}
-use Rattle.schedule_trie.specs.declared.refusal.Refusal.TheVariants.{NameTaken, BadName, NoPlace, Full, LastBranch, TooManyBranches, BadStep, Occupied, NoBreak, NoSession, Newer, LogFull}
+use Rattle.schedule_trie.specs.declared.refusal.Refusal.TheVariants.{NameTaken, BadName, NoPlace, Full, LastBranch, TooManyBranches, BadStep, Occupied, NoBreak, NoSession, Newer, LogFull, Memory}
 use Rattle.schedule_trie.specs.Names.{is_well_formed}
 use Rattle.schedule_trie.specs.Forest as forests
 use Rattle.schedule_trie.specs.Forest.{Forest, on_found, index_of, slots_in, name_of, branch}
@@ -12,11 +12,13 @@ use Rattle.cutoff.specs.Held.{looked_at}
 use Rattle.sessions.specs.declared.command.Command.{Command}
 use Rattle.sessions.specs.declared.command.Command.TheVariants as command
 use Rattle.sessions.specs.declared.cursor.Cursor.{Cursor}
+use Rattle.sessions.specs.declared.reply.Reply.{Reply}
 use Rattle.sessions.specs.declared.reply.Reply.TheVariants.{No}
 use Rattle.sessions.specs.declared.way.Way.TheVariants as way
 use Rattle.sessions.specs.World.{World}
-use Rattle.sessions.specs.Acts.{acted, answered, refusals, first_refusal, refused_if, refusal_in, refused, reply_to, hit_reply, hit_of, is_full, lacks_session, is_missed, fits_command, branches_after, drops_occupied, lacks_break}
+use Rattle.sessions.specs.Acts.{acted, answered, refusals, late_refusals, first_refusal, refused_if, refusal_in, refused, reply_to, hit_reply, hit_of, is_full, lacks_session, is_missed, fits_command, branches_after, drops_occupied, lacks_break}
 use Rattle.sessions.specs.Logs.{is_logged}
+use Rattle.sessions.specs.Held.{IsLate}
 
 -- a refusal, if there is one, is logged
 abbrev IsOrdinary : Option Refusal → Type 0
@@ -67,6 +69,18 @@ branches_ordinary limits f command.Back = tt
 branches_ordinary limits f (command.Break break) = tt
 branches_ordinary limits f (command.Clear break) = tt
 
+-- want of memory is no late refusal
+pub memory_last : {P : Type 0} (who : ℕ) (c : Command) (w : World P) (r : Refusal) → IsLate who c w r → r ≡ Memory
+    → first_refusal (late_refusals who c w) ≡ None
+memory_last who c w r (inl e) memory =
+    let ordinary : IsOrdinary (first_refusal (late_refusals who c w)) =
+    first_of (refusal_in (branches_after w.limits w.forest c)) _ (branches_ordinary w.limits w.forest c)
+    (first_of (refused_if (drops_occupied c w.cursors) Occupied) _ (if_so (drops_occupied c w.cursors) Occupied refl)
+    (first_of (refused_if (lacks_break who c w.breaks) NoBreak) [] (if_so (lacks_break who c w.breaks) NoBreak refl) tt)) in
+    let logged : is_logged (No Memory) ≡ true = subst IsOrdinary (e ∙ ap Some memory) ordinary in
+    absurd (cc)
+memory_last who c w r (inr m) memory = m.1
+
 hit_logged : (o : Option Cursor) → is_logged (hit_reply o) ≡ true
 hit_logged None = refl
 hit_logged (Some c) = refl
@@ -112,6 +126,13 @@ module _ {P : Type 0} (who : ℕ) (w : World P) where
       (first_of (refusal_in (branches_after w.limits w.forest c)) _ (branches_ordinary w.limits w.forest c)
       (first_of (refused_if (drops_occupied c w.cursors) Occupied) _ (if_so (drops_occupied c w.cursors) Occupied refl)
       (first_of (refused_if (lacks_break who c w.breaks) NoBreak) [] (if_so (lacks_break who c w.breaks) NoBreak refl) tt)))))))
+
+  -- it is no want of memory
+  pub never_memory : (guard : Option ℕ) (c : Command) (after : World P) (reply : Reply) → is_full w ≡ false
+      → acted who guard c w ≡ record { world = after; reply = reply } → reply ≡ No Memory → ⊥
+  never_memory guard c after reply room acts memory =
+      let logged : is_logged (No Memory) ≡ true = ap is_logged (sym (ap (λ a. a.reply) acts ∙ memory)) ∙ (acted_logged guard c room).0 in
+      cc
 
   pub acted_full : (guard : Option ℕ) (c : Command) → is_full w ≡ true → acted who guard c w ≡ record { world = w; reply = No LogFull }
   acted_full guard c full = rw full refl

@@ -1,5 +1,6 @@
 -- What a book keeps.
-use Rattle.std.specs.Prelude.{ℕ, ◌≡◌, ◌≤◌, ◌⊎◌, List, Option, Some, None, Result, Ok, Err, length}
+use Rattle.std.specs.Prelude.{ℕ, ◌≡◌, ◌≤◌, ◌⊎◌, false, List, Option, Some, None, Result, Ok, Err, length}
+use Rattle.frames.specs.declared.types.Step.{Step}
 use Rattle.frames.specs.Behaviour.{Behaviour}
 use Rattle.schedule_trie.specs.declared.limits.Limits.{Limits}
 use Rattle.schedule_trie.specs.declared.refusal.Refusal.{Refusal}
@@ -16,7 +17,7 @@ use Rattle.sessions.specs.declared.reply.Reply.{Reply}
 use Rattle.sessions.specs.declared.reply.Reply.TheVariants.{No}
 use Rattle.sessions.specs.declared.log.Entry.{Entry}
 use Rattle.sessions.specs.World.{World, opening}
-use Rattle.sessions.specs.Acts.{acted, first_refusal, late_refusals, left, reply_to}
+use Rattle.sessions.specs.Acts.{acted, first_refusal, refusals, late_refusals, is_full, left, reply_to}
 use Rattle.sessions.specs.Logs.{IsLegal, world_after, logged}
 
 -- a world by a chart, of a register whose type tells what each of its registers does
@@ -50,11 +51,12 @@ pub record IsStaged {R P : Type 0} (s : Staged R P) : Type 0 where
   pub few_edits : s.edits ≤ s.logged
   pub few_logged : s.logged ≤ s.limits.log
 
--- a book: the chart of its opening, the world as it now is, and the log between them
+-- a book: the chart of its opening, the world as it now is, the log between them, and for how many more entries that has memory
 pub record Held (R P : Type 0) : Type 0 where
   pub first : Charted R P
   pub now : Staged R P
   pub log : List Entry
+  pub room : ℕ
 
 abbrev pub opening_of : {R P : Type 0} → (R → Behaviour P) → Held R P → World P
 opening_of is h = opening (is h.first.start.register) h.first.value h.now.limits (forest h.first.cut)
@@ -78,6 +80,34 @@ pub record Wants {R P : Type 0} (is : R → Behaviour P) (old new : Held R P) (r
   pub world : world_of is new.now ≡ world_of is old.now
   pub log : new.log ≡ old.log
 
+-- nothing refuses a command, or nothing late
+abbrev pub NoneDue : {P : Type 0} → ℕ → Option ℕ → Command → World P → Type 0
+NoneDue who guard c w = first_refusal (refusals who guard c w) ≡ None
+
+abbrev pub NoneDueLate : {P : Type 0} → ℕ → Command → World P → Type 0
+NoneDueLate who c w = first_refusal (late_refusals who c w) ≡ None
+
+-- memory may be wanting for a command: for its entry, where the log isn't full and has no room left; or for its work, where
+-- nothing else refuses it
+pub record MayWant {R P : Type 0} (is : R → Behaviour P) (h : Held R P) (who : ℕ) (guard : Option ℕ) (c : Command) : Type 0 where
+  pub first : is_full (world_of is h.now) ≡ false
+  pub last : (h.room ≡ 0) ⊎ NoneDue who guard c (world_of is h.now)
+
+-- Memory is replied only then
+abbrev pub TellsMemoryLast : {R P : Type 0} → (R → Behaviour P) → Held R P → ℕ → Option ℕ → Command → Reply → Type 0
+TellsMemoryLast is h who guard c reply = reply ≡ No Memory → MayWant is h who guard c
+
+-- why a command isn't done: for the first late refusal, or for want of memory where there is none
+abbrev pub IsLate : {P : Type 0} → ℕ → Command → World P → Refusal → Type 0
+IsLate who c w r = (first_refusal (late_refusals who c w) ≡ Some r) ⊎ ((r ≡ Memory) × NoneDueLate who c w)
+
+-- why an insert at a place of a branch isn't done, or a remove
+abbrev pub WhyNoInsert : {P : Type 0} → World P → List ℕ → ℕ → Refusal → Type 0
+WhyNoInsert w branch place r = (who : ℕ) (step : Step) → IsLate who (command.Insert branch place step) w r
+
+abbrev pub WhyNoRemove : {P : Type 0} → World P → List ℕ → ℕ → Refusal → Type 0
+WhyNoRemove w branch place r = (who : ℕ) → IsLate who (command.Remove branch place) w r
+
 -- work on a command that nothing refuses early: it is done, or a late refusal or want of memory changes nothing that a command sees
 pub record Done {R P : Type 0} (is : R → Behaviour P) (who : ℕ) (c : Command) (old new : Staged R P) (reply : Reply) : Type 0 where
   pub fine : first_refusal (late_refusals who c (world_of is old)) ≡ None
@@ -85,7 +115,7 @@ pub record Done {R P : Type 0} (is : R → Behaviour P) (who : ℕ) (c : Command
   pub replies : reply_to who c (world_of is old) ≡ reply
 
 pub record Undone {R P : Type 0} (is : R → Behaviour P) (who : ℕ) (c : Command) (old new : Staged R P) (r : Refusal) : Type 0 where
-  pub why : (first_refusal (late_refusals who c (world_of is old)) ≡ Some r) ⊎ (r ≡ Memory)
+  pub why : IsLate who c (world_of is old) r
   pub same : world_of is new ≡ world_of is old
 
 abbrev pub Does : {R P : Type 0} → (R → Behaviour P) → ℕ → Command → Staged R P → Staged R P → Result Reply Refusal → Type 0

@@ -12,7 +12,7 @@ ghost use Rattle.sessions.specs.World.{opening};
 ghost use Rattle.sessions.specs.Logs.{IsLegal};
 ghost use Rattle.sessions.specs.Logs as spec;
 ghost use Rattle.sessions.specs.Looks.{looked, shown_in};
-ghost use Rattle.sessions.specs.Held.{Acts, IsHeld, Wants, opening_of, world_of};
+ghost use Rattle.sessions.specs.Held.{Acts, IsHeld, TellsMemoryLast, Wants, opening_of, world_of};
 
 use crate::command::Command;
 use crate::log::{Entry, Log};
@@ -44,13 +44,14 @@ pub struct Book<R: Register> {
 }
 
 impl<R: Register> Model for Book<R> {
+    ghost use Rattle.std.specs.Prelude.{◌-◌, vec_capacity, vec_len};
     ghost use Rattle.sessions.specs.Held.{Held, IsHeld};
 
     ghost Value = { Held R R.Pending };
 
-    ghost view = { λ b. record { first = b.first.value; now = b.stage; log = b.log.items } };
+    ghost view = { λ b. record { first = b.first.value; now = b.stage; log = b.log.items; room = vec_capacity b.log - vec_len b.log } };
 
-    ghost invariant = { λ b. IsHeld R.is (record { first = b.first.value; now = b.stage; log = b.log.items }) };
+    ghost invariant = { λ b. IsHeld R.is (record { first = b.first.value; now = b.stage; log = b.log.items; room = vec_capacity b.log - vec_len b.log }) };
 }
 
 impl<R: Register> Book<R> {
@@ -95,6 +96,7 @@ impl<R: Register> Book<R> {
         command: &Command,
     ) -> Reply
         ensures acts { Acts R.is self.old self.new (spec.entry chair who if_at command.now result) ⊎ Wants R.is self.old self.new result }
+        ensures memory { TellsMemoryLast R.is self.old who if_at command.now result }
         ensures opening { opening_of R.is self.new ≡ opening_of R.is self.old }
     {
         if self.stage.is_full() {

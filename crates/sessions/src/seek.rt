@@ -35,6 +35,13 @@ pub struct Search {
     pub from: u32,
 }
 
+/// How far a search has gone: to which place, and what it has found.
+#[derive(Clone, Copy)]
+struct Progress {
+    place: u32,
+    found: Option<u32>,
+}
+
 impl Search {
     /// What is found behind one more place, greater than those before it.
     fn with_place(self, found: Option<u32>, place: u32, hit: bool) -> Option<u32>
@@ -161,19 +168,25 @@ fn along_run<R: Register>(
     breaks: &[Break],
     run: &Run<R>,
     count: u32,
-    place: u32,
-    found: Option<u32>,
+    progress: Progress,
 ) -> Result<Option<u32>, AllocError>
-    requires { place + count < 2 ^ 32 }
-    ensures { IfOk result (λ all. (test : ℕ → Bool) → Tells R.is breaks.now test place (record { run = run.now; count = count }) → found ≡ next_of search.way search.from (places_with test (place + 1)) → all ≡ next_of search.way search.from (places_with test ((place + count) + 1))) }
+    requires { progress.place + count < 2 ^ 32 }
+    ensures { IfOk result (λ all. (test : ℕ → Bool) → Tells R.is breaks.now test progress.place (record { run = run.now; count = count }) → progress.found ≡ next_of search.way search.from (places_with test (progress.place + 1)) → all ≡ next_of search.way search.from (places_with test ((progress.place + count) + 1))) }
 {
     if any_on_bit(breaks) {
         let config = run.entry().copy(alloc)?;
         let steps = front(run.steps(), count);
-        return Ok(along_steps(search, breaks, config, steps, place, found));
+        return Ok(along_steps(
+            search,
+            breaks,
+            config,
+            steps,
+            progress.place,
+            progress.found,
+        ));
     }
     let events = front(run.events().as_slice(), count);
-    Ok(along_events(search, breaks, events, place, found))
+    Ok(along_events(search, breaks, events, progress.place, progress.found))
 }
 
 /// Goes over the places of runs one after the other, and the beginning.
@@ -195,7 +208,8 @@ fn along_runs<R: Register>(
     let mut found = search.with_place(None, 0, is_met(breaks, none, first));
     let mut place = 0;
     for (run, count) in runs {
-        found = along_run(alloc, search, breaks, run, *count, place, found)?;
+        let progress = Progress { place, found };
+        found = along_run(alloc, search, breaks, run, *count, progress)?;
         place += *count;
     }
     Ok(found)

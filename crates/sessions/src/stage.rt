@@ -10,7 +10,7 @@ ghost use Rattle.schedule_trie.specs.Cut.{AreLimits};
 ghost use Rattle.sessions.specs.World.{opening};
 ghost use Rattle.sessions.specs.Acts.{acted, answered, early_refusals, first_refusal, late_refusals, refused};
 ghost use Rattle.sessions.specs.Acts as spec;
-ghost use Rattle.sessions.specs.Held.{Does, world_of};
+ghost use Rattle.sessions.specs.Held.{Does, NoneDue, NoneDueLate, world_of};
 
 mod cursors;
 mod edits;
@@ -129,6 +129,7 @@ impl<R: Register> Stage<R> {
         requires room { self.old.logged < self.old.limits.log }
         ensures ok { IfOk result (λ reply. acted who if_at command.now (world_of R.is self.old) ≡ record { world = world_of R.is self.new; reply = reply }) }
         ensures err { OnErr result (world_of R.is self.new ≡ world_of R.is self.old) }
+        ensures memory { OnErr result (NoneDue who if_at command.now (world_of R.is self.old)) }
     {
         match self.early_refusal(who, if_at, command) {
             Some(refusal) => Ok(self.refuse(refusal)),
@@ -143,6 +144,7 @@ impl<R: Register> Stage<R> {
         requires fits { spec.fits_command (R.is self.old.chart.start.register) command.now ≡ true }
         ensures ok { let w = world_of R.is self.old in IfOk result (λ reply. answered (first_refusal (late_refusals who command.now w)) who command.now w ≡ record { world = world_of R.is self.new; reply = reply }) }
         ensures err { OnErr result (world_of R.is self.new ≡ world_of R.is self.old) }
+        ensures memory { OnErr result (NoneDueLate who command.now (world_of R.is self.old)) }
     {
         match self.work(alloc, who, command) {
             Ok(reply) => Ok(reply),

@@ -16,7 +16,7 @@ use schedule_trie::name::Name;
 use schedule_trie::refusal::Refusal;
 use sessions::command::Command;
 use sessions::reply::Reply;
-use std::alloc::Global;
+use std::alloc::{AllocError, Global};
 use std::marker::Model;
 use std::sync::Wait;
 use std::thread::Threads;
@@ -26,7 +26,7 @@ use views::page::Page;
 use views::query::Query;
 
 /// A desk, and a chair at it that holds every share, so that each call finds just the history that the chair has seen. So many thieves help
-/// with its fills.
+/// with its fills. Its looks share one lens, from the first of them on.
 #[derive(Drop)]
 pub struct Seat<'a, R: Register, W>
 where
@@ -36,6 +36,7 @@ where
     desk: Desk<R>,
     chair: Chair<R>,
     thieves: u32,
+    lens: Option<Lens<R>>,
 }
 
 impl<'a, R: Register, W> Model for Seat<'a, R, W>
@@ -70,6 +71,7 @@ impl<'a, R: Register, W> Seat<'a, R, W> {
             desk,
             chair,
             thieves,
+            lens: None,
         }
     }
 }
@@ -102,12 +104,13 @@ impl<R: Register, W: Wait> Seat<'_, R, W> {
         ensures err { IfErr result (λ r. (looked (world_at R.is self.old) query ≡ Err r) ⊎ (r ≡ Refusal.Memory)) }
         ensures kept { world_at R.is self.new ≡ world_at R.is self.old }
     {
-        let Ok(mut lens) = Lens::new(alloc) else {
+        let Ok(mut lens) = lens_of(alloc, self.lens.take()) else {
             return Err(Refusal::Memory);
         };
         let answer = self
             .desk
             .look(self.rt, alloc, &mut self.chair, &mut lens, query);
+        self.lens = Some(lens);
         answer.result
     }
 }
@@ -132,5 +135,13 @@ where
             Ok(_) => Ok(()),
             Err(refusal) => Err(refusal),
         }
+    }
+}
+
+/// The lens that there is, or else a new one.
+fn lens_of<R: Register>(alloc: Global, lens: Option<Lens<R>>) -> Result<Lens<R>, AllocError> {
+    match lens {
+        Some(lens) => Ok(lens),
+        None => Lens::new(alloc),
     }
 }

@@ -29,7 +29,7 @@ use Rattle.layers.specs.laws.Over.{over}
 use Rattle.layers.proofs.LayerLaw.{Told, told_begun, told_gone, told_void, told_stop, layer_promises}
 use Rattle.unary_number.specs.Program.{unary_table_with, unary_program, unary_rest, clears_below, looks_above, behind_look, UnaryStands}
 use Rattle.unary_number.proofs.Beacons.{Beacon, raised, lowered, written, MayGive, MayGiveNow, among_here, Looks, beacon_more, beacon_read, looking_other, looking_mine, looked_one, looked_zero}
-use Rattle.unary_number.proofs.Phases.{Idle, Rising, Cleared, Falling, WriterAt, WriterSays, ReaderAt, ReaderSays, Lights, reader_map, lights_begin, lights_raised, lights_lower, lights_lowered, lights_end, idle_end, rising_begin, rising_end, falling_begin, falling_end}
+use Rattle.unary_number.proofs.Phases.{lights_for, lights_put, Idle, Rising, Cleared, Falling, WriterAt, WriterSays, ReaderAt, ReaderSays, Lights, reader_map, lights_begin, lights_raised, lights_lower, lights_lowered, lights_end, idle_end, rising_begin, rising_end, falling_begin, falling_end}
 
 pub record UnaryInv (top : ℕ) (u : Seen) (j : View UnaryTask) : Type 0 where
   pub lights : Lights top 0 u j.tasks j.parts
@@ -41,22 +41,6 @@ looks_from none who i left = Asks (Looking who i left) (λ o. behind_look i (loo
 
 abbrev pub unary_watch : ℕ → Watch UnaryTask Seen
 unary_watch top = record { Good = IsNotStray; Inv = UnaryInv top }
-
-lights_for : (top p : ℕ) (u : Seen) (tasks : ℕ → Option (Standing UnaryTask)) (parts : ℕ → Seen) → Lights top 0 u tasks parts → Lights top p u tasks parts
-lights_for top p u tasks parts l = record { overlap = l.overlap; ready = l.ready; readers = λ r z ne. l.readers r z z }
-
--- p's turn ends
-lights_put : (top p : ℕ) (u : Seen) (x : Option (Standing UnaryTask)) (tasks : ℕ → Option (Standing UnaryTask)) (parts : ℕ → Seen) → Lights top p u tasks parts
-    → ((p ≡ 0 → ⊥) → ReaderSays top p x u parts) → Lights top 0 u (put p x tasks) parts
-lights_put top p u x tasks parts l mine = record {
-  overlap = l.overlap;
-  ready = l.ready;
-  readers = λ r z none. elim (cases_eq r p) [
-    | inl e ↦ subst (λ q. ReaderSays top q (put p x tasks q) u parts) (sym e)
-        (subst (λ y. ReaderSays top p y u parts) (sym (put_same p x tasks)) (mine (λ f. z (e ∙ f))))
-    | inr ne ↦ subst (λ y. ReaderSays top r y u parts) (sym (put_other p r x tasks ne)) (l.readers r z ne)
-  ];
-}
 
 -- what is said of the writer is by the values of the bits and the writes in progress alone
 writer_same : (top : ℕ) (u v : Seen) (parts to : ℕ → Seen) → u.last ≡ v.last → u.writing ≡ v.writing → ((k : ℕ) → (parts k).last ≡ (to k).last) → ((k : ℕ) → (parts k).writing ≡ (to k).writing)

@@ -235,3 +235,19 @@ falling_end top i x u parts f =
   where
     zero_one : (n : ℕ) → n ≡ 0 → n ≡ 1 → ⊥
     zero_one n e f = omega (arith, e, f)
+
+pub lights_for : (top p : ℕ) (u : Seen) (tasks : ℕ → Option (Standing UnaryTask)) (parts : ℕ → Seen) → Lights top 0 u tasks parts → Lights top p u tasks parts
+lights_for top p u tasks parts l = record { overlap = l.overlap; ready = l.ready; readers = λ r z ne. l.readers r z z }
+
+-- p's turn ends
+pub lights_put : (top p : ℕ) (u : Seen) (x : Option (Standing UnaryTask)) (tasks : ℕ → Option (Standing UnaryTask)) (parts : ℕ → Seen) → Lights top p u tasks parts
+    → ((p ≡ 0 → ⊥) → ReaderSays top p x u parts) → Lights top 0 u (put p x tasks) parts
+lights_put top p u x tasks parts l mine = record {
+  overlap = l.overlap;
+  ready = l.ready;
+  readers = λ r z none. elim (cases_eq r p) [
+    | inl e ↦ subst (λ q. ReaderSays top q (put p x tasks q) u parts) (sym e)
+        (subst (λ y. ReaderSays top p y u parts) (sym (put_same p x tasks)) (mine (λ f. z (e ∙ f))))
+    | inr ne ↦ subst (λ y. ReaderSays top r y u parts) (sym (put_other p r x tasks ne)) (l.readers r z ne)
+  ];
+}

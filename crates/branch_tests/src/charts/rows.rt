@@ -25,7 +25,7 @@ use std::sync::Arc;
 
 /// A step of a safe bit.
 #[derive(Clone, Copy)]
-enum Kind {
+pub(super) enum Kind {
     Read,
     Write0,
     Write1,
@@ -33,7 +33,7 @@ enum Kind {
     Go1,
 }
 
-fn step_of(kind: Kind) -> Step
+pub(super) fn step_of(kind: Kind) -> Step
     ensures { fits_step safe_behaviour result ≡ true }
 {
     match kind {
@@ -45,7 +45,7 @@ fn step_of(kind: Kind) -> Step
     }
 }
 
-fn limits() -> Limits
+pub(super) fn limits() -> Limits
     ensures { AreLimits result }
 {
     Limits {
@@ -67,7 +67,7 @@ fn write_at(index: u32) -> Step
 }
 
 /// Whole writes of 1 and of 0 by turns, 1,000 steps.
-fn writes(alloc: Global) -> Result<Vec<Step>, AllocError>
+pub(super) fn writes(alloc: Global) -> Result<Vec<Step>, AllocError>
     ensures { IfOk result (λ steps. AllFit safe_behaviour steps.items) }
 {
     let mut steps = Vec::new(alloc);
@@ -78,13 +78,13 @@ fn writes(alloc: Global) -> Result<Vec<Step>, AllocError>
 }
 
 #[derive(Clone, Copy)]
-enum Branch {
+pub(super) enum Branch {
     Main,
     A,
     B,
 }
 
-fn name_of(rt: &impl Abort, branch: Branch) -> Name {
+pub(super) fn name_of(rt: &impl Abort, branch: Branch) -> Name {
     match branch {
         Branch::Main => name(rt, b"main"),
         Branch::A => name(rt, b"a"),
@@ -94,7 +94,7 @@ fn name_of(rt: &impl Abort, branch: Branch) -> Name {
 
 /// What a chart is asked, and what it has to tell.
 #[derive(Clone, Copy)]
-enum Ask {
+pub(super) enum Ask {
     /// So many cells are settled, for which so many steps are replayed, at least and at most.
     Settle(u32, u32, u32),
     Replace(u32, Kind),
@@ -115,7 +115,7 @@ type Kept<'a> = (SegKey, Arc<Run<Counting<'a>>>);
 
 /// A chart on a register that counts calls, and runs that were made elsewhere.
 #[derive(Drop)]
-struct Bench<'a> {
+pub(super) struct Bench<'a> {
     calls: &'a Cell<u32>,
     chart: Chart<Counting<'a>>,
     runs: Vec<Kept<'a>>,
@@ -204,7 +204,7 @@ fn edited(
 
 /// Whether a chart tells what it has to, and how many steps it tells to have replayed, or were made
 /// of a run.
-fn told(
+pub(super) fn told(
     rt: &impl Abort,
     alloc: Global,
     bench: &mut Bench<'_>,
@@ -227,7 +227,7 @@ fn told(
 }
 
 /// What a branch is asked.
-type Row = (Branch, Ask);
+pub(super) type Row = (Branch, Ask);
 
 /// The first row where a chart tells something else, or where other calls are made than one for
 /// each such step.
@@ -247,6 +247,21 @@ fn first_wrong_at(
     Ok(None)
 }
 
+/// A chart of these steps, on a register that counts its calls there.
+pub(super) fn bench_of<'a>(
+    alloc: Global,
+    calls: &'a Cell<u32>,
+    steps: &[Step],
+) -> Result<Bench<'a>, Refusal>
+    requires { AllFit safe_behaviour steps.now }
+{
+    Ok(Bench {
+        calls,
+        chart: Chart::new(alloc, Counting::new(calls), 0, limits(), steps)?,
+        runs: Vec::new(alloc),
+    })
+}
+
 /// The first row that goes wrong in a chart of these steps.
 fn first_wrong(
     rt: &impl Abort,
@@ -257,11 +272,7 @@ fn first_wrong(
     requires { AllFit safe_behaviour steps.now }
 {
     let calls = Cell::new(0);
-    let mut bench = Bench {
-        calls: &calls,
-        chart: Chart::new(alloc, Counting::new(&calls), 0, limits(), steps)?,
-        runs: Vec::new(alloc),
-    };
+    let mut bench = bench_of(alloc, &calls, steps)?;
     first_wrong_at(rt, alloc, &mut bench, rows)
 }
 
@@ -353,7 +364,7 @@ fn settles_again_what_was_edited(rt: HostRuntime) {
 
 /// A run that was made for a branch which is gone, and one that was made for the branch in its
 /// place.
-const LATE: [Row; 10] = [
+pub(super) const LATE: [Row; 10] = [
     (Branch::A, Ask::Fork),
     (Branch::A, Ask::Insert(1, Kind::Write1)),
     (Branch::Main, Ask::Settle(1, 1, 1)),
@@ -374,18 +385,4 @@ fn first_wrong_late(rt: &impl Abort, alloc: Global) -> Result<Option<usize>, Ref
 #[test]
 fn late_run(rt: HostRuntime) {
     none_wrong(&rt, first_wrong_late(&rt, rt.alloc()));
-}
-
-/// Whether each call answers as it does with ample memory, or Memory.
-fn is_right_or_memory(wrong: Result<Option<usize>, Refusal>) -> bool {
-    match wrong {
-        Ok(wrong) => wrong.is_none(),
-        Err(refusal) => refusal == Refusal::Memory,
-    }
-}
-
-/// The same where memory may be refused.
-#[test]
-fn late_run_wanting_memory(rt: HostRuntime) {
-    assert!(rt; is_right_or_memory(first_wrong_late(&rt, rt.alloc())));
 }

@@ -2,7 +2,7 @@
 
 ghost use Rattle.std.specs.Prelude.{◌≡◌, ◌<◌, ◌+◌, ℕ, true};
 ghost use Rattle.frames.specs.Configuration.{fits_step};
-ghost use Rattle.sessions.specs.Held.{Does};
+ghost use Rattle.sessions.specs.Held.{Does, WhyNoInsert, WhyNoRemove, world_of};
 
 use super::Stage;
 use crate::command::Command;
@@ -33,11 +33,27 @@ impl<R: Register> Stage<R> {
     {
         let shifted = shifted(&self.chart, &self.cursors, branch, place, Shift::Up);
         let Ok(cursors) = shifted else {
-            return Err(Refusal::Memory);
+            return Err(self.insert_refusal(branch, place));
         };
         self.chart.insert(alloc, branch, place, step)?;
         self.cursors = cursors;
         Ok(self.count_edit())
+    }
+
+    /// Why an insert is refused where its cursors can't be moved: NoBranch; NoPlace; Full; and else Memory.
+    fn insert_refusal(&self, branch: &Name, place: u32) -> Refusal
+        ensures { WhyNoInsert (world_of R.is self.now) branch.now place result }
+    {
+        let Some(len) = self.chart.len(branch) else {
+            return Refusal::NoBranch;
+        };
+        if len < place {
+            return Refusal::NoPlace;
+        }
+        if self.limits.cells <= self.chart.made() {
+            return Refusal::Full;
+        }
+        Refusal::Memory
     }
 
     /// Takes a cell out; the cursors behind it go down.
@@ -51,11 +67,24 @@ impl<R: Register> Stage<R> {
     {
         let shifted = shifted(&self.chart, &self.cursors, branch, place, Shift::Down);
         let Ok(cursors) = shifted else {
-            return Err(Refusal::Memory);
+            return Err(self.remove_refusal(branch, place));
         };
         self.chart.remove(branch, place)?;
         self.cursors = cursors;
         Ok(self.count_edit())
+    }
+
+    /// Why a remove is refused where its cursors can't be moved: NoBranch; NoPlace; and else Memory.
+    fn remove_refusal(&self, branch: &Name, place: u32) -> Refusal
+        ensures { WhyNoRemove (world_of R.is self.now) branch.now place result }
+    {
+        let Some(len) = self.chart.len(branch) else {
+            return Refusal::NoBranch;
+        };
+        if len <= place {
+            return Refusal::NoPlace;
+        }
+        Refusal::Memory
     }
 
     /// Gives a cell another step.

@@ -1,7 +1,9 @@
-use Rattle.std.proofs.Common.{◌≡◌, ◌∙◌, ◌⊎◌, ◌∷◌, [], ◌++◌, inl, inr, refl, sym, ap, subst, false}
+use Rattle.std.proofs.Common.{◌≡◌, ◌∙◌, ◌⊎◌, ◌∷◌, [], ◌++◌, ◌-◌, inl, inr, refl, sym, ap, subst, false, arith}
+use Rattle.std.specs.Prelude.{vec_capacity, vec_len}
 use Rattle.sessions.specs.Acts.{is_full}
 use Rattle.sessions.specs.Logs.{entry}
-use Rattle.sessions.specs.Held.{Held, Acts, Wants, world_of, opening_of}
+use Rattle.sessions.specs.Held.{Held, Acts, MayWant, Wants, world_of, opening_of}
+use Rattle.sessions.proofs.Ordinary.{never_memory}
 use Rattle.sessions.proofs.Books.{done_acts, held_more, same_opening}
 use Rattle.sessions.proofs.book.Book.act.Goals as goal
 
@@ -21,11 +23,22 @@ returns-in_default-act-clause-acts g c =
       log = c.reserve.ensures.items ∙ ap (λ h. h.log) c.self.view_is;
     })
 
+pub returns-in_default-clause-memory : goal.returns-in_default-clause-memory
+returns-in_default-clause-memory g c = λ e.
+    let is = g.R.Behaves.is in
+    let full = c.in_default.ensures.full in
+    subst (λ h. MayWant is h c.args.who c.args.if_at c.args.command.now) c.self.view_is (record { first = sym c.is_full.ensures ∙ c.if-is_full.false; last = inl (omega (arith, full)) })
+
+pub returns-in_default-act-clause-memory : goal.returns-in_default-act-clause-memory
+returns-in_default-act-clause-memory g c = λ e.
+    let is = g.R.Behaves.is in
+    subst (λ h. MayWant is h c.args.who c.args.if_at c.args.command.now) c.self.view_is (record { first = sym c.is_full.ensures ∙ c.if-is_full.false; last = inr c.in_default-act.ensures.memory })
+
 pub invariant_of-self-2 : goal.invariant_of-self-2
 invariant_of-self-2 g c =
     let is = g.R.Behaves.is in
-    let old : Held g.row.R.Denot g.row.R-Pending.Denot = record { first = c.self.inside.first.value; now = c.self.inside.stage; log = c.self.inside.log.items } in
-    let new : Held g.row.R.Denot g.row.R-Pending.Denot = record { first = c.self.inside.first.value; now = c.act.new.self; log = c.push_within.new.list.items } in
+    let old : Held g.row.R.Denot g.row.R-Pending.Denot = record { first = c.self.inside.first.value; now = c.self.inside.stage; log = c.self.inside.log.items; room = vec_capacity c.self.inside.log - vec_len c.self.inside.log } in
+    let new : Held g.row.R.Denot g.row.R-Pending.Denot = record { first = c.self.inside.first.value; now = c.act.new.self; log = c.push_within.new.list.items; room = vec_capacity c.push_within.new.list - vec_len c.push_within.new.list } in
     let e = entry c.args.chair c.args.who c.args.if_at c.args.command.now c.in-Ok-act.reply in
     let room : is_full (world_of is c.self.inside.stage) ≡ false = sym c.is_full.ensures ∙ c.if-is_full.false in
     let more : c.push_within.new.list.items ≡ c.self.inside.log.items ++ e ∷ [] =
@@ -35,19 +48,24 @@ invariant_of-self-2 g c =
 pub returns-clause-acts : goal.returns-clause-acts
 returns-clause-acts g c =
     let is = g.R.Behaves.is in
-    let old : Held g.row.R.Denot g.row.R-Pending.Denot = record { first = c.self.inside.first.value; now = c.self.inside.stage; log = c.self.inside.log.items } in
-    let new : Held g.row.R.Denot g.row.R-Pending.Denot = record { first = c.self.inside.first.value; now = c.act.new.self; log = c.push_within.new.list.items } in
+    let old : Held g.row.R.Denot g.row.R-Pending.Denot = record { first = c.self.inside.first.value; now = c.self.inside.stage; log = c.self.inside.log.items; room = vec_capacity c.self.inside.log - vec_len c.self.inside.log } in
+    let new : Held g.row.R.Denot g.row.R-Pending.Denot = record { first = c.self.inside.first.value; now = c.act.new.self; log = c.push_within.new.list.items; room = vec_capacity c.push_within.new.list - vec_len c.push_within.new.list } in
     let e = entry c.args.chair c.args.who c.args.if_at c.args.command.now c.in-Ok-act.reply in
     let room : is_full (world_of is c.self.inside.stage) ≡ false = sym c.is_full.ensures ∙ c.if-is_full.false in
     let more : c.push_within.new.list.items ≡ c.self.inside.log.items ++ e ∷ [] =
     c.push_within.ensures ∙ ap (λ l. l ++ c.entry.result ∷ []) c.reserve.ensures.items ∙ ap (λ x. c.self.inside.log.items ++ x ∷ []) c.entry.ensures in
     subst (λ h. Acts is h new e ⊎ Wants is h new c.in-Ok-act.reply) c.self.view_is (inl (done_acts is old new e room c.in-Ok-act.ensures.ok more))
 
+pub returns-clause-memory : goal.returns-clause-memory
+returns-clause-memory g c = λ e.
+    let w = world_of g.R.Behaves.is c.self.inside.stage in
+    absurd (never_memory c.args.who w c.args.if_at c.args.command.now _ c.in-Ok-act.reply (sym c.is_full.ensures ∙ c.if-is_full.false) c.in-Ok-act.ensures.ok e)
+
 pub returns-clause-opening : goal.returns-clause-opening
 returns-clause-opening g c =
     let is = g.R.Behaves.is in
-    let old : Held g.row.R.Denot g.row.R-Pending.Denot = record { first = c.self.inside.first.value; now = c.self.inside.stage; log = c.self.inside.log.items } in
-    let new : Held g.row.R.Denot g.row.R-Pending.Denot = record { first = c.self.inside.first.value; now = c.act.new.self; log = c.push_within.new.list.items } in
+    let old : Held g.row.R.Denot g.row.R-Pending.Denot = record { first = c.self.inside.first.value; now = c.self.inside.stage; log = c.self.inside.log.items; room = vec_capacity c.self.inside.log - vec_len c.self.inside.log } in
+    let new : Held g.row.R.Denot g.row.R-Pending.Denot = record { first = c.self.inside.first.value; now = c.act.new.self; log = c.push_within.new.list.items; room = vec_capacity c.push_within.new.list - vec_len c.push_within.new.list } in
     let e = entry c.args.chair c.args.who c.args.if_at c.args.command.now c.in-Ok-act.reply in
     let room : is_full (world_of is c.self.inside.stage) ≡ false = sym c.is_full.ensures ∙ c.if-is_full.false in
     let more : c.push_within.new.list.items ≡ c.self.inside.log.items ++ e ∷ [] =

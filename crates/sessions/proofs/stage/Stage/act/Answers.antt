@@ -1,8 +1,10 @@
 use Rattle.std.proofs.Common.{◌≡◌, ◌∙◌, sym}
 use Rattle.std.proofs.lemmas.Result.{IfOk-weaker}
+use Rattle.std.proofs.Common.{Result, Ok, Err, None}
+use Rattle.std.specs.Result.{OnErr}
 use Rattle.sessions.specs.Held.{world_of}
-use Rattle.sessions.specs.Acts.{answered, first_refusal, late_refusals}
-use Rattle.sessions.proofs.Answered.{early_none, early_refused, not_early}
+use Rattle.sessions.specs.Acts.{answered, first_refusal, refusals, early_refusals, late_refusals}
+use Rattle.sessions.proofs.Answered.{early_none, early_refused, not_early, first_behind}
 use Rattle.sessions.proofs.stage.Stage.act.Goals as goal
 
 pub answer-requires : goal.answer-requires
@@ -24,3 +26,15 @@ returns-in-None-clause-ok g c =
     _
     (λ reply h. not_early c.args.who c.args.if_at c.args.command.now w c.in-None.ensures ∙ h)
     c.answer.ensures.ok
+
+on_err : {A E : Type 0} (r : Result A E) (P Q : Type 0) → (P → Q) → OnErr r P → OnErr r Q
+on_err (Ok x) P Q f p = tt
+on_err (Err e) P Q f p = f p
+
+pub returns-in-None-clause-memory : goal.returns-in-None-clause-memory
+returns-in-None-clause-memory g c =
+    let w = world_of g.R.Behaves.is c.args.self.now in
+    on_err c.answer.result (first_refusal (late_refusals c.args.who c.args.command.now w) ≡ None)
+    (first_refusal (refusals c.args.who c.args.if_at c.args.command.now w) ≡ None)
+    (λ h. first_behind (early_refusals c.args.who c.args.if_at c.args.command.now w) (late_refusals c.args.who c.args.command.now w) (sym c.in-None.ensures) ∙ h)
+    c.answer.ensures.memory

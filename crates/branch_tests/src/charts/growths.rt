@@ -1,0 +1,95 @@
+//! Rows where memory may be refused. A call that is refused it is made again, and then answers as
+//! if it hadn't been made before; only the runs that it stored by then are replayed no more.
+
+ghost use Rattle.frames.specs.SafeBit.{safe_behaviour};
+ghost use Rattle.frames.specs.Recorded.{AllFit};
+
+use super::rows::{Ask, Bench, Branch, Kind, LATE, Row, bench_of, name_of, step_of, told, writes};
+use crate::given::none_wrong;
+use frames::types::Step;
+use schedule_trie::name::Name;
+use schedule_trie::refusal::Refusal;
+use std::alloc::Global;
+use std::cell::Cell;
+use std::process::Abort;
+
+/// How often a call is made at most: more often than growths are refused in a row.
+const TRIES: u32 = 10;
+
+/// Whether a chart tells what it has to, which it is asked until it isn't refused memory.
+fn tells_again(
+    rt: &impl Abort,
+    alloc: Global,
+    bench: &mut Bench<'_>,
+    branch: &Name,
+    ask: Ask,
+) -> Result<bool, Refusal> {
+    for _ in 0..TRIES {
+        match told(rt, alloc, bench, branch, ask) {
+            Ok((is_wanted, _)) => return Ok(is_wanted),
+            Err(Refusal::Memory) => {}
+            Err(refusal) => return Err(refusal),
+        }
+    }
+    Err(Refusal::Memory)
+}
+
+/// The first of these rows where a chart tells something else.
+fn first_wrong_again(
+    rt: &impl Abort,
+    alloc: Global,
+    bench: &mut Bench<'_>,
+    rows: &[Row],
+) -> Result<Option<usize>, Refusal> {
+    for (i, (branch, ask)) in rows.iter().enumerate() {
+        if !tells_again(rt, alloc, bench, &name_of(rt, *branch), *ask)? {
+            return Ok(Some(i));
+        }
+    }
+    Ok(None)
+}
+
+/// The first of these rows that goes wrong in a chart of these steps; none where it isn't opened for
+/// want of memory.
+fn tried(
+    rt: &impl Abort,
+    alloc: Global,
+    steps: &[Step],
+    rows: &[Row],
+) -> Result<Option<usize>, Refusal>
+    requires { AllFit safe_behaviour steps.now }
+{
+    let calls = Cell::new(0);
+    match bench_of(alloc, &calls, steps) {
+        Ok(mut bench) => first_wrong_again(rt, alloc, &mut bench, rows),
+        Err(Refusal::Memory) => Ok(None),
+        Err(refusal) => Err(refusal),
+    }
+}
+
+#[test]
+fn late_run_wanting_memory(rt: HostRuntime) {
+    let mut rows = LATE;
+    // (the settle may have stored the run before it was refused memory)
+    rows[2] = (Branch::Main, Ask::Settle(1, 0, 1));
+    none_wrong(&rt, tried(&rt, rt.alloc(), &[step_of(Kind::Read)], &rows));
+}
+
+/// A settle, one behind an edit, which may have stored runs before it was refused memory, and a plan
+/// between them.
+const SETTLES: [Row; 6] = [
+    (Branch::Main, Ask::Settle(1000, 0, 1000)),
+    (Branch::Main, Ask::Replace(10, Kind::Go1)),
+    (Branch::Main, Ask::Left(1)),
+    (Branch::Main, Ask::Settle(1000, 0, 128)),
+    (Branch::Main, Ask::Settle(1000, 0, 0)),
+    (Branch::Main, Ask::Left(0)),
+];
+
+#[test]
+fn thousand_steps_wanting_memory(rt: HostRuntime) {
+    let Ok(steps) = writes(rt.alloc()) else {
+        return;
+    };
+    none_wrong(&rt, tried(&rt, rt.alloc(), &steps, &SETTLES));
+}

@@ -1,0 +1,324 @@
+//! Old runs, offered under every key of a chart whose branches are dropped and forked in turn.
+
+ghost use Rattle.std.specs.Prelude.{◌≡◌, true};
+ghost use Rattle.frames.specs.Configuration.{fits_step};
+ghost use Rattle.frames.specs.SafeBit.{safe_behaviour};
+
+use super::rows::{Branch, Kind, limits, name_of, step_of};
+use crate::given::none_wrong;
+use checkpoints::run::{Run, run_segment};
+use cutoff::chart::Chart;
+use cutoff::install::Installation;
+use cutoff::plan::Job;
+use frames::safe::Safe;
+use frames::types::Step;
+use schedule_trie::name::Name;
+use schedule_trie::refusal::Refusal;
+use schedule_trie::trie::SegKey;
+use std::alloc::Global;
+use std::process::Abort;
+use std::sync::Arc;
+use views::lens::Lens;
+use views::page::page_text;
+use views::query::Query;
+use views::slip::Slip;
+
+/// More keys than segments.
+const KEYS: SegKey = 8;
+
+/// The segment of a branch below the read that all share: one write, of 1 or of 0.
+#[derive(Clone, Copy)]
+struct Piece {
+    key: SegKey,
+    is_one: bool,
+}
+
+/// The segments that there are, and whether a run is stored of the one that all share.
+#[derive(Clone, Copy)]
+struct Pieces {
+    shared: SegKey,
+    is_settled: bool,
+    a: Option<Piece>,
+    b: Option<Piece>,
+}
+
+/// A run of such a write behind the read; its segment may be gone.
+#[derive(Drop)]
+struct Old {
+    is_one: bool,
+    run: Arc<Run<Safe>>,
+}
+
+/// A chart, what it has to be made of, and all runs that were made of it.
+#[derive(Drop)]
+struct Shelf {
+    chart: Chart<Safe>,
+    pieces: Pieces,
+    runs: Vec<Old>,
+}
+
+fn write_of(is_one: bool) -> Step
+    ensures { fits_step safe_behaviour result ≡ true }
+{
+    step_of(if is_one { Kind::Write1 } else { Kind::Write0 })
+}
+
+/// What the rule says of a run under the key of a piece; none where the piece has another key.
+fn told_of(
+    piece: Option<Piece>,
+    key: SegKey,
+    is_fitting: bool,
+    is_one: bool,
+) -> Option<Installation> {
+    match piece {
+        Some(piece) if piece.key != key => None,
+        Some(piece) if is_fitting && piece.is_one == is_one => Some(Installation::Installed),
+        Some(_) => Some(Installation::Stale),
+        None => None,
+    }
+}
+
+/// What an install of a run of a write answers under a key: Gone where no segment has it, Installed
+/// where the segment is of that write and a run is stored above.
+fn told(pieces: Pieces, key: SegKey, is_one: bool) -> Installation {
+    let of_a = told_of(pieces.a, key, pieces.is_settled, is_one);
+    let of_b = told_of(pieces.b, key, pieces.is_settled, is_one);
+    match (of_a, of_b) {
+        (Some(told), _) | (_, Some(told)) => told,
+        _ if key == pieces.shared => Installation::Stale,
+        _ => Installation::Gone,
+    }
+}
+
+/// Whether an old run is answered so under each key.
+fn is_told(chart: &mut Chart<Safe>, pieces: Pieces, old: &Old) -> Result<bool, Refusal> {
+    let mut all = true;
+    for key in 0..KEYS {
+        let Ok(run) = Arc::try_clone(&old.run) else {
+            return Err(Refusal::Memory);
+        };
+        all &= chart.install(key, run) == told(pieces, key, old.is_one);
+    }
+    Ok(all)
+}
+
+/// Whether each old run is.
+fn are_told(shelf: &mut Shelf) -> Result<bool, Refusal> {
+    let mut all = true;
+    for old in shelf.runs.iter() {
+        all &= is_told(&mut shelf.chart, shelf.pieces, old)?;
+    }
+    Ok(all)
+}
+
+/// The run of a job.
+fn run_of(alloc: Global, job: &Job<Safe>) -> Result<Arc<Run<Safe>>, Refusal> {
+    let Ok(run) = run_segment(alloc, job.entry(), job.steps()) else {
+        return Err(Refusal::Memory);
+    };
+    Arc::new(alloc, run).or(Err(Refusal::Memory))
+}
+
+/// Forks a branch behind the read, with a write, and keeps a run of that; none where its job isn't
+/// of that write alone.
+fn forked(
+    alloc: Global,
+    shelf: &mut Shelf,
+    main: &Name,
+    branch: &Name,
+    is_one: bool,
+) -> Result<Option<Piece>, Refusal> {
+    shelf.chart.fork(alloc, main, 1, *branch)?;
+    shelf.chart.insert(alloc, branch, 1, write_of(is_one))?;
+    let jobs = shelf.chart.plan(alloc, branch)?;
+    let Some(job) = jobs.first() else {
+        return Ok(None);
+    };
+    if job.steps() != [write_of(is_one)].as_slice() {
+        return Ok(None);
+    }
+    let run = run_of(alloc, job)?;
+    let key = job.key();
+    match shelf.runs.push(Old { is_one, run }) {
+        Ok(()) => Ok(Some(Piece { key, is_one })),
+        Err(_) => Err(Refusal::Memory),
+    }
+}
+
+/// The text of a state.
+fn text_of(
+    alloc: Global,
+    chart: &mut Chart<Safe>,
+    branch: Name,
+    place: u32,
+) -> Result<Vec<u8>, Refusal> {
+    let slip = Slip::at(alloc, chart, Query::State { branch, place })?;
+    let Ok(mut lens) = Lens::new(alloc) else {
+        return Err(Refusal::Memory);
+    };
+    let Ok(page) = slip.page(alloc, &mut lens) else {
+        return Err(Refusal::Memory);
+    };
+    page_text(alloc, 0, &page).or(Err(Refusal::Memory))
+}
+
+/// What the state of a branch of a read and a write says.
+fn state_of(is_a: bool, is_one: bool) -> &'static [u8] {
+    match (is_a, is_one) {
+        (true, false) =>
+            b"0: state a 2 of 2\n  p0 write 0 next ws 0\n  p1 read next rs 0\n  bits 0\n  words -\n",
+        (true, true) =>
+            b"0: state a 2 of 2\n  p0 write 1 next ws 0\n  p1 read next rs 0\n  bits 0\n  words -\n",
+        (false, false) =>
+            b"0: state b 2 of 2\n  p0 write 0 next ws 0\n  p1 read next rs 0\n  bits 0\n  words -\n",
+        (false, true) =>
+            b"0: state b 2 of 2\n  p0 write 1 next ws 0\n  p1 read next rs 0\n  bits 0\n  words -\n",
+    }
+}
+
+/// What is done to a chart.
+#[derive(Clone, Copy)]
+enum Ask {
+    /// The branch, `a` or `b`, gets the read and a write, of 1 or of 0.
+    Forks(bool, bool),
+    /// The branch, `a` or `b`, is dropped.
+    Drops(bool),
+    /// The read is replaced by itself, so that no run of it is stored.
+    Unsettles,
+    /// A run of it is stored.
+    Settles,
+    /// The state of `a` or `b` is that of its steps.
+    Shows(bool),
+}
+
+/// Forks, and tells whether what is forked has the job that it has to.
+fn forks(
+    rt: &impl Abort,
+    alloc: Global,
+    shelf: &mut Shelf,
+    is_a: bool,
+    is_one: bool,
+) -> Result<bool, Refusal> {
+    let main = name_of(rt, Branch::Main);
+    let branch = branch_of(rt, is_a);
+    let piece = forked(alloc, shelf, &main, &branch, is_one)?;
+    put(&mut shelf.pieces, is_a, piece);
+    Ok(piece.is_some())
+}
+
+fn branch_of(rt: &impl Abort, is_a: bool) -> Name {
+    name_of(rt, if is_a { Branch::A } else { Branch::B })
+}
+
+fn put(pieces: &mut Pieces, is_a: bool, piece: Option<Piece>) {
+    if is_a {
+        pieces.a = piece;
+    } else {
+        pieces.b = piece;
+    }
+}
+
+/// Whether the state of a branch says what it has to.
+fn shows(rt: &impl Abort, alloc: Global, shelf: &mut Shelf, is_a: bool) -> Result<bool, Refusal> {
+    let piece = if is_a { shelf.pieces.a } else { shelf.pieces.b };
+    let Some(piece) = piece else {
+        return Ok(false);
+    };
+    let text = text_of(alloc, &mut shelf.chart, branch_of(rt, is_a), 2)?;
+    Ok(text.as_slice() == state_of(is_a, piece.is_one))
+}
+
+/// Does what is asked, and tells whether it goes as it has to.
+fn goes(rt: &impl Abort, alloc: Global, shelf: &mut Shelf, ask: Ask) -> Result<bool, Refusal> {
+    let main = name_of(rt, Branch::Main);
+    match ask {
+        Ask::Forks(is_a, is_one) => return forks(rt, alloc, shelf, is_a, is_one),
+        Ask::Shows(is_a) => return shows(rt, alloc, shelf, is_a),
+        Ask::Drops(is_a) => {
+            shelf.chart.drop_branch(&branch_of(rt, is_a))?;
+            put(&mut shelf.pieces, is_a, None);
+        }
+        Ask::Unsettles => {
+            shelf.chart.replace(&main, 0, step_of(Kind::Read))?;
+            shelf.pieces.is_settled = false;
+        }
+        Ask::Settles => {
+            shelf.chart.settle(alloc, &main, 1)?;
+            shelf.pieces.is_settled = true;
+        }
+    }
+    Ok(true)
+}
+
+/// The first of these that doesn't go as it has to, or behind which an old run isn't answered so
+/// under some key.
+fn first_wrong(
+    rt: &impl Abort,
+    alloc: Global,
+    shelf: &mut Shelf,
+    asks: &[Ask],
+) -> Result<Option<usize>, Refusal> {
+    for (i, ask) in asks.iter().enumerate() {
+        if !goes(rt, alloc, shelf, *ask)? || !are_told(shelf)? {
+            return Ok(Some(i));
+        }
+    }
+    Ok(None)
+}
+
+/// The same, of a chart of a read alone; 0 where it hasn't one job.
+fn tried(rt: &impl Abort, alloc: Global, asks: &[Ask]) -> Result<Option<usize>, Refusal> {
+    let steps = [step_of(Kind::Read)];
+    let chart = Chart::new(alloc, Safe, 0, limits(), &steps)?;
+    let jobs = chart.plan(alloc, &name_of(rt, Branch::Main))?;
+    let Some(job) = jobs.first() else {
+        return Ok(Some(0));
+    };
+    let pieces = Pieces {
+        shared: job.key(),
+        is_settled: false,
+        a: None,
+        b: None,
+    };
+    let mut shelf = Shelf {
+        chart,
+        pieces,
+        runs: Vec::new(alloc),
+    };
+    first_wrong(rt, alloc, &mut shelf, asks)
+}
+
+const A: bool = true;
+
+const B: bool = false;
+
+/// Three branches, of which two are dropped and forked in turn, with the same write and with the
+/// other one.
+const ASKS: [Ask; 21] = [
+    Ask::Settles,
+    Ask::Forks(A, true),
+    Ask::Forks(B, false),
+    Ask::Shows(A),
+    Ask::Drops(A),
+    Ask::Shows(B),
+    Ask::Forks(A, false),
+    Ask::Shows(A),
+    Ask::Drops(B),
+    Ask::Forks(B, true),
+    Ask::Shows(B),
+    Ask::Shows(A),
+    Ask::Unsettles,
+    Ask::Settles,
+    Ask::Drops(A),
+    Ask::Forks(A, false),
+    Ask::Drops(B),
+    Ask::Drops(A),
+    Ask::Forks(B, false),
+    Ask::Forks(A, true),
+    Ask::Shows(A),
+];
+
+#[test]
+fn old_runs_under_every_key(rt: HostRuntime) {
+    none_wrong(&rt, tried(&rt, rt.alloc(), &ASKS));
+}
