@@ -43,7 +43,10 @@ MORE_IN_A_ROW = {
 # in a row: some make a call again that was refused memory, more often than that.
 TESTS = (
     ("thread_tests", "desks::growths::two_chairs_wanting_memory", (1,)),
-    ("thread_tests", "desks::growths::thousand_steps_wanting_memory", (1,)),
+    ("thread_tests", "desks::growths::two_chairs_asking_again", (1, 2, 6)),
+    ("thread_tests", "desks::growths::thousand_steps_wanting_memory", (1, 2, 6)),
+    ("thread_tests", "desks::growths::thousand_steps_by_four_wanting_memory", (1, 2, 6)),
+    ("thread_tests", "desks::crossings::crossing_wanting_memory", (1, 2, 6)),
     ("branch_tests", "charts::growths::late_run_wanting_memory", (1, 2, 6)),
     ("branch_tests", "charts::growths::thousand_steps_wanting_memory", (1, 2, 6)),
 )

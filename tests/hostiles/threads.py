@@ -18,12 +18,15 @@ CYCLE = ["w 0 1", "r 1"] + ["g 0 0", "g 1 1"] * 11
 TOWERS = ("safe 0", "regular 2 0", "matrix 2 2 1 3")
 # A call that was refused: not what a history tells of an operation.
 REFUSED = re.compile(rb"^(?:line )?[0-9]+: refused ", re.MULTILINE)
-# The built tests of chairs, and those of them that are run.
-CHAIRS = f"{TOP}/crates/thread_tests/out/thread_tests"
-TESTS = (
-    "desks::rows::two_chairs",
-    "desks::threads::two_threads",
-)
+# The built tests of chairs, and those of them that are run, with the tools. Helgrind knows pthread's
+# locks alone, and would take what two threads do by turns for races: the turn is made of atomics.
+CHAIRS = f"{TOP}/crates/thread_tests/out/thread_tests_tests"
+TESTS = {
+    "desks::rows::two_chairs": ("memcheck", "helgrind"),
+    "desks::threads::two_threads": ("memcheck",),
+    "desks::guarded::fifty_guarded_edits_each": ("memcheck",),
+    "desks::crossings::crossing_install": ("memcheck", "helgrind"),
+}
 
 
 def tower(room, line):
@@ -89,13 +92,13 @@ def fills(counts, room):
 
 
 def chairs(counts, room):
-    """Two chairs in one thread and in two, by the tests of them."""
+    """Two chairs in one thread and in two, and at a gate, by the tests of them."""
     counts.begin("threads: two chairs")
     if not os.access(CHAIRS, os.X_OK):
         counts.skip("all of it", "the tests of thread_tests aren't built here (rt test)")
         return
-    for test in TESTS:
-        for tool in TOOLS:
+    for test, tools in TESTS.items():
+        for tool in tools:
             checked(counts, test, tool, [CHAIRS, test], b"", None, f"{room}/log")
     counts.end()
 

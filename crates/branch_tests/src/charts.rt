@@ -3,4 +3,5 @@
 mod counting;
 mod growths;
 mod installs;
+mod lenses;
 mod rows;

@@ -1,5 +1,6 @@
 //! What the program does with its words, its file and its streams, and readers and writers that fail on the way.
 
+mod cut;
 mod faults;
 mod files;
 mod streams;

@@ -1,11 +1,23 @@
-//! Crews at work on jobs that square numbers: which threads run them, and which offers a gate sees.
-//! No contract speaks of either.
+//! Crews at work on jobs of a plan, on jobs that square numbers and on jobs that are refused memory: which threads run them, how
+//! often, and which offers a gate sees. No contract speaks of these.
 
-ghost use Rattle.std.specs.Prelude.{◌≤◌};
+ghost use Rattle.std.specs.Prelude.{◌≤◌, IfOk};
+ghost use Rattle.frames.specs.SafeBit.{safe_behaviour};
+ghost use Rattle.schedule_trie.specs.Cut.{AreLimits};
 
+use checkpoints::run::Run;
+use cutoff::chart::Chart;
+use cutoff::plan;
+use frames::safe::Safe;
+use frames::types::Step;
+use schedule_trie::limits::Limits;
+use schedule_trie::name::Name;
+use schedule_trie::refusal::Refusal;
+use schedule_trie::trie::SegKey;
 use std::alloc::{AllocError, Global};
-use std::sync::Wait;
+use std::process::Abort;
 use std::sync::atomic::{AtomicU64, Ordering};
+use std::sync::{Arc, Wait};
 use std::test::Fail;
 use std::thread;
 use std::thread::Threads;
@@ -98,38 +110,69 @@ impl<W: Wait> Gate<W> for Counts {
     }
 }
 
+const READ: Step = Step::Read { p: 1 };
+
+const WRITE: Step = Step::Write { p: 0, v: 1 };
+
+/// Limits of two branches of a step.
+fn few() -> Limits
+    ensures { AreLimits result }
+{
+    Limits {
+        cells: 16,
+        branches: 2,
+        log: 16,
+    }
+}
+
+/// The plan of a chart on a safe bit whose `main` is a read, and whose `a` is a write: a job for each, from the initial state.
+fn plan_of_two(rt: &impl Abort, alloc: Global) -> Result<Vec<plan::Job<Safe>>, Refusal> {
+    let main = Name::new(b"main").expect(rt, "a short name");
+    let a = Name::new(b"a").expect(rt, "a short name");
+    let mut chart = Chart::new(alloc, Safe, 0, few(), &[READ])?;
+    chart.fork(alloc, &main, 0, a)?;
+    chart.insert(alloc, &a, 0, WRITE)?;
+    chart.plan(alloc, &main)
+}
+
+/// What a job of a chart came to.
+type Ran = Done<SegKey, Arc<Run<Safe>>>;
+
+/// The one step of a run, under its key; none where the job didn't run.
+fn only_step(done: &Ran) -> Option<(SegKey, Step)> {
+    let Outcome::Ran(run) = &done.outcome else {
+        return None;
+    };
+    match run.steps() {
+        [step] => Some((done.key, *step)),
+        _ => None,
+    }
+}
+
+/// Jobs of a plan at work by the caller and one thief; what the call promises is forgotten.
+fn run_by_two<W: Threads + Wait + Sync>(
+    rt: &W,
+    alloc: Global,
+    jobs: Vec<plan::Job<Safe>>,
+    gate: &Meeting,
+) -> Result<Vec<Ran>, AllocError> {
+    Crew::run(rt, alloc, jobs, 1, gate)
+}
+
 /// The caller and one thief each have one of two jobs at the same time, or the gate would hold the
 /// first until its limit. A crew that runs all jobs on one thread has the same outcomes and meets
 /// each contract: this test alone refuses it.
 #[test]
 fn two_threads(rt: HostRuntime) -> Result<(), Fail> {
     let gate = Meeting::new();
-    let jobs = vec![in rt.alloc();
-        Square {
-            key: 'a',
-            number: Some(3)
-        },
-        Square {
-            key: 'b',
-            number: Some(5)
-        },
-    ]?;
-    let all = Crew::run(&rt, rt.alloc(), jobs, 1, &gate)?;
+    let jobs = plan_of_two(&rt, rt.alloc())?;
+    let [read, write] = jobs.as_slice() else {
+        panic!(rt; "a job of each branch")
+    };
+    let wanted = [Some((read.key(), READ)), Some((write.key(), WRITE))];
+    let all = run_by_two(&rt, rt.alloc(), jobs, &gate)?;
     assert!(rt; gate.both_met());
-    assert_eq!(rt;
-        all.as_slice(),
-        [
-            Done {
-                key: 'a',
-                outcome: Outcome::Ran(9)
-            },
-            Done {
-                key: 'b',
-                outcome: Outcome::Ran(25)
-            },
-        ]
-        .as_slice()
-    );
+    assert!(rt; all.iter().map(only_step).eq(wanted));
     Ok(())
 }
 
@@ -196,6 +239,63 @@ fn any_number_of_thieves(rt: HostRuntime) -> Result<(), Fail> {
     for thieves in [0, 1, 3] {
         let (all, each_once) = run_letters(&rt, rt.alloc(), thieves)?;
         assert!(rt; each_once && all.as_slice() == expected.as_slice());
+    }
+    Ok(())
+}
+
+/// A job that is refused memory, and counts how often it is run.
+#[derive(Drop)]
+struct Refused<'a> {
+    key: u32,
+    runs: &'a AtomicU64,
+}
+
+impl Job for Refused<'_> {
+    type Key = u32;
+
+    type Run = u64;
+
+    ghost named = { λ job. job.key };
+
+    ghost gives = { λ _ _. Unit {0} };
+
+    fn key(&self) -> u32 {
+        self.key
+    }
+
+    fn run(&self, _alloc: Global) -> Result<u64, AllocError> {
+        self.runs.fetch_add(1, Ordering::SeqCst);
+        Err(AllocError)
+    }
+}
+
+/// Whether three jobs that are refused memory come to that, with so many thieves.
+fn all_refused<W: Threads + Wait + Sync>(
+    rt: &W,
+    alloc: Global,
+    runs: &AtomicU64,
+    thieves: u32,
+) -> Result<bool, AllocError>
+    requires { thieves ≤ 4 }
+{
+    let mut jobs = Vec::new(alloc);
+    for key in 0..3u32 {
+        jobs.push(Refused { key, runs })?;
+    }
+    let all = Crew::run(rt, alloc, jobs, thieves, &NoGate)?;
+    Ok(
+        all.iter()
+            .all(|done| matches!(done.outcome, Outcome::NoMemory)),
+    )
+}
+
+/// A job whose run is refused memory isn't run again.
+#[test]
+fn refused_jobs_run_once(rt: HostRuntime) -> Result<(), Fail> {
+    for thieves in [0, 2] {
+        let runs = AtomicU64::new(0);
+        assert!(rt; all_refused(&rt, rt.alloc(), &runs, thieves)?);
+        assert_eq!(rt; runs.load(Ordering::SeqCst), 3);
     }
     Ok(())
 }

@@ -8,8 +8,10 @@ ghost use Rattle.turn.specs.Shares.{every_share};
 ghost use Rattle.turn.specs.Chairs.{view};
 ghost use Rattle.desk.specs.Chairs.{IsAt};
 
+mod crossings;
 mod fills;
 mod growths;
+mod guarded;
 mod measured;
 mod news;
 mod rows;

@@ -19,9 +19,10 @@ use Rattle.turn.specs.Shares.{HasAll, number}
 use Rattle.desk.specs.declared.item.Item.{Item}
 use Rattle.desk.specs.declared.receipt.Receipt.{Receipt}
 use Rattle.desk.specs.declared.receipt.Answer.{Answer}
-use Rattle.desk.specs.Chairs.{Received, Looked}
+use Rattle.desk.specs.declared.report.Report.{Report}
+use Rattle.desk.specs.Chairs.{Received, Looked, Filled}
 use Rattle.desk.specs.Histories.{seen}
-use Rattle.desk.specs.Works.{IsAnswer}
+use Rattle.desk.specs.Works.{IsAnswer, NeedsBranch}
 
 module _ {P : Type 0} (w : World P) (query : Query) where
   pub shown : (r : Result Page Refusal) → IsAnswer w query r → IfOk r (λ page. Some page ≡ shown_in w query)
@@ -49,3 +50,8 @@ module _ {R P : Type 0} (is : R → Behaviour P) (first : Held R P) (v w : View 
   -- a look by such a chair answers of that world
   pub looked_answers : (query : Query) (answer : Answer) → Looked is first query v w answer → HasAll v.shares → IsAnswer (world_after (opening_of is first) (seen v)) query answer.result
   looked_answers query answer r all = subst (λ (before : List Entry). IsAnswer (world_after (opening_of is first) before) query answer.result) (r.finds.whole all) r.answers.1
+
+  -- a fill by such a chair finds or lacks its branch in that world
+  pub filled_answers : (branch : List ℕ) (result : Result Report Refusal) → Filled is first branch v w result → HasAll v.shares
+      → NeedsBranch branch (world_after (opening_of is first) (seen v)) result
+  filled_answers branch result f all = subst (λ (before : List Entry). NeedsBranch branch (world_after (opening_of is first) before) result) (f.1.finds.whole all) f.1.answers

@@ -49,7 +49,9 @@ pub fn answer<R: Register + Send + Sync, W: Threads + Wait + Sync>(
 ) -> LineAnswer
 where
     R::Pending: Send + Sync,
-    ensures { IfOk result (λ text. (memory : Bool) × (spec.answer_line memory number line.now (world_at R.is seat.old) ≡ record { world = world_at R.is seat.new; text = text.items })) }
+    ensures { IfOk result (λ text. (memory : Bool)
+        × (spec.answer_line memory number line.now (world_at R.is seat.old)
+        ≡ record { world = world_at R.is seat.new; text = text.items })) }
 {
     let mut text = Vec::new(alloc);
     push_answer(&mut text, alloc, seat, number, line)?;
@@ -66,8 +68,10 @@ fn push_answer<R: Register + Send + Sync, W: Threads + Wait + Sync>(
 ) -> Result<(), AllocError>
 where
     R::Pending: Send + Sync,
-    requires { out.old.items ≡ [] }
-    ensures { OnOk result ((memory : Bool) × (spec.answer_line memory number line.now (world_at R.is seat.old) ≡ record { world = world_at R.is seat.new; text = out.new.items })) }
+    requires empty { out.old.items ≡ [] }
+    ensures { OnOk result ((memory : Bool)
+        × (spec.answer_line memory number line.now (world_at R.is seat.old)
+        ≡ record { world = world_at R.is seat.new; text = out.new.items })) }
 {
     match read_line(line) {
         Line::Blank => Ok(()),
@@ -85,8 +89,10 @@ fn answer_call<R: Register + Send + Sync, W: Threads + Wait + Sync>(
 ) -> Result<(), AllocError>
 where
     R::Pending: Send + Sync,
-    requires { out.old.items ≡ [] }
-    ensures { OnOk result ((memory : Bool) × (spec.answer_call memory call.now (world_at R.is seat.old) ≡ record { world = world_at R.is seat.new; text = out.new.items })) }
+    requires empty { out.old.items ≡ [] }
+    ensures { OnOk result ((memory : Bool)
+        × (spec.answer_call memory call.now (world_at R.is seat.old)
+        ≡ record { world = world_at R.is seat.new; text = out.new.items })) }
 {
     let session = call.session;
     match &call.request {
@@ -107,8 +113,10 @@ fn answer_look<R: Register, W: Wait>(
     session: u32,
     query: Query,
 ) -> Result<(), AllocError>
-    requires { out.old.items ≡ [] }
-    ensures text { let w = world_at R.is seat.old in OnOk result ((memory : Bool) × (out.new.items ≡ spec.look_text memory session (looked w query) (page_of session query w))) }
+    requires empty { out.old.items ≡ [] }
+    ensures text { let w = world_at R.is seat.old in OnOk result ((memory : Bool)
+        × (out.new.items
+        ≡ spec.look_text memory session (looked w query) (page_of session query w))) }
     ensures kept { world_at R.is seat.new ≡ world_at R.is seat.old }
 {
     match page_in(alloc, seat, session, query) {
@@ -124,9 +132,11 @@ fn page_in<R: Register, W: Wait>(
     session: u32,
     query: Query,
 ) -> Result<Vec<u8>, Refusal>
-    ensures text { IfOk result (λ text. text.items ≡ page_of session query (world_at R.is seat.old)) }
+    ensures text { IfOk result (λ text. text.items
+        ≡ page_of session query (world_at R.is seat.old)) }
     ensures found { let w = world_at R.is seat.old in OnOk result (looked w query ≡ Ok w.forest) }
-    ensures err { IfErr result (λ r. (looked (world_at R.is seat.old) query ≡ Err r) ⊎ (r ≡ Refusal.Memory)) }
+    ensures err { IfErr result (λ r.
+        (looked (world_at R.is seat.old) query ≡ Err r) ⊎ (r ≡ Refusal.Memory)) }
     ensures kept { world_at R.is seat.new ≡ world_at R.is seat.old }
 {
     let page = seat.look(alloc, query)?;
@@ -146,12 +156,14 @@ fn answer_fill<R: Register + Send + Sync, W: Threads + Wait + Sync>(
 ) -> Result<(), AllocError>
 where
     R::Pending: Send + Sync,
-    requires { out.old.items ≡ [] }
-    ensures text { let w = world_at R.is seat.old in OnOk result ((memory : Bool) × (out.new.items ≡ spec.fill_text memory session (index_of w.forest.branches branch.now))) }
+    requires empty { out.old.items ≡ [] }
+    ensures text { let w = world_at R.is seat.old in OnOk result ((memory : Bool)
+        × (out.new.items
+        ≡ spec.fill_text memory session (index_of w.forest.branches branch.now))) }
     ensures kept { world_at R.is seat.new ≡ world_at R.is seat.old }
 {
     match seat.fill(alloc, branch) {
-        Ok(()) => push_filled(out, session),
+        Ok(_) => push_filled(out, session),
         Err(refusal) => push_reply(out, session, &Reply::No(refusal)),
     }
 }

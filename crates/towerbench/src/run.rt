@@ -37,8 +37,13 @@ pub fn run<H: Threads + Wait + Sync, R: Read, W: Write>(
     writer: &mut W,
 ) -> Result<(), Fault>
     requires limits { AreLimits options }
-    ensures done { OnOk result (Ran (option_map (λ bytes. bytes.now) file.entry) (limits_of options) (R.remaining reader.old) (R.remaining reader.new) (W.contents writer.old) (W.contents writer.new)) }
-    ensures fault { IfErr result (RanInto (option_map (λ bytes. bytes.now) file.entry) (limits_of options) (R.remaining reader.old) (R.remaining reader.new) (W.contents writer.old) (W.contents writer.new)) }
+    ensures done { OnOk result (Ran (option_map (λ bytes. bytes.now) file.entry) (limits_of options)
+        (R.remaining reader.old) (R.remaining reader.new)
+        (W.contents writer.old) (W.contents writer.new)) }
+    ensures fault { IfErr result (RanInto
+        (option_map (λ bytes. bytes.now) file.entry) (limits_of options)
+        (R.remaining reader.old) (R.remaining reader.new)
+        (W.contents writer.old) (W.contents writer.new)) }
 {
     let Some(bytes) = file else {
         let none = Vec::new(alloc);
@@ -60,8 +65,12 @@ pub fn run_read<H: Threads + Wait + Sync, R: Read, W: Write>(
     writer: &mut W,
 ) -> Result<(), Fault>
     requires limits { AreLimits options }
-    ensures done { OnOk result (Ran (Some bytes.items) (limits_of options) (R.remaining reader.old) (R.remaining reader.new) (W.contents writer.old) (W.contents writer.new)) }
-    ensures fault { IfErr result (RanInto (Some bytes.items) (limits_of options) (R.remaining reader.old) (R.remaining reader.new) (W.contents writer.old) (W.contents writer.new)) }
+    ensures done { OnOk result (Ran (Some bytes.items) (limits_of options)
+        (R.remaining reader.old) (R.remaining reader.new)
+        (W.contents writer.old) (W.contents writer.new)) }
+    ensures fault { IfErr result (RanInto (Some bytes.items) (limits_of options)
+        (R.remaining reader.old) (R.remaining reader.new)
+        (W.contents writer.old) (W.contents writer.new)) }
 {
     let file = parse(alloc, bytes.as_slice());
     drop(bytes);
@@ -80,8 +89,10 @@ fn run_file<H: Threads + Wait + Sync, R: Read, W: Write>(
     reader: &mut R,
     writer: &mut W,
 ) -> Result<(), Fault>
-    requires { AreLimits options }
-    ensures { EndsOver (limits_of options) file.steps (answers_on file (limits_of options)) (R.remaining reader.old) (R.remaining reader.new) (W.contents writer.old) (W.contents writer.new) result }
+    requires limits { AreLimits options }
+    ensures { EndsOver (limits_of options) file.steps (answers_on file (limits_of options))
+        (R.remaining reader.old) (R.remaining reader.new)
+        (W.contents writer.old) (W.contents writer.new) result }
 {
     let spec = file.spec();
     let steps = file.into_steps();
@@ -148,7 +159,11 @@ fn begin_stamped<H: Threads + Wait + Sync, R: Read, W: Write>(
     requires value { 0 < (⟦<StampedTower as Behaves>⟧.is register).values }
     requires limits { AreLimits options }
     requires fit { AllFit (⟦<StampedTower as Behaves>⟧.is register) steps.items }
-    ensures { EndsOver (limits_of options) steps.items (answers_to answer_line (opening (⟦<StampedTower as Behaves>⟧.is register) 0 (limits_of options) steps.items)) (R.remaining reader.old) (R.remaining reader.new) (W.contents writer.old) (W.contents writer.new) result }
+    ensures { EndsOver (limits_of options) steps.items
+        (answers_to answer_line
+        (opening (⟦<StampedTower as Behaves>⟧.is register) 0 (limits_of options) steps.items))
+        (R.remaining reader.old) (R.remaining reader.new)
+        (W.contents writer.old) (W.contents writer.new) result }
 {
     begin(rt, alloc, register, 0, steps, options, reader, writer)
 }
@@ -166,7 +181,11 @@ fn begin_matrix<H: Threads + Wait + Sync, R: Read, W: Write>(
     requires value { 0 < (⟦<MatrixTower as Behaves>⟧.is register).values }
     requires limits { AreLimits options }
     requires fit { AllFit (⟦<MatrixTower as Behaves>⟧.is register) steps.items }
-    ensures { EndsOver (limits_of options) steps.items (answers_to answer_line (opening (⟦<MatrixTower as Behaves>⟧.is register) 0 (limits_of options) steps.items)) (R.remaining reader.old) (R.remaining reader.new) (W.contents writer.old) (W.contents writer.new) result }
+    ensures { EndsOver (limits_of options) steps.items
+        (answers_to answer_line
+        (opening (⟦<MatrixTower as Behaves>⟧.is register) 0 (limits_of options) steps.items))
+        (R.remaining reader.old) (R.remaining reader.new)
+        (W.contents writer.old) (W.contents writer.new) result }
 {
     begin(rt, alloc, register, 0, steps, options, reader, writer)
 }
@@ -187,7 +206,10 @@ where
     requires value { value < (B.is register).values }
     requires limits { AreLimits options }
     requires fit { AllFit (B.is register) steps.items }
-    ensures { EndsOver (limits_of options) steps.items (answers_to answer_line (opening (B.is register) value (limits_of options) steps.items)) (R.remaining reader.old) (R.remaining reader.new) (W.contents writer.old) (W.contents writer.new) result }
+    ensures { EndsOver (limits_of options) steps.items
+        (answers_to answer_line (opening (B.is register) value (limits_of options) steps.items))
+        (R.remaining reader.old) (R.remaining reader.new)
+        (W.contents writer.old) (W.contents writer.new) result }
 {
     let opened = Desk::open(alloc, register, value, options.limits(), &steps);
     drop(steps);

@@ -10,7 +10,7 @@ ghost use Rattle.desk.specs.Chairs.{IsAt};
 ghost use Rattle.desk.specs.Histories.{seen};
 ghost use Rattle.towerbench.specs.Seats.{world_at};
 
-use desk::{Chair, Desk, Item, Journal};
+use desk::{Chair, Desk, Item, Journal, Report};
 use frames::register::Register;
 use schedule_trie::name::Name;
 use schedule_trie::refusal::Refusal;
@@ -85,7 +85,10 @@ impl<R: Register, W: Wait> Seat<'_, R, W> {
         if_at: Option<u64>,
         command: &Command,
     ) -> Reply
-        ensures { let w = world_at R.is self.old in (acted session if_at command.now w ≡ record { world = world_at R.is self.new; reply = result }) ⊎ ((result ≡ Reply.No Refusal.Memory) × (world_at R.is self.new ≡ w)) }
+        ensures { let w = world_at R.is self.old in
+            (acted session if_at command.now w
+            ≡ record { world = world_at R.is self.new; reply = result })
+            ⊎ ((result ≡ Reply.No Refusal.Memory) × (world_at R.is self.new ≡ w)) }
     {
         let receipt = self
             .desk
@@ -99,9 +102,12 @@ impl<R: Register, W: Wait> Seat<'_, R, W> {
     ///
     /// NoSession for the cursor of a session that hasn't joined; NoBranch; NoPlace where the branch is shorter; Memory.
     pub(crate) fn look(&mut self, alloc: Global, query: Query) -> Result<Page, Refusal>
-        ensures page { IfOk result (λ page. Some page ≡ shown_in (world_at R.is self.old) query) }
-        ensures found { let w = world_at R.is self.old in OnOk result (looked w query ≡ Ok w.forest) }
-        ensures err { IfErr result (λ r. (looked (world_at R.is self.old) query ≡ Err r) ⊎ (r ≡ Refusal.Memory)) }
+        ensures page { IfOk result (λ page.
+            Some page ≡ shown_in (world_at R.is self.old) query) }
+        ensures found { let w = world_at R.is self.old in
+            OnOk result (looked w query ≡ Ok w.forest) }
+        ensures err { IfErr result (λ r.
+            (looked (world_at R.is self.old) query ≡ Err r) ⊎ (r ≡ Refusal.Memory)) }
         ensures kept { world_at R.is self.new ≡ world_at R.is self.old }
     {
         let Ok(mut lens) = lens_of(alloc, self.lens.take()) else {
@@ -119,22 +125,17 @@ impl<R: Register + Send + Sync, W: Threads + Wait + Sync> Seat<'_, R, W>
 where
     R::Pending: Send + Sync,
 {
-    /// Stores runs for a branch and the others, as far as memory goes.
+    /// Stores runs for a branch and the others, as far as memory goes, and tells of them.
     ///
     /// # Errors
     ///
     /// NoBranch; Memory.
-    pub(crate) fn fill(&mut self, alloc: Global, branch: &Name) -> Result<(), Refusal>
+    pub(crate) fn fill(&mut self, alloc: Global, branch: &Name) -> Result<Report, Refusal>
         ensures found { NeedsBranch branch.now (world_at R.is self.old) result }
         ensures kept { world_at R.is self.new ≡ world_at R.is self.old }
     {
-        match self
-            .desk
+        self.desk
             .fill(self.rt, alloc, &mut self.chair, branch, self.thieves)
-        {
-            Ok(_) => Ok(()),
-            Err(refusal) => Err(refusal),
-        }
     }
 }
 

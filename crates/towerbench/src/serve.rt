@@ -39,12 +39,20 @@ where
     requires at { IsAt B.is desk chair }
     requires whole { HasAll (view chair).shares }
     requires thieves { thieves ≤ 4 }
-    ensures done { let w = world_after (opening_of B.is desk.first.value) (seen (view chair)) in OnOk result (IsAnswered (answers_to answer_line w) (R.remaining reader.old) (R.remaining reader.new) (W.contents writer.old) (W.contents writer.new)) }
-    ensures fault { let w = world_after (opening_of B.is desk.first.value) (seen (view chair)) in IfErr result (λ e. Breaks (answers_to answer_line w) e (R.remaining reader.old) (R.remaining reader.new) (W.contents writer.old) (W.contents writer.new)) }
+    ensures done { let w = world_after (opening_of B.is desk.first.value) (seen (view chair)) in
+        OnOk result (IsAnswered (answers_to answer_line w)
+        (R.remaining reader.old) (R.remaining reader.new)
+        (W.contents writer.old) (W.contents writer.new)) }
+    ensures fault { let w = world_after (opening_of B.is desk.first.value) (seen (view chair)) in
+        IfErr result (λ e. Breaks (answers_to answer_line w) e
+        (R.remaining reader.old) (R.remaining reader.new)
+        (W.contents writer.old) (W.contents writer.new)) }
 {
     let mut seat = Seat::new(rt, desk, chair, thieves);
     let answering = |seat: &mut Seat<'_, B, H>, number: u32, line: &[u8]| -> LineAnswer
-        ensures { IfOk result (λ text. (memory : Bool) × (answer_line memory number line.now (world_at B.is seat.old) ≡ record { world = world_at B.is seat.new; text = text.items })) }
+        ensures { IfOk result (λ text. (memory : Bool)
+            × (answer_line memory number line.now (world_at B.is seat.old)
+            ≡ record { world = world_at B.is seat.new; text = text.items })) }
     { answer(alloc, seat, number, line) };
     converse(alloc, &mut seat, &answering, reader, writer)
 }

@@ -1,6 +1,7 @@
 //! What the program does with its words and its streams.
 
-ghost use Rattle.std.specs.Prelude.{◌≡◌, ◌≤◌, IfOk, OnErr, map};
+ghost use Rattle.std.specs.Prelude.{◌≡◌, ◌≢◌, ◌≤◌, IfOk, IfErr, OnErr, map};
+ghost use Rattle.std.specs.IoError.{error_kind};
 ghost use Rattle.std.specs.Option.{is_some};
 ghost use Rattle.std.specs.String.{string_bytes};
 ghost use Rattle.command_line.specs.Ranges.{AreLimits, limits_of};
@@ -31,8 +32,15 @@ pub fn tool<F: Files + AllocGlobal + Threads + Wait + Sync, R: Read, W: Write, E
     errors: &mut E,
 ) -> u8
     ensures status { result ≤ 2 }
-    ensures ends { IfOk words (λ ws. (ending : Ending) × EndsBy (map string_bytes ws.items) (R.remaining reader.old) (R.remaining reader.new) (W.contents writer.old) (W.contents writer.new) ending × (result ≡ status_of ending)) }
-    ensures unread { OnErr words (IsUntouched (R.remaining reader.old) (R.remaining reader.new) (W.contents writer.old) (W.contents writer.new) × (1 ≤ result)) }
+    ensures ends { IfOk words (λ ws. (ending : Ending)
+        × EndsBy (map string_bytes ws.items) (R.remaining reader.old) (R.remaining reader.new)
+        (W.contents writer.old) (W.contents writer.new) ending
+        × (result ≡ status_of ending)) }
+    ensures unread { OnErr words (IsUntouched (R.remaining reader.old) (R.remaining reader.new)
+        (W.contents writer.old) (W.contents writer.new) × (1 ≤ result)) }
+    // Words that there is no memory for are a fault; words that are no text are refused.
+    ensures no_memory { IfErr words (λ e. error_kind e ≡ ErrorKind.OutOfMemory → result ≡ 1) }
+    ensures not_text { IfErr words (λ e. error_kind e ≢ ErrorKind.OutOfMemory → result ≡ 2) }
 {
     match words {
         Ok(words) => {
@@ -68,7 +76,8 @@ fn follow<F: Files + AllocGlobal + Threads + Wait + Sync, R: Read, W: Write>(
     reader: &mut R,
     writer: &mut W,
 ) -> Ending
-    ensures { EndsBy (map string_bytes words.now) (R.remaining reader.old) (R.remaining reader.new) (W.contents writer.old) (W.contents writer.new) result }
+    ensures { EndsBy (map string_bytes words.now) (R.remaining reader.old) (R.remaining reader.new)
+        (W.contents writer.old) (W.contents writer.new) result }
 {
     match parse(files.alloc(), words) {
         Invocation::Run { file, options } => work(files, file, options, reader, writer),
@@ -86,8 +95,10 @@ fn work<F: Files + AllocGlobal + Threads + Wait + Sync, R: Read, W: Write>(
     reader: &mut R,
     writer: &mut W,
 ) -> Ending
-    requires { AreLimits options }
-    ensures { WorksOut (is_some file.entry) (limits_of options) (R.remaining reader.old) (R.remaining reader.new) (W.contents writer.old) (W.contents writer.new) result }
+    requires limits { AreLimits options }
+    ensures { WorksOut (is_some file.entry) (limits_of options)
+        (R.remaining reader.old) (R.remaining reader.new)
+        (W.contents writer.old) (W.contents writer.new) result }
 {
     let Some(path) = file else {
         return ending_of(run(files, files.alloc(), None, options, reader, writer));

@@ -2,6 +2,7 @@
 
 ghost use Rattle.std.specs.Prelude.{◌≡◌, ◌<◌, ◌≤◌, IfOk, IfSome, Err, length};
 ghost use Rattle.std.specs.Io.KnownBytes.{IsAtEnd};
+ghost use Rattle.towerbench.specs.declared.tower_source.TheConstants.{MOST_BYTES};
 
 use std::alloc::Global;
 use std::fs;
@@ -10,7 +11,7 @@ use std::rt::Files;
 use thiserror::Error;
 
 /// The most bytes of a tower file.
-const MOST_BYTES: usize = 1 << 26;
+pub const MOST_BYTES: usize = 1 << 26;
 
 /// The most bytes of one read.
 const PIECE_BYTES: usize = 4096;
@@ -31,7 +32,7 @@ pub enum SourceFault {
 
 /// Reads the bytes of the file at a path.
 pub fn read_file<F: Files + AllocGlobal>(files: &F, path: &str) -> Result<Vec<u8>, SourceFault>
-    ensures { IfOk result (λ bytes. length bytes.items ≤ 67108864) }
+    ensures { IfOk result (λ bytes. length bytes.items ≤ MOST_BYTES) }
 {
     let mut file = match fs::open(files, path) {
         Ok(file) => file,
@@ -47,7 +48,8 @@ pub fn read_all<R: Read>(
     reader: &mut R,
     limit: usize,
 ) -> Result<Vec<u8>, SourceFault>
-    ensures bytes { IfOk result (λ bytes. IfSome (R.remaining reader.old) (λ all. bytes.items ≡ all)) }
+    ensures bytes { IfOk result (λ bytes.
+        IfSome (R.remaining reader.old) (λ all. bytes.items ≡ all)) }
     ensures end { IfOk result (λ _. IsAtEnd (R.remaining reader.new)) }
     ensures room { IfOk result (λ bytes. length bytes.items ≤ limit) }
     ensures too_long { result ≡ Err SourceFault.TooLong

@@ -15,6 +15,7 @@ use super::{bring, closed, halves, limits, name, replayed, take_in, text_at};
 use desk::{Chair, Desk, Report};
 use frames::safe::Safe;
 use frames::types::Step;
+use schedule_trie::limits::Limits;
 use schedule_trie::name::Name;
 use schedule_trie::refusal::Refusal;
 use sessions::book::Book;
@@ -31,12 +32,12 @@ use views::lens::Lens;
 use views::page::page_text;
 use views::query::Query;
 
-/// Whole writes of 1 and of 0 by turns, 1,000 steps.
-fn writes(alloc: Global) -> Result<Vec<Step>, AllocError>
+/// Whole writes of 1 and of 0 by turns, so many steps.
+fn writes(alloc: Global, count: u32) -> Result<Vec<Step>, AllocError>
     ensures { IfOk result (λ steps. AllFit safe_behaviour steps.items) }
 {
     let mut steps = Vec::new(alloc);
-    for index in 0..1000u32 {
+    for index in 0..count {
         steps.push(write_at(index))?;
     }
     Ok(steps)
@@ -58,10 +59,18 @@ pub(super) fn thousand(alloc: Global, log: u32) -> Result<(Desk<Safe>, Chair<Saf
     requires { (0 < log) × (log ≤ 1048576) }
     ensures { IfOk result (λ r. IsAt (λ _. safe_behaviour) r.0 r.1 × ((view r.1).shares ≡ every_share)) }
 {
-    let Ok(steps) = writes(alloc) else {
+    written(alloc, 1000, limits(log))
+}
+
+/// A desk of so many steps, and its first chair.
+fn written(alloc: Global, count: u32, limits: Limits) -> Result<(Desk<Safe>, Chair<Safe>), Refusal>
+    requires { AreLimits limits }
+    ensures { IfOk result (λ r. IsAt (λ _. safe_behaviour) r.0 r.1 × ((view r.1).shares ≡ every_share)) }
+{
+    let Ok(steps) = writes(alloc, count) else {
         return Err(Refusal::Memory);
     };
-    Desk::open(alloc, Safe, 0, limits(log), &steps)
+    Desk::open(alloc, Safe, 0, limits, &steps)
 }
 
 /// Fills a branch; what the call promises of histories is forgotten.
@@ -107,10 +116,48 @@ fn thousand_steps(rt: HostRuntime) -> Result<(), Fail> {
     Ok(())
 }
 
-/// How often a filler fills, beside an editor that makes so many inserts and then drops the branch.
-const FILLS: u32 = 20;
+/// Limits for steps that make 66 segments.
+fn long() -> Limits
+    ensures { AreLimits result }
+{
+    Limits {
+        cells: 16_384,
+        branches: 1,
+        log: 16,
+    }
+}
 
-const INSERTS: u32 = 60;
+/// A fill is done after 64 rounds, though segments are left.
+#[test]
+fn sixty_four_rounds(rt: HostRuntime) -> Result<(), Fail> {
+    let main = name(&rt, b"main");
+    let (desk, mut chair) = written(rt.alloc(), 66 * 128, long())?;
+    let first = filled(&rt, rt.alloc(), &desk, &mut chair, &main, 0)?;
+    assert!(rt; first == all_installed(64));
+    let rest = filled(&rt, rt.alloc(), &desk, &mut chair, &main, 0)?;
+    assert!(rt; rest == all_installed(2));
+    Ok(())
+}
+
+/// How often a filler fills, beside an editor that makes so many inserts and then drops the branch.
+const FILLS: u32 = 8;
+
+const INSERTS: u32 = 20;
+
+/// How often such a pair works side by side.
+const PAIRS: u32 = 100;
+
+/// Whether a fill gave a report whose parts are the jobs that were planned, or was refused because the branch is gone.
+fn is_sum_or_gone(told: Result<Report, Refusal>) -> bool {
+    match told {
+        Ok(report) => {
+            let unfit = report.stale.wrapping_add(report.gone);
+            let runs = report.installed.wrapping_add(report.memory);
+            report.planned == runs.wrapping_add(unfit)
+        }
+        Err(refusal) => refusal == Refusal::NoBranch,
+    }
+}
 
 /// Fills the branch `a` over and over. The answer is whether each fill gave a report, or was refused because the branch is gone.
 fn fill_all<R: Abort + Threads + Wait + Sync>(
@@ -126,7 +173,7 @@ fn fill_all<R: Abort + Threads + Wait + Sync>(
     let mut fine = true;
     for _ in 0..FILLS {
         let told = filled(rt, alloc, desk, &mut chair, &branch, 1);
-        fine &= told.is_ok() || told == Err(Refusal::NoBranch);
+        fine &= is_sum_or_gone(told);
     }
     (chair, fine)
 }
@@ -184,7 +231,7 @@ fn edited_beside_fills<R: Abort + Threads + Wait + Sync>(
 
 /// The text of a look's page on a new book of 1,000 steps after the calls of a log; none where a reply isn't the log's.
 fn replayed_text(alloc: Global, log: &Log, query: &Query) -> Result<Option<Vec<u8>>, Refusal> {
-    let Ok(steps) = writes(alloc) else {
+    let Ok(steps) = writes(alloc, 1000) else {
         return Err(Refusal::Memory);
     };
     match replayed(alloc, log, &steps)? {
@@ -194,7 +241,11 @@ fn replayed_text(alloc: Global, log: &Log, query: &Query) -> Result<Option<Vec<u
 }
 
 /// The text of a look's page on a book.
-fn text_on(alloc: Global, mut book: Book<Safe>, query: &Query) -> Result<Vec<u8>, Refusal> {
+pub(super) fn text_on(
+    alloc: Global,
+    mut book: Book<Safe>,
+    query: &Query,
+) -> Result<Vec<u8>, Refusal> {
     let slip = book.look(alloc, *query)?;
     let Ok(mut lens) = Lens::new(alloc) else {
         return Err(Refusal::Memory);
@@ -233,7 +284,7 @@ fn fills_beside_an_editor(rt: HostRuntime) -> Result<(), Fail> {
         branch: name(&rt, b"main"),
         place: 1000 + INSERTS,
     };
-    for _ in 0..5 {
+    for _ in 0..PAIRS {
         let Some((log, text)) = beside(&rt, rt.alloc(), &query)? else {
             panic!(rt; "reports, accepted edits and a log")
         };

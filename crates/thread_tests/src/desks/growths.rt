@@ -1,5 +1,6 @@
-//! Rows where memory may be refused. Of two chairs: each call answers as it does with ample memory, or Memory; the calls behind it then
-//! answer as without it. Of a thousand steps: a fill is refused, or tells of the jobs that it had to leave.
+//! Rows where memory may be refused. Two chairs: each call answers as it does with ample memory, or Memory; the calls behind it then answer
+//! as without it, and one that is made again as if it hadn't been made. A thousand steps: a fill is refused, or tells of the jobs that it
+//! had to leave; fills that follow install what is left.
 
 ghost use Rattle.std.specs.Prelude.{◌≤◌};
 ghost use Rattle.frames.specs.SafeBit.{safe_behaviour};
@@ -11,11 +12,13 @@ use super::{asked, bring, halves, insert_at, name, opened, text_at};
 use desk::{Chair, Desk, Receipt};
 use frames::safe::Safe;
 use schedule_trie::refusal::Refusal;
+use sessions::command::Command;
 use sessions::reply::Reply;
 use std::alloc::Global;
 use std::process::Abort;
 use std::sync::Wait;
 use std::thread::Threads;
+use views::query::Query;
 
 /// Whether these are the receipts of two inserts, both guarded by no edit, of which one at most was refused memory.
 fn are_allowed(first: Receipt, second: Receipt) -> bool {
@@ -67,44 +70,125 @@ fn two_chairs_wanting_memory(rt: HostRuntime) {
     }
 }
 
-/// Fills `main`, of which each run fits: every job of it is installed or left for want of memory, one of them at most. Answers how many are
-/// installed; none where the fill is refused.
-fn installed<R: Abort + Threads + Wait + Sync>(
+/// How often a call is made at most: more often than growths are refused in a row.
+const TRIES: u32 = 10;
+
+/// Brings a command guarded by no edit, until it isn't refused memory.
+fn bring_again<R: Abort + Wait>(
     rt: &R,
     alloc: Global,
     desk: &Desk<Safe>,
-    chair: &mut Chair<Safe>,
-    thieves: u32,
-) -> Option<u64>
-    requires at { IsAt (λ _. safe_behaviour) desk.now chair.old }
-    requires thieves { thieves ≤ 4 }
-    ensures { IsAt (λ _. safe_behaviour) desk.now chair.new }
+    mut chair: Chair<Safe>,
+    who: u32,
+    command: &Command,
+) -> (Chair<Safe>, Receipt)
+    requires { IsAt (λ _. safe_behaviour) desk.now chair }
+    ensures { IsAt (λ _. safe_behaviour) desk.now result.0 }
 {
-    match filled(rt, alloc, desk, chair, &name(rt, b"main"), thieves) {
-        Ok(report) => {
-            assert!(rt; report.stale == 0 && report.gone == 0 && report.memory <= 1);
-            Some(report.installed)
-        }
-        Err(refusal) => {
-            assert!(rt; refusal == Refusal::Memory);
-            None
+    for _ in 0..TRIES {
+        let receipt = bring(rt, alloc, desk, &mut chair, who, Some(0), command);
+        if receipt.reply != Reply::No(Refusal::Memory) {
+            return (chair, receipt);
         }
     }
+    panic!(rt; "a command that isn't refused memory")
+}
+
+/// The text of a look's page, which is asked for until memory isn't refused, and how long the history is.
+pub(super) fn text_again<R: Abort + Wait>(
+    rt: &R,
+    alloc: Global,
+    desk: &Desk<Safe>,
+    mut chair: Chair<Safe>,
+    query: &Query,
+) -> (u64, Vec<u8>)
+    requires { IsAt (λ _. safe_behaviour) desk.now chair }
+{
+    for _ in 0..TRIES {
+        match text_at(rt, alloc, desk, &mut chair, query) {
+            Ok(told) => return told,
+            Err(refusal) => assert!(rt; refusal == Refusal::Memory),
+        }
+    }
+    panic!(rt; "a page that isn't refused memory")
+}
+
+#[test]
+fn two_chairs_asking_again(rt: HostRuntime) {
+    let alloc = rt.alloc();
+    let Ok((desk, first)) = opened(alloc, 16) else {
+        return;
+    };
+    let (first, second) = halves(&desk, first);
+    let insert = insert_at(&rt, 0);
+    let (first, done) = bring_again(&rt, alloc, &desk, first, 0, &insert);
+    assert!(rt; (done.at, done.reply) == (1, Reply::Edited(1)));
+    let (_, late) = bring_again(&rt, alloc, &desk, second, 1, &insert);
+    assert!(rt; (late.at, late.reply) == (2, Reply::No(Refusal::Newer(1))));
+    let (at, text) = text_again(&rt, alloc, &desk, first, &state_after_one(&rt));
+    assert!(rt; at == 2 && text.as_slice() == STATE);
+}
+
+/// Fills `main`, of which each run fits, until there is no job. The answer is how many runs were installed, and whether no fill was refused.
+fn fill_again<R: Abort + Threads + Wait + Sync>(
+    rt: &R,
+    alloc: Global,
+    desk: &Desk<Safe>,
+    mut chair: Chair<Safe>,
+    thieves: u32,
+) -> (Chair<Safe>, u64, bool)
+    requires at { IsAt (λ _. safe_behaviour) desk.now chair }
+    requires thieves { thieves ≤ 4 }
+    ensures { IsAt (λ _. safe_behaviour) desk.now result.0 }
+{
+    let branch = name(rt, b"main");
+    let mut installed = 0u64;
+    let mut all = true;
+    for _ in 0..TRIES {
+        match filled(rt, alloc, desk, &mut chair, &branch, thieves) {
+            Ok(report) => {
+                assert!(rt; report.stale == 0 && report.gone == 0);
+                if report.planned == 0 {
+                    return (chair, installed, all);
+                }
+                installed = installed.wrapping_add(report.installed);
+            }
+            Err(refusal) => {
+                assert!(rt; refusal == Refusal::Memory);
+                all = false;
+            }
+        }
+    }
+    panic!(rt; "a fill that has no job")
+}
+
+/// The page of the state after the thousand steps.
+const FILLED: &[u8] =
+    b"0: state main 1000 of 1000\n  p0 write 0 next ws 0\n  p1 idle\n  bits 1\n  words -\n";
+
+/// Fills a thousand steps with so many thieves, and looks at their end.
+fn thousand_with<R: Abort + Threads + Wait + Sync>(rt: &R, alloc: Global, thieves: u32)
+    requires { thieves ≤ 4 }
+{
+    let Ok((desk, chair)) = thousand(alloc, 1024) else {
+        return;
+    };
+    let (chair, installed, all) = fill_again(rt, alloc, &desk, chair, thieves);
+    assert!(rt; installed == 8 || (installed < 8 && !all));
+    let state = Query::State {
+        branch: name(rt, b"main"),
+        place: 1000,
+    };
+    let (at, text) = text_again(rt, alloc, &desk, chair, &state);
+    assert!(rt; at == 0 && text.as_slice() == FILLED);
 }
 
 #[test]
 fn thousand_steps_wanting_memory(rt: HostRuntime) {
-    let alloc = rt.alloc();
-    let (desk, mut chair) = match thousand(alloc, 1024) {
-        Ok(opened) => opened,
-        Err(refusal) => {
-            assert!(rt; refusal == Refusal::Memory);
-            return;
-        }
-    };
-    let first = installed(&rt, alloc, &desk, &mut chair, 2);
-    let second = installed(&rt, alloc, &desk, &mut chair, 0);
-    if let (Some(first), Some(second)) = (first, second) {
-        assert!(rt; first <= 8 && second <= 8 && first.wrapping_add(second) <= 8);
-    }
+    thousand_with(&rt, rt.alloc(), 0);
+}
+
+#[test]
+fn thousand_steps_by_four_wanting_memory(rt: HostRuntime) {
+    thousand_with(&rt, rt.alloc(), 4);
 }

@@ -1,0 +1,206 @@
+//! Streams that fail behind each byte of a script or of its answers, and what then has gone out.
+
+ghost use Rattle.command_line.specs.Ranges.{AreLimits};
+
+use command_line::options::Options;
+use std::alloc::{AllocError, Global};
+use std::io;
+use std::io::{ErrorKind, Read, Write};
+use std::process::Abort;
+use std::sync::Wait;
+use std::test::Fail;
+use std::thread::Threads;
+use towerbench::fault::Fault;
+use towerbench::run::run;
+
+const TOWER: &[u8] = b"tower 1\nsafe 0\nr 1\ng 1 0\ng 1 0\n";
+
+/// The lines of row `shared-insert`, and what each is answered over that tower.
+const TALK: [(&str, &str); 7] = [
+    ("0 fork main 3 a\n", "0: edit 1\n"),
+    ("1 join\n", "1: joined\n"),
+    ("1 go a 2\n", "1: at a 2\n"),
+    ("0 insert main 1 w 0 1\n", "0: edit 2\n"),
+    ("1 cursor\n", "1: cursor a 3 breaks 0\n"),
+    (
+        "0 branches\n",
+        "0: branches 2 edits 2 made 4\n  main 4\n  a 4\n",
+    ),
+    (
+        "0 history a 4\n",
+        "0: history a 4 of 4\n  0 p1 invoke read\n  1 p0 invoke write 1\n  3 p1 return 0\n",
+    ),
+];
+
+/// More than the script's bytes, and than those of its answers.
+const ALL: usize = 1 << 10;
+
+/// What a reader does behind its bytes, at each read.
+#[derive(Clone, Copy)]
+enum Behind {
+    Ends,
+    Fails,
+}
+
+/// Gives bytes, at most so many a read.
+#[derive(Drop)]
+struct Cut<'a> {
+    bytes: &'a [u8],
+    piece: usize,
+    behind: Behind,
+}
+
+impl Read for Cut<'_> {
+    fn read(&mut self, buf: &mut [u8]) -> io::Result<usize> {
+        if self.bytes.is_empty() {
+            return match self.behind {
+                Behind::Ends => Ok(0),
+                Behind::Fails => Err(io::Error::from(ErrorKind::Other)),
+            };
+        }
+        let count = self.piece.min(self.bytes.len()).min(buf.len());
+        buf[..count].copy_from_slice(&self.bytes[..count]);
+        self.bytes = &self.bytes[count..];
+        Ok(count)
+    }
+}
+
+/// Takes at most so many bytes a write, and fails where there is no room left.
+#[derive(Drop)]
+struct Narrow {
+    piece: usize,
+    room: usize,
+    taken: Vec<u8>,
+}
+
+impl Write for Narrow {
+    fn write(&mut self, buf: &[u8]) -> io::Result<usize> {
+        let count = self.piece.min(self.room).min(buf.len());
+        if count == 0 {
+            return Err(io::Error::from(ErrorKind::BrokenPipe));
+        }
+        self.taken.extend_from_slice(&buf[..count])?;
+        self.room -= count;
+        Ok(count)
+    }
+
+    fn flush(&mut self) -> io::Result<()> {
+        Ok(())
+    }
+}
+
+/// How a reader and a writer go: bytes at most a read, what comes behind them, bytes at most a
+/// write, and bytes that are taken in all.
+#[derive(Clone, Copy)]
+struct Way {
+    read: usize,
+    behind: Behind,
+    write: usize,
+    room: usize,
+}
+
+fn options() -> Options
+    ensures { AreLimits result }
+{
+    Options {
+        workers: 0,
+        cells: 64,
+        branches: 4,
+    }
+}
+
+/// What a run over a script comes to, and what it has written.
+fn ended<H: Threads + Wait + Sync>(
+    rt: &H,
+    alloc: Global,
+    script: &[u8],
+    way: Way,
+) -> (Option<Fault>, Vec<u8>) {
+    let mut reader = Cut {
+        bytes: script,
+        piece: way.read,
+        behind: way.behind,
+    };
+    let mut writer = Narrow {
+        piece: way.write,
+        room: way.room,
+        taken: Vec::new(alloc),
+    };
+    let ran = run(rt, alloc, Some(TOWER), options(), &mut reader, &mut writer);
+    (ran.err(), writer.taken)
+}
+
+/// The script.
+fn script(alloc: Global) -> Result<Vec<u8>, AllocError> {
+    let mut script = Vec::new(alloc);
+    for (line, _) in TALK {
+        script.extend_from_slice(line.as_bytes())?;
+    }
+    Ok(script)
+}
+
+/// The answers to the lines that end within so many bytes of the script.
+fn answers_within(alloc: Global, count: usize) -> Result<Vec<u8>, AllocError> {
+    let mut answers = Vec::new(alloc);
+    let mut left = count;
+    for (line, answer) in TALK {
+        if left < line.len() {
+            break;
+        }
+        left -= line.len();
+        answers.extend_from_slice(answer.as_bytes())?;
+    }
+    Ok(answers)
+}
+
+/// A read that fails behind each byte of the script, which came by bytes, by pieces, or at once:
+/// the whole lines are answered, and the line that is cut isn't.
+#[test]
+fn a_read_fails_behind_each_byte(rt: HostRuntime) -> Result<(), Fail> {
+    let script = script(rt.alloc())?;
+    for read in [1, 5, ALL] {
+        let way = Way {
+            read,
+            behind: Behind::Fails,
+            write: ALL,
+            room: ALL,
+        };
+        for count in 0..=script.len() {
+            let (told, taken) = ended(&rt, rt.alloc(), &script[..count], way);
+            let answers = answers_within(rt.alloc(), count)?;
+            assert_eq!(rt; told, Some(Fault::Read), "{count}");
+            assert!(rt; taken == answers, "{count}");
+        }
+    }
+    Ok(())
+}
+
+/// A writer that takes so many bytes a write, as many as there are, and one that fails behind each
+/// byte of the answers: a front of them was taken.
+#[test]
+fn a_write_fails_behind_each_byte(rt: HostRuntime) -> Result<(), Fail> {
+    let script = script(rt.alloc())?;
+    let answers = answers_within(rt.alloc(), ALL)?;
+    for (read, write) in [(1, 1), (ALL, 1), (1, ALL), (ALL, ALL)] {
+        for room in 0..=answers.len() {
+            let way = Way {
+                read,
+                behind: Behind::Ends,
+                write,
+                room,
+            };
+            let (told, taken) = ended(&rt, rt.alloc(), &script, way);
+            let fault = if room < answers.len() {
+                Some(Fault::Write)
+            } else {
+                None
+            };
+            assert_eq!(rt; told, fault, "{room}");
+            assert!(rt;
+                taken.len() == room && answers.starts_with(&taken),
+                "{room}"
+            );
+        }
+    }
+    Ok(())
+}

@@ -1,0 +1,168 @@
+//! An edit by another chair while a fill is about to run its first job.
+
+ghost use Rattle.std.specs.Prelude.{◌≡◌, IfOk};
+ghost use Rattle.frames.specs.SafeBit.{safe_behaviour};
+ghost use Rattle.turn.specs.Shares.{every_share};
+ghost use Rattle.turn.specs.Chairs.{view};
+ghost use Rattle.desk.specs.Chairs.{IsAt};
+
+use super::growths::text_again;
+use super::{READ, halves, limits, name, text_at};
+use desk::{Chair, Desk, Item, Journal, Report};
+use frames::register::Register;
+use frames::safe::Safe;
+use frames::types::Step;
+use schedule_trie::refusal::Refusal;
+use sessions::command::Command;
+use std::alloc::Global;
+use std::marker::Model;
+use std::process::Abort;
+use std::sync::{Mutex, Wait};
+use std::test::Fail;
+use std::thread::Threads;
+use turn::Counted;
+use views::query::Query;
+use workers::gate::Gate;
+
+/// A chair, the desk that it is one of, and whether it has made its edit, which contracts see.
+#[derive(Drop)]
+struct Crossing<'a, R: Register>
+where
+    Journal<R>: Counted<Entry = Item<R>>,
+{
+    desk: &'a Desk<R>,
+    chair: Chair<R>,
+    has_edited: bool,
+}
+
+impl<'a, R: Register> Model for Crossing<'a, R>
+where
+    Journal<R>: Counted<Entry = Item<R>>,
+{
+    ghost use Rattle.std.specs.Prelude.{Bool};
+    ghost use Rattle.desk.specs.Chairs.{IsAt};
+
+    ghost Value = { Bool };
+
+    ghost view = { λ c. c.has_edited };
+
+    ghost invariant = { λ c. IsAt R.is c.desk.now c.chair };
+}
+
+impl<'a, R: Register> Crossing<'a, R> {
+    /// A chair that hasn't edited yet.
+    fn new(desk: &'a Desk<R>, chair: Chair<R>) -> Crossing<'a, R>
+        requires { IsAt R.is desk.now chair }
+    {
+        Crossing {
+            desk,
+            chair,
+            has_edited: false,
+        }
+    }
+
+    /// Makes an edit, the first time.
+    fn edit<W: Wait>(&mut self, rt: &W, alloc: Global, edit: &Command) {
+        if self.has_edited {
+            return;
+        }
+        self.has_edited = true;
+        self.desk.act(rt, alloc, &mut self.chair, 1, None, edit);
+    }
+}
+
+/// A gate at whose first offer another chair makes an edit.
+#[derive(Drop)]
+struct EditsOnce<'a, R: Register>
+where
+    Journal<R>: Counted<Entry = Item<R>>,
+{
+    alloc: Global,
+    edit: Command,
+    crossing: Mutex<Crossing<'a, R>>,
+}
+
+impl<R: Register, W: Wait> Gate<W> for EditsOnce<'_, R> {
+    fn offer(&self, rt: &W, _index: usize) {
+        self.crossing.lock(rt).edit(rt, self.alloc, &self.edit);
+    }
+}
+
+/// A desk of one read, and its chair.
+fn of_one_read(alloc: Global) -> Result<(Desk<Safe>, Chair<Safe>), Refusal>
+    ensures { IfOk result (λ r. IsAt (λ _. safe_behaviour) r.0 r.1 × ((view r.1).shares ≡ every_share)) }
+{
+    Desk::open(alloc, Safe, 0, limits(16), &[READ])
+}
+
+/// Fills `main` by a chair, while the other inserts a write before the read at the first offer.
+fn filled_beside<R: Abort + Threads + Wait + Sync>(
+    rt: &R,
+    alloc: Global,
+    desk: &Desk<Safe>,
+    chair: &mut Chair<Safe>,
+    other: Chair<Safe>,
+) -> Result<Report, Refusal>
+    requires { IsAt (λ _. safe_behaviour) desk.now chair.old × IsAt (λ _. safe_behaviour) desk.now other }
+    ensures { IsAt (λ _. safe_behaviour) desk.now chair.new }
+{
+    let branch = name(rt, b"main");
+    let edit = Command::Insert {
+        branch,
+        place: 0,
+        step: Step::Write { p: 0, v: 0 },
+    };
+    let gate = EditsOnce {
+        alloc,
+        edit,
+        crossing: Mutex::new(Crossing::new(desk, other)),
+    };
+    desk.fill_with(rt, alloc, chair, &branch, 0, &gate)
+}
+
+/// Whether one run came late, those that fit are installed, and none was refused memory.
+fn is_crossed(report: Report) -> bool {
+    let late = report.stale.wrapping_add(report.gone);
+    let on_time = report.installed == 1 || report.installed == 2;
+    late == 1 && on_time && report.planned == report.installed.wrapping_add(1) && report.memory == 0
+}
+
+/// The state behind the write and the read.
+const STATE: &[u8] =
+    b"0: state main 2 of 2\n  p0 write 0 next ws 0\n  p1 read next rs 0\n  bits 0\n  words -\n";
+
+#[test]
+fn crossing_install(rt: HostRuntime) -> Result<(), Fail> {
+    let (desk, first) = of_one_read(rt.alloc())?;
+    let (mut first, second) = halves(&desk, first);
+    let report = filled_beside(&rt, rt.alloc(), &desk, &mut first, second)?;
+    assert!(rt; is_crossed(report));
+    let query = Query::State {
+        branch: name(&rt, b"main"),
+        place: 2,
+    };
+    let (at, text) = text_at(&rt, rt.alloc(), &desk, &mut first, &query)?;
+    assert_eq!(rt; at, 1);
+    assert!(rt; text.as_slice() == STATE);
+    Ok(())
+}
+
+/// Where memory is refused the other chair may make no edit, and a run may be left out: then too the desk goes on.
+#[test]
+fn crossing_wanting_memory(rt: HostRuntime) {
+    let alloc = rt.alloc();
+    let Ok((desk, first)) = of_one_read(alloc) else {
+        return;
+    };
+    let (mut first, second) = halves(&desk, first);
+    match filled_beside(&rt, alloc, &desk, &mut first, second) {
+        Ok(report) => assert!(rt; report.memory <= 1),
+        Err(refusal) => assert!(rt; refusal == Refusal::Memory),
+    }
+    let query = Query::State {
+        branch: name(&rt, b"main"),
+        place: 0,
+    };
+    let (at, _) = text_again(&rt, alloc, &desk, first, &query);
+    assert!(rt; at <= 1);
+}
