@@ -67,7 +67,8 @@ impl<R: Register> Chart<R> {
         requires fits { AllFit (R.is register) steps.now }
         ensures forest { IfOk result (λ c. opened limits steps.now ≡ Ok (forest c.cut)) }
         ensures limits { IfOk result (λ c. c.cut.limits ≡ limits) }
-        ensures start { let initial = initial_configuration (R.is register) register value in IfOk result (λ c. c.start ≡ initial) }
+        ensures start { let initial = initial_configuration (R.is register) register value in
+            IfOk result (λ c. c.start ≡ initial) }
         ensures value { IfOk result (λ c. c.value ≡ value) }
         ensures blank { IfOk result (λ c. IsBlank c.cut) }
         ensures cut { IfOk result (λ c. IsCut c.cut) }
@@ -88,7 +89,8 @@ impl<R: Register> Chart<R> {
     /// The configuration that each branch begins from.
     pub fn initial(&self) -> &Config<R>
         ensures start { result.now ≡ self.now.start }
-        ensures initial { result.now ≡ initial_configuration (R.is self.now.start.register) self.now.start.register self.now.value }
+        ensures initial { result.now ≡ initial_configuration
+            (R.is self.now.start.register) self.now.start.register self.now.value }
     {
         &self.start
     }
@@ -166,7 +168,8 @@ impl<R: Register> Chart<R> {
     ///
     /// NoBranch; Memory.
     pub fn path(&self, alloc: Global, branch: &Name) -> Result<Vec<Step>, Refusal>
-        ensures ok { IfOk result (λ steps. path_of (forest self.now.cut) branch.now ≡ Some steps.items) }
+        ensures ok { IfOk result (λ steps. path_of (forest self.now.cut) branch.now
+            ≡ Some steps.items) }
         ensures err { IfErr result (λ e. if_lacks (path_of (forest self.now.cut) branch.now) ≡ e) }
     {
         self.trie.path(alloc, branch)
@@ -179,11 +182,15 @@ impl<R: Register> Chart<R> {
     /// NoBranch; NoPlace where the branch has fewer cells; Memory. The forest is as before then too, and true runs may have
     /// been stored.
     pub fn settle(&mut self, alloc: Global, branch: &Name, place: u32) -> Result<Spot<R>, Refusal>
-        ensures ok { IfOk result (λ spot. IsSettled R.PartialEq.eq (R.is self.old.start.register) self.old self.new branch.now place (map part_of spot.runs.items) spot.replayed) }
-        ensures found { OnOk result (look (forest self.old.cut) branch.now place ≡ Ok (forest self.new.cut)) }
+        ensures ok { IfOk result
+            (λ spot. IsSettled R.PartialEq.eq (R.is self.old.start.register) self.old self.new
+            branch.now place (map part_of spot.runs.items) spot.replayed) }
+        ensures found { OnOk result (look (forest self.old.cut) branch.now place
+            ≡ Ok (forest self.new.cut)) }
         ensures err { IfErr result (IsRefused (look (forest self.old.cut) branch.now place)) }
         ensures keeps { KeepsOrFills R.PartialEq.eq R.is self.old self.new branch.now place }
-        ensures begins { self.old.start ≡ initial_configuration (R.is self.old.start.register) self.old.start.register self.old.value }
+        ensures begins { self.old.start ≡ initial_configuration
+            (R.is self.old.start.register) self.old.start.register self.old.value }
         ensures start { self.new.start ≡ self.old.start }
         ensures value { self.new.value ≡ self.old.value }
     {
@@ -214,9 +221,12 @@ impl<R: Register> Chart<R> {
     ///
     /// NoBranch; Memory.
     pub fn plan(&self, alloc: Global, branch: &Name) -> Result<Vec<Job<R>>, Refusal>
-        ensures ok { IfOk result (λ jobs. IsPlan R.PartialEq.eq (R.is self.now.start.register) self.now branch.now jobs.items) }
+        ensures ok { IfOk result
+            (λ jobs. IsPlan R.PartialEq.eq (R.is self.now.start.register) self.now branch.now
+            jobs.items) }
         ensures found { OnOk result (IsSome (index_of (forest self.now.cut).branches branch.now)) }
-        ensures err { IfErr result (λ e. if_lacks (index_of (forest self.now.cut).branches branch.now) ≡ e) }
+        ensures err { IfErr result
+            (λ e. if_lacks (index_of (forest self.now.cut).branches branch.now) ≡ e) }
     {
         let keys = self.trie.segments(alloc, branch)?;
         match plan_all(alloc, &self.trie, &self.start, &keys) {
@@ -228,7 +238,8 @@ impl<R: Register> Chart<R> {
     /// Stores a run that was made elsewhere, if it fits its segment and stored runs fit all segments above. It takes no
     /// memory. Where it answers Stale or Gone nothing is changed.
     pub fn install(&mut self, key: SegKey, run: Arc<Run<R>>) -> Installation
-        ensures { Installs R.PartialEq.eq (R.is self.old.start.register) self.old self.new key (arc_value run) result }
+        ensures { Installs R.PartialEq.eq (R.is self.old.start.register) self.old self.new key
+            (arc_value run) result }
     {
         let Some(index) = branch_with(&self.trie, key) else {
             return Installation::Gone;

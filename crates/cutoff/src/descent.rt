@@ -17,10 +17,14 @@ pub(crate) fn descend<'a, R: Register>(
     start: &'a Config<R>,
     keys: &[SegKey],
 ) -> (Option<SegKey>, &'a Config<R>, Option<u64>)
-    requires linked { (next : ℕ) × IsLinked R.PartialEq.eq start.now.register next None (alone start.now) trie.now }
-    ensures ends { Descends R.PartialEq.eq (R.is start.now.register) trie.now start.now keys.now result.0 result.1.now }
+    requires linked { (next : ℕ) × IsLinked R.PartialEq.eq start.now.register next None
+        (alone start.now) trie.now }
+    ensures ends { Descends R.PartialEq.eq (R.is start.now.register) trie.now start.now keys.now
+        result.0 result.1.now }
     ensures own { R.PartialEq.eq result.1.now.register start.now.register ≡ true }
-    ensures moved { (next : ℕ) → IsLinked R.PartialEq.eq start.now.register next None (alone start.now) trie.now → IsLinked R.PartialEq.eq start.now.register next result.2 (alone result.1.now) trie.now }
+    ensures moved { (next : ℕ) → IsLinked R.PartialEq.eq start.now.register next None
+        (alone start.now) trie.now → IsLinked R.PartialEq.eq start.now.register next result.2
+        (alone result.1.now) trie.now }
 {
     let mut config = start;
     let mut above = None;

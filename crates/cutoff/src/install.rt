@@ -38,10 +38,13 @@ pub(crate) fn fits_down<R: Register>(
     key: SegKey,
     run: &Run<R>,
 ) -> (bool, Option<u64>)
-    requires linked { (next : ℕ) × IsLinked R.PartialEq.eq start.now.register next None (alone start.now) trie.now }
+    requires linked { (next : ℕ) × IsLinked R.PartialEq.eq start.now.register next None
+        (alone start.now) trie.now }
     requires member { has key keys.now ≡ true }
-    ensures fits { Decides result.0 (FitsDown R.PartialEq.eq (R.is start.now.register) trie.now key run.now start.now keys.now) }
-    ensures moved { result.0 ≡ true → (next : ℕ) → IsLinked R.PartialEq.eq start.now.register next None (alone start.now) trie.now
+    ensures fits { Decides result.0 (FitsDown R.PartialEq.eq
+        (R.is start.now.register) trie.now key run.now start.now keys.now) }
+    ensures moved { result.0 ≡ true → (next : ℕ)
+        → IsLinked R.PartialEq.eq start.now.register next None (alone start.now) trie.now
         → IsLinked R.PartialEq.eq start.now.register next result.1 (alone run.now.entry) trie.now }
 {
     let (missed, config, above) = descend(trie, start, keys_before(keys, key));

@@ -71,9 +71,13 @@ fn plan_branch<R: Register>(
     keys: &[SegKey],
     jobs: &mut Vec<Job<R>>,
 ) -> Result<(), AllocError>
-    requires linked { (next : ℕ) × IsLinked R.PartialEq.eq start.now.register next None (alone start.now) trie.now }
-    requires fits { AllFit (R.is start.now.register) (map step_of (line (piece_at trie.now.pieces) keys.now)) }
-    ensures { OnOk result ((missed : Option ℕ) × (end : Configuration R R.Pending) × Descends R.PartialEq.eq (R.is start.now.register) trie.now start.now keys.now missed end × (jobs.new.items ≡ with_job jobs.old.items (job_of trie.now missed end))) }
+    requires linked { (next : ℕ) × IsLinked R.PartialEq.eq start.now.register next None
+        (alone start.now) trie.now }
+    requires fits { AllFit (R.is start.now.register) (map step_of
+        (line (piece_at trie.now.pieces) keys.now)) }
+    ensures { OnOk result ((missed : Option ℕ) × (end : Configuration R R.Pending)
+        × Descends R.PartialEq.eq (R.is start.now.register) trie.now start.now keys.now missed end
+        × (jobs.new.items ≡ with_job jobs.old.items (job_of trie.now missed end))) }
 {
     let (missed, config, _) = descend(trie, start, keys);
     match missed {
@@ -91,7 +95,8 @@ fn plan_segment<R: Register>(
     jobs: &mut Vec<Job<R>>,
 ) -> Result<(), AllocError>
     requires { AllFit (R.is config.now.register) (steps_at trie.now key) }
-    ensures { OnOk result (jobs.new.items ≡ with_job jobs.old.items (job_of trie.now (Some key) config.now)) }
+    ensures { OnOk result (jobs.new.items ≡ with_job jobs.old.items
+        (job_of trie.now (Some key) config.now)) }
 {
     if is_planned(jobs, key) {
         return Ok(());
@@ -109,10 +114,13 @@ pub(crate) fn plan_all<R: Register>(
     start: &Config<R>,
     keys: &[SegKey],
 ) -> Result<Vec<Job<R>>, AllocError>
-    requires linked { (next : ℕ) × IsLinked R.PartialEq.eq start.now.register next None (alone start.now) trie.now }
+    requires linked { (next : ℕ) × IsLinked R.PartialEq.eq start.now.register next None
+        (alone start.now) trie.now }
     requires fits { StepsFit (R.is start.now.register) (forest trie.now) }
     requires branch { (i : ℕ) × (keys.now ≡ keys_in trie.now.strands i) }
-    ensures { IfOk result (λ jobs. Plans R.PartialEq.eq (R.is start.now.register) trie.now start.now [] (keys.now ∷ map keys_of trie.now.strands) jobs.items) }
+    ensures { IfOk result
+        (λ jobs. Plans R.PartialEq.eq (R.is start.now.register) trie.now start.now []
+        (keys.now ∷ map keys_of trie.now.strands) jobs.items) }
 {
     let mut jobs = Vec::new(alloc);
     plan_branch(alloc, trie, start, keys, &mut jobs)?;

@@ -40,8 +40,11 @@ pub(crate) fn fitting<'a, R: Register>(
     config: &Config<R>,
     above: Option<u64>,
 ) -> Option<&'a Stored<R>>
-    requires linked { (next : ℕ) × IsLinked R.PartialEq.eq config.now.register next above (alone config.now) trie.now }
-    ensures { MatchOption result (Fits R.PartialEq.eq trie.now config.now key → ⊥) (λ s. (note_of (piece_at trie.now.pieces key) ≡ Some s.now) × RunFits R.PartialEq.eq config.now (steps_at trie.now key) s.now.run) }
+    requires linked { (next : ℕ) × IsLinked R.PartialEq.eq config.now.register next above
+        (alone config.now) trie.now }
+    ensures { MatchOption result (Fits R.PartialEq.eq trie.now config.now key → ⊥)
+        (λ s. (note_of (piece_at trie.now.pieces key) ≡ Some s.now)
+        × RunFits R.PartialEq.eq config.now (steps_at trie.now key) s.now.run) }
 {
     let stored = trie.note(key)?;
     if stored.begins(config, above) {
@@ -67,7 +70,8 @@ pub(crate) fn segment_steps<R: Register>(
 
 /// The next number, if there is one left.
 pub(crate) fn take_number(next: &mut u64) -> Option<u64>
-    ensures { ((result ≡ None) × (next.new ≡ next.old)) ⊎ ((result ≡ Some next.old) × (next.new ≡ next.old + 1)) }
+    ensures { ((result ≡ None) × (next.new ≡ next.old))
+        ⊎ ((result ≡ Some next.old) × (next.new ≡ next.old + 1)) }
 {
     if *next == u64::MAX {
         return None;
@@ -86,12 +90,17 @@ fn replay_segment<R: Register>(
     config: &Config<R>,
     above: Option<u64>,
 ) -> Result<Settled<R>, AllocError>
-    requires linked { IsLinked R.PartialEq.eq config.now.register next.old above (alone config.now) trie.old }
+    requires linked { IsLinked R.PartialEq.eq config.now.register next.old above
+        (alone config.now) trie.old }
     requires short { length (steps_at trie.old key) ≤ 128 }
     requires fits { AllFit (R.is config.now.register) (steps_at trie.old key) }
     requires misses { Fits R.PartialEq.eq trie.old config.now key → ⊥ }
-    ensures settled { IfOk result (λ s. IsSegmentSettled R.PartialEq.eq trie.old trie.new config.now key (arc_value s.run) s.replayed) }
-    ensures linked { IfOk result (λ s. IsLinked R.PartialEq.eq config.now.register next.new s.id (alone (arc_value s.run).exit) trie.new) }
+    ensures settled { IfOk result
+        (λ s. IsSegmentSettled R.PartialEq.eq trie.old trie.new config.now key
+        (arc_value s.run) s.replayed) }
+    ensures linked { IfOk result
+        (λ s. IsLinked R.PartialEq.eq config.now.register next.new s.id
+        (alone (arc_value s.run).exit) trie.new) }
     ensures unchanged { OnErr result ((trie.new ≡ trie.old) × (next.new ≡ next.old)) }
 {
     let steps = segment_steps(alloc, trie, key)?;
@@ -116,11 +125,16 @@ pub(crate) fn settle_segment<R: Register>(
     config: &Config<R>,
     above: Option<u64>,
 ) -> Result<Settled<R>, AllocError>
-    requires linked { IsLinked R.PartialEq.eq config.now.register next.old above (alone config.now) trie.old }
+    requires linked { IsLinked R.PartialEq.eq config.now.register next.old above
+        (alone config.now) trie.old }
     requires short { length (steps_at trie.old key) ≤ 128 }
     requires fits { AllFit (R.is config.now.register) (steps_at trie.old key) }
-    ensures settled { IfOk result (λ s. IsSegmentSettled R.PartialEq.eq trie.old trie.new config.now key (arc_value s.run) s.replayed) }
-    ensures linked { IfOk result (λ s. IsLinked R.PartialEq.eq config.now.register next.new s.id (alone (arc_value s.run).exit) trie.new) }
+    ensures settled { IfOk result
+        (λ s. IsSegmentSettled R.PartialEq.eq trie.old trie.new config.now key
+        (arc_value s.run) s.replayed) }
+    ensures linked { IfOk result
+        (λ s. IsLinked R.PartialEq.eq config.now.register next.new s.id
+        (alone (arc_value s.run).exit) trie.new) }
     ensures unchanged { OnErr result ((trie.new ≡ trie.old) × (next.new ≡ next.old)) }
 {
     let Some(stored) = fitting(trie, key, config, above) else {
@@ -156,16 +170,22 @@ pub(crate) fn settle_along<R: Register>(
     keys: &[SegKey],
     place: u32,
 ) -> Result<Spot<R>, AllocError>
-    requires linked { IsLinked R.PartialEq.eq start.now.register next.old None (alone start.now) trie.old }
+    requires linked { IsLinked R.PartialEq.eq start.now.register next.old None
+        (alone start.now) trie.old }
     requires cut { IsCut trie.old }
     requires branch { (i : ℕ) × (keys.now ≡ keys_in trie.old.strands i) }
-    requires fits { AllFit (R.is start.now.register) (map step_of (line (piece_at trie.old.pieces) keys.now)) }
+    requires fits { AllFit (R.is start.now.register) (map step_of
+        (line (piece_at trie.old.pieces) keys.now)) }
     requires within { place ≤ length (line (piece_at trie.old.pieces) keys.now) }
     requires few { length (line (piece_at trie.old.pieces) keys.now) ≤ 4294967295 }
-    ensures settles { IfOk result (λ spot. Settles R.PartialEq.eq (R.is start.now.register) trie.old trie.new start.now place (reached trie.old place keys.now) (map part_of spot.runs.items) spot.replayed) }
+    ensures settles { IfOk result
+        (λ spot. Settles R.PartialEq.eq (R.is start.now.register) trie.old trie.new start.now place
+        (reached trie.old place keys.now) (map part_of spot.runs.items) spot.replayed) }
     ensures counted { IfOk result (λ spot. counted (map part_of spot.runs.items) ≡ place) }
-    ensures keeps { KeepsRuns trie.old trie.new (IsFilled R.PartialEq.eq (R.is start.now.register) trie.old trie.new start.now (reached trie.old place keys.now)) }
-    ensures linked { IsLinked R.PartialEq.eq start.now.register next.new None (alone start.now) trie.new }
+    ensures keeps { KeepsRuns trie.old trie.new (IsFilled R.PartialEq.eq
+        (R.is start.now.register) trie.old trie.new start.now (reached trie.old place keys.now)) }
+    ensures linked { IsLinked R.PartialEq.eq start.now.register next.new None
+        (alone start.now) trie.new }
 {
     let mut runs = Vec::new(alloc);
     let mut replayed = 0;

@@ -85,7 +85,8 @@ impl<R: Register> Stored<R> {
 
     /// Whether it begins from a configuration. A run with the number `above` came to that.
     pub(crate) fn begins(&self, config: &Config<R>, above: Option<u64>) -> bool
-        requires linked { (a : ℕ) → self.now.link ≡ Some a → above ≡ Some a → SameConfiguration R.PartialEq.eq self.now.run.entry config.now }
+        requires linked { (a : ℕ) → self.now.link ≡ Some a → above ≡ Some a
+            → SameConfiguration R.PartialEq.eq self.now.run.entry config.now }
         ensures { Decides result (SameConfiguration R.PartialEq.eq self.now.run.entry config.now) }
     {
         is_behind(self.link, above) || *self.run.entry() == *config

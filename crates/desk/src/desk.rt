@@ -65,7 +65,9 @@ impl<R: Register> Desk<R> {
         requires fits { AllFit (R.is register) steps.now }
         ensures chair { IfOk result (λ r. IsAt R.is r.0 r.1) }
         ensures first { IfOk result (λ r. view r.1 ≡ first_view (items r.0.first.value [])) }
-        ensures opening { let first = opening (R.is register) value limits (forests.opening steps.now) in IfOk result (λ r. opening_of R.is r.0.first.value ≡ first) }
+        ensures opening { let first = opening (R.is register) value limits
+            (forests.opening steps.now) in
+            IfOk result (λ r. opening_of R.is r.0.first.value ≡ first) }
         ensures ok { OnOk result (opened limits steps.now ≡ Ok (forests.opening steps.now)) }
         ensures err { IfErr result (IsRefused (opened limits steps.now)) }
     {
@@ -89,7 +91,8 @@ impl<R: Register> Desk<R> {
     ) -> Receipt
         requires { IsAt R.is self.now chair.old }
         ensures chair { IsAt R.is self.now chair.new }
-        ensures received { Received R.is self.now.first.value who if_at command.now (view chair.old) (view chair.new) result }
+        ensures received { Received R.is self.now.first.value who if_at command.now (view chair.old)
+            (view chair.new) result }
         ensures owns { OwnsItsCalls made_under (view chair.new) }
     {
         let mut act = Act {
@@ -113,7 +116,8 @@ impl<R: Register> Desk<R> {
     ) -> Answer
         requires { IsAt R.is self.now chair.old }
         ensures chair { IsAt R.is self.now chair.new }
-        ensures looked { Looked R.is self.now.first.value query (view chair.old) (view chair.new) result }
+        ensures looked { Looked R.is self.now.first.value query (view chair.old)
+            (view chair.new) result }
         ensures owns { OwnsItsCalls made_under (view chair.new) }
     {
         let (at, slip) = self.turn.with(rt, chair, &mut Look { alloc, query });
@@ -139,9 +143,12 @@ impl<R: Register> Desk<R> {
         requires some { 0 < shares }
         requires fewer { shares < count (view chair.old).shares }
         ensures chairs { IsAt R.is self.now chair.new × IsAt R.is self.now result }
-        ensures kept { view chair.new ≡ kept made_under (next_least shares (view chair.old).shares) (view chair.old) }
-        ensures given { view result ≡ handed made_under (next_least shares (view chair.old).shares) (view chair.old) }
-        ensures owns { OwnsItsCalls made_under (view chair.new) × OwnsItsCalls made_under (view result) }
+        ensures kept { view chair.new ≡ kept made_under (next_least shares (view chair.old).shares)
+            (view chair.old) }
+        ensures given { view result ≡ handed made_under (next_least shares (view chair.old).shares)
+            (view chair.old) }
+        ensures owns { OwnsItsCalls made_under (view chair.new)
+            × OwnsItsCalls made_under (view result) }
     {
         self.turn.split(chair, shares)
     }
@@ -161,7 +168,9 @@ impl<R: Register> Desk<R> {
     /// A chair that lacks one is refused, and desk and chair are handed back.
     pub fn close(self, chair: Chair<R>) -> Result<Log, (ChairsOut, Desk<R>, Chair<R>)>
         requires { IsAt R.is self chair }
-        ensures { MatchResult result (λ log. HasAll (view chair).shares × (log ≡ seen (view chair)) × IsLegal (opening_of R.is self.first.value) log) (λ r. (¬ HasAll (view chair).shares) × (r.1 ≡ self) × (r.2 ≡ chair)) }
+        ensures { MatchResult result (λ log. HasAll (view chair).shares × (log ≡ seen (view chair))
+            × IsLegal (opening_of R.is self.first.value) log)
+            (λ r. (¬ HasAll (view chair).shares) × (r.1 ≡ self) × (r.2 ≡ chair)) }
     {
         let Desk { turn, first } = self;
         match turn.close(chair) {

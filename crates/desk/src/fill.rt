@@ -67,8 +67,10 @@ where
         requires at { IsAt R.is self.now chair.old }
         requires thieves { thieves ≤ 4 }
         ensures chair { IsAt R.is self.now chair.new }
-        ensures filled { Filled R.is self.now.first.value branch.now (view chair.old) (view chair.new) result }
-        ensures rounds { IsFill R.PartialEq.eq R.is self.now.first.value branch.now (view chair.old) (view chair.new) result }
+        ensures filled { Filled R.is self.now.first.value branch.now (view chair.old)
+            (view chair.new) result }
+        ensures rounds { IsFill R.PartialEq.eq R.is self.now.first.value branch.now (view chair.old)
+            (view chair.new) result }
         ensures sum { IfOk result IsSum }
         ensures owns { OwnsItsCalls made_under (view chair.new) }
     {
@@ -93,8 +95,10 @@ where
         requires at { IsAt R.is self.now chair.old }
         requires thieves { thieves ≤ 4 }
         ensures chair { IsAt R.is self.now chair.new }
-        ensures filled { Filled R.is self.now.first.value branch.now (view chair.old) (view chair.new) result }
-        ensures rounds { IsFill R.PartialEq.eq R.is self.now.first.value branch.now (view chair.old) (view chair.new) result }
+        ensures filled { Filled R.is self.now.first.value branch.now (view chair.old)
+            (view chair.new) result }
+        ensures rounds { IsFill R.PartialEq.eq R.is self.now.first.value branch.now (view chair.old)
+            (view chair.new) result }
         ensures sum { IfOk result IsSum }
         ensures owns { OwnsItsCalls made_under (view chair.new) }
     {
@@ -125,8 +129,10 @@ where
         requires thieves { filling.now.thieves ≤ 4 }
         ensures chair { IsAt R.is self.now chair.new }
         ensures owns { OwnsItsCalls made_under (view chair.new) }
-        ensures rounds { let first = self.now.first.value in let then = Follows R.PartialEq.eq R.is first filling.now.branch.now more in
-            Begins R.PartialEq.eq R.is first then jobs.items (view chair.old) (view chair.new) result }
+        ensures rounds { let first = self.now.first.value in
+            let then = Follows R.PartialEq.eq R.is first filling.now.branch.now more in
+            Begins R.PartialEq.eq R.is first then jobs.items (view chair.old)
+            (view chair.new) result }
     {
         let Ok(report) = self.round(filling, chair, jobs) else {
             return Err(Refusal::Memory);
@@ -159,7 +165,8 @@ where
         ensures chair { IsAt R.is self.now chair.new }
         ensures owns { OwnsItsCalls made_under (view chair.new) }
         ensures round { let first = self.now.first.value in
-            MatchResult result (IsRound R.PartialEq.eq R.is first jobs.items (view chair.old) (view chair.new)) (λ _. view chair.new ≡ view chair.old) }
+            MatchResult result (IsRound R.PartialEq.eq R.is first jobs.items (view chair.old)
+            (view chair.new)) (λ _. view chair.new ≡ view chair.old) }
     {
         let Filling {
             rt,
@@ -183,7 +190,8 @@ impl<R: Register> Desk<R> {
         requires { IsAt R.is self.now chair.old }
         ensures chair { IsAt R.is self.now chair.new }
         ensures reads { let first = self.now.first.value in let branch = filling.now.branch.now in
-            Reads R.is first (λ _ world. PlansOf R.PartialEq.eq R.is branch world result) (view chair.old) (view chair.new) }
+            Reads R.is first (λ _ world. PlansOf R.PartialEq.eq R.is branch world result)
+            (view chair.old) (view chair.new) }
         ensures owns { OwnsItsCalls made_under (view chair.new) }
     {
         let mut plan = Plan {
@@ -199,7 +207,8 @@ impl<R: Register> Desk<R> {
         requires owns { OwnsItsCalls made_under (view chair.old) }
         ensures chair { IsAt R.is self.now chair.new }
         ensures owns { OwnsItsCalls made_under (view chair.new) }
-        ensures offered { AreOffered R.PartialEq.eq R.is self.now.first.value outcomes.items (view chair.old) (view chair.new) result }
+        ensures offered { AreOffered R.PartialEq.eq R.is self.now.first.value outcomes.items
+            (view chair.old) (view chair.new) result }
     {
         let mut report = Report::new();
         for done in outcomes {
@@ -214,7 +223,9 @@ impl<R: Register> Desk<R> {
         requires { IsAt R.is self.now chair.old }
         ensures chair { IsAt R.is self.now chair.new }
         ensures reads { let run = works.run_in done.outcome in
-            Reads R.is self.now.first.value (λ _ world. Offers R.PartialEq.eq R.is done.key run world result) (view chair.old) (view chair.new) }
+            Reads R.is self.now.first.value
+            (λ _ world. Offers R.PartialEq.eq R.is done.key run world result) (view chair.old)
+            (view chair.new) }
         ensures owns { OwnsItsCalls made_under (view chair.new) }
     {
         let Done { key, outcome } = done;

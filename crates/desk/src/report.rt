@@ -61,7 +61,8 @@ impl Report {
     /// Both reports together; none where a count would pass 64 bits.
     pub(crate) fn plus(self, other: Report) -> Option<Report>
         requires { IsSum self × IsSum other }
-        ensures { MatchOption result (2 ^ 64 ≤ self.planned + other.planned) (λ sum. sum ≡ both self other) }
+        ensures { MatchOption result (2 ^ 64 ≤ self.planned + other.planned)
+            (λ sum. sum ≡ both self other) }
     {
         Some(Report {
             planned: self.planned.checked_add(other.planned)?,

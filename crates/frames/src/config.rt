@@ -127,7 +127,8 @@ impl<R: Register> Config<R> {
     /// The frames of a process's pending operation, outermost first; none where it is idle or not
     /// there. It never asks the allocator.
     pub fn stack(&self, alloc: Global, p: u32) -> Option<Stack>
-        ensures frames { option_map (λ s. s.items) result ≡ option_map (λ r. (R.is self.now.register).frames r.point) (running_at p self.now) }
+        ensures frames { option_map (λ s. s.items) result
+            ≡ option_map (λ r. (R.is self.now.register).frames r.point) (running_at p self.now) }
         ensures inline { IfSome result (λ s. s.capacity ≡ 8) }
     {
         let frames = self.frames(p)?;
@@ -139,7 +140,8 @@ impl<R: Register> Config<R> {
 
     /// The next bit action of a process; none where it is idle or not there.
     pub fn action(&self, p: u32) -> Option<Action>
-        ensures { result ≡ option_map (λ r. (R.is self.now.register).acts r.point) (running_at p self.now) }
+        ensures { result ≡ option_map (λ r. (R.is self.now.register).acts r.point)
+            (running_at p self.now) }
     {
         let frames = self.frames(p)?;
         let point = self.register.pending(frames, 0, p)?;
@@ -155,9 +157,11 @@ impl<R: Register> Config<R> {
 
     /// The frames of what a process has pending; none where it isn't there.
     fn frames(&self, p: u32) -> Option<&FlatStack>
-        ensures there { IfSome result (λ s. s.now ≡ stack_of (R.is self.now.register) (running_at p self.now)) }
+        ensures there { IfSome result
+            (λ s. s.now ≡ stack_of (R.is self.now.register) (running_at p self.now)) }
         ensures beyond { IfNone result (running_at p self.now ≡ None) }
-        ensures reached { MatchOption (running_at p self.now) ⊤ (λ r. R.Reaches self.now.register p r.op r.point) }
+        ensures reached { MatchOption (running_at p self.now) ⊤
+            (λ r. R.Reaches self.now.register p r.op r.point) }
     {
         self.stacks.get(p as usize)
     }
@@ -180,8 +184,12 @@ impl<R: Register> Config<R> {
     #[inline(always)]
     fn act(&mut self, step: Step) -> StepEvents
         requires { fits_step (R.is self.old.register) step ≡ true }
-        ensures events { result ≡ (acting (R.is self.old.register) step (running_at (process_of step) self.old) self.old.memory).events }
-        ensures after { self.new ≡ put_acted (process_of step) (acting (R.is self.old.register) step (running_at (process_of step) self.old) self.old.memory) (mark step self.old) }
+        ensures events { result
+            ≡ (acting (R.is self.old.register) step (running_at
+            (process_of step) self.old) self.old.memory).events }
+        ensures after { self.new ≡ put_acted (process_of step)
+            (acting (R.is self.old.register) step (running_at (process_of step) self.old)
+            self.old.memory) (mark step self.old) }
     {
         match step {
             Step::Write { p, v } => self.invoke(p, Op::Write(v)),
@@ -194,8 +202,12 @@ impl<R: Register> Config<R> {
     /// A process stops. Its operation stays pending, and its cells stay as they are.
     fn stop(&mut self, who: u32) -> StepEvents
         requires { who < (R.is self.old.register).processes }
-        ensures events { result ≡ (only_records (Event.Stop who) (running_at who self.old) self.old.memory).events }
-        ensures after { self.new ≡ put_acted who (only_records (Event.Stop who) (running_at who self.old) self.old.memory) (record self.old { stopped = slice_set self.old.stopped who true }) }
+        ensures events { result
+            ≡ (only_records (Event.Stop who) (running_at who self.old) self.old.memory).events }
+        ensures after { self.new
+            ≡ put_acted who (only_records (Event.Stop who)
+            (running_at who self.old) self.old.memory)
+            (record self.old { stopped = slice_set self.old.stopped who true }) }
     {
         self.stopped[who as usize] = true;
         alone(Event::Stop(who))
@@ -204,8 +216,12 @@ impl<R: Register> Config<R> {
     /// A process invokes an operation, if it has none pending.
     fn invoke(&mut self, who: u32, op: Op) -> StepEvents
         requires { (R.is self.old.register).suits who op ≡ true }
-        ensures events { result ≡ (invoking (R.is self.old.register) who op (running_at who self.old) self.old.memory).events }
-        ensures after { self.new ≡ put_acted who (invoking (R.is self.old.register) who op (running_at who self.old) self.old.memory) self.old }
+        ensures events { result
+            ≡ (invoking (R.is self.old.register) who op
+            (running_at who self.old) self.old.memory).events }
+        ensures after { self.new
+            ≡ put_acted who (invoking (R.is self.old.register) who op
+            (running_at who self.old) self.old.memory) self.old }
     {
         let stack = &mut self.stacks[who as usize];
         invoke(&self.register, &mut self.store, who, op, stack)
@@ -215,8 +231,12 @@ impl<R: Register> Config<R> {
     #[inline(always)]
     fn proceed(&mut self, who: u32, choice: bool) -> StepEvents
         requires { who < (R.is self.old.register).processes }
-        ensures events { result ≡ (going (R.is self.old.register) who choice (running_at who self.old) self.old.memory).events }
-        ensures after { self.new ≡ put_acted who (going (R.is self.old.register) who choice (running_at who self.old) self.old.memory) self.old }
+        ensures events { result
+            ≡ (going (R.is self.old.register) who choice
+            (running_at who self.old) self.old.memory).events }
+        ensures after { self.new
+            ≡ put_acted who (going (R.is self.old.register) who choice
+            (running_at who self.old) self.old.memory) self.old }
     {
         let stack = &mut self.stacks[who as usize];
         proceed(&self.register, &mut self.store, who, stack, choice)

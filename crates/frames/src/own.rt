@@ -55,10 +55,15 @@ pub fn go_own<R: Register>(
     choice: bool,
 ) -> Progress
     requires holds { R.Holds register.now store.old }
-    requires stands { (op : Op) × ((p : R.Pending) × StandsOn (R.is register.now).frames (R.Reaches register.now) who 0 stack.old op p) }
-    ensures comes { (op : Op) (p : R.Pending) → StandsOn (R.is register.now).frames (R.Reaches register.now) who 0 stack.old op p
-        → (let moved = (R.is register.now).goes p choice store.old in Comes (R.is register.now).frames moved.next moved.memory result.end stack.new store.new) }
-    ensures chosen { (op : Op) (p : R.Pending) → StandsOn (R.is register.now).frames (R.Reaches register.now) who 0 stack.old op p
+    requires stands { (op : Op)
+        × ((p : R.Pending) × StandsOn (R.is register.now).frames
+        (R.Reaches register.now) who 0 stack.old op p) }
+    ensures comes { (op : Op) (p : R.Pending) → StandsOn (R.is register.now).frames
+        (R.Reaches register.now) who 0 stack.old op p
+        → (let moved = (R.is register.now).goes p choice store.old in
+        Comes (R.is register.now).frames moved.next moved.memory result.end stack.new store.new) }
+    ensures chosen { (op : Op) (p : R.Pending) → StandsOn (R.is register.now).frames
+        (R.Reaches register.now) who 0 stack.old op p
         → result.chosen ≡ ((R.is register.now).goes p choice store.old).chosen }
 {
     register.go_on(store, ORIGIN, who, stack, 0, choice)
@@ -75,8 +80,10 @@ pub fn invoke<R: Register>(
 ) -> StepEvents
     requires holds { R.Holds register.now store.old }
     requires fits { (R.is register.now).suits who op ≡ true }
-    ensures { (slot : Option (Running R.Pending)) → IsReached (R.Reaches register.now) who slot → stack.old ≡ stack_of (R.is register.now) slot
-        → Acts (R.is register.now) (invoking (R.is register.now) who op slot store.old) result stack.new store.new }
+    ensures { (slot : Option (Running R.Pending)) → IsReached (R.Reaches register.now) who slot
+        → stack.old ≡ stack_of (R.is register.now) slot
+        → Acts (R.is register.now) (invoking (R.is register.now) who op slot store.old) result
+        stack.new store.new }
 {
     if !stack.is_empty() {
         return alone(Event::Void(who, Reason::Busy));
@@ -98,9 +105,13 @@ pub fn proceed<R: Register>(
     choice: bool,
 ) -> StepEvents
     requires holds { R.Holds register.now store.old }
-    requires stands { (slot : Option (Running R.Pending)) × (IsReached (R.Reaches register.now) who slot × (stack.old ≡ stack_of (R.is register.now) slot)) }
-    ensures { (slot : Option (Running R.Pending)) → IsReached (R.Reaches register.now) who slot → stack.old ≡ stack_of (R.is register.now) slot
-        → Acts (R.is register.now) (going (R.is register.now) who choice slot store.old) result stack.new store.new }
+    requires stands { (slot : Option (Running R.Pending))
+        × (IsReached (R.Reaches register.now) who slot ×
+        (stack.old ≡ stack_of (R.is register.now) slot)) }
+    ensures { (slot : Option (Running R.Pending)) → IsReached (R.Reaches register.now) who slot
+        → stack.old ≡ stack_of (R.is register.now) slot
+        → Acts (R.is register.now) (going (R.is register.now) who choice slot store.old) result
+        stack.new store.new }
 {
     if stack.is_empty() {
         return alone(Event::Void(who, Reason::Idle));

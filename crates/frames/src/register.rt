@@ -82,8 +82,10 @@ pub trait Register: Behaves + Copy + Eq {
         requires holds { Holds self.now (part at (Self.is self.now).size store.old) }
         requires fits { (Self.is self.now).suits who op ≡ true }
         requires room { length stack.old + (Self.is self.now).depth ≤ STACK_FRAMES }
-        ensures { let begun = (Self.is self.now).begins who op (part at (Self.is self.now).size store.old) in
-            Lands (Self.is self.now).frames at begun.next begun.memory stack.old store.old result stack.new store.new };
+        ensures { let begun = (Self.is self.now).begins who op
+            (part at (Self.is self.now).size store.old) in
+            Lands (Self.is self.now).frames at begun.next begun.memory stack.old store.old result
+            stack.new store.new };
 
     /// The pending operation whose frames are those from index `first` on makes its next bit action;
     /// the choice is what a hit read of a bit gives. Its frames change where they lie.
@@ -99,16 +101,24 @@ pub trait Register: Behaves + Copy + Eq {
         requires inside { LiesIn at (Self.is self.now).size store.old }
         requires holds { Holds self.now (part at (Self.is self.now).size store.old) }
         requires room { first + (Self.is self.now).depth ≤ STACK_FRAMES }
-        requires stands { (op : Op) × ((p : Self.Pending) × StandsOn (Self.is self.now).frames (Reaches self.now) who first stack.old op p) }
-        ensures lands { (op : Op) (p : Self.Pending) → StandsOn (Self.is self.now).frames (Reaches self.now) who first stack.old op p
-            → (let moved = (Self.is self.now).goes p choice (part at (Self.is self.now).size store.old) in
-            Lands (Self.is self.now).frames at moved.next moved.memory (take first stack.old) store.old result.end stack.new store.new) }
-        ensures chosen { (op : Op) (p : Self.Pending) → StandsOn (Self.is self.now).frames (Reaches self.now) who first stack.old op p
-            → result.chosen ≡ placed_bit at ((Self.is self.now).goes p choice (part at (Self.is self.now).size store.old)).chosen };
+        requires stands { (op : Op) × ((p : Self.Pending)
+            × StandsOn (Self.is self.now).frames (Reaches self.now) who first stack.old op p) }
+        ensures lands { (op : Op) (p : Self.Pending) → StandsOn (Self.is self.now).frames
+            (Reaches self.now) who first stack.old op p
+            → (let moved = (Self.is self.now).goes p choice
+            (part at (Self.is self.now).size store.old) in
+            Lands (Self.is self.now).frames at moved.next moved.memory
+            (take first stack.old) store.old result.end stack.new store.new) }
+        ensures chosen { (op : Op) (p : Self.Pending) → StandsOn (Self.is self.now).frames
+            (Reaches self.now) who first stack.old op p
+            → result.chosen
+            ≡ placed_bit at ((Self.is self.now).goes p choice
+            (part at (Self.is self.now).size store.old)).chosen };
 
     /// What `who` has pending, by the frames from index `first` on; none where there are none.
     fn pending(&self, stack: &FlatStack, first: usize, who: u32) -> Option<Self::Pending>
-        requires stands { (slot : Option (Running Self.Pending)) × (MatchOption slot ⊤ (λ r. Reaches self.now who r.op r.point)
+        requires stands { (slot : Option (Running Self.Pending))
+            × (MatchOption slot ⊤ (λ r. Reaches self.now who r.op r.point)
             × (drop first stack.now ≡ stack_of (Self.is self.now) slot)) }
         ensures { result ≡ point self.now who (drop first stack.now) };
 

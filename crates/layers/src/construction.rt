@@ -73,8 +73,10 @@ pub trait Construction: Rules + Copy + Eq {
         requires inside { base + (Self.table self.now).words ≤ length store.old.words }
         requires bounded { WordsHold (Self.table self.now) base store.old }
         requires fits { (Self.table self.now).suits who op ≡ true }
-        ensures continuation { result ≡ (settled base ((Self.table self.now).program who op) store.old).continuation }
-        ensures memory { store.new ≡ (settled base ((Self.table self.now).program who op) store.old).memory };
+        ensures continuation { result
+            ≡ (settled base ((Self.table self.now).program who op) store.old).continuation }
+        ensures memory { store.new
+            ≡ (settled base ((Self.table self.now).program who op) store.old).memory };
 
     /// The program behind a task that ended so, up to the next task or the end.
     fn after(
@@ -87,10 +89,13 @@ pub trait Construction: Rules + Copy + Eq {
         requires inside { base + (Self.table self.now).words ≤ length store.old.words }
         requires bounded { WordsHold (Self.table self.now) base store.old }
         requires stands { (who : ℕ) × ((op : Op) × Stands self.now who op task) }
-        requires answers { Answers (Self.table self.now).inner_values ((Self.table self.now).asks task).op outcome }
+        requires answers { Answers (Self.table self.now).inner_values
+            ((Self.table self.now).asks task).op outcome }
         requires goes_on { IsNotSpent outcome }
-        ensures continuation { result ≡ (settled base ((Self.table self.now).rest task outcome) store.old).continuation }
-        ensures memory { store.new ≡ (settled base ((Self.table self.now).rest task outcome) store.old).memory };
+        ensures continuation { result
+            ≡ (settled base ((Self.table self.now).rest task outcome) store.old).continuation }
+        ensures memory { store.new
+            ≡ (settled base ((Self.table self.now).rest task outcome) store.old).memory };
 
     /// What a task asks a part for.
     fn asks(&self, task: Self::Task) -> Ask

@@ -57,7 +57,8 @@ pub(crate) fn init<L: Construction, S: Register>(
     requires fit { FitsBelow (L.table layer.now) (S.is below.now) }
     requires inside { LiesIn at (layer_size (L.table layer.now) (S.is below.now).size) store.old }
     requires value { value < (L.table layer.now).values }
-    ensures { store.new ≡ with_part at ((layered (L.table layer.now) (S.is below.now)).initial value) store.old }
+    ensures { store.new
+        ≡ with_part at ((layered (L.table layer.now) (S.is below.now)).initial value) store.old }
 {
     placed(layer, below, store, at);
     init_parts(layer, below, store, at, value);
@@ -77,7 +78,9 @@ fn init_parts<L: Construction, S: Register>(
     requires inside { LiesIn at (layer_size (L.table layer.now) (S.is below.now).size) store.old }
     requires placed { IsPlaced at (layer_size (L.table layer.now) (S.is below.now).size) }
     requires value { value < (L.table layer.now).values }
-    ensures { store.new ≡ with_part at (first_parts (L.table layer.now) (S.is below.now) value (L.table layer.now).parts) store.old }
+    ensures { store.new
+        ≡ with_part at (first_parts (L.table layer.now) (S.is below.now) value
+        (L.table layer.now).parts) store.old }
 {
     for part in 0..layer.shape().parts {
         let place = part_place(layer, below, at, part);
@@ -89,7 +92,10 @@ fn init_parts<L: Construction, S: Register>(
 fn init_words<L: Construction>(layer: &L, store: &mut Store, base: u32, value: u32)
     requires inside { base + (L.table layer.now).words ≤ length store.old.words }
     requires value { value < (L.table layer.now).values }
-    ensures { store.new ≡ record store.old { words = splice base (gathered (λ k. (L.table layer.now).first_word value k ∷ []) (L.table layer.now).words) store.old.words } }
+    ensures { store.new
+        ≡ record store.old { words = splice base (gathered
+        (λ k. (L.table layer.now).first_word value k ∷ []) (L.table layer.now).words)
+        store.old.words } }
 {
     store.numbered();
     for word in 0..layer.shape().words {
@@ -110,11 +116,14 @@ pub(crate) fn begin_on<L: Construction, S: Register>(
 ) -> Option<Outcome>
     requires fit { FitsBelow (L.table layer.now) (S.is below.now) }
     requires inside { LiesIn at (layer_size (L.table layer.now) (S.is below.now).size) store.old }
-    requires holds { LayerHolds (L.table layer.now) (S.is below.now) (S.Holds below.now) (own (L.table layer.now) (S.is below.now) at store.old) }
+    requires holds { LayerHolds (L.table layer.now) (S.is below.now) (S.Holds below.now)
+        (own (L.table layer.now) (S.is below.now) at store.old) }
     requires fits { (L.table layer.now).suits who op ≡ true }
     requires room { length stack.old + 1 + (S.is below.now).depth ≤ STACK_FRAMES }
-    ensures { let begun = (layered (L.table layer.now) (S.is below.now)).begins who op (own (L.table layer.now) (S.is below.now) at store.old) in
-        Lands (layered (L.table layer.now) (S.is below.now)).frames at begun.next begun.memory stack.old store.old result stack.new store.new }
+    ensures { let begun = (layered (L.table layer.now) (S.is below.now)).begins who op
+        (own (L.table layer.now) (S.is below.now) at store.old) in
+        Lands (layered (L.table layer.now) (S.is below.now)).frames at begun.next begun.memory
+        stack.old store.old result stack.new store.new }
 {
     lies(layer, below, store, at);
     let continuation = start(layer, below, store, at, who, op);
@@ -135,14 +144,28 @@ pub(crate) fn go_on<L: Construction, S: Register>(
 ) -> Progress
     requires fit { FitsBelow (L.table layer.now) (S.is below.now) }
     requires inside { LiesIn at (layer_size (L.table layer.now) (S.is below.now).size) store.old }
-    requires holds { LayerHolds (L.table layer.now) (S.is below.now) (S.Holds below.now) (own (L.table layer.now) (S.is below.now) at store.old) }
+    requires holds { LayerHolds (L.table layer.now) (S.is below.now) (S.Holds below.now)
+        (own (L.table layer.now) (S.is below.now) at store.old) }
     requires room { first + 1 + (S.is below.now).depth ≤ STACK_FRAMES }
-    requires stands { (o : Op) × ((n : Nested L.Task S.Pending) × StandsOn (layered (L.table layer.now) (S.is below.now)).frames (LayerReaches (L.table layer.now) (L.Stands layer.now) (S.Reaches below.now)) who first stack.old o n) }
-    ensures lands { (o : Op) (n : Nested L.Task S.Pending) → StandsOn (layered (L.table layer.now) (S.is below.now)).frames (LayerReaches (L.table layer.now) (L.Stands layer.now) (S.Reaches below.now)) who first stack.old o n
-        → (let moved = (layered (L.table layer.now) (S.is below.now)).goes n choice (own (L.table layer.now) (S.is below.now) at store.old) in
-        Lands (layered (L.table layer.now) (S.is below.now)).frames at moved.next moved.memory (take first stack.old) store.old result.end stack.new store.new) }
-    ensures chosen { (o : Op) (n : Nested L.Task S.Pending) → StandsOn (layered (L.table layer.now) (S.is below.now)).frames (LayerReaches (L.table layer.now) (L.Stands layer.now) (S.Reaches below.now)) who first stack.old o n
-        → result.chosen ≡ placed_bit at ((layered (L.table layer.now) (S.is below.now)).goes n choice (own (L.table layer.now) (S.is below.now) at store.old)).chosen }
+    requires stands { (o : Op) × ((n : Nested L.Task S.Pending)
+        × StandsOn (layered (L.table layer.now) (S.is below.now)).frames
+        (LayerReaches (L.table layer.now) (L.Stands layer.now) (S.Reaches below.now)) who first
+        stack.old o n) }
+    ensures lands { (o : Op) (n : Nested L.Task S.Pending)
+        → StandsOn (layered (L.table layer.now) (S.is below.now)).frames
+        (LayerReaches (L.table layer.now) (L.Stands layer.now) (S.Reaches below.now)) who first
+        stack.old o n
+        → (let moved = (layered (L.table layer.now) (S.is below.now)).goes n choice
+        (own (L.table layer.now) (S.is below.now) at store.old) in
+        Lands (layered (L.table layer.now) (S.is below.now)).frames at moved.next moved.memory
+        (take first stack.old) store.old result.end stack.new store.new) }
+    ensures chosen { (o : Op) (n : Nested L.Task S.Pending)
+        → StandsOn (layered (L.table layer.now) (S.is below.now)).frames
+        (LayerReaches (L.table layer.now) (L.Stands layer.now) (S.Reaches below.now)) who first
+        stack.old o n
+        → result.chosen
+        ≡ placed_bit at ((layered (L.table layer.now) (S.is below.now)).goes n choice
+        (own (L.table layer.now) (S.is below.now) at store.old)).chosen }
 {
     lies(layer, below, store, at);
     let task = layer.find(who, stack.frame(first));
@@ -167,9 +190,12 @@ pub(crate) fn pending<L: Construction, S: Register>(
     who: u32,
 ) -> Option<Nested<L::Task, S::Pending>>
     requires fit { FitsBelow (L.table layer.now) (S.is below.now) }
-    requires stands { (slot : Option (Running (Nested L.Task S.Pending))) × (IsReached (LayerReaches (L.table layer.now) (L.Stands layer.now) (S.Reaches below.now)) who slot
+    requires stands { (slot : Option (Running (Nested L.Task S.Pending)))
+        × (IsReached (LayerReaches (L.table layer.now) (L.Stands layer.now) (S.Reaches below.now))
+        who slot
         × (drop first stack.now ≡ stack_of (layered (L.table layer.now) (S.is below.now)) slot)) }
-    ensures { result ≡ layered_point (L.table layer.now) (S.point below.now) who (drop first stack.now) }
+    ensures { result ≡ layered_point (L.table layer.now) (S.point below.now) who
+        (drop first stack.now) }
 {
     if first >= stack.len() {
         return None;
@@ -189,8 +215,11 @@ pub(crate) fn action<L: Construction, S: Register>(
 ) -> Action
     requires fit { FitsBelow (L.table layer.now) (S.is below.now) }
     requires placed { IsPlaced at (layer_size (L.table layer.now) (S.is below.now).size) }
-    requires reached { (who : ℕ) × ((op : Op) × LayerReaches (L.table layer.now) (L.Stands layer.now) (S.Reaches below.now) who op pending.now) }
-    ensures { result ≡ placed_action at ((layered (L.table layer.now) (S.is below.now)).acts pending.now) }
+    requires reached { (who : ℕ)
+        × ((op : Op) × LayerReaches (L.table layer.now) (L.Stands layer.now)
+        (S.Reaches below.now) who op pending.now) }
+    ensures { result
+        ≡ placed_action at ((layered (L.table layer.now) (S.is below.now)).acts pending.now) }
 {
     let ask = layer.asks(pending.task);
     let place = part_place(layer, below, at, ask.part);
@@ -210,7 +239,8 @@ fn placed<L: Construction, S: Register>(layer: &L, below: &S, store: &Store, at:
 #[inline(always)]
 fn lies<L: Construction, S: Register>(layer: &L, below: &S, store: &Store, at: Place)
     requires inside { LiesIn at (layer_size (L.table layer.now) (S.is below.now).size) store.now }
-    requires holds { LayerHolds (L.table layer.now) (S.is below.now) (S.Holds below.now) (own (L.table layer.now) (S.is below.now) at store.now) }
+    requires holds { LayerHolds (L.table layer.now) (S.is below.now) (S.Holds below.now)
+        (own (L.table layer.now) (S.is below.now) at store.now) }
     ensures { LayerLies (L.table layer.now) (S.is below.now) (S.Holds below.now) at store.now }
 {
     placed(layer, below, store, at);
@@ -250,11 +280,14 @@ fn ask<L: Construction, S: Register>(
     stack: &mut FlatStack,
 ) -> Option<Outcome>
     requires fit { FitsBelow (L.table layer.now) (S.is below.now) }
-    requires lies { LayerLies (L.table layer.now) (S.is below.now) (S.Holds below.now) at store.old }
+    requires lies { LayerLies (L.table layer.now) (S.is below.now)
+        (S.Holds below.now) at store.old }
     requires stands { (who : ℕ) × ((op : Op) × L.Stands layer.now who op task) }
     requires room { length stack.old + 1 + (S.is below.now).depth ≤ STACK_FRAMES }
-    ensures { let begun = asked (S.is below.now) ((L.table layer.now).asks task) (own (L.table layer.now) (S.is below.now) at store.old) in
-        Lands (task_frames (L.table layer.now) (S.is below.now) task) at begun.next begun.memory stack.old store.old result stack.new store.new }
+    ensures { let begun = asked (S.is below.now) ((L.table layer.now).asks task)
+        (own (L.table layer.now) (S.is below.now) at store.old) in
+        Lands (task_frames (L.table layer.now) (S.is below.now) task) at begun.next begun.memory
+        stack.old store.old result stack.new store.new }
 {
     let ask = layer.asks(task);
     let place = part_place(layer, below, at, ask.part);
@@ -279,14 +312,28 @@ fn push<L: Construction, S: Register>(
     choice: bool,
 ) -> Progress
     requires fit { FitsBelow (L.table layer.now) (S.is below.now) }
-    requires lies { LayerLies (L.table layer.now) (S.is below.now) (S.Holds below.now) at store.old }
+    requires lies { LayerLies (L.table layer.now) (S.is below.now)
+        (S.Holds below.now) at store.old }
     requires room { first + 1 + (S.is below.now).depth ≤ STACK_FRAMES }
-    requires stands { (o : Op) × ((p : S.Pending) × StandsOn (layered (L.table layer.now) (S.is below.now)).frames (LayerReaches (L.table layer.now) (L.Stands layer.now) (S.Reaches below.now)) who first stack.old o (record { task = task; below = p })) }
-    ensures lands { (o : Op) (p : S.Pending) → StandsOn (layered (L.table layer.now) (S.is below.now)).frames (LayerReaches (L.table layer.now) (L.Stands layer.now) (S.Reaches below.now)) who first stack.old o (record { task = task; below = p })
-        → (let moved = pushed (S.is below.now) ((L.table layer.now).asks task).part p choice (own (L.table layer.now) (S.is below.now) at store.old) in
-        Lands (task_frames (L.table layer.now) (S.is below.now) task) at moved.next moved.memory (take first stack.old) store.old result.end stack.new store.new) }
-    ensures chosen { (o : Op) (p : S.Pending) → StandsOn (layered (L.table layer.now) (S.is below.now)).frames (LayerReaches (L.table layer.now) (L.Stands layer.now) (S.Reaches below.now)) who first stack.old o (record { task = task; below = p })
-        → result.chosen ≡ placed_bit at (pushed (S.is below.now) ((L.table layer.now).asks task).part p choice (own (L.table layer.now) (S.is below.now) at store.old)).chosen }
+    requires stands { (o : Op)
+        × ((p : S.Pending) × StandsOn (layered (L.table layer.now) (S.is below.now)).frames
+        (LayerReaches (L.table layer.now) (L.Stands layer.now) (S.Reaches below.now)) who first
+        stack.old o (record { task = task; below = p })) }
+    ensures lands { (o : Op) (p : S.Pending) → StandsOn
+        (layered (L.table layer.now) (S.is below.now)).frames
+        (LayerReaches (L.table layer.now) (L.Stands layer.now) (S.Reaches below.now)) who first
+        stack.old o (record { task = task; below = p })
+        → (let moved = pushed (S.is below.now) ((L.table layer.now).asks task).part p choice
+        (own (L.table layer.now) (S.is below.now) at store.old) in
+        Lands (task_frames (L.table layer.now) (S.is below.now) task) at moved.next moved.memory
+        (take first stack.old) store.old result.end stack.new store.new) }
+    ensures chosen { (o : Op) (p : S.Pending) → StandsOn
+        (layered (L.table layer.now) (S.is below.now)).frames
+        (LayerReaches (L.table layer.now) (L.Stands layer.now) (S.Reaches below.now)) who first
+        stack.old o (record { task = task; below = p })
+        → result.chosen
+        ≡ placed_bit at (pushed (S.is below.now) ((L.table layer.now).asks task).part p choice
+        (own (L.table layer.now) (S.is below.now) at store.old)).chosen }
 {
     let ask = layer.asks(task);
     let place = part_place(layer, below, at, ask.part);
@@ -315,10 +362,17 @@ fn start<L: Construction, S: Register>(
     who: u32,
     op: Op,
 ) -> Continuation<L::Task>
-    requires lies { LayerLies (L.table layer.now) (S.is below.now) (S.Holds below.now) at store.old }
+    requires lies { LayerLies (L.table layer.now) (S.is below.now)
+        (S.Holds below.now) at store.old }
     requires fits { (L.table layer.now).suits who op ≡ true }
-    ensures continuation { result ≡ (settled (own_words (L.table layer.now) (S.is below.now).size) ((L.table layer.now).program who op) (own (L.table layer.now) (S.is below.now) at store.old)).continuation }
-    ensures memory { store.new ≡ with_part at (settled (own_words (L.table layer.now) (S.is below.now).size) ((L.table layer.now).program who op) (own (L.table layer.now) (S.is below.now) at store.old)).memory store.old }
+    ensures continuation { result
+        ≡ (settled (own_words (L.table layer.now) (S.is below.now).size)
+        ((L.table layer.now).program who op) (own (L.table layer.now)
+        (S.is below.now) at store.old)).continuation }
+    ensures memory { store.new
+        ≡ with_part at (settled (own_words (L.table layer.now) (S.is below.now).size)
+        ((L.table layer.now).program who op) (own (L.table layer.now)
+        (S.is below.now) at store.old)).memory store.old }
 {
     let base = words_at(layer, below, at);
     layer.start(store, base, who, op)
@@ -334,12 +388,20 @@ fn after<L: Construction, S: Register>(
     task: L::Task,
     outcome: Outcome,
 ) -> Continuation<L::Task>
-    requires lies { LayerLies (L.table layer.now) (S.is below.now) (S.Holds below.now) at store.old }
+    requires lies { LayerLies (L.table layer.now) (S.is below.now)
+        (S.Holds below.now) at store.old }
     requires stands { (who : ℕ) × ((op : Op) × L.Stands layer.now who op task) }
-    requires answers { Answers (L.table layer.now).inner_values ((L.table layer.now).asks task).op outcome }
+    requires answers { Answers (L.table layer.now).inner_values
+        ((L.table layer.now).asks task).op outcome }
     requires goes_on { IsNotSpent outcome }
-    ensures continuation { result ≡ (settled (own_words (L.table layer.now) (S.is below.now).size) ((L.table layer.now).rest task outcome) (own (L.table layer.now) (S.is below.now) at store.old)).continuation }
-    ensures memory { store.new ≡ with_part at (settled (own_words (L.table layer.now) (S.is below.now).size) ((L.table layer.now).rest task outcome) (own (L.table layer.now) (S.is below.now) at store.old)).memory store.old }
+    ensures continuation { result
+        ≡ (settled (own_words (L.table layer.now) (S.is below.now).size)
+        ((L.table layer.now).rest task outcome) (own (L.table layer.now)
+        (S.is below.now) at store.old)).continuation }
+    ensures memory { store.new
+        ≡ with_part at (settled (own_words (L.table layer.now) (S.is below.now).size)
+        ((L.table layer.now).rest task outcome) (own (L.table layer.now)
+        (S.is below.now) at store.old)).memory store.old }
     ensures fewer { tasks_left (L.left layer.now) result ≤ L.left layer.now task }
 {
     let base = words_at(layer, below, at);
@@ -357,11 +419,16 @@ fn run<L: Construction, S: Register>(
     stack: &mut FlatStack,
 ) -> Option<Outcome>
     requires fit { FitsBelow (L.table layer.now) (S.is below.now) }
-    requires lies { LayerLies (L.table layer.now) (S.is below.now) (S.Holds below.now) at store.old }
-    requires stands { (who : ℕ) × ((op : Op) × ContinuationStands (L.Stands layer.now who op) (Answers (L.table layer.now).values op) continuation) }
+    requires lies { LayerLies (L.table layer.now) (S.is below.now)
+        (S.Holds below.now) at store.old }
+    requires stands { (who : ℕ)
+        × ((op : Op) × ContinuationStands (L.Stands layer.now who op)
+        (Answers (L.table layer.now).values op) continuation) }
     requires room { length stack.old + 1 + (S.is below.now).depth ≤ STACK_FRAMES }
-    ensures { let on = run_on (L.table layer.now) (S.is below.now) continuation (own (L.table layer.now) (S.is below.now) at store.old) in
-        Lands (layered (L.table layer.now) (S.is below.now)).frames at on.next on.memory stack.old store.old result stack.new store.new }
+    ensures { let on = run_on (L.table layer.now) (S.is below.now) continuation
+        (own (L.table layer.now) (S.is below.now) at store.old) in
+        Lands (layered (L.table layer.now) (S.is below.now)).frames at on.next on.memory stack.old
+        store.old result stack.new store.new }
 {
     let mut onward = continuation;
     loop {
@@ -389,11 +456,17 @@ fn follow<L: Construction, S: Register>(
     stack: &mut FlatStack,
 ) -> Option<Outcome>
     requires fit { FitsBelow (L.table layer.now) (S.is below.now) }
-    requires lies { LayerLies (L.table layer.now) (S.is below.now) (S.Holds below.now) at store.old }
-    requires stands { (who : ℕ) × ((op : Op) × (L.Stands layer.now who op task × Answers (S.is below.now).values ((L.table layer.now).asks task).op outcome)) }
+    requires lies { LayerLies (L.table layer.now) (S.is below.now)
+        (S.Holds below.now) at store.old }
+    requires stands { (who : ℕ)
+        × ((op : Op)
+        × (L.Stands layer.now who op task × Answers (S.is below.now).values
+        ((L.table layer.now).asks task).op outcome)) }
     requires room { length stack.old + 1 + (S.is below.now).depth ≤ STACK_FRAMES }
-    ensures { let on = follow_on (L.table layer.now) (S.is below.now) task (Done outcome) (own (L.table layer.now) (S.is below.now) at store.old) in
-        Lands (layered (L.table layer.now) (S.is below.now)).frames at on.next on.memory stack.old store.old result stack.new store.new }
+    ensures { let on = follow_on (L.table layer.now) (S.is below.now) task (Done outcome)
+        (own (L.table layer.now) (S.is below.now) at store.old) in
+        Lands (layered (L.table layer.now) (S.is below.now)).frames at on.next on.memory stack.old
+        store.old result stack.new store.new }
 {
     if is_spent(outcome) {
         return Some(outcome);

@@ -36,7 +36,8 @@ impl LayerError {
 
 /// Whether the layer can stand on the register.
 pub fn fits_below<L: Construction, S: Register>(layer: &L, below: &S) -> Result<(), LayerError>
-    ensures refusal { MatchResult result (λ _. refusal_below (L.table layer.now) (S.is below.now) ≡ None) (λ e. refusal_below (L.table layer.now) (S.is below.now) ≡ Some e) }
+    ensures refusal { MatchResult result (λ _. refusal_below (L.table layer.now) (S.is below.now)
+        ≡ None) (λ e. refusal_below (L.table layer.now) (S.is below.now) ≡ Some e) }
     ensures fit { OnOk result (FitsBelow (L.table layer.now) (S.is below.now)) }
 {
     let shape = layer.shape();

@@ -44,8 +44,10 @@ impl<L: Construction, S: Register> Layered<L, S> {
     /// processes or the values that its parts need or has depth 8, else as TooManyBits where there
     /// would be more than 4,096 cells or 65,536 words.
     pub fn new(below: S, layer: L) -> Result<Layered<L, S>, LayerError>
-        ensures refused { MatchResult result (λ _. refusal_below (L.table layer) (S.is below) ≡ None) (λ e. refusal_below (L.table layer) (S.is below) ≡ Some e) }
-        ensures built { IfOk result (λ r. ⟦<Layered<L, S> as Behaves>⟧.is r ≡ layered (L.table layer) (S.is below)) }
+        ensures refused { MatchResult result (λ _. refusal_below (L.table layer) (S.is below)
+            ≡ None) (λ e. refusal_below (L.table layer) (S.is below) ≡ Some e) }
+        ensures built { IfOk result (λ r. ⟦<Layered<L, S> as Behaves>⟧.is r
+            ≡ layered (L.table layer) (S.is below)) }
         ensures below { IfOk result (λ r. r.below ≡ below) }
     {
         fits_below(&layer, &below)?;

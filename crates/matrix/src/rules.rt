@@ -54,8 +54,10 @@ impl Matrix {
         values: u32,
         last_tag: u32,
     ) -> Result<Layered<Matrix, S>, LayerError>
-        ensures refused { MatchResult result (λ _. matrix_refusal n values last_tag (S.is below) ≡ None) (λ e. matrix_refusal n values last_tag (S.is below) ≡ Some e) }
-        ensures built { IfOk result (λ r. ⟦<Layered<Matrix, S> as Behaves>⟧.is r ≡ layered (matrix_table n values last_tag) (S.is below)) }
+        ensures refused { MatchResult result (λ _. matrix_refusal n values last_tag (S.is below)
+            ≡ None) (λ e. matrix_refusal n values last_tag (S.is below) ≡ Some e) }
+        ensures built { IfOk result (λ r. ⟦<Layered<Matrix, S> as Behaves>⟧.is r
+            ≡ layered (matrix_table n values last_tag) (S.is below)) }
         ensures below { IfOk result (λ r. r.below ≡ below) }
     {
         if !(LEAST_PROCESSES..=MOST_WRITERS).contains(&n) {
@@ -86,7 +88,8 @@ impl Matrix {
         requires part { j ≤ self.now.n }
         requires value { ValueFits self.now.values op }
         requires code { greatest < codes self.now.n self.now.values self.now.last }
-        ensures { ComesTo (column_from self.now.n self.now.values self.now.last who op (self.now.n - j) j greatest) result }
+        ensures { ComesTo (column_from self.now.n self.now.values self.now.last who op
+            (self.now.n - j) j greatest) result }
     {
         if j < self.n {
             Continuation::Asks(MatrixTask::Column {
@@ -105,7 +108,8 @@ impl Matrix {
         requires process { who < self.now.n }
         requires value { ValueFits self.now.values op }
         requires code { greatest < codes self.now.n self.now.values self.now.last }
-        ensures { ComesTo (behind_column self.now.n self.now.values self.now.last who op greatest) result }
+        ensures { ComesTo (behind_column self.now.n self.now.values self.now.last who op greatest)
+            result }
     {
         match op {
             Op::Write(v) => {
@@ -136,7 +140,8 @@ impl Matrix {
     fn along_row(&self, who: u32, op: Op, j: u32, code: u32) -> Continuation<MatrixTask>
         requires process { who < self.now.n }
         requires part { j ≤ self.now.n }
-        ensures { ComesTo (row_from self.now.n self.now.values who op (self.now.n - j) j code) result }
+        ensures { ComesTo (row_from self.now.n self.now.values who op (self.now.n - j) j code)
+            result }
     {
         if j < self.n {
             return Continuation::Asks(MatrixTask::Row { who, op, j, code });

@@ -42,8 +42,10 @@ impl Copies {
     /// readers, or where the register below has fewer than 2 values, hasn't 2 processes or has depth
     /// 8, else as TooManyBits where there would be more than 4,096 cells or 65,536 words.
     pub fn new<S: Register>(below: S, readers: u32) -> Result<Layered<Copies, S>, LayerError>
-        ensures refused { MatchResult result (λ _. copies_refusal readers (S.is below) ≡ None) (λ e. copies_refusal readers (S.is below) ≡ Some e) }
-        ensures built { IfOk result (λ r. ⟦<Layered<Copies, S> as Behaves>⟧.is r ≡ layered (copies_table readers (S.is below).values) (S.is below)) }
+        ensures refused { MatchResult result (λ _. copies_refusal readers (S.is below) ≡ None)
+            (λ e. copies_refusal readers (S.is below) ≡ Some e) }
+        ensures built { IfOk result (λ r. ⟦<Layered<Copies, S> as Behaves>⟧.is r
+            ≡ layered (copies_table readers (S.is below).values) (S.is below)) }
         ensures below { IfOk result (λ r. r.below ≡ below) }
     {
         if readers == 0 || readers > MOST_READERS {

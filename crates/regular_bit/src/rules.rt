@@ -37,9 +37,11 @@ impl RegularBit {
     /// as BadSize where the register below hasn't two values, hasn't so many processes or has depth
     /// 8, else as TooManyBits where there would be more than 4,096 cells or 65,536 words.
     pub fn new<S: Register>(below: S) -> Result<Layered<RegularBit, S>, LayerError>
-        ensures refused { MatchResult result (λ _. refusal_below (regular_table (S.is below).processes) (S.is below) ≡ None)
+        ensures refused { MatchResult result
+            (λ _. refusal_below (regular_table (S.is below).processes) (S.is below) ≡ None)
             (λ e. refusal_below (regular_table (S.is below).processes) (S.is below) ≡ Some e) }
-        ensures built { IfOk result (λ r. ⟦<Layered<RegularBit, S> as Behaves>⟧.is r ≡ layered (regular_table (S.is below).processes) (S.is below)) }
+        ensures built { IfOk result (λ r. ⟦<Layered<RegularBit, S> as Behaves>⟧.is r
+            ≡ layered (regular_table (S.is below).processes) (S.is below)) }
         ensures below { IfOk result (λ r. r.below ≡ below) }
     {
         let processes = below.processes();

@@ -73,7 +73,8 @@ impl<T: Drop> Segment<T> {
     /// Puts a cell at an offset, before those from there on, and clears the note.
     pub(crate) fn insert(&mut self, offset: usize, slot: Slot) -> Result<(), AllocError>
         requires { offset ≤ length self.old.slots.items }
-        ensures slots { OnOk result (self.new.slots.items ≡ insert self.old.slots.items offset slot) }
+        ensures slots { OnOk result (self.new.slots.items
+            ≡ insert self.old.slots.items offset slot) }
         ensures note { OnOk result (self.new.note ≡ None) }
         ensures err_slots { OnErr result (self.new.slots.items ≡ self.old.slots.items) }
         ensures err_note { OnErr result (self.new.note ≡ self.old.note) }

@@ -183,7 +183,8 @@ impl<T: Drop> Trie<T> {
     ///
     /// NoBranch; Memory.
     pub fn path(&self, alloc: Global, branch: &Name) -> Result<Vec<Step>, Refusal>
-        ensures ok { IfOk result (λ steps. path_of (forest self.now) branch.now ≡ Some steps.items) }
+        ensures ok { IfOk result (λ steps. path_of (forest self.now) branch.now
+            ≡ Some steps.items) }
         ensures err { IfErr result (λ e. if_lacks (path_of (forest self.now) branch.now) ≡ e) }
     {
         let Some(index) = self.index(branch) else {
@@ -197,7 +198,8 @@ impl<T: Drop> Trie<T> {
 
     /// The steps of the branch at an index.
     fn steps_at(&self, alloc: Global, index: usize) -> Result<Vec<Step>, AllocError>
-        ensures { IfOk result (λ steps. steps.items ≡ map step_of (slots_in (forest self.now).branches index)) }
+        ensures { IfOk result
+            (λ steps. steps.items ≡ map step_of (slots_in (forest self.now).branches index)) }
     {
         let mut steps = Vec::new(alloc);
         for key in self.keys_at(index) {
@@ -212,8 +214,12 @@ impl<T: Drop> Trie<T> {
     ///
     /// NoBranch; Memory.
     pub fn segments(&self, alloc: Global, branch: &Name) -> Result<Vec<SegKey>, Refusal>
-        ensures ok { IfOk result (λ keys. keys_by (index_of (forest self.now).branches branch.now) self.now.strands ≡ Some keys.items) }
-        ensures err { IfErr result (λ e. if_lacks (keys_by (index_of (forest self.now).branches branch.now) self.now.strands) ≡ e) }
+        ensures ok { IfOk result
+            (λ keys. keys_by (index_of (forest self.now).branches branch.now) self.now.strands
+            ≡ Some keys.items) }
+        ensures err { IfErr result
+            (λ e. if_lacks
+            (keys_by (index_of (forest self.now).branches branch.now) self.now.strands) ≡ e) }
     {
         let Some(index) = self.index(branch) else {
             return Err(Refusal::NoBranch);
@@ -240,7 +246,8 @@ impl<T: Drop> Trie<T> {
 
     /// The cells of a segment, in order; none where no segment has the key.
     pub fn cells_of(&self, key: SegKey) -> Option<&[Slot]>
-        ensures { option_map (λ slots. slots.now) result ≡ option_map (λ p. p.slots) (piece_at self.now.pieces key) }
+        ensures { option_map (λ slots. slots.now) result
+            ≡ option_map (λ p. p.slots) (piece_at self.now.pieces key) }
     {
         let segment = self.segments.get(key)?;
         Some(segment.slots.as_slice())
@@ -270,10 +277,13 @@ impl<T: Drop> Trie<T> {
     ///
     /// NoBranch; NoPlace where the branch has no cell there. Then nothing is changed.
     pub fn replace(&mut self, branch: &Name, place: u32, step: Step) -> Result<(), Refusal>
-        ensures ok { OnOk result (replace_step (forest self.old) branch.now place step ≡ Ok (forest self.new)) }
-        ensures err { IfErr result (λ e. replace_step (forest self.old) branch.now place step ≡ Err e) }
+        ensures ok { OnOk result (replace_step (forest self.old) branch.now place step
+            ≡ Ok (forest self.new)) }
+        ensures err { IfErr result (λ e. replace_step (forest self.old) branch.now place step
+            ≡ Err e) }
         ensures unchanged { OnErr result (self.new ≡ self.old) }
-        ensures notes { OnOk result (KeepsNotesBut self.old self.new (HoldsCellAt self.old branch.now place)) }
+        ensures notes { OnOk result (KeepsNotesBut self.old self.new
+            (HoldsCellAt self.old branch.now place)) }
         ensures cut { OnOk result (IsCut self.new) }
         ensures limits { self.new.limits ≡ self.old.limits }
     {
@@ -331,7 +341,8 @@ impl<T: Drop> Trie<T> {
     /// The segment with the cell at a place of a branch, and where in it the cell lies; none where the branch has no cell
     /// there.
     fn find_cell(&self, index: usize, place: u32) -> Option<(SegKey, usize)>
-        ensures found { IfSome result (StandsAt (piece_at self.now.pieces) (keys_in self.now.strands index) place) }
+        ensures found { IfSome result (StandsAt (piece_at self.now.pieces)
+            (keys_in self.now.strands index) place) }
         ensures none { IfNone result (length (slots_in (forest self.now).branches index) ≤ place) }
     {
         let mut rest = place as usize;

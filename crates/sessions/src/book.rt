@@ -70,8 +70,10 @@ impl<R: Register> Book<R> {
         requires value { value < (R.is register).values }
         requires limits { AreLimits limits }
         requires fits { AllFit (R.is register) steps.now }
-        ensures world { let first = opening (R.is register) value limits (forests.opening steps.now) in IfOk result (λ book. world_of R.is book.now ≡ first) }
-        ensures opening { let first = opening (R.is register) value limits (forests.opening steps.now) in IfOk result (λ book. opening_of R.is book ≡ first) }
+        ensures world { let first = opening (R.is register) value limits (forests.opening steps.now)
+            in IfOk result (λ book. world_of R.is book.now ≡ first) }
+        ensures opening { let first = opening (R.is register) value limits
+            (forests.opening steps.now) in IfOk result (λ book. opening_of R.is book ≡ first) }
         ensures log { IfOk result (λ book. book.log ≡ []) }
         ensures ok { OnOk result (opened limits steps.now ≡ Ok (forests.opening steps.now)) }
         ensures err { IfErr result (IsRefused (opened limits steps.now)) }
@@ -95,7 +97,8 @@ impl<R: Register> Book<R> {
         if_at: Option<u64>,
         command: &Command,
     ) -> Reply
-        ensures acts { Acts R.is self.old self.new (spec.entry chair who if_at command.now result) ⊎ Wants R.is self.old self.new result }
+        ensures acts { Acts R.is self.old self.new (spec.entry chair who if_at command.now result)
+            ⊎ Wants R.is self.old self.new result }
         ensures memory { TellsMemoryLast R.is self.old who if_at command.now result }
         ensures opening { opening_of R.is self.new ≡ opening_of R.is self.old }
     {
@@ -119,8 +122,10 @@ impl<R: Register> Book<R> {
     /// NoSession for the cursor of a session that hasn't joined; NoBranch; NoPlace where the branch is shorter; Memory. World and log
     /// stay in any case.
     pub fn look(&mut self, alloc: Global, query: Query) -> Result<Slip<R>, Refusal>
-        ensures page { IfOk result (λ slip. Some slip ≡ shown_in (world_of R.is self.old.now) query) }
-        ensures found { let w = world_of R.is self.old.now in OnOk result (looked w query ≡ Ok w.forest) }
+        ensures page { IfOk result
+            (λ slip. Some slip ≡ shown_in (world_of R.is self.old.now) query) }
+        ensures found { let w = world_of R.is self.old.now in
+            OnOk result (looked w query ≡ Ok w.forest) }
         ensures err { IfErr result (IsRefused (looked (world_of R.is self.old.now) query)) }
         ensures world { world_of R.is self.new.now ≡ world_of R.is self.old.now }
         ensures opening { opening_of R.is self.new ≡ opening_of R.is self.old }
@@ -136,9 +141,13 @@ impl<R: Register> Book<R> {
     ///
     /// NoBranch; Memory.
     pub fn plan(&self, alloc: Global, branch: &Name) -> Result<Vec<Job<R>>, Refusal>
-        ensures ok { let chart = self.now.now.chart in IfOk result (λ jobs. IsPlan R.PartialEq.eq (R.is chart.start.register) chart branch.now jobs.items) }
-        ensures found { OnOk result (IsSome (index_of (forest self.now.now.chart.cut).branches branch.now)) }
-        ensures err { IfErr result (λ e. if_lacks (index_of (forest self.now.now.chart.cut).branches branch.now) ≡ e) }
+        ensures ok { let chart = self.now.now.chart in IfOk result
+            (λ jobs. IsPlan R.PartialEq.eq (R.is chart.start.register) chart branch.now
+            jobs.items) }
+        ensures found { OnOk result
+            (IsSome (index_of (forest self.now.now.chart.cut).branches branch.now)) }
+        ensures err { IfErr result
+            (λ e. if_lacks (index_of (forest self.now.now.chart.cut).branches branch.now) ≡ e) }
     {
         self.stage.chart().plan(alloc, branch)
     }
@@ -146,7 +155,9 @@ impl<R: Register> Book<R> {
     /// Stores a run that was made elsewhere, if it fits its segment and stored runs fit all segments above. It takes no
     /// memory. World and log stay.
     pub fn install(&mut self, key: SegKey, run: Arc<Run<R>>) -> Installation
-        ensures installs { let old = self.old.now.chart in Installs R.PartialEq.eq (R.is old.start.register) old self.new.now.chart key (arc_value run) result }
+        ensures installs { let old = self.old.now.chart in
+            Installs R.PartialEq.eq (R.is old.start.register) old self.new.now.chart key
+            (arc_value run) result }
         ensures world { world_of R.is self.new.now ≡ world_of R.is self.old.now }
         ensures opening { opening_of R.is self.new ≡ opening_of R.is self.old }
         ensures log { self.new.log ≡ self.old.log }

@@ -62,7 +62,9 @@ fn shifted_one<R: Register>(
     cursor: &Option<Cursor>,
 ) -> Result<Option<Cursor>, AllocError>
     requires { cell ≡ cell_at (forest chart.now.cut) branch.now place }
-    ensures { IfOk result (λ moved. moved ≡ option_map (spec.shifted shift (forest chart.now.cut) branch.now place) cursor.now) }
+    ensures { IfOk result
+        (λ moved. moved ≡ option_map (spec.shifted shift (forest chart.now.cut) branch.now place)
+        cursor.now) }
 {
     let Some(cursor) = cursor else {
         return Ok(None);
@@ -86,7 +88,10 @@ pub(crate) fn shifted<R: Register>(
     shift: Shift,
 ) -> Result<[Option<Cursor>; SESSIONS], AllocError>
     requires { length cursors.now ≡ 16 }
-    ensures { IfOk result (λ moved. moved ≡ spec.each_cursor (spec.shifted shift (forest chart.now.cut) branch.now place) cursors.now) }
+    ensures { IfOk result
+        (λ moved. moved
+        ≡ spec.each_cursor (spec.shifted shift (forest chart.now.cut) branch.now place)
+        cursors.now) }
 {
     let cell = chart.cell_at(branch, place);
     let mut moved = [None; SESSIONS];

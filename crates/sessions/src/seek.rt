@@ -45,7 +45,9 @@ struct Progress {
 impl Search {
     /// What is found behind one more place, greater than those before it.
     fn with_place(self, found: Option<u32>, place: u32, hit: bool) -> Option<u32>
-        ensures { (test : ℕ → Bool) → test place ≡ hit → found ≡ next_of self.way self.from (places_with test place) → result ≡ next_of self.way self.from (places_with test (place + 1)) }
+        ensures { (test : ℕ → Bool) → test place ≡ hit → found
+            ≡ next_of self.way self.from (places_with test place)
+            → result ≡ next_of self.way self.from (places_with test (place + 1)) }
     {
         match self.way {
             Way::Forth => first_of(found, hit, self.from, place),
@@ -99,7 +101,8 @@ fn records_any(breaks: &[Break], events: StepEvents) -> bool
 /// Whether a step that records these events, or the memory behind it, of so many cells, meets a break.
 fn meets(one: &Break, events: StepEvents, store: &Store, cells: u32) -> bool
     requires { length store.now.cells ≡ cells }
-    ensures { result ≡ (breaks_spec.is_recorded one.now events || breaks_spec.is_shown one.now store.now) }
+    ensures { result
+        ≡ (breaks_spec.is_recorded one.now events || breaks_spec.is_shown one.now store.now) }
 {
     one.is_recorded(events) || one.is_shown(store, cells)
 }
@@ -128,7 +131,12 @@ fn along_events(
     found: Option<u32>,
 ) -> Option<u32>
     requires { place + length events.now < 2 ^ 32 }
-    ensures { (test : ℕ → Bool) → ((i : ℕ) → i < length events.now → test ((place + 1) + i) ≡ spec.records_any breaks.now (slice_index_or events.now i no_events)) → found ≡ next_of search.way search.from (places_with test (place + 1)) → result ≡ next_of search.way search.from (places_with test ((place + length events.now) + 1)) }
+    ensures { (test : ℕ → Bool) → ((i : ℕ) → i < length events.now
+        → test ((place + 1) + i) ≡ spec.records_any breaks.now
+        (slice_index_or events.now i no_events)) → found
+        ≡ next_of search.way search.from (places_with test (place + 1))
+        → result ≡ next_of search.way search.from (places_with test
+        ((place + length events.now) + 1)) }
 {
     let mut found = found;
     for (i, step) in events.iter().enumerate() {
@@ -149,7 +157,13 @@ fn along_steps<R: Register>(
 ) -> Option<u32>
     requires fits { AllFit (R.is config.register) steps.now }
     requires room { place + length steps.now < 2 ^ 32 }
-    ensures { (test : ℕ → Bool) → ((i : ℕ) → i < length steps.now → test ((place + 1) + i) ≡ breaks_spec.is_met breaks.now (slice_index_or (history (R.is config.register) config steps.now) i no_events) (replayed (R.is config.register) config (take (i + 1) steps.now)).memory) → found ≡ next_of search.way search.from (places_with test (place + 1)) → result ≡ next_of search.way search.from (places_with test ((place + length steps.now) + 1)) }
+    ensures { (test : ℕ → Bool) → ((i : ℕ) → i < length steps.now
+        → test ((place + 1) + i) ≡ breaks_spec.is_met breaks.now
+        (slice_index_or (history (R.is config.register) config steps.now) i no_events)
+        (replayed (R.is config.register) config (take (i + 1) steps.now)).memory)
+        → found ≡ next_of search.way search.from (places_with test (place + 1))
+        → result ≡ next_of search.way search.from (places_with test
+        ((place + length steps.now) + 1)) }
 {
     let mut config = config;
     let mut found = found;
@@ -171,7 +185,11 @@ fn along_run<R: Register>(
     progress: Progress,
 ) -> Result<Option<u32>, AllocError>
     requires { progress.place + count < 2 ^ 32 }
-    ensures { IfOk result (λ all. (test : ℕ → Bool) → Tells R.is breaks.now test progress.place (record { run = run.now; count = count }) → progress.found ≡ next_of search.way search.from (places_with test (progress.place + 1)) → all ≡ next_of search.way search.from (places_with test ((progress.place + count) + 1))) }
+    ensures { IfOk result
+        (λ all. (test : ℕ → Bool) → Tells R.is breaks.now test progress.place
+        (record { run = run.now; count = count }) → progress.found
+        ≡ next_of search.way search.from (places_with test (progress.place + 1))
+        → all ≡ next_of search.way search.from (places_with test ((progress.place + count) + 1))) }
 {
     if any_on_bit(breaks) {
         let config = run.entry().copy(alloc)?;
@@ -199,7 +217,11 @@ fn along_runs<R: Register>(
 ) -> Result<Option<u32>, AllocError>
     requires size { HasSize (R.is first.now.register).size first.now.memory }
     requires room { counted (map part_of runs.now) < 2 ^ 32 }
-    ensures { IfOk result (λ all. (test : ℕ → Bool) → test 0 ≡ breaks_spec.is_met breaks.now no_events first.now.memory → TellAll R.is breaks.now test 0 (map part_of runs.now) → all ≡ next_of search.way search.from (places_with test (counted (map part_of runs.now) + 1))) }
+    ensures { IfOk result (λ all. (test : ℕ → Bool) → test 0
+        ≡ breaks_spec.is_met breaks.now no_events first.now.memory
+        → TellAll R.is breaks.now test 0 (map part_of runs.now)
+        → all ≡ next_of search.way search.from (places_with test
+        (counted (map part_of runs.now) + 1))) }
 {
     let none = StepEvents {
         first: None,
@@ -223,8 +245,13 @@ pub fn next_hit<R: Register>(
     breaks: &[Break],
     search: Search,
 ) -> Result<Option<u32>, AllocError>
-    ensures met { let b = R.is chart.old.start.register in let steps = steps_in (forest chart.old.cut) branch.now in IfOk result (λ place. IfSome place (IsNextHit search.way (is_hit b chart.old.value steps breaks.now) (length steps + 1) search.from)) }
-    ensures hit { let all = hits (R.is chart.old.start.register) chart.old.value (steps_in (forest chart.old.cut) branch.now) breaks.now in IfOk result (λ place. place ≡ next_of search.way search.from all) }
+    ensures met { let b = R.is chart.old.start.register in
+        let steps = steps_in (forest chart.old.cut) branch.now in
+        IfOk result (λ place. IfSome place (IsNextHit search.way
+        (is_hit b chart.old.value steps breaks.now) (length steps + 1) search.from)) }
+    ensures hit { let all = hits (R.is chart.old.start.register) chart.old.value
+        (steps_in (forest chart.old.cut) branch.now) breaks.now in
+        IfOk result (λ place. place ≡ next_of search.way search.from all) }
     ensures kept { IsKept chart.old chart.new }
 {
     let runs = settled(alloc, chart, branch)?;
@@ -238,8 +265,13 @@ fn settled<R: Register>(
     chart: &mut Chart<R>,
     branch: &Name,
 ) -> Result<Vec<(Arc<Run<R>>, u32)>, AllocError>
-    ensures tells { let b = R.is chart.old.start.register in let steps = steps_in (forest chart.old.cut) branch.now in (breaks : List Break) → IfOk result (λ runs. TellAll R.is breaks (is_hit b chart.old.value steps breaks) 0 (map part_of runs.items)) }
-    ensures counts { IfOk result (λ runs. counted (map part_of runs.items) ≡ length (steps_in (forest chart.old.cut) branch.now)) }
+    ensures tells { let b = R.is chart.old.start.register in
+        let steps = steps_in (forest chart.old.cut) branch.now in (breaks : List Break)
+        → IfOk result
+        (λ runs. TellAll R.is breaks (is_hit b chart.old.value steps breaks) 0
+        (map part_of runs.items)) }
+    ensures counts { IfOk result (λ runs. counted (map part_of runs.items)
+        ≡ length (steps_in (forest chart.old.cut) branch.now)) }
     ensures room { IfOk result (λ runs. counted (map part_of runs.items) < 2 ^ 32) }
     ensures kept { IsKept chart.old chart.new }
 {

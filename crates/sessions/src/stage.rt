@@ -72,7 +72,8 @@ impl<R: Register> Stage<R> {
         requires value { value < (R.is register).values }
         requires limits { AreLimits limits }
         requires fits { AllFit (R.is register) steps.now }
-        ensures world { IfOk result (λ stage. world_of R.is stage ≡ opening (R.is register) value limits (forests.opening steps.now)) }
+        ensures world { IfOk result (λ stage. world_of R.is stage
+            ≡ opening (R.is register) value limits (forests.opening steps.now)) }
         ensures err { IfErr result (IsRefused (opened limits steps.now)) }
     {
         let chart = Chart::new(alloc, register, value, limits, steps)?;
@@ -112,7 +113,8 @@ impl<R: Register> Stage<R> {
 
     /// Stores a run that was made elsewhere, as a chart does.
     pub(crate) fn install(&mut self, key: SegKey, run: Arc<Run<R>>) -> Installation
-        ensures installs { let old = self.old.chart in Installs R.PartialEq.eq (R.is old.start.register) old self.new.chart key (arc_value run) result }
+        ensures installs { let old = self.old.chart in Installs R.PartialEq.eq
+            (R.is old.start.register) old self.new.chart key (arc_value run) result }
         ensures world { world_of R.is self.new ≡ world_of R.is self.old }
     {
         self.chart.install(key, run)
@@ -127,7 +129,8 @@ impl<R: Register> Stage<R> {
         command: &Command,
     ) -> Result<Reply, AllocError>
         requires room { self.old.logged < self.old.limits.log }
-        ensures ok { IfOk result (λ reply. acted who if_at command.now (world_of R.is self.old) ≡ record { world = world_of R.is self.new; reply = reply }) }
+        ensures ok { IfOk result (λ reply. acted who if_at command.now (world_of R.is self.old)
+            ≡ record { world = world_of R.is self.new; reply = reply }) }
         ensures err { OnErr result (world_of R.is self.new ≡ world_of R.is self.old) }
         ensures memory { OnErr result (NoneDue who if_at command.now (world_of R.is self.old)) }
     {
@@ -142,7 +145,9 @@ impl<R: Register> Stage<R> {
         requires room { self.old.logged < self.old.limits.log }
         requires session { who < 16 }
         requires fits { spec.fits_command (R.is self.old.chart.start.register) command.now ≡ true }
-        ensures ok { let w = world_of R.is self.old in IfOk result (λ reply. answered (first_refusal (late_refusals who command.now w)) who command.now w ≡ record { world = world_of R.is self.new; reply = reply }) }
+        ensures ok { let w = world_of R.is self.old in IfOk result
+            (λ reply. answered (first_refusal (late_refusals who command.now w)) who command.now w
+            ≡ record { world = world_of R.is self.new; reply = reply }) }
         ensures err { OnErr result (world_of R.is self.new ≡ world_of R.is self.old) }
         ensures memory { OnErr result (NoneDueLate who command.now (world_of R.is self.old)) }
     {
@@ -171,7 +176,8 @@ impl<R: Register> Stage<R> {
 
     /// Why a command is refused before its branches are looked at, if it is.
     fn early_refusal(&self, who: u32, if_at: Option<u64>, command: &Command) -> Option<Refusal>
-        ensures { result ≡ first_refusal (early_refusals who if_at command.now (world_of R.is self.now)) }
+        ensures { result
+            ≡ first_refusal (early_refusals who if_at command.now (world_of R.is self.now)) }
     {
         if self.is_full() {
             return Some(Refusal::LogFull);

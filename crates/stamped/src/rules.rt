@@ -49,8 +49,10 @@ impl Stamped {
         values: u32,
         last: u32,
     ) -> Result<Layered<Stamped, S>, LayerError>
-        ensures refused { MatchResult result (λ _. stamped_refusal values last (S.is below) ≡ None) (λ e. stamped_refusal values last (S.is below) ≡ Some e) }
-        ensures built { IfOk result (λ r. ⟦<Layered<Stamped, S> as Behaves>⟧.is r ≡ layered (stamped_table values last) (S.is below)) }
+        ensures refused { MatchResult result (λ _. stamped_refusal values last (S.is below) ≡ None)
+            (λ e. stamped_refusal values last (S.is below) ≡ Some e) }
+        ensures built { IfOk result (λ r. ⟦<Layered<Stamped, S> as Behaves>⟧.is r
+            ≡ layered (stamped_table values last) (S.is below)) }
         ensures below { IfOk result (λ r. r.below ≡ below) }
     {
         if values < LEAST_VALUES || values > MOST_VALUES || last >= MOST_VALUES {

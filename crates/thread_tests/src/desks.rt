@@ -50,7 +50,8 @@ fn limits(log: u32) -> Limits
 /// A desk with no steps, and its first chair.
 fn opened(alloc: Global, log: u32) -> Result<(Desk<Safe>, Chair<Safe>), Refusal>
     requires { (0 < log) × (log ≤ 1048576) }
-    ensures { IfOk result (λ r. IsAt (λ _. safe_behaviour) r.0 r.1 × ((view r.1).shares ≡ every_share)) }
+    ensures { IfOk result (λ r. IsAt (λ _. safe_behaviour) r.0 r.1
+        × ((view r.1).shares ≡ every_share)) }
 {
     Desk::open(alloc, Safe, 0, limits(log), &[])
 }
@@ -59,7 +60,8 @@ fn opened(alloc: Global, log: u32) -> Result<(Desk<Safe>, Chair<Safe>), Refusal>
 fn halves(desk: &Desk<Safe>, mut chair: Chair<Safe>) -> (Chair<Safe>, Chair<Safe>)
     requires chair { IsAt (λ _. safe_behaviour) desk.now chair }
     requires every { (view chair).shares ≡ every_share }
-    ensures { IsAt (λ _. safe_behaviour) desk.now result.0 × IsAt (λ _. safe_behaviour) desk.now result.1 }
+    ensures { IsAt (λ _. safe_behaviour) desk.now result.0
+        × IsAt (λ _. safe_behaviour) desk.now result.1 }
 {
     let other = desk.split(&mut chair, 8);
     (chair, other)
@@ -104,7 +106,8 @@ fn asked(desk: &Desk<Safe>, chair: &mut Chair<Safe>) -> u64
 
 /// Takes another chair in; what the call promises of histories is forgotten.
 fn take_in(desk: &Desk<Safe>, chair: &mut Chair<Safe>, other: Chair<Safe>)
-    requires { IsAt (λ _. safe_behaviour) desk.now chair.old × IsAt (λ _. safe_behaviour) desk.now other }
+    requires { IsAt (λ _. safe_behaviour) desk.now chair.old
+        × IsAt (λ _. safe_behaviour) desk.now other }
     ensures { IsAt (λ _. safe_behaviour) desk.now chair.new }
 {
     desk.join(chair, other);

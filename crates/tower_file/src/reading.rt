@@ -133,7 +133,8 @@ fn steps_of(
     lines: &mut Parts<'_>,
 ) -> Result<Vec<Step>, FileFault>
     requires few { length lines.old ≤ 2 ^ 63 }
-    ensures read { Gives (λ steps. steps.items) result (spec.steps_of version tower.now 3 lines.old) }
+    ensures read { Gives
+        (λ steps. steps.items) result (spec.steps_of version tower.now 3 lines.old) }
     ensures memory { IfErr result (λ e. e.kind ≡ Memory
         → spec.HasStep (spec.steps_of version tower.now 3 lines.old)) }
 {

@@ -87,7 +87,8 @@ pub fn matrix(processes: u32, values: u32, tag: u32, stamp: u32) -> MatrixTower
     requires tags { tag < MOST_VALUES }
     requires stamps { stamp < MOST_VALUES }
     requires most { (stamp + 1) * ((tag + 1) * processes * values) ≤ MOST_VALUES }
-    requires cells { processes * processes * ((stamp + 1) * ((tag + 1) * processes * values)) ≤ MOST_CELLS }
+    requires cells { processes * processes * ((stamp + 1) * ((tag + 1) * processes * values))
+        ≤ MOST_CELLS }
     ensures { ⟦<MatrixTower as Behaves>⟧.is result ≡ matrix_tower processes values tag stamp }
 {
     let part = stamped((tag + 1) * processes * values, stamp);

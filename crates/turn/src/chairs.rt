@@ -47,7 +47,9 @@ impl<T: Counted + Drop> Turn<T> {
     pub fn with<W: Work<T>, R: Wait>(&self, rt: &R, chair: &mut Chair<T>, work: &mut W) -> W::Out
         requires { IsOf self.now chair.old }
         ensures turn { IsOf self.now chair.new }
-        ensures held { Holding T.by (λ before after. W.relation work.old before after result work.new) (view chair.old) (view chair.new) }
+        ensures held { Holding T.by
+            (λ before after. W.relation work.old before after result work.new) (view chair.old)
+            (view chair.new) }
         ensures owns { OwnsItsCalls T.by (view chair.new) }
     {
         let number = chair.shares.number() as u32;
@@ -72,8 +74,10 @@ impl<T: Counted + Drop> Turn<T> {
         requires some { 0 < shares }
         requires fewer { shares < count (view chair.old).shares }
         ensures turn { IsOf self.now chair.new × IsOf self.now result }
-        ensures kept { view chair.new ≡ kept T.by (next_least shares (view chair.old).shares) (view chair.old) }
-        ensures given { view result ≡ handed T.by (next_least shares (view chair.old).shares) (view chair.old) }
+        ensures kept { view chair.new ≡ kept T.by (next_least shares (view chair.old).shares)
+            (view chair.old) }
+        ensures given { view result ≡ handed T.by (next_least shares (view chair.old).shares)
+            (view chair.old) }
         ensures owns { OwnsItsCalls T.by (view chair.new) × OwnsItsCalls T.by (view result) }
     {
         chair.give(&self.table.shared, shares)
@@ -94,7 +98,9 @@ impl<T: Counted + Drop> Turn<T> {
     /// A chair that lacks one is refused, and turn and chair are handed back.
     pub fn close(self, chair: Chair<T>) -> Result<T, (ChairsOut, Turn<T>, Chair<T>)>
         requires { IsOf self chair }
-        ensures { MatchResult result (λ value. HasAll (view chair).shares × (T.entries value ≡ (view chair).seen)) (λ r. (¬ HasAll (view chair).shares) × (r.1 ≡ self) × (r.2 ≡ chair)) }
+        ensures { MatchResult result (λ value. HasAll (view chair).shares
+            × (T.entries value ≡ (view chair).seen)) (λ r. (¬ HasAll (view chair).shares)
+            × (r.1 ≡ self) × (r.2 ≡ chair)) }
     {
         if !chair.shares.is_every() {
             return Err((ChairsOut, self, chair));
@@ -117,8 +123,10 @@ impl<T: Counted + Drop> Chair<T> {
         requires fewer { shares < count (view self.old).shares }
         ensures same { IsSamePlace self.old.place self.new.place }
         ensures given_place { result.place.table_id ≡ self.old.place.table_id }
-        ensures kept { view self.new ≡ kept T.by (next_least shares (view self.old).shares) (view self.old) }
-        ensures given { view result ≡ handed T.by (next_least shares (view self.old).shares) (view self.old) }
+        ensures kept { view self.new ≡ kept T.by (next_least shares (view self.old).shares)
+            (view self.old) }
+        ensures given { view result ≡ handed T.by (next_least shares (view self.old).shares)
+            (view self.old) }
         ensures owns { OwnsItsCalls T.by (view self.new) × OwnsItsCalls T.by (view result) }
     {
         let given = self.shares.next_least(shares as usize);
@@ -132,7 +140,8 @@ impl<T: Counted + Drop> Chair<T> {
     }
 
     fn take_in(&mut self, board: &Board<T>, other: Chair<T>)
-        requires turn { IsTurn board.now.table_id self.old.place × IsTurn board.now.table_id other.place }
+        requires turn { IsTurn board.now.table_id self.old.place
+            × IsTurn board.now.table_id other.place }
         ensures same { IsSamePlace self.old.place self.new.place }
         ensures joined { IsJoined (view self.old) (view other) (view self.new) }
         ensures owns { OwnsItsCalls T.by (view self.new) }

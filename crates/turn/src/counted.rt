@@ -33,6 +33,8 @@ pub trait Work<T: Counted> {
     /// Works on the value for the chair of this number.
     fn work(&mut self, value: &mut T, number: u32) -> Self::Out
         requires { number < 16 }
-        ensures kept { relation self.old (T.entries value.old) (T.entries value.new) result self.new }
-        ensures added { (added : List T.Entry) × (T.entries value.new ≡ T.entries value.old ++ added) × AtMostOne T.by number added };
+        ensures kept { relation self.old (T.entries value.old)
+            (T.entries value.new) result self.new }
+        ensures added { (added : List T.Entry)
+            × (T.entries value.new ≡ T.entries value.old ++ added) × AtMostOne T.by number added };
 }

@@ -21,11 +21,13 @@ pub(crate) fn hold<T: Counted, W: Work<T>, R: Wait>(
 ) -> W::Out
     requires turn { IsTurn board.now.table_id place.old }
     requires idle { (place.old.me.1 ≡ []) × (place.old.me.0.holds ≡ false) }
-    requires number { (number ≡ spec_number place.old.me.0.shares) × (length place.old.me.0.shares ≡ 16) × (0 < count place.old.me.0.shares) }
+    requires number { (number ≡ spec_number place.old.me.0.shares)
+        × (length place.old.me.0.shares ≡ 16) × (0 < count place.old.me.0.shares) }
     ensures same { IsSamePlace place.old place.new }
     ensures idle { (place.new.me.1 ≡ []) × (place.new.me.0.holds ≡ false) }
     ensures owns { OwnsItsCalls T.by place.new.me.0 }
-    ensures held { Holding T.by (λ before after. W.relation work.old before after result work.new) place.old.me.0 place.new.me.0 }
+    ensures held { Holding T.by (λ before after. W.relation work.old before after result work.new)
+        place.old.me.0 place.new.me.0 }
 {
     grab(rt, board, place);
     let mut value = take(board, place);

@@ -52,7 +52,8 @@ pub(crate) fn publish<T: Counted, N: Added<T::Entry>>(
     requires turn { IsTurn board.now.table_id place.old }
     requires holds { place.old.me.0.holds ≡ true }
     requires own { has place.old.me.0.shares number ≡ true }
-    requires added { (T.entries value.now ≡ place.old.me.0.seen ++ N.added) × AtMostOne T.by number N.added }
+    requires added { (T.entries value.now ≡ place.old.me.0.seen ++ N.added)
+        × AtMostOne T.by number N.added }
     ensures same { IsSamePlace place.old place.new }
     ensures published { place.new.me ≡ (published place.old.me.0 N.added, place.old.me.1) }
 {
@@ -75,7 +76,8 @@ pub(crate) fn put<T: Counted>(board: &Board<T>, place: &mut Place<T>, value: T)
 pub(crate) fn release<T: Counted>(board: &Board<T>, place: &mut Place<T>)
     requires turn { IsTurn board.now.table_id place.old }
     requires holds { place.old.me.0.holds ≡ true }
-    requires full { (x : T) × (place.old.me.1 ≡ (0, Some x) ∷ []) × (T.entries x ≡ place.old.me.0.seen) }
+    requires full { (x : T) × (place.old.me.1 ≡ (0, Some x) ∷ [])
+        × (T.entries x ≡ place.old.me.0.seen) }
     ensures same { IsSamePlace place.old place.new }
     ensures released { place.new.me ≡ (released place.old.me.0, []) }
 {
@@ -103,7 +105,8 @@ pub(crate) fn split<T: Counted, G: Given>(
     requires own { (share : ℕ) → has G.given share ≡ true → has place.old.me.0.shares share ≡ true }
     ensures same { IsSamePlace place.old place.new }
     ensures kept { place.new.me ≡ (kept T.by G.given place.old.me.0, place.old.me.1) }
-    ensures given { (result.table_id ≡ place.old.table_id) × (result.me ≡ (handed T.by G.given place.old.me.0, [])) }
+    ensures given { (result.table_id ≡ place.old.table_id)
+        × (result.me ≡ (handed T.by G.given place.old.me.0, [])) }
 {
     let _ = given;
     board.split_seat::<SplitOff<T, G>>(place)

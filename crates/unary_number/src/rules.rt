@@ -47,8 +47,10 @@ impl Unary {
     /// processes or has depth 8, else as TooManyBits where there would be more than 4,096
     /// cells or 65,536 words.
     pub fn new<S: Register>(below: S, values: u32) -> Result<Layered<Unary, S>, LayerError>
-        ensures refused { MatchResult result (λ _. unary_refusal values (S.is below) ≡ None) (λ e. unary_refusal values (S.is below) ≡ Some e) }
-        ensures built { IfOk result (λ r. ⟦<Layered<Unary, S> as Behaves>⟧.is r ≡ layered (unary_table values (S.is below).processes) (S.is below)) }
+        ensures refused { MatchResult result (λ _. unary_refusal values (S.is below) ≡ None)
+            (λ e. unary_refusal values (S.is below) ≡ Some e) }
+        ensures built { IfOk result (λ r. ⟦<Layered<Unary, S> as Behaves>⟧.is r
+            ≡ layered (unary_table values (S.is below).processes) (S.is below)) }
         ensures below { IfOk result (λ r. r.below ≡ below) }
     {
         if !(LEAST_VALUES..=MOST_VALUES).contains(&values) {
@@ -67,7 +69,9 @@ impl Unary {
     /// A read by process `who` found 0 in bit `i`, behind which there are `left` more.
     fn look_above(&self, who: u32, i: u32, left: u32) -> Continuation<UnaryTask>
         requires { i + left < self.now.values }
-        ensures { (base : ℕ) (m : Memory) → settled base (looks_above (Value (self.now.values - 1)) who i left) m ≡ record { continuation = result; memory = m } }
+        ensures { (base : ℕ) (m : Memory) → settled base
+            (looks_above (Value (self.now.values - 1)) who i left) m
+            ≡ record { continuation = result; memory = m } }
     {
         if left == 0 {
             return Continuation::Ends(Outcome::Value(self.values - 1));
@@ -82,7 +86,8 @@ impl Unary {
 
 /// A write of `x` has the bits below bit `i` left to clear.
 fn clear_below(x: u32, i: u32) -> Continuation<UnaryTask>
-    ensures { (base : ℕ) (m : Memory) → settled base (clears_below x i) m ≡ record { continuation = result; memory = m } }
+    ensures { (base : ℕ) (m : Memory) → settled base (clears_below x i) m
+        ≡ record { continuation = result; memory = m } }
 {
     if i == 0 {
         return Continuation::Ends(Outcome::Written);

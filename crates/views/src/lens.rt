@@ -58,7 +58,9 @@ impl<R: Register> Lens<R> {
         run: &Arc<Run<R>>,
         count: u32,
     ) -> Result<Config<R>, AllocError>
-        ensures { IfOk result (λ c. IsAlike R.is c (part_end R.is (record { run = arc_value run.now; count = count }))) }
+        ensures { IfOk result
+            (λ c. IsAlike R.is c
+            (part_end R.is (record { run = arc_value run.now; count = count }))) }
     {
         if count as usize >= run.steps().len() {
             return ended(alloc, run, count);
@@ -75,7 +77,9 @@ impl<R: Register> Lens<R> {
         count: u32,
     ) -> Result<(u32, Config<R>), AllocError>
         ensures before { IfOk result (λ r. r.0 ≤ count) }
-        ensures config { IfOk result (λ r. IsAlike R.is r.1 (part_end R.is (record { run = arc_value run.now; count = r.0 }))) }
+        ensures config { IfOk result
+            (λ r. IsAlike R.is r.1
+            (part_end R.is (record { run = arc_value run.now; count = r.0 }))) }
     {
         if let Some(config) = self.find(alloc, run, count) {
             return Ok((count, config));
@@ -100,8 +104,10 @@ impl<R: Register> Lens<R> {
     ) -> Config<R>
         requires order { made ≤ count }
         requires within { count < length (arc_value run.now).steps }
-        requires from { IsAlike R.is config (part_end R.is (record { run = arc_value run.now; count = made })) }
-        ensures { IsAlike R.is result (part_end R.is (record { run = arc_value run.now; count = count })) }
+        requires from { IsAlike R.is config (part_end R.is
+            (record { run = arc_value run.now; count = made })) }
+        ensures { IsAlike R.is result
+            (part_end R.is (record { run = arc_value run.now; count = count })) }
     {
         let goes_back = count - made > 1 && self.has(run, count.saturating_add(1));
         let passed = if goes_back { STRETCH } else { 1 };
@@ -121,8 +127,10 @@ impl<R: Register> Lens<R> {
     ) -> Config<R>
         requires order { made ≤ count }
         requires within { count < length (arc_value run.now).steps }
-        requires from { IsAlike R.is config (part_end R.is (record { run = arc_value run.now; count = made })) }
-        ensures { IsAlike R.is result (part_end R.is (record { run = arc_value run.now; count = count })) }
+        requires from { IsAlike R.is config (part_end R.is
+            (record { run = arc_value run.now; count = made })) }
+        ensures { IsAlike R.is result
+            (part_end R.is (record { run = arc_value run.now; count = count })) }
     {
         let mut config = config;
         for place in made..count {
@@ -142,7 +150,9 @@ impl<R: Register> Lens<R> {
 
     /// The configuration of a place, where it is kept and there is memory for a copy. The place is then the last to go.
     fn find(&mut self, alloc: Global, run: &Arc<Run<R>>, count: u32) -> Option<Config<R>>
-        ensures { IfSome result (λ c. IsAlike R.is c (part_end R.is (record { run = arc_value run.now; count = count }))) }
+        ensures { IfSome result
+            (λ c. IsAlike R.is c
+            (part_end R.is (record { run = arc_value run.now; count = count }))) }
     {
         let Ok(place) = RunPlace::new(run, count) else {
             return None;
@@ -162,7 +172,8 @@ impl<R: Register> Lens<R> {
         count: u32,
         config: &Config<R>,
     ) -> Result<(), AllocError>
-        requires { IsAlike R.is config.now (part_end R.is (record { run = arc_value run.now; count = count })) }
+        requires { IsAlike R.is config.now (part_end R.is
+            (record { run = arc_value run.now; count = count })) }
         ensures { OnErr result (self.new ≡ self.old) }
     {
         let place = RunPlace::new(run, count)?;
@@ -177,7 +188,8 @@ impl<R: Register> Lens<R> {
 /// A configuration like the one that a run comes to.
 fn ended<R: Register>(alloc: Global, run: &Run<R>, count: u32) -> Result<Config<R>, AllocError>
     requires { length run.now.steps ≤ count }
-    ensures { IfOk result (λ c. IsAlike R.is c (part_end R.is (record { run = run.now; count = count }))) }
+    ensures { IfOk result
+        (λ c. IsAlike R.is c (part_end R.is (record { run = run.now; count = count }))) }
 {
     run.exit().copy(alloc)
 }

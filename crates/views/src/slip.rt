@@ -61,12 +61,16 @@ impl<R: Register> Slip<R> {
     /// stored.
     pub fn at(alloc: Global, chart: &mut Chart<R>, query: Query) -> Result<Slip<R>, Refusal>
         requires { spec.is_at_branch query ≡ true }
-        ensures page { IfOk result (λ slip. Some slip ≡ spec.page_of (R.is chart.old.start.register) chart.old.value (forest chart.old.cut) query) }
-        ensures found { OnOk result (looked query (forest chart.old.cut) ≡ Ok (forest chart.old.cut)) }
+        ensures page { IfOk result
+            (λ slip. Some slip ≡ spec.page_of (R.is chart.old.start.register) chart.old.value
+            (forest chart.old.cut) query) }
+        ensures found { OnOk result (looked query (forest chart.old.cut)
+            ≡ Ok (forest chart.old.cut)) }
         ensures err { IfErr result (IsRefused (looked query (forest chart.old.cut))) }
         ensures kept { IsKept chart.old chart.new }
         ensures judges { IfOk result (Judges (R.is chart.old.start.register)) }
-        ensures never_stray { NeverStray (R.is chart.old.start.register) → IfOk result ShowsNoStray }
+        ensures never_stray { NeverStray (R.is chart.old.start.register)
+            → IfOk result ShowsNoStray }
     {
         match query {
             Query::State { branch, place } => {
@@ -118,7 +122,8 @@ impl<R: Register> Slip<R> {
     pub fn page(&self, alloc: Global, lens: &mut Lens<R>) -> Result<Page, AllocError>
         ensures page { IfOk result (λ page. page ≡ self.now) }
         ensures judges { IfOk result (JudgesSome R.is) }
-        ensures never_stray { ((register : R) → NeverStray (R.is register)) → IfOk result ShowsNoStray }
+        ensures never_stray { ((register : R) → NeverStray (R.is register))
+            → IfOk result ShowsNoStray }
     {
         match &self.content {
             Content::Place(slip) => slip.page(alloc, lens),
@@ -150,8 +155,11 @@ fn place_slip<R: Register>(
     place: u32,
 ) -> Result<Slip<R>, Refusal>
     requires { JudgesFrom chart.old.value kind }
-    ensures page { IfOk result (λ slip. slip ≡ spec.place_page (R.is chart.old.start.register) chart.old.value kind branch place (steps_in (forest chart.old.cut) branch)) }
-    ensures found { OnOk result (look (forest chart.old.cut) branch place ≡ Ok (forest chart.old.cut)) }
+    ensures page { IfOk result
+        (λ slip. slip ≡ spec.place_page (R.is chart.old.start.register) chart.old.value kind branch
+        place (steps_in (forest chart.old.cut) branch)) }
+    ensures found { OnOk result (look (forest chart.old.cut) branch place
+        ≡ Ok (forest chart.old.cut)) }
     ensures err { IfErr result (IsRefused (look (forest chart.old.cut) branch place)) }
     ensures kept { IsKept chart.old chart.new }
     ensures judges { IfOk result (Judges (R.is chart.old.start.register)) }
@@ -178,11 +186,15 @@ fn settled<R: Register>(
     branch: &Name,
     place: u32,
 ) -> Result<(u32, Spot<R>), Refusal>
-    ensures spot { IfOk result (λ s. IsSpotOf R.is chart.old.start chart.old.value (steps_in (forest chart.old.cut) branch.now) place s.0 (map part_of s.1.runs.items)) }
-    ensures found { OnOk result (look (forest chart.old.cut) branch.now place ≡ Ok (forest chart.old.cut)) }
+    ensures spot { IfOk result
+        (λ s. IsSpotOf R.is chart.old.start chart.old.value
+        (steps_in (forest chart.old.cut) branch.now) place s.0 (map part_of s.1.runs.items)) }
+    ensures found { OnOk result (look (forest chart.old.cut) branch.now place
+        ≡ Ok (forest chart.old.cut)) }
     ensures err { IfErr result (IsRefused (look (forest chart.old.cut) branch.now place)) }
     ensures kept { IsKept chart.old chart.new }
-    ensures fit { AllFit (R.is chart.old.start.register) (steps_in (forest chart.old.cut) branch.now) }
+    ensures fit { AllFit (R.is chart.old.start.register)
+        (steps_in (forest chart.old.cut) branch.now) }
     ensures within { chart.old.value < (R.is chart.old.start.register).values }
 {
     chart.steps_fit();
@@ -199,7 +211,10 @@ fn steps_slip<R: Register>(
     chart: &Chart<R>,
     branch: Name,
 ) -> Result<Slip<R>, Refusal>
-    ensures page { IfOk result (λ slip. slip ≡ spec_page.Steps (record { branch = branch; steps = steps_in (forest chart.now.cut) branch })) }
+    ensures page { IfOk result
+        (λ slip. slip
+        ≡ spec_page.Steps
+        (record { branch = branch; steps = steps_in (forest chart.now.cut) branch })) }
     ensures found { OnOk result (look (forest chart.now.cut) branch 0 ≡ Ok (forest chart.now.cut)) }
     ensures err { IfErr result (IsRefused (look (forest chart.now.cut) branch 0)) }
     ensures judges { IfOk result (Judges (R.is chart.now.start.register)) }

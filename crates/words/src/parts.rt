@@ -58,7 +58,8 @@ impl<'a> Parts<'a> {
 
 /// The first part of a text, and what is left after the separator behind it.
 fn first_part(text: &[u8], separator: u8) -> (&[u8], Option<&[u8]>)
-    ensures { parts separator text.now ≡ result.0.now ∷ parts_left separator (option_map (λ t. t.now) result.1) }
+    ensures { parts separator text.now ≡ result.0.now ∷ parts_left separator
+        (option_map (λ t. t.now) result.1) }
 {
     match text.find_byte(separator) {
         None => (text, None),

@@ -23,7 +23,8 @@ pub struct Crew;
 
 /// A deque into which the numbers of the jobs were dealt, in order.
 fn deal(alloc: Global, jobs: usize) -> Result<Owner, AllocError>
-    ensures { IfOk result (λ owner. (worker_flavor owner ≡ 0) × (worker_view owner ≡ hand 8 jobs [])) }
+    ensures { IfOk result (λ owner. (worker_flavor owner ≡ 0)
+        × (worker_view owner ≡ hand 8 jobs [])) }
 {
     let mut owner = Owner::fifo_as(alloc, jobs)?;
     for index in 0..jobs {
@@ -90,14 +91,16 @@ where
             requires pass { IsPassOf (stealer_deque thief.deque) thief.pass }
             requires room { length jobs.now ≤ vec_capacity thief.tray }
             requires tray { HasTray J.gives jobs.now (view thief.pass) thief.tray.items }
-            ensures { IsPassOf (stealer_deque thief.deque) result.pass × HasTray J.gives jobs.entry.now (view result.pass) result.tray.items }
+            ensures { IsPassOf (stealer_deque thief.deque) result.pass
+                × HasTray J.gives jobs.entry.now (view result.pass) result.tray.items }
         { steal_all(rt, alloc, gate, jobs, thief) },
         move ||
             requires sync { IsSync R.row × IsSync J.row × IsSync G.row × IsSend J.Run.row }
             requires fifo { worker_flavor owner ≡ 0 }
             requires parts { (0 < thieves) × (thieves - 1 < (worker_view owner).parts) }
             requires ready { IsAtWork J.gives jobs.now (worker_view owner) slots.items }
-            ensures { SameOwner owner result.0 × IsAtWork J.gives jobs.entry.now (worker_view result.0) result.1.items }
+            ensures { SameOwner owner result.0 × IsAtWork J.gives jobs.entry.now
+                (worker_view result.0) result.1.items }
         { share(rt, alloc, gate, jobs, thieves - 1, owner, slots) },
     );
     owner.absorb::<ComesBack>(thief.pass);

@@ -36,9 +36,11 @@ pub(crate) fn hire<R: Drop>(
     requires { 1 < (worker_view owner.old).parts }
     ensures same { SameWorker owner.old owner.new }
     ensures hired { let v = worker_view owner.old in
-        IfOk result (λ t. IsPassOf (worker_deque owner.old) t.pass × (stealer_deque t.deque ≡ worker_deque owner.old)
+        IfOk result (λ t. IsPassOf (worker_deque owner.old) t.pass
+        × (stealer_deque t.deque ≡ worker_deque owner.old)
         × (view t.pass ≡ hand 1 v.count []) × (t.tray.items ≡ []) × (vec_capacity t.tray ≡ jobs)) }
-    ensures left { let v = worker_view owner.old in OnOk result (worker_view owner.new ≡ hand (v.parts - 1) v.count v.taken) }
+    ensures left { let v = worker_view owner.old in OnOk result
+        (worker_view owner.new ≡ hand (v.parts - 1) v.count v.taken) }
     ensures alone { OnErr result (worker_view owner.new ≡ worker_view owner.old) }
 {
     let deque = owner.stealer()?;

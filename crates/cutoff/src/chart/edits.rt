@@ -28,10 +28,13 @@ impl<R: Register> Chart<R> {
         step: Step,
     ) -> Result<(), Refusal>
         requires { fits_step (R.is self.old.start.register) step ≡ true }
-        ensures ok { OnOk result (insert self.old.cut.limits (forest self.old.cut) branch.now place step ≡ Ok (forest self.new.cut)) }
-        ensures err { IfErr result (IsRefused (insert self.old.cut.limits (forest self.old.cut) branch.now place step)) }
+        ensures ok { OnOk result (insert self.old.cut.limits
+            (forest self.old.cut) branch.now place step ≡ Ok (forest self.new.cut)) }
+        ensures err { IfErr result
+            (IsRefused (insert self.old.cut.limits (forest self.old.cut) branch.now place step)) }
         ensures unchanged { OnErr result (self.new ≡ self.old) }
-        ensures notes { OnOk result (KeepsNotesBut self.old.cut self.new.cut (CanGrowAt self.old.cut branch.now place)) }
+        ensures notes { OnOk result (KeepsNotesBut self.old.cut self.new.cut
+            (CanGrowAt self.old.cut branch.now place)) }
         ensures others { OnOk result (KeepsUnchanged self.old.cut self.new.cut) }
         ensures cut { OnOk result (IsCut self.new.cut) }
         ensures limits { self.new.cut.limits ≡ self.old.cut.limits }
@@ -47,10 +50,13 @@ impl<R: Register> Chart<R> {
     ///
     /// NoBranch; NoPlace where the branch has no cell there. Then nothing is changed.
     pub fn remove(&mut self, branch: &Name, place: u32) -> Result<(), Refusal>
-        ensures ok { OnOk result (remove_cell (forest self.old.cut) branch.now place ≡ Ok (forest self.new.cut)) }
-        ensures err { IfErr result (λ e. remove_cell (forest self.old.cut) branch.now place ≡ Err e) }
+        ensures ok { OnOk result (remove_cell (forest self.old.cut) branch.now place
+            ≡ Ok (forest self.new.cut)) }
+        ensures err { IfErr result (λ e. remove_cell (forest self.old.cut) branch.now place
+            ≡ Err e) }
         ensures unchanged { OnErr result (self.new ≡ self.old) }
-        ensures notes { OnOk result (KeepsNotesBut self.old.cut self.new.cut (HoldsCellAt self.old.cut branch.now place)) }
+        ensures notes { OnOk result (KeepsNotesBut self.old.cut self.new.cut
+            (HoldsCellAt self.old.cut branch.now place)) }
         ensures cut { OnOk result (IsCut self.new.cut) }
         ensures limits { self.new.cut.limits ≡ self.old.cut.limits }
         ensures start { self.new.start ≡ self.old.start }
@@ -67,10 +73,13 @@ impl<R: Register> Chart<R> {
     /// NoBranch; NoPlace where the branch has no cell there. Then nothing is changed.
     pub fn replace(&mut self, branch: &Name, place: u32, step: Step) -> Result<(), Refusal>
         requires { fits_step (R.is self.old.start.register) step ≡ true }
-        ensures ok { OnOk result (replace_step (forest self.old.cut) branch.now place step ≡ Ok (forest self.new.cut)) }
-        ensures err { IfErr result (λ e. replace_step (forest self.old.cut) branch.now place step ≡ Err e) }
+        ensures ok { OnOk result (replace_step (forest self.old.cut) branch.now place step
+            ≡ Ok (forest self.new.cut)) }
+        ensures err { IfErr result (λ e. replace_step (forest self.old.cut) branch.now place step
+            ≡ Err e) }
         ensures unchanged { OnErr result (self.new ≡ self.old) }
-        ensures notes { OnOk result (KeepsNotesBut self.old.cut self.new.cut (HoldsCellAt self.old.cut branch.now place)) }
+        ensures notes { OnOk result (KeepsNotesBut self.old.cut self.new.cut
+            (HoldsCellAt self.old.cut branch.now place)) }
         ensures cut { OnOk result (IsCut self.new.cut) }
         ensures limits { self.new.cut.limits ≡ self.old.cut.limits }
         ensures start { self.new.start ≡ self.old.start }
@@ -92,10 +101,13 @@ impl<R: Register> Chart<R> {
         place: u32,
         name: Name,
     ) -> Result<(), Refusal>
-        ensures ok { OnOk result (fork self.old.cut.limits (forest self.old.cut) branch.now place name ≡ Ok (forest self.new.cut)) }
-        ensures err { IfErr result (IsRefused (fork self.old.cut.limits (forest self.old.cut) branch.now place name)) }
+        ensures ok { OnOk result (fork self.old.cut.limits
+            (forest self.old.cut) branch.now place name ≡ Ok (forest self.new.cut)) }
+        ensures err { IfErr result
+            (IsRefused (fork self.old.cut.limits (forest self.old.cut) branch.now place name)) }
         ensures unchanged { OnErr result (self.new ≡ self.old) }
-        ensures notes { OnOk result (KeepsNotesBut self.old.cut self.new.cut (IsParted self.old.cut branch.now place)) }
+        ensures notes { OnOk result (KeepsNotesBut self.old.cut self.new.cut
+            (IsParted self.old.cut branch.now place)) }
         ensures cut { OnOk result (IsCut self.new.cut) }
         ensures limits { self.new.cut.limits ≡ self.old.cut.limits }
         ensures start { self.new.start ≡ self.old.start }
@@ -110,8 +122,10 @@ impl<R: Register> Chart<R> {
     ///
     /// NoBranch; Full where so many more cells may not be made; Memory. Then nothing is changed.
     pub fn detach(&mut self, alloc: Global, branch: &Name) -> Result<(), Refusal>
-        ensures ok { OnOk result (detach self.old.cut.limits (forest self.old.cut) branch.now ≡ Ok (forest self.new.cut)) }
-        ensures err { IfErr result (IsRefused (detach self.old.cut.limits (forest self.old.cut) branch.now)) }
+        ensures ok { OnOk result (detach self.old.cut.limits (forest self.old.cut) branch.now
+            ≡ Ok (forest self.new.cut)) }
+        ensures err { IfErr result
+            (IsRefused (detach self.old.cut.limits (forest self.old.cut) branch.now)) }
         ensures unchanged { OnErr result (self.new ≡ self.old) }
         ensures notes { OnOk result (KeepsAllNotes self.old.cut self.new.cut) }
         ensures cut { OnOk result (IsCut self.new.cut) }
@@ -128,7 +142,8 @@ impl<R: Register> Chart<R> {
     ///
     /// NoBranch; LastBranch where it is the only one. Then nothing is changed.
     pub fn drop_branch(&mut self, branch: &Name) -> Result<(), Refusal>
-        ensures ok { OnOk result (drop_branch (forest self.old.cut) branch.now ≡ Ok (forest self.new.cut)) }
+        ensures ok { OnOk result (drop_branch (forest self.old.cut) branch.now
+            ≡ Ok (forest self.new.cut)) }
         ensures err { IfErr result (λ e. drop_branch (forest self.old.cut) branch.now ≡ Err e) }
         ensures unchanged { OnErr result (self.new ≡ self.old) }
         ensures notes { OnOk result (KeepsAllNotes self.old.cut self.new.cut) }

@@ -57,7 +57,8 @@ impl<R: Register> Neighbours<R> {
     /// Where one of them lies.
     fn place(&self, side: Side) -> Place
         ensures inside { LiesIn result (R.is self.now.register).size self.now.memory }
-        ensures holds { R.Holds self.now.register (part result (R.is self.now.register).size self.now.memory) }
+        ensures holds { R.Holds self.now.register (part result
+            (R.is self.now.register).size self.now.memory) }
         ensures side { (result ≡ origin) ⊎ (result ≡ (R.is self.now.register).size) }
     {
         match side {
@@ -71,7 +72,8 @@ impl<R: Register> Neighbours<R> {
         requires fits { (R.is self.old.register).suits who op ≡ true }
         requires idle { stack.old ≡ [] }
         ensures register { self.new.register ≡ self.old.register }
-        ensures stands { StandsUnlessEnded (R.is self.old.register) (R.Reaches self.old.register) who stack.new result }
+        ensures stands { StandsUnlessEnded (R.is self.old.register)
+            (R.Reaches self.old.register) who stack.new result }
     {
         let at = self.place(side);
         self.register.begin_on(&mut self.store, at, who, op, stack)
@@ -81,7 +83,8 @@ impl<R: Register> Neighbours<R> {
     fn go(&mut self, side: Side, who: u32, stack: &mut FlatStack) -> Option<Outcome>
         requires { Stands (R.is self.old.register) (R.Reaches self.old.register) who stack.old }
         ensures register { self.new.register ≡ self.old.register }
-        ensures stands { StandsUnlessEnded (R.is self.old.register) (R.Reaches self.old.register) who stack.new result }
+        ensures stands { StandsUnlessEnded (R.is self.old.register)
+            (R.Reaches self.old.register) who stack.new result }
     {
         let at = self.place(side);
         let progress = self

@@ -22,8 +22,10 @@ impl<T: Drop> Trie<T> {
     ///
     /// NoBranch; Full where so many more cells may not be made; Memory. Then nothing is changed.
     pub fn detach(&mut self, alloc: Global, branch: &Name) -> Result<(), Refusal>
-        ensures ok { OnOk result (detach self.old.limits (forest self.old) branch.now ≡ Ok (forest self.new)) }
-        ensures err { IfErr result (IsRefused (detach self.old.limits (forest self.old) branch.now)) }
+        ensures ok { OnOk result (detach self.old.limits (forest self.old) branch.now
+            ≡ Ok (forest self.new)) }
+        ensures err { IfErr result
+            (IsRefused (detach self.old.limits (forest self.old) branch.now)) }
         ensures unchanged { OnErr result (self.new ≡ self.old) }
         ensures notes { OnOk result (KeepsAllNotes self.old self.new) }
         ensures cut { OnOk result (IsCut self.new) }
@@ -44,7 +46,8 @@ impl<T: Drop> Trie<T> {
     /// Gives the branch at an index cells of its own, which fit.
     fn detach_at(&mut self, alloc: Global, index: usize) -> Result<(), AllocError>
         requires index { index < length self.old.strands }
-        requires room { self.old.made + length (slots_in (forest self.old).branches index) ≤ self.old.limits.cells }
+        requires room { self.old.made + length (slots_in (forest self.old).branches index)
+            ≤ self.old.limits.cells }
         ensures ok { OnOk result (IsDetached self.old self.new index) }
         ensures err { OnErr result (self.new ≡ self.old) }
     {
@@ -59,8 +62,11 @@ impl<T: Drop> Trie<T> {
 
     /// The segments of the branch at an index again, with new cells.
     fn copies(&self, alloc: Global, index: usize) -> Result<Vec<Segment<T>>, AllocError>
-        requires { self.now.made + length (slots_in (forest self.now).branches index) ≤ self.now.limits.cells }
-        ensures { IfOk result (λ copies. AreCopies (piece_at self.now.pieces) self.now.made (keys_in self.now.strands index) copies.items) }
+        requires { self.now.made + length (slots_in (forest self.now).branches index)
+            ≤ self.now.limits.cells }
+        ensures { IfOk result
+            (λ copies. AreCopies (piece_at self.now.pieces) self.now.made
+            (keys_in self.now.strands index) copies.items) }
     {
         let mut copies = Vec::new(alloc);
         let mut cell = self.made;
@@ -79,7 +85,8 @@ fn put_all<T: Drop>(
     segments: &mut Slab<Segment<T>>,
     copies: Vec<Segment<T>>,
 ) -> Result<Vec<SegKey>, AllocError>
-    ensures ok { IfOk result (λ path. ArePut (get segments.old) (get segments.new) copies.items path.items) }
+    ensures ok { IfOk result
+        (λ path. ArePut (get segments.old) (get segments.new) copies.items path.items) }
     ensures err { OnErr result (segments.new.slots ≡ segments.old.slots) }
 {
     segments.reserve(copies.len())?;

@@ -50,7 +50,8 @@ pub(super) fn divide<T: Drop>(
     ensures below { piece_of (get segments.new key) ≡ Some (piece below.items None) }
     ensures above { get segments.new result ≡ Some above }
     ensures others { (j : ℕ) → j ≢ key → j ≢ result → get segments.new j ≡ get segments.old j }
-    ensures strands { map strand_of branches.new.entries ≡ map (divided_strand key result) (map strand_of branches.old.entries) }
+    ensures strands { map strand_of branches.new.entries
+        ≡ map (divided_strand key result) (map strand_of branches.old.entries) }
     ensures spare { spare branches.new ≡ spare branches.old }
 {
     let fresh = segments.insert_reserved(above);

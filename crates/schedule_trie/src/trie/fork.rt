@@ -33,10 +33,13 @@ impl<T: Drop> Trie<T> {
         place: u32,
         name: Name,
     ) -> Result<(), Refusal>
-        ensures ok { OnOk result (fork self.old.limits (forest self.old) branch.now place name ≡ Ok (forest self.new)) }
-        ensures err { IfErr result (IsRefused (fork self.old.limits (forest self.old) branch.now place name)) }
+        ensures ok { OnOk result (fork self.old.limits (forest self.old) branch.now place name
+            ≡ Ok (forest self.new)) }
+        ensures err { IfErr result
+            (IsRefused (fork self.old.limits (forest self.old) branch.now place name)) }
         ensures unchanged { OnErr result (self.new ≡ self.old) }
-        ensures notes { OnOk result (KeepsNotesBut self.old self.new (IsParted self.old branch.now place)) }
+        ensures notes { OnOk result (KeepsNotesBut self.old self.new
+            (IsParted self.old branch.now place)) }
         ensures cut { OnOk result (IsCut self.new) }
         ensures limits { self.new.limits ≡ self.old.limits }
     {
@@ -112,7 +115,9 @@ impl<T: Drop> Trie<T> {
         requires count { count ≤ length (keys_in self.old.strands index) }
         requires name { index_of (forest self.old).branches name ≡ None }
         requires room { length self.old.strands < self.old.limits.branches }
-        ensures ok { OnOk result (IsForked self.old self.new index (length (line (piece_at self.old.pieces) (take count (keys_in self.old.strands index)))) name) }
+        ensures ok { OnOk result (IsForked self.old self.new index
+            (length (line (piece_at self.old.pieces) (take count (keys_in self.old.strands index))))
+            name) }
         ensures err { OnErr result (self.new ≡ self.old) }
     {
         let keys = Vec::from_slice(alloc, &self.keys_at(index)[..count])?;
@@ -132,10 +137,14 @@ impl<T: Drop> Trie<T> {
     ) -> Result<(), AllocError>
         requires next { count < length (keys_in self.old.strands index) }
         requires some { 0 < rest }
-        requires inside { rest < length (slots_of (piece_at self.old.pieces (slice_index (keys_in self.old.strands index) count))) }
+        requires inside { rest
+            < length (slots_of (piece_at self.old.pieces
+            (slice_index (keys_in self.old.strands index) count))) }
         requires name { index_of (forest self.old).branches name ≡ None }
         requires room { length self.old.strands < self.old.limits.branches }
-        ensures ok { OnOk result (IsForked self.old self.new index (length (line (piece_at self.old.pieces) (take count (keys_in self.old.strands index))) + rest) name) }
+        ensures ok { OnOk result (IsForked self.old self.new index
+            (length (line (piece_at self.old.pieces) (take count
+            (keys_in self.old.strands index))) + rest) name) }
         ensures err { OnErr result (self.new ≡ self.old) }
     {
         let mut keys = copy_with_room(alloc, &self.keys_at(index)[..count])?;
@@ -204,7 +213,8 @@ fn push_reserved(keys: &mut Vec<SegKey>, key: SegKey)
 /// Puts a branch into a map that has room for it.
 fn insert_reserved(branches: &mut IndexMap<Name, Vec<SegKey>>, name: Name, keys: Vec<SegKey>)
     requires { 0 < spare branches.old }
-    ensures { branches.new.entries ≡ insert_entry (pointwise nat_eq) branches.old.entries name keys }
+    ensures { branches.new.entries ≡ insert_entry (pointwise nat_eq) branches.old.entries name
+        keys }
 {
     branches.insert(name, keys).unwrap();
 }

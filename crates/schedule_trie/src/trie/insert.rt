@@ -32,10 +32,13 @@ impl<T: Drop> Trie<T> {
         place: u32,
         step: Step,
     ) -> Result<(), Refusal>
-        ensures ok { OnOk result (insert self.old.limits (forest self.old) branch.now place step ≡ Ok (forest self.new)) }
-        ensures err { IfErr result (IsRefused (insert self.old.limits (forest self.old) branch.now place step)) }
+        ensures ok { OnOk result (insert self.old.limits (forest self.old) branch.now place step
+            ≡ Ok (forest self.new)) }
+        ensures err { IfErr result
+            (IsRefused (insert self.old.limits (forest self.old) branch.now place step)) }
         ensures unchanged { OnErr result (self.new ≡ self.old) }
-        ensures notes { OnOk result (KeepsNotesBut self.old self.new (CanGrowAt self.old branch.now place)) }
+        ensures notes { OnOk result (KeepsNotesBut self.old self.new
+            (CanGrowAt self.old branch.now place)) }
         ensures others { OnOk result (KeepsUnchanged self.old self.new) }
         ensures cut { OnOk result (IsCut self.new) }
         ensures limits { self.new.limits ≡ self.old.limits }

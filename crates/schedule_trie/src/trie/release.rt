@@ -18,7 +18,8 @@ pub(super) fn release<T: Drop>(
     path: &[SegKey],
 )
     requires { SharesAbove (strand [] path.now ∷ map strand_of branches.now.entries) }
-    ensures { IsReleased (get segments.old) (get segments.new) (map strand_of branches.now.entries) path.now }
+    ensures { IsReleased (get segments.old) (get segments.new)
+        (map strand_of branches.now.entries) path.now }
 {
     // A branch that has a segment has all above it too.
     for place in (0..path.len()).rev() {

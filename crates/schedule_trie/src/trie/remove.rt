@@ -18,10 +18,12 @@ impl<T: Drop> Trie<T> {
     ///
     /// NoBranch; NoPlace where the branch has no cell there. Then nothing is changed.
     pub fn remove(&mut self, branch: &Name, place: u32) -> Result<(), Refusal>
-        ensures ok { OnOk result (remove_cell (forest self.old) branch.now place ≡ Ok (forest self.new)) }
+        ensures ok { OnOk result (remove_cell (forest self.old) branch.now place
+            ≡ Ok (forest self.new)) }
         ensures err { IfErr result (λ e. remove_cell (forest self.old) branch.now place ≡ Err e) }
         ensures unchanged { OnErr result (self.new ≡ self.old) }
-        ensures notes { OnOk result (KeepsNotesBut self.old self.new (HoldsCellAt self.old branch.now place)) }
+        ensures notes { OnOk result (KeepsNotesBut self.old self.new
+            (HoldsCellAt self.old branch.now place)) }
         ensures cut { OnOk result (IsCut self.new) }
         ensures limits { self.new.limits ≡ self.old.limits }
     {
@@ -68,7 +70,8 @@ impl<T: Drop> Trie<T> {
 
 /// Takes a key out of each branch's path.
 fn remove_key(branches: &mut IndexMap<Name, Vec<SegKey>>, key: SegKey)
-    ensures strands { map strand_of branches.new.entries ≡ map (strand_without key) (map strand_of branches.old.entries) }
+    ensures strands { map strand_of branches.new.entries
+        ≡ map (strand_without key) (map strand_of branches.old.entries) }
 {
     for index in 0..branches.len() {
         remove_from(&mut branches[index], key);

@@ -160,7 +160,10 @@ fn hit_from<R: Register>(
     breaks: &[Break],
     way: Way,
 ) -> Result<Option<Cursor>, AllocError>
-    ensures hit { let all = hits (R.is chart.old.start.register) chart.old.value (steps_in (forest chart.old.cut) cursor.now.branch) breaks.now in IfOk result (λ hit. hit ≡ option_map (spec.cursor cursor.now.branch) (next_of way cursor.now.place all)) }
+    ensures hit { let all = hits (R.is chart.old.start.register) chart.old.value
+        (steps_in (forest chart.old.cut) cursor.now.branch) breaks.now in
+        IfOk result (λ hit. hit ≡ option_map (spec.cursor cursor.now.branch)
+        (next_of way cursor.now.place all)) }
     ensures kept { IsKept chart.old chart.new }
 {
     let search = Search {

@@ -29,7 +29,8 @@ impl<R: Register> Stage<R> {
     ) -> Result<Reply, Refusal>
         requires room { self.old.logged < self.old.limits.log }
         requires fits { fits_step (R.is self.old.chart.start.register) step ≡ true }
-        ensures { (who : ℕ) → Does R.is who (Command.Insert branch.now place step) self.old self.new result }
+        ensures { (who : ℕ)
+            → Does R.is who (Command.Insert branch.now place step) self.old self.new result }
     {
         let shifted = shifted(&self.chart, &self.cursors, branch, place, Shift::Up);
         let Ok(cursors) = shifted else {
@@ -63,7 +64,8 @@ impl<R: Register> Stage<R> {
     /// NoBranch; NoPlace.
     pub(super) fn remove(&mut self, branch: &Name, place: u32) -> Result<Reply, Refusal>
         requires room { self.old.logged < self.old.limits.log }
-        ensures { (who : ℕ) → Does R.is who (Command.Remove branch.now place) self.old self.new result }
+        ensures { (who : ℕ)
+            → Does R.is who (Command.Remove branch.now place) self.old self.new result }
     {
         let shifted = shifted(&self.chart, &self.cursors, branch, place, Shift::Down);
         let Ok(cursors) = shifted else {
@@ -100,7 +102,8 @@ impl<R: Register> Stage<R> {
     ) -> Result<Reply, Refusal>
         requires room { self.old.logged < self.old.limits.log }
         requires fits { fits_step (R.is self.old.chart.start.register) step ≡ true }
-        ensures { (who : ℕ) → Does R.is who (Command.Replace branch.now place step) self.old self.new result }
+        ensures { (who : ℕ)
+            → Does R.is who (Command.Replace branch.now place step) self.old self.new result }
     {
         self.chart.replace(branch, place, step)?;
         Ok(self.count_edit())
@@ -119,7 +122,8 @@ impl<R: Register> Stage<R> {
         name: &Name,
     ) -> Result<Reply, Refusal>
         requires room { self.old.logged < self.old.limits.log }
-        ensures { (who : ℕ) → Does R.is who (Command.Fork branch.now place name.now) self.old self.new result }
+        ensures { (who : ℕ)
+            → Does R.is who (Command.Fork branch.now place name.now) self.old self.new result }
     {
         self.chart.fork(alloc, branch, place, *name)?;
         Ok(self.count_edit())
@@ -159,7 +163,8 @@ impl<R: Register> Stage<R> {
     /// Counts an accepted edit.
     fn count_edit(&mut self) -> Reply
         requires { self.old.logged < self.old.limits.log }
-        ensures new { self.new ≡ record self.old { edits = self.old.edits + 1; logged = self.old.logged + 1 } }
+        ensures new { self.new
+            ≡ record self.old { edits = self.old.edits + 1; logged = self.old.logged + 1 } }
         ensures reply { result ≡ Reply.Edited (self.old.edits + 1) }
     {
         self.edits += 1;

@@ -31,8 +31,10 @@ impl<R: Register> Stage<R> {
     /// NoSession for the cursor of a session that hasn't joined; NoBranch; NoPlace where the branch is shorter; Memory. What commands
     /// see is as before in any case.
     pub(crate) fn look(&mut self, alloc: Global, query: Query) -> Result<Slip<R>, Refusal>
-        ensures page { IfOk result (λ slip. Some slip ≡ spec.shown_in (world_of R.is self.old) query) }
-        ensures found { let w = world_of R.is self.old in OnOk result (spec.looked w query ≡ Ok w.forest) }
+        ensures page { IfOk result
+            (λ slip. Some slip ≡ spec.shown_in (world_of R.is self.old) query) }
+        ensures found { let w = world_of R.is self.old in
+            OnOk result (spec.looked w query ≡ Ok w.forest) }
         ensures err { IfErr result (IsRefused (spec.looked (world_of R.is self.old) query)) }
         ensures world { world_of R.is self.new ≡ world_of R.is self.old }
     {
@@ -52,8 +54,10 @@ impl<R: Register> Stage<R> {
     /// Looks at one branch.
     fn look_at_branch(&mut self, alloc: Global, query: Query) -> Result<Slip<R>, Refusal>
         requires { is_at_branch query ≡ true }
-        ensures page { IfOk result (λ slip. Some slip ≡ spec.shown_in (world_of R.is self.old) query) }
-        ensures found { let w = world_of R.is self.old in OnOk result (spec.looked w query ≡ Ok w.forest) }
+        ensures page { IfOk result
+            (λ slip. Some slip ≡ spec.shown_in (world_of R.is self.old) query) }
+        ensures found { let w = world_of R.is self.old in
+            OnOk result (spec.looked w query ≡ Ok w.forest) }
         ensures err { IfErr result (IsRefused (spec.looked (world_of R.is self.old) query)) }
         ensures world { world_of R.is self.new ≡ world_of R.is self.old }
     {
@@ -62,7 +66,9 @@ impl<R: Register> Stage<R> {
 
     /// Looks at all branches.
     fn look_at_branches(&self, alloc: Global) -> Result<Slip<R>, Refusal>
-        ensures page { IfOk result (λ slip. slip ≡ page.Branches (branches_page self.now.edits (forest self.now.chart.cut))) }
+        ensures page { IfOk result
+            (λ slip. slip
+            ≡ page.Branches (branches_page self.now.edits (forest self.now.chart.cut))) }
         ensures err { IfErr result (λ e. e ≡ Refusal.Memory) }
     {
         let Ok(page) = BranchesPage::new(alloc, self.edits, &self.chart) else {
@@ -73,9 +79,13 @@ impl<R: Register> Stage<R> {
 
     /// Looks at where a session stands, and at its breaks.
     fn look_at_cursor(&self, alloc: Global, who: u32) -> Result<Slip<R>, Refusal>
-        ensures page { IfOk result (λ slip. Some slip ≡ spec.cursor_page (cursor_at self.now.cursors who) (breaks_at self.now.breaks who)) }
-        ensures found { let w = world_of R.is self.now in OnOk result (spec.looked w (Query.Cursor who) ≡ Ok w.forest) }
-        ensures err { IfErr result (IsRefused (spec.looked (world_of R.is self.now) (Query.Cursor who))) }
+        ensures page { IfOk result
+            (λ slip. Some slip ≡ spec.cursor_page (cursor_at self.now.cursors who)
+            (breaks_at self.now.breaks who)) }
+        ensures found { let w = world_of R.is self.now in
+            OnOk result (spec.looked w (Query.Cursor who) ≡ Ok w.forest) }
+        ensures err { IfErr result
+            (IsRefused (spec.looked (world_of R.is self.now) (Query.Cursor who))) }
     {
         let index = who as usize;
         if index >= SESSIONS {

@@ -90,7 +90,8 @@ impl<R: Register, W: Wait> Gate<W> for EditsOnce<'_, R> {
 
 /// A desk of one read, and its chair.
 fn of_one_read(alloc: Global) -> Result<(Desk<Safe>, Chair<Safe>), Refusal>
-    ensures { IfOk result (λ r. IsAt (λ _. safe_behaviour) r.0 r.1 × ((view r.1).shares ≡ every_share)) }
+    ensures { IfOk result (λ r. IsAt (λ _. safe_behaviour) r.0 r.1
+        × ((view r.1).shares ≡ every_share)) }
 {
     Desk::open(alloc, Safe, 0, limits(16), &[READ])
 }
@@ -103,7 +104,8 @@ fn filled_beside<R: Abort + Threads + Wait + Sync>(
     chair: &mut Chair<Safe>,
     other: Chair<Safe>,
 ) -> Result<Report, Refusal>
-    requires { IsAt (λ _. safe_behaviour) desk.now chair.old × IsAt (λ _. safe_behaviour) desk.now other }
+    requires { IsAt (λ _. safe_behaviour) desk.now chair.old
+        × IsAt (λ _. safe_behaviour) desk.now other }
     ensures { IsAt (λ _. safe_behaviour) desk.now chair.new }
 {
     let branch = name(rt, b"main");

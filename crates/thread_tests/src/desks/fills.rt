@@ -57,7 +57,8 @@ fn write_at(index: u32) -> Step
 /// A desk of 1,000 steps, and its first chair.
 pub(super) fn thousand(alloc: Global, log: u32) -> Result<(Desk<Safe>, Chair<Safe>), Refusal>
     requires { (0 < log) × (log ≤ 1048576) }
-    ensures { IfOk result (λ r. IsAt (λ _. safe_behaviour) r.0 r.1 × ((view r.1).shares ≡ every_share)) }
+    ensures { IfOk result (λ r. IsAt (λ _. safe_behaviour) r.0 r.1
+        × ((view r.1).shares ≡ every_share)) }
 {
     written(alloc, 1000, limits(log))
 }
@@ -65,7 +66,8 @@ pub(super) fn thousand(alloc: Global, log: u32) -> Result<(Desk<Safe>, Chair<Saf
 /// A desk of so many steps, and its first chair.
 fn written(alloc: Global, count: u32, limits: Limits) -> Result<(Desk<Safe>, Chair<Safe>), Refusal>
     requires { AreLimits limits }
-    ensures { IfOk result (λ r. IsAt (λ _. safe_behaviour) r.0 r.1 × ((view r.1).shares ≡ every_share)) }
+    ensures { IfOk result (λ r. IsAt (λ _. safe_behaviour) r.0 r.1
+        × ((view r.1).shares ≡ every_share)) }
 {
     let Ok(steps) = writes(alloc, count) else {
         return Err(Refusal::Memory);
@@ -210,7 +212,8 @@ fn edited_beside_fills<R: Abort + Threads + Wait + Sync>(
     first: Chair<Safe>,
     second: Chair<Safe>,
 ) -> (Chair<Safe>, bool)
-    requires { IsAt (λ _. safe_behaviour) desk.now first × IsAt (λ _. safe_behaviour) desk.now second }
+    requires { IsAt (λ _. safe_behaviour) desk.now first
+        × IsAt (λ _. safe_behaviour) desk.now second }
     ensures { IsAt (λ _. safe_behaviour) desk.now result.0 }
 {
     let ((mut first, edited), (second, filled)) = thread::join(

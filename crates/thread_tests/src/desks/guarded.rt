@@ -82,7 +82,8 @@ fn guarded_by_two<R: Abort + Threads + Wait + Sync>(
     first: Chair<Safe>,
     second: Chair<Safe>,
 ) -> (Chair<Safe>, bool)
-    requires { IsAt (λ _. safe_behaviour) desk.now first × IsAt (λ _. safe_behaviour) desk.now second }
+    requires { IsAt (λ _. safe_behaviour) desk.now first
+        × IsAt (λ _. safe_behaviour) desk.now second }
     ensures { IsAt (λ _. safe_behaviour) desk.now result.0 }
 {
     let ((mut first, one), (second, other)) = thread::join(

@@ -35,7 +35,8 @@ fn wide() -> Limits
 
 /// A desk with no steps, and its first chair.
 fn opened_wide(alloc: Global) -> Result<(Desk<Safe>, Chair<Safe>), Refusal>
-    ensures { IfOk result (λ r. IsAt (λ _. safe_behaviour) r.0 r.1 × ((view r.1).shares ≡ every_share)) }
+    ensures { IfOk result (λ r. IsAt (λ _. safe_behaviour) r.0 r.1
+        × ((view r.1).shares ≡ every_share)) }
 {
     Desk::open(alloc, Safe, 0, wide(), &[])
 }

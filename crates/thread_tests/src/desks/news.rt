@@ -30,7 +30,8 @@ fn with_break<W: Wait>(
     rt: &W,
     alloc: Global,
 ) -> Result<(Desk<Safe>, Chair<Safe>, Chair<Safe>), Refusal>
-    ensures { IfOk result (λ r. IsAt (λ _. safe_behaviour) r.0 r.1 × IsAt (λ _. safe_behaviour) r.0 r.2) }
+    ensures { IfOk result (λ r. IsAt (λ _. safe_behaviour) r.0 r.1
+        × IsAt (λ _. safe_behaviour) r.0 r.2) }
 {
     let (desk, chair) = thousand(alloc, 65_536)?;
     let (mut first, second) = halves(&desk, chair);
@@ -86,7 +87,8 @@ fn news_beside_seeks<R: Threads + Wait + Sync>(
     second: Chair<Safe>,
     flags: &Flags,
 ) -> (Chair<Safe>, bool, Option<u64>)
-    requires { IsAt (λ _. safe_behaviour) desk.now first × IsAt (λ _. safe_behaviour) desk.now second }
+    requires { IsAt (λ _. safe_behaviour) desk.now first
+        × IsAt (λ _. safe_behaviour) desk.now second }
     ensures { IsAt (λ _. safe_behaviour) desk.now result.0 }
 {
     let ((mut first, told), (second, news)) = thread::join(

@@ -26,7 +26,8 @@ fn two_inserts<R: Abort + Wait>(
     rt: &R,
     alloc: Global,
 ) -> Result<(Desk<Safe>, Chair<Safe>, Chair<Safe>), Refusal>
-    ensures { IfOk result (λ r. IsAt (λ _. safe_behaviour) r.0 r.1 × IsAt (λ _. safe_behaviour) r.0 r.2) }
+    ensures { IfOk result (λ r. IsAt (λ _. safe_behaviour) r.0 r.1
+        × IsAt (λ _. safe_behaviour) r.0 r.2) }
 {
     let (desk, first) = opened(alloc, 16)?;
     let (mut first, mut second) = halves(&desk, first);

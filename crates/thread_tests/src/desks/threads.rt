@@ -185,7 +185,8 @@ fn rounds_of_two<R: Abort + Threads + Wait + Sync>(
     who: u32,
 ) -> (Chair<Safe>, bool)
     requires sessions { who < 15 }
-    requires chairs { IsAt (λ _. safe_behaviour) desk.now chairs.0 × IsAt (λ _. safe_behaviour) desk.now chairs.1 }
+    requires chairs { IsAt (λ _. safe_behaviour) desk.now chairs.0
+        × IsAt (λ _. safe_behaviour) desk.now chairs.1 }
     ensures { IsAt (λ _. safe_behaviour) desk.now result.0 }
 {
     let (first, second) = chairs;
@@ -213,19 +214,22 @@ fn rounds_of_four<R: Abort + Threads + Wait + Sync>(
     other: (Chair<Safe>, Chair<Safe>),
 ) -> Option<Log>
     requires one { IsAt (λ _. safe_behaviour) desk one.0 × IsAt (λ _. safe_behaviour) desk one.1 }
-    requires other { IsAt (λ _. safe_behaviour) desk other.0 × IsAt (λ _. safe_behaviour) desk other.1 }
+    requires other { IsAt (λ _. safe_behaviour) desk other.0
+        × IsAt (λ _. safe_behaviour) desk other.1 }
 {
     let shared = &desk;
     let ((mut chair, fine), (last, well)) = thread::join(
         rt,
         move || -> (Chair<Safe>, bool)
             requires sync { IsSync R.row }
-            requires chairs { IsAt (λ _. safe_behaviour) shared.now one.0 × IsAt (λ _. safe_behaviour) shared.now one.1 }
+            requires chairs { IsAt (λ _. safe_behaviour) shared.now one.0
+                × IsAt (λ _. safe_behaviour) shared.now one.1 }
             ensures { IsAt (λ _. safe_behaviour) shared.entry.now result.0 }
         { rounds_of_two(rt, alloc, shared, one, 0) },
         move || -> (Chair<Safe>, bool)
             requires sync { IsSync R.row }
-            requires chairs { IsAt (λ _. safe_behaviour) shared.now other.0 × IsAt (λ _. safe_behaviour) shared.now other.1 }
+            requires chairs { IsAt (λ _. safe_behaviour) shared.now other.0
+                × IsAt (λ _. safe_behaviour) shared.now other.1 }
             ensures { IsAt (λ _. safe_behaviour) shared.entry.now result.0 }
         { rounds_of_two(rt, alloc, shared, other, 2) },
     );
@@ -239,7 +243,8 @@ fn rounds_of_four<R: Abort + Threads + Wait + Sync>(
 /// A chair and half its shares, if it has more than one.
 fn halved(desk: &Desk<Safe>, mut chair: Chair<Safe>) -> Option<(Chair<Safe>, Chair<Safe>)>
     requires { IsAt (λ _. safe_behaviour) desk.now chair }
-    ensures { IfSome result (λ r. IsAt (λ _. safe_behaviour) desk.now r.0 × IsAt (λ _. safe_behaviour) desk.now r.1) }
+    ensures { IfSome result (λ r. IsAt (λ _. safe_behaviour) desk.now r.0
+        × IsAt (λ _. safe_behaviour) desk.now r.1) }
 {
     let half = chair.shares() / 2;
     let other = part(desk, &mut chair, half)?;

@@ -75,7 +75,8 @@ fn lengths<R: Register>(alloc: Global, chart: &Chart<R>) -> Result<Listed<Branch
 fn length_at<R: Register>(chart: &Chart<R>, index: u32) -> BranchLength
     requires apart { AreNamedApart (forest chart.now.cut).branches }
     requires within { index < length (forest chart.now.cut).branches }
-    ensures { (b : Branch) × (slice_get (forest chart.now.cut).branches index ≡ Some b) × (result ≡ spec.length_of b) }
+    ensures { (b : Branch) × (slice_get (forest chart.now.cut).branches index ≡ Some b)
+        × (result ≡ spec.length_of b) }
 {
     let Some(name) = chart.name_at(index) else {
         unreachable!();
@@ -107,7 +108,8 @@ fn push_counts(
     edits: u64,
     made: u32,
 ) -> io::Result<()>
-    ensures { OnOk result (out.new.items ≡ out.old.items ++ spec.counts_line session count edits made) }
+    ensures { OnOk result (out.new.items ≡ out.old.items
+        ++ spec.counts_line session count edits made) }
 {
     write!(out, "{session}: branches {count}")?;
     writeln!(out, " edits {edits} made {made}")
@@ -115,7 +117,8 @@ fn push_counts(
 
 /// Adds a line for each branch.
 fn push_branches(out: &mut Vec<u8>, branches: &[BranchLength]) -> io::Result<()>
-    ensures { OnOk result (out.new.items ≡ out.old.items ++ flat_map spec.branch_line branches.now) }
+    ensures { OnOk result (out.new.items ≡ out.old.items
+        ++ flat_map spec.branch_line branches.now) }
 {
     for branch in branches {
         push_branch(out, branch)?;

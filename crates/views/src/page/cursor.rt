@@ -53,7 +53,8 @@ fn push_cursor_head(
     place: u32,
     count: usize,
 ) -> io::Result<()>
-    ensures { OnOk result (out.new.items ≡ out.old.items ++ spec.cursor_head session branch.now place count) }
+    ensures { OnOk result (out.new.items ≡ out.old.items
+        ++ spec.cursor_head session branch.now place count) }
 {
     push_title(out, session, "cursor", branch)?;
     writeln!(out, "{place} breaks {count}")

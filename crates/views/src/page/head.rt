@@ -22,7 +22,8 @@ pub(crate) fn push_title(
     kind: &str,
     branch: &Name,
 ) -> io::Result<()>
-    ensures { OnOk result (out.new.items ≡ out.old.items ++ spec.page_title session kind.now branch.now) }
+    ensures { OnOk result (out.new.items ≡ out.old.items
+        ++ spec.page_title session kind.now branch.now) }
 {
     write!(out, "{session}: {kind} ")?;
     out.extend_from_slice(branch.as_bytes())?;
@@ -31,7 +32,8 @@ pub(crate) fn push_title(
 
 /// Adds the first line of a page at a place.
 pub(crate) fn push_head(out: &mut Vec<u8>, session: u32, kind: &str, head: &Head) -> io::Result<()>
-    ensures { OnOk result (out.new.items ≡ out.old.items ++ spec.head_line session kind.now head.now) }
+    ensures { OnOk result (out.new.items ≡ out.old.items
+        ++ spec.head_line session kind.now head.now) }
 {
     push_title(out, session, kind, &head.branch)?;
     let place = head.place;

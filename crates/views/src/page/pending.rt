@@ -36,7 +36,8 @@ pub(crate) fn pending_page<R: Register>(
     head: &Head,
     config: &Config<R>,
 ) -> Result<PendingPage, AllocError>
-    ensures { IfOk result (λ page. page ≡ spec.pending_page (R.is config.now.register) head.now config.now) }
+    ensures { IfOk result
+        (λ page. page ≡ spec.pending_page (R.is config.now.register) head.now config.now) }
 {
     let processes = pending(alloc, config)?;
     let head = *head;

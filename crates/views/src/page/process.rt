@@ -105,7 +105,8 @@ fn status_at<R: Register>(config: &Config<R>, p: u32) -> ProcessStatus
 
 /// Adds a line for each process.
 pub(crate) fn push_statuses(out: &mut Vec<u8>, statuses: &[ProcessStatus]) -> io::Result<()>
-    ensures { OnOk result (out.new.items ≡ out.old.items ++ numbered spec.status_line 0 statuses.now) }
+    ensures { OnOk result (out.new.items ≡ out.old.items
+        ++ numbered spec.status_line 0 statuses.now) }
 {
     for (p, status) in statuses.iter().enumerate() {
         push_status(out, p, *status)?;

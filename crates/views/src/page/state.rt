@@ -29,7 +29,8 @@ pub(crate) fn state_page<R: Register>(
     config: &Config<R>,
 ) -> Result<StatePage, AllocError>
     requires { HasSize (R.is config.now.register).size config.now.memory }
-    ensures { IfOk result (λ page. page ≡ spec.state_page (R.is config.now.register) head.now config.now) }
+    ensures { IfOk result
+        (λ page. page ≡ spec.state_page (R.is config.now.register) head.now config.now) }
 {
     let size = config.register().size();
     let processes = statuses(alloc, config)?;

@@ -41,7 +41,8 @@ pub(crate) fn push_steps_page(out: &mut Vec<u8>, session: u32, page: &StepsPage)
 
 /// Adds the first line of the page of a branch's steps.
 fn push_steps_head(out: &mut Vec<u8>, session: u32, branch: &Name, len: usize) -> io::Result<()>
-    ensures { OnOk result (out.new.items ≡ out.old.items ++ spec.steps_head session branch.now len) }
+    ensures { OnOk result (out.new.items ≡ out.old.items
+        ++ spec.steps_head session branch.now len) }
 {
     push_title(out, session, "steps", branch)?;
     writeln!(out, "{len}")

@@ -78,7 +78,8 @@ fn run_page<R: Register>(
     first: &Config<R>,
     runs: &[(Arc<Run<R>>, u32)],
 ) -> Result<Page, AllocError>
-    ensures { IfOk result (λ page. page ≡ spec.run_page R.is kind head.now first.now (map part_of runs.now)) }
+    ensures { IfOk result
+        (λ page. page ≡ spec.run_page R.is kind head.now first.now (map part_of runs.now)) }
 {
     match kind {
         PlaceKind::History => {
@@ -114,7 +115,8 @@ fn config_page<R: Register>(
 ) -> Result<Page, AllocError>
     requires size { HasSize (R.is config.now.register).size config.now.memory }
     requires kind { IsOfConfig kind }
-    ensures { IfOk result (λ page. (events : List (ℕ × RecordedEvent)) → page ≡ page_at (R.is config.now.register) kind head.now config.now events) }
+    ensures { IfOk result (λ page. (events : List (ℕ × RecordedEvent))
+        → page ≡ page_at (R.is config.now.register) kind head.now config.now events) }
 {
     match kind {
         PlaceKind::State => Ok(Page::State(state_page(alloc, head, config)?)),
