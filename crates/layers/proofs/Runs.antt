@@ -1,5 +1,5 @@
 -- A layer that runs on a flat stack, from one part to the next.
-use Rattle.std.proofs.Common.{◌≡◌, ℕ, Bool, ◌+◌, List, ◌∷◌, ◌++◌, arith, length-drop, Option, Some, None, refl, sym, ap, subst, ◌∙◌, append-nil}
+use Rattle.std.proofs.Common.{◌≡◌, ℕ, Bool, ◌+◌, ◌≤◌, List, ◌∷◌, ◌++◌, arith, length-drop, Option, Some, None, refl, sym, ap, subst, ◌∙◌, append-nil}
 use Rattle.std.specs.Prelude.{⊤, length, drop, take, ◌<◌}
 use Rattle.safe_bit.specs.declared.Place.{Place}
 use Rattle.safe_bit.specs.Memory.{Memory}
@@ -18,14 +18,16 @@ use Rattle.frames.specs.Placed.{placed_bit}
 use Rattle.frames.specs.Behaviour.{Behaviour, Begun, Moved, Answers, StandsWell}
 use Rattle.frames.specs.declared.running.Running.{Running}
 use Rattle.frames.specs.Flat.{Lands, StandsOn, IsReached, ended, left_frames, stack_of}
-use Rattle.layers.specs.Nested.{Table, layer_size, own_words, asked, pushed, resume, layered}
-use Rattle.layers.specs.Sound.{IsNotSpent, IsSpent, LayerHolds, LayerReaches}
+use Rattle.layers.specs.Nested.{Program, Table, layer_size, own_words, asked, pushed, advance, resume, layered}
+use Rattle.layers.specs.Sound.{IsSound, IsNotSpent, IsSpent, LayerHolds, LayerReaches}
 use Rattle.layers.specs.Settled.{settled, ContinuationStands, run_on, follow_on}
 use Rattle.layers.specs.InPlace.{own, LayerLies}
 use Rattle.layers.specs.Flat.{task_frames}
 use Rattle.layers.specs.laws.Flat.{parts_there}
 use Rattle.layers.specs.laws.InPlace.{own_with}
-use Rattle.layers.specs.laws.Running.{push_holds, push_stands, follow_well, ask_holds, ask_stands, rest_stands, rest_holds, run_well, follow_ended, put_again, lies_after}
+use Rattle.layers.specs.laws.Settled.{settled_stands, settled_holds, settled_in_place, advance_settled}
+use Rattle.layers.specs.laws.Nested.{rest_sound}
+use Rattle.layers.specs.laws.Running.{push_holds, push_stands, follow_well, ask_holds, ask_stands, run_well, put_again, lies_after}
 use Rattle.layers.specs.laws.Over.{LayerOver}
 
 -- an end at which no program goes on: the part waits, or is spent
@@ -84,6 +86,71 @@ module _ {Task P : Type 0} (l : LayerOver Task P) (at : Place) where
   stops_there task next inner given front left before after lands h aim e =
       subst (λ a. Lands (layered l.table l.below).frames at a.next a.memory front before given left after) e (stops task next inner given front left before after lands h)
 
+  -- what lands behind a first stretch of work lands behind the whole
+  pub again : (m : Memory) → LayerLies l.table l.below l.Holds at m → (mid m1 : Memory) → m1 ≡ with_part at mid m → LayerHolds l.table l.below l.Holds mid
+      → (r aim : Begun (Nested Task P)) → r ≡ aim → LayerHolds l.table l.below l.Holds r.memory → (front : List Frame) (given : Option Outcome) (left : List Frame) (m2 : Memory)
+      → Lands (layered l.table l.below).frames at r.next r.memory front m1 given left m2 → Lands (layered l.table l.below).frames at aim.next aim.memory front m given left m2
+  again m lies mid m1 e well r aim same late front given left m2 lands =
+      subst (λ a. Lands (layered l.table l.below).frames at a.next a.memory front m given left m2) same
+      (record {
+        answer = lands.answer;
+        stack = lands.stack;
+        memory = lands.memory ∙ ap (with_part at r.memory) e ∙ put_again l at m lies mid r.memory well late;
+      })
+
+  -- a program that settles in a store, where `base` is the first own word, settles so in the own memory that lies there
+  pub settles_there : (who : ℕ) (o : Op) (p : Program Task) (m : Memory) → LayerLies l.table l.below l.Holds at m
+      → IsSound l.table (l.Stands who o) (Answers l.table.values o) p
+      → (base : ℕ) → base ≡ at.word + own_words l.table l.below.size → (c1 : Continuation Task) (m1 : Memory)
+      → c1 ≡ (settled base p m).continuation → m1 ≡ (settled base p m).memory
+      → (c1 ≡ (settled (own_words l.table l.below.size) p (own l.table l.below at m)).continuation)
+      × (m1 ≡ with_part at (settled (own_words l.table l.below.size) p (own l.table l.below at m)).memory m)
+  settles_there who o p m lies sound base is c1 m1 ec em =
+      let there = settled_in_place l.table (l.Stands who o) (Answers l.table.values o) at (layer_size l.table l.below.size) (own_words l.table l.below.size) p m sound lies.inside (omega arith) lies.holds.words in (
+        ec ∙ ap (λ b. (settled b p m).continuation) is ∙ there.0,
+        em ∙ ap (λ b. (settled b p m).memory) is ∙ there.1,
+      )
+
+  module _ (who : ℕ) (o : Op) (p : Program Task) (m : Memory) (lies : LayerLies l.table l.below l.Holds at m)
+      (sound : IsSound l.table (l.Stands who o) (Answers l.table.values o) p) (c1 : Continuation Task) (m1 : Memory)
+      (ec : c1 ≡ (settled (own_words l.table l.below.size) p (own l.table l.below at m)).continuation)
+      (em : m1 ≡ with_part at (settled (own_words l.table l.below.size) p (own l.table l.below at m)).memory m) where
+    words_inside : own_words l.table l.below.size + l.table.words ≤ length (own l.table l.below at m).words
+    words_inside = let w = lies.holds.size.words in omega arith
+
+    pub settled_well : LayerHolds l.table l.below l.Holds (settled (own_words l.table l.below.size) p (own l.table l.below at m)).memory
+    settled_well = settled_holds l (l.Stands who o) (Answers l.table.values o) p (own l.table l.below at m) sound lies.holds
+
+    -- what a program settles on stands, the layer lies there, and it runs on as the program advances
+    pub settles_stands : ContinuationStands (l.Stands who o) (Answers l.table.values o) c1
+    settles_stands =
+        subst (ContinuationStands (l.Stands who o) (Answers l.table.values o)) (sym ec)
+        (settled_stands l.table (l.Stands who o) (Answers l.table.values o) (own_words l.table l.below.size) p (own l.table l.below at m) sound words_inside lies.holds.words)
+
+    pub settles_lies : LayerLies l.table l.below l.Holds at m1
+    settles_lies = lies_after l at m lies _ m1 em settled_well
+
+    pub settles_on : run_on l.table l.below c1 (own l.table l.below at m1) ≡ advance l.table l.below p (own l.table l.below at m)
+    settles_on =
+        let here = own l.table l.below at m in
+        let own_1 : own l.table l.below at m1 ≡ (settled (own_words l.table l.below.size) p here).memory = ap (own l.table l.below at) em ∙ own_with l at m lies _ settled_well in
+        (λ i. run_on l.table l.below (ec i) (own_1 i))
+        ∙ sym (advance_settled l.table (l.Stands who o) (Answers l.table.values o) l.below p here sound words_inside lies.holds.words)
+
+    pub settles : (aim : Begun (Nested Task P)) → advance l.table l.below p (own l.table l.below at m) ≡ aim → (stack : List Frame) (given : Option Outcome) (left : List Frame) (m2 : Memory)
+        → Lands (layered l.table l.below).frames at (run_on l.table l.below c1 (own l.table l.below at m1)).next (run_on l.table l.below c1 (own l.table l.below at m1)).memory stack m1 given left m2
+        → Lands (layered l.table l.below).frames at aim.next aim.memory stack m given left m2
+    settles aim aims stack given left m2 lands =
+        let mid = (settled (own_words l.table l.below.size) p (own l.table l.below at m)).memory in
+        again m lies mid m1 em settled_well (run_on l.table l.below c1 (own l.table l.below at m1)) aim (settles_on ∙ aims)
+        (run_well l who o c1 (own l.table l.below at m1) settles_stands settles_lies.holds).holds stack given left m2 lands
+
+  -- behind a part that has ended, and isn't spent, the program advances
+  pub advances : (task : Task) (outcome : Outcome) (m : Memory) → IsNotSpent outcome → advance l.table l.below (l.table.rest task outcome) m ≡ follow_on l.table l.below task (Done outcome) m
+  advances task (Spent layer) m goes_on = absurd goes_on
+  advances task Written m goes_on = refl
+  advances task (Value v) m goes_on = refl
+
   module _ (aim : Begun (Nested Task P)) (before : Memory) (c : Continuation Task) (m : Memory) (come : ComesTo l.table l.below l.Holds l.Stands at aim before c m) where
     -- a program that ends
     pub ends : (outcome : Outcome) (stack : List Frame) → c ≡ continuation.Ends outcome → Lands (layered l.table l.below).frames at aim.next aim.memory stack before (Some outcome) stack m
@@ -126,6 +193,11 @@ module _ {Task P : Type 0} (l : LayerOver Task P) (at : Place) where
           subst (StandsWell (l.Reaches (l.table.asks task).who (l.table.asks task).op) (Answers l.below.values (l.table.asks task).op)) (done_of _ outcome (sym lands.answer ∙ e))
           (ask_stands l come.who come.op task (own l.table l.below at m) come.lies.holds task_stands)
 
+      -- and the stack in front of it
+      pub asked_leaves : (outcome : Outcome) → given ≡ Some outcome → left ≡ stack
+      asked_leaves outcome e =
+          ended_leaves (task_frames l.table l.below task) (asked l.below (l.table.asks task) (own l.table l.below at m)).next given outcome stack left lands.answer e lands.stack
+
       -- the program goes on behind it
       pub turns : (outcome : Outcome) → given ≡ Some outcome → IsNotSpent outcome → (c2 : Continuation Task) (m2 : Memory)
           → c2 ≡ (settled (own_words l.table l.below.size) (l.table.rest task outcome) (own l.table l.below at m1)).continuation
@@ -134,36 +206,20 @@ module _ {Task P : Type 0} (l : LayerOver Task P) (at : Place) where
       turns outcome e goes_on c2 m2 ec em =
           let here = own l.table l.below at m1 in
           let asked_memory = (asked l.below (l.table.asks task) (own l.table l.below at m)).memory in
-          let settled_memory = (settled (own_words l.table l.below.size) (l.table.rest task outcome) here).memory in
-          let answers = asked_answers outcome e in
-          let well = rest_holds l come.who come.op task outcome here asked_lies.holds task_stands answers goes_on in
-          let own_2 : own l.table l.below at m2 ≡ settled_memory = ap (own l.table l.below at) em ∙ own_with l at m1 asked_lies settled_memory well in
+          let sound = rest_sound l come.who come.op task outcome task_stands (asked_answers outcome e) goes_on in
+          let rest = l.table.rest task outcome in
           let own_1 : here ≡ asked_memory = ap (own l.table l.below at) lands.memory ∙ own_with l at m come.lies asked_memory asked_well in
           let done : Done outcome ≡ (asked l.below (l.table.asks task) (own l.table l.below at m)).next = sym (done_of _ outcome (sym lands.answer ∙ e)) in
           record {
             who = come.who;
             op = come.op;
-            stands = subst (ContinuationStands (l.Stands come.who come.op) (Answers l.table.values come.op)) (sym ec)
-                (rest_stands l come.who come.op task outcome here asked_lies.holds task_stands answers goes_on);
-            lies = lies_after l at m1 asked_lies settled_memory m2 em well;
-            aims = (λ i. run_on l.table l.below (ec i) (own_2 i))
-                ∙ sym (follow_ended l come.who come.op task outcome here asked_lies.holds task_stands answers goes_on)
+            stands = settles_stands come.who come.op rest m1 asked_lies sound c2 m2 ec em;
+            lies = settles_lies come.who come.op rest m1 asked_lies sound c2 m2 ec em;
+            aims = settles_on come.who come.op rest m1 asked_lies sound c2 m2 ec em ∙ advances task outcome here goes_on
                 ∙ (λ i. follow_on l.table l.below task (done i) (own_1 i)) ∙ asked_aims;
-            puts = λ late h. ap (with_part at late) em ∙ put_again l at m1 asked_lies settled_memory late well h
+            puts = λ late h. ap (with_part at late) em ∙ put_again l at m1 asked_lies _ late (settled_well come.who come.op rest m1 asked_lies sound c2 m2 ec em) h
                 ∙ ap (with_part at late) lands.memory ∙ put_again l at m come.lies asked_memory late asked_well h ∙ come.puts late h;
           }
-
-  -- what lands behind a first stretch of work lands behind the whole
-  pub again : (m : Memory) → LayerLies l.table l.below l.Holds at m → (mid m1 : Memory) → m1 ≡ with_part at mid m → LayerHolds l.table l.below l.Holds mid
-      → (r aim : Begun (Nested Task P)) → r ≡ aim → LayerHolds l.table l.below l.Holds r.memory → (front : List Frame) (given : Option Outcome) (left : List Frame) (m2 : Memory)
-      → Lands (layered l.table l.below).frames at r.next r.memory front m1 given left m2 → Lands (layered l.table l.below).frames at aim.next aim.memory front m given left m2
-  again m lies mid m1 e well r aim same late front given left m2 lands =
-      subst (λ a. Lands (layered l.table l.below).frames at a.next a.memory front m given left m2) same
-      (record {
-        answer = lands.answer;
-        stack = lands.stack;
-        memory = lands.memory ∙ ap (with_part at r.memory) e ∙ put_again l at m lies mid r.memory well late;
-      })
 
   -- a spent part ends the whole
   pub follows_spent : (task : Task) (outcome : Outcome) (stack : List Frame) (m : Memory) → LayerLies l.table l.below l.Holds at m → IsSpent outcome
@@ -172,32 +228,6 @@ module _ {Task P : Type 0} (l : LayerOver Task P) (at : Place) where
       record { answer = refl; stack = sym (append-nil stack); memory = sym (with_part-own at (layer_size l.table l.below.size) m lies.inside) }
   follows_spent task Written stack m lies h = absurd h
   follows_spent task (Value v) stack m lies h = absurd h
-
-  module _ (who : ℕ) (o : Op) (task : Task) (outcome : Outcome) (m : Memory) (lies : LayerLies l.table l.below l.Holds at m) (stands : l.Stands who o task)
-      (answers : Answers l.below.values (l.table.asks task).op outcome) (goes_on : IsNotSpent outcome)
-      (c1 : Continuation Task) (m1 : Memory)
-      (ec : c1 ≡ (settled (own_words l.table l.below.size) (l.table.rest task outcome) (own l.table l.below at m)).continuation)
-      (em : m1 ≡ with_part at (settled (own_words l.table l.below.size) (l.table.rest task outcome) (own l.table l.below at m)).memory m) where
-    -- what follows a part that has ended stands, lies there, and runs on
-    pub follow_stands : ContinuationStands (l.Stands who o) (Answers l.table.values o) c1
-    follow_stands =
-        subst (ContinuationStands (l.Stands who o) (Answers l.table.values o)) (sym ec) (rest_stands l who o task outcome (own l.table l.below at m) lies.holds stands answers goes_on)
-
-    pub follow_lies : LayerLies l.table l.below l.Holds at m1
-    follow_lies = lies_after l at m lies _ m1 em (rest_holds l who o task outcome (own l.table l.below at m) lies.holds stands answers goes_on)
-
-    pub follows : (stack : List Frame) (given : Option Outcome) (left : List Frame) (m2 : Memory)
-        → Lands (layered l.table l.below).frames at (run_on l.table l.below c1 (own l.table l.below at m1)).next (run_on l.table l.below c1 (own l.table l.below at m1)).memory stack m1 given left m2
-        → Lands (layered l.table l.below).frames at (follow_on l.table l.below task (Done outcome) (own l.table l.below at m)).next (follow_on l.table l.below task (Done outcome) (own l.table l.below at m)).memory stack m given left m2
-    follows stack given left m2 lands =
-        let here = own l.table l.below at m in
-        let mid = (settled (own_words l.table l.below.size) (l.table.rest task outcome) here).memory in
-        let well = rest_holds l who o task outcome here lies.holds stands answers goes_on in
-        let own_1 : own l.table l.below at m1 ≡ mid = ap (own l.table l.below at) em ∙ own_with l at m lies mid well in
-        let same : run_on l.table l.below c1 (own l.table l.below at m1) ≡ follow_on l.table l.below task (Done outcome) here =
-        (λ i. run_on l.table l.below (ec i) (own_1 i)) ∙ sym (follow_ended l who o task outcome here lies.holds stands answers goes_on) in
-        again m lies mid m1 em well (run_on l.table l.below c1 (own l.table l.below at m1)) (follow_on l.table l.below task (Done outcome) here) same
-        (run_well l who o c1 (own l.table l.below at m1) follow_stands follow_lies.holds).holds stack given left m2 lands
 
 -- a layer whose operation goes on: its frame tells the task in which it stands, and its part makes a bit action
 module _ {Task P : Type 0} (l : LayerOver Task P) (at : Place) (m : Memory) (lies : LayerLies l.table l.below l.Holds at m) (who first : ℕ) (stack : List Frame) (choice : Bool)

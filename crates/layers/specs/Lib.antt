@@ -3,6 +3,7 @@ pub mod Sound
 pub mod Settled
 pub mod InPlace
 pub mod Flat
+pub mod Driver
 pub mod Fit
 pub mod OneWriter
 pub mod laws

@@ -83,7 +83,12 @@ impl<L: Construction, S: Register> Register for Layered<L, S> {
     ghost point = { λ r. layered_point (L.table r.layer) (S.point r.below) };
 
     fn size(&self) -> Place {
-        drive::size(&self.layer, &self.below)
+        let size = self.below.size();
+        let shape = self.layer.shape();
+        Place {
+            cell: shape.parts * size.cell,
+            word: shape.parts * size.word + shape.words,
+        }
     }
 
     fn values(&self) -> u32 {
@@ -95,7 +100,7 @@ impl<L: Construction, S: Register> Register for Layered<L, S> {
     }
 
     fn depth(&self) -> u32 {
-        drive::depth(&self.layer, &self.below)
+        self.below.depth() + 1
     }
 
     fn fits(&self, who: u32, op: Op) -> bool {
@@ -103,10 +108,13 @@ impl<L: Construction, S: Register> Register for Layered<L, S> {
     }
 
     fn init(&self, store: &mut Store, at: Place, value: u32) {
-        drive::init(&self.layer, &self.below, store, at, value);
+        self.placed(store, at);
+        self.init_parts(store, at, value);
+        let base = self.words_at(at);
+        self.init_words(store, base, value);
     }
 
-    #[inline(always)]
+    #[inline]
     fn begin_on(
         &self,
         store: &mut Store,
@@ -115,7 +123,9 @@ impl<L: Construction, S: Register> Register for Layered<L, S> {
         op: Op,
         stack: &mut FlatStack,
     ) -> Option<Outcome> {
-        drive::begin_on(&self.layer, &self.below, store, at, who, op, stack)
+        self.lies(store, at);
+        let continuation = self.start(store, at, who, op);
+        self.run(store, at, continuation, stack)
     }
 
     #[inline(always)]
@@ -128,16 +138,17 @@ impl<L: Construction, S: Register> Register for Layered<L, S> {
         first: usize,
         choice: bool,
     ) -> Progress {
-        drive::go_on(
-            &self.layer,
-            &self.below,
-            store,
-            at,
-            who,
-            stack,
-            first,
-            choice,
-        )
+        self.lies(store, at);
+        let task = self.layer.find(who, stack.frame(first));
+        let progress = self.push(store, at, task, stack, first, choice);
+        let Some(outcome) = progress.end else {
+            return progress;
+        };
+        let end = self.follow(store, at, task, outcome, stack);
+        Progress {
+            end,
+            chosen: progress.chosen,
+        }
     }
 
     fn pending(&self, stack: &FlatStack, first: usize, who: u32) -> Option<Self::Pending> {
@@ -145,7 +156,9 @@ impl<L: Construction, S: Register> Register for Layered<L, S> {
     }
 
     fn action(&self, pending: &Self::Pending, at: Place) -> Action {
-        drive::action(&self.layer, &self.below, pending, at)
+        let ask = self.layer.asks(pending.task);
+        let place = self.part_place(at, ask.part);
+        self.below.action(&pending.below, place)
     }
 
     ghost tells = { λ r. layered_tells (over (S.lawful r.below) (L.sound r.layer) r.fit) (S.point r.below) (S.tells r.below) };

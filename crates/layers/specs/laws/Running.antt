@@ -1,30 +1,25 @@
 -- A layer that goes on from a continuation, or behind a step of a part, in its own memory.
-use Rattle.std.proofs.Common.{◌≡◌, ℕ, ◌+◌, ◌≤◌, Bool, true, length, sym, ap, subst, ◌∙◌, arith}
+use Rattle.std.proofs.Common.{◌≡◌, ℕ, ◌≤◌, Bool, sym, subst}
 use Rattle.safe_bit.specs.declared.Place.{Place}
 use Rattle.safe_bit.specs.Memory.{Memory}
 use Rattle.safe_bit.specs.Parts.{with_part}
 use Rattle.safe_bit.specs.laws.Parts.{with_part-with_part}
 use Rattle.frames.specs.declared.types.Op.{Op}
 use Rattle.frames.specs.declared.types.Outcome.{Outcome}
-use Rattle.frames.specs.declared.types.Outcome.TheVariants.{Value, Written, Spent}
 use Rattle.frames.specs.declared.types.Next.{Next}
-use Rattle.frames.specs.declared.types.Next.TheVariants.{Done}
 use Rattle.layers.specs.declared.nested.Continuation.{Continuation}
 use Rattle.layers.specs.declared.nested.Continuation.TheVariants as continuation
-use Rattle.frames.specs.Behaviour.{Begun, Answers, StandsWell}
+use Rattle.frames.specs.Behaviour.{Answers, StandsWell}
 use Rattle.layers.specs.Nested.{layer_size, own_words, asked, pushed, advance}
 use Rattle.layers.specs.Sound.{IsNotSpent, LayerHolds}
 use Rattle.layers.specs.laws.Nested.{Good, asks_fit, rest_sound, behind_well, advance_well, holds_with_part}
 use Rattle.layers.specs.Settled.{settled, ContinuationStands, tasks_left, run_on, follow_on}
-use Rattle.layers.specs.laws.Settled.{settled_stands, settled_falls, settled_holds, advance_settled}
-use Rattle.layers.specs.InPlace.{own, LayerLies}
-use Rattle.layers.specs.laws.InPlace.{lies_with, own_with}
+use Rattle.layers.specs.laws.Settled.{settled_falls}
+use Rattle.layers.specs.InPlace.{LayerLies}
+use Rattle.layers.specs.laws.InPlace.{lies_with}
 use Rattle.layers.specs.laws.Over.{LayerOver}
 
 module _ {Task P : Type 0} (l : LayerOver Task P) where
-  words_fit : (m : Memory) → LayerHolds l.table l.below l.Holds m → own_words l.table l.below.size + l.table.words ≤ length m.words
-  words_fit m h = let w = h.size.words in omega arith
-
   -- a part's step leads on well
   pub follow_well : (who : ℕ) (o : Op) (task : Task) (next : Next P) (m : Memory) → LayerHolds l.table l.below l.Holds m → l.Stands who o task
       → StandsWell (l.Reaches (l.table.asks task).who (l.table.asks task).op) (Answers l.below.values (l.table.asks task).op) next
@@ -65,35 +60,7 @@ module _ {Task P : Type 0} (l : LayerOver Task P) where
   run_well who o (continuation.Asks task) m stands h =
       follow_well who o task (asked l.below (l.table.asks task) m).next (asked l.below (l.table.asks task) m).memory (ask_holds who o task m h stands) stands (ask_stands who o task m h stands)
 
-  -- behind a part that ended, the layer goes on from the continuation on which the rest settles
-  pub follow_ended : (who : ℕ) (o : Op) (task : Task) (outcome : Outcome) (m : Memory) → LayerHolds l.table l.below l.Holds m → l.Stands who o task
-      → Answers l.below.values (l.table.asks task).op outcome → IsNotSpent outcome
-      → follow_on l.table l.below task (Done outcome) m ≡ run_on l.table l.below (settled (own_words l.table l.below.size) (l.table.rest task outcome) m).continuation (settled (own_words l.table l.below.size) (l.table.rest task outcome) m).memory
-  follow_ended who o task (Spent layer) m h stands answers goes_on = absurd goes_on
-  follow_ended who o task Written m h stands answers goes_on =
-      advance_settled l.table (l.Stands who o) (Answers l.table.values o) l.below (l.table.rest task Written) m (rest_sound l who o task Written stands answers goes_on) (words_fit m h) h.words
-  follow_ended who o task (Value v) m h stands answers goes_on =
-      advance_settled l.table (l.Stands who o) (Answers l.table.values o) l.below (l.table.rest task (Value v)) m (rest_sound l who o task (Value v) stands answers goes_on) (words_fit m h) h.words
-
-  pub begin_settled : (who : ℕ) (o : Op) (m : Memory) → LayerHolds l.table l.below l.Holds m → l.table.suits who o ≡ true
-      → advance l.table l.below (l.table.program who o) m ≡ run_on l.table l.below (settled (own_words l.table l.below.size) (l.table.program who o) m).continuation (settled (own_words l.table l.below.size) (l.table.program who o) m).memory
-  begin_settled who o m h fits =
-      advance_settled l.table (l.Stands who o) (Answers l.table.values o) l.below (l.table.program who o) m (l.sound.begins_sound who o fits) (words_fit m h) h.words
-
-  pub rest_stands : (who : ℕ) (o : Op) (task : Task) (outcome : Outcome) (m : Memory) → LayerHolds l.table l.below l.Holds m → l.Stands who o task
-      → Answers l.below.values (l.table.asks task).op outcome → IsNotSpent outcome
-      → ContinuationStands (l.Stands who o) (Answers l.table.values o) (settled (own_words l.table l.below.size) (l.table.rest task outcome) m).continuation
-  rest_stands who o task outcome m h stands answers goes_on =
-      settled_stands l.table (l.Stands who o) (Answers l.table.values o) (own_words l.table l.below.size) (l.table.rest task outcome) m
-      (rest_sound l who o task outcome stands answers goes_on) (words_fit m h) h.words
-
-  pub rest_holds : (who : ℕ) (o : Op) (task : Task) (outcome : Outcome) (m : Memory) → LayerHolds l.table l.below l.Holds m → l.Stands who o task
-      → Answers l.below.values (l.table.asks task).op outcome → IsNotSpent outcome
-      → LayerHolds l.table l.below l.Holds (settled (own_words l.table l.below.size) (l.table.rest task outcome) m).memory
-  rest_holds who o task outcome m h stands answers goes_on =
-      settled_holds l (l.Stands who o) (Answers l.table.values o) (l.table.rest task outcome) m
-      (rest_sound l who o task outcome stands answers goes_on) h
-
+  -- fewer tasks follow behind a task that ended
   pub rest_left : (who : ℕ) (o : Op) (task : Task) (outcome : Outcome) (m : Memory) → l.Stands who o task
       → Answers l.below.values (l.table.asks task).op outcome → IsNotSpent outcome
       → tasks_left l.left (settled (own_words l.table l.below.size) (l.table.rest task outcome) m).continuation ≤ l.left task
@@ -101,29 +68,10 @@ module _ {Task P : Type 0} (l : LayerOver Task P) where
       settled_falls l.table (l.Stands who o) (Answers l.table.values o) l.left (own_words l.table l.below.size) (l.left task) (l.table.rest task outcome) m
       (l.sound.rest_falls who o task outcome stands (subst (λ n. Answers n (l.table.asks task).op outcome) l.fit.same_values answers) goes_on)
 
-  pub begin_stands : (who : ℕ) (o : Op) (m : Memory) → LayerHolds l.table l.below l.Holds m → l.table.suits who o ≡ true
-      → ContinuationStands (l.Stands who o) (Answers l.table.values o) (settled (own_words l.table l.below.size) (l.table.program who o) m).continuation
-  begin_stands who o m h fits = settled_stands l.table (l.Stands who o) (Answers l.table.values o) (own_words l.table l.below.size) (l.table.program who o) m (l.sound.begins_sound who o fits) (words_fit m h) h.words
-
-  pub begin_holds : (who : ℕ) (o : Op) (m : Memory) → LayerHolds l.table l.below l.Holds m → l.table.suits who o ≡ true
-      → LayerHolds l.table l.below l.Holds (settled (own_words l.table l.below.size) (l.table.program who o) m).memory
-  begin_holds who o m h fits = settled_holds l (l.Stands who o) (Answers l.table.values o) (l.table.program who o) m (l.sound.begins_sound who o fits) h
-
   -- own memory put in, and what comes of it put in again
   pub put_again : (at : Place) (m : Memory) → LayerLies l.table l.below l.Holds at m → (mid late : Memory) → LayerHolds l.table l.below l.Holds mid → LayerHolds l.table l.below l.Holds late
       → with_part at late (with_part at mid m) ≡ with_part at late m
   put_again at m lies mid late h h' = with_part-with_part at (layer_size l.table l.below.size) late mid m h'.size h.size lies.inside
-
-  -- one stretch of work and then another, in a store
-  pub chain : {N : Type 0} (f : Memory → Begun N) (at : Place) (m : Memory) → LayerLies l.table l.below l.Holds at m → (mid first second : Memory) (r : Next N)
-      → first ≡ with_part at mid m → LayerHolds l.table l.below l.Holds mid → LayerHolds l.table l.below l.Holds (f mid).memory
-      → r ≡ (f (own l.table l.below at first)).next → second ≡ with_part at (f (own l.table l.below at first)).memory first
-      → (r ≡ (f mid).next) × (second ≡ with_part at (f mid).memory m)
-  chain f at m lies mid first second r e h h' next memory =
-      let there : own l.table l.below at first ≡ mid = ap (own l.table l.below at) e ∙ own_with l at m lies mid h in (
-        next ∙ ap (λ q. (f q).next) there,
-        memory ∙ ap (λ q. with_part at (f q).memory first) there ∙ ap (λ q. with_part at (f mid).memory q) e ∙ put_again at m lies mid (f mid).memory h h',
-      )
 
   -- the layer lies there after a stretch of work
   pub lies_after : (at : Place) (m : Memory) → LayerLies l.table l.below l.Holds at m → (mid first : Memory) → first ≡ with_part at mid m → LayerHolds l.table l.below l.Holds mid → LayerLies l.table l.below l.Holds at first

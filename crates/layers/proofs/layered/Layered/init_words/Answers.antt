@@ -4,11 +4,11 @@ use Rattle.safe_bit.specs.Windows.{splice}
 use Rattle.safe_bit.specs.laws.Parts.{same_memory}
 use Rattle.layers.specs.Nested.{gathered}
 use Rattle.layers.specs.laws.Initial.{next_word}
-use Rattle.layers.proofs.drive.init_words.Goals as goal
+use Rattle.layers.proofs.layered.Layered.init_words.Goals as goal
 
 pub loop-word-preserved : goal.loop-word-preserved
 loop-word-preserved g c =
-    let t = g.L.Rules.table c.args.layer.now in
+    let t = g.L.Rules.table c.args.self.now.layer in
     let w = t.first_word c.args.value in
     let k = c.loop-word.word in
     let base = c.args.base in

@@ -3,13 +3,13 @@ use Rattle.safe_bit.specs.Parts.{behind, with_part, LiesIn}
 use Rattle.layers.specs.Nested.{first_parts, part_place}
 use Rattle.layers.specs.laws.Initial.{next_part, next_inside, no_part}
 use Rattle.layers.specs.laws.Over.{over}
-use Rattle.layers.proofs.drive.init_parts.Goals as goal
+use Rattle.layers.proofs.layered.Layered.init_parts.Goals as goal
 
 pub loop-part-preserved : goal.loop-part-preserved
 loop-part-preserved g c =
-    let l = over (g.met.S.Register.lawful c.args.below.now) (g.met.L.Construction.sound c.args.layer.now) c.requires.fit in
-    let t = g.L.Rules.table c.args.layer.now in
-    let b = g.S.Behaves.is c.args.below.now in
+    let l = over (g.met.S.Register.lawful c.args.self.now.below) (g.met.L.Construction.sound c.args.self.now.layer) c.args.self.now.fit in
+    let t = g.L.Rules.table c.args.self.now.layer in
+    let b = g.S.Behaves.is c.args.self.now.below in
     let at = c.args.at in
     let m = c.args.store.now in
     let v = c.args.value in
@@ -24,7 +24,7 @@ loop-part-preserved g c =
 
 pub loop-part-init : goal.loop-part-init
 loop-part-init g c =
-    let l = over (g.met.S.Register.lawful c.args.below.now) (g.met.L.Construction.sound c.args.layer.now) c.requires.fit in
+    let l = over (g.met.S.Register.lawful c.args.self.now.below) (g.met.L.Construction.sound c.args.self.now.layer) c.args.self.now.fit in
     let at = c.args.at in
     let m = c.args.store.now in
     let v = c.args.value in
@@ -32,8 +32,8 @@ loop-part-init g c =
 
 pub init-requires-clause-inside : goal.init-requires-clause-inside
 init-requires-clause-inside g c =
-    let l = over (g.met.S.Register.lawful c.args.below.now) (g.met.L.Construction.sound c.args.layer.now) c.requires.fit in
-    let b = g.S.Behaves.is c.args.below.now in
+    let l = over (g.met.S.Register.lawful c.args.self.now.below) (g.met.L.Construction.sound c.args.self.now.layer) c.args.self.now.fit in
+    let b = g.S.Behaves.is c.args.self.now.below in
     let at = c.args.at in
     let m = c.args.store.now in
     let v = c.args.value in

@@ -4,13 +4,13 @@ use Rattle.safe_bit.specs.Windows.{splice}
 use Rattle.layers.specs.Nested.{gathered, own_words}
 use Rattle.layers.specs.laws.Initial.{words_behind}
 use Rattle.layers.specs.laws.Over.{over}
-use Rattle.layers.proofs.drive.init.Goals as goal
+use Rattle.layers.proofs.layered.LayeredRegister.init.Goals as goal
 
 pub returns : goal.returns
 returns g c =
-    let l = over (g.met.S.Register.lawful c.args.below.now) (g.met.L.Construction.sound c.args.layer.now) c.requires.fit in
-    let t = g.L.Rules.table c.args.layer.now in
-    let b = g.S.Behaves.is c.args.below.now in
+    let l = over (g.met.S.Register.lawful c.args.self.now.below) (g.met.L.Construction.sound c.args.self.now.layer) c.args.self.now.fit in
+    let t = g.L.Rules.table c.args.self.now.layer in
+    let b = g.S.Behaves.is c.args.self.now.below in
     let W = gathered (λ k. t.first_word c.args.value k ∷ []) t.words in
     c.init_words.ensures
     ∙ ap (λ base. record c.init_parts.new.store { words = splice base W c.init_parts.new.store.words }) c.words_at-base.ensures

@@ -1,0 +1,88 @@
+-- A step of a task's part, in a store and on a stack: what it is to the layer that the part is of.
+use Rattle.std.proofs.Common.{◌≡◌, ℕ, Bool, true, ◌+◌, ◌<◌, List, [], ◌∷◌, ◌++◌, length, take, Option, sym, ap, subst, ◌∙◌, arith, length-take}
+use Rattle.safe_bit.specs.declared.Place.{Place}
+use Rattle.safe_bit.specs.Memory.{Memory}
+use Rattle.safe_bit.specs.Parts.{behind, part, with_part}
+use Rattle.frames.specs.declared.types.Op.{Op}
+use Rattle.frames.specs.declared.types.Outcome.{Outcome}
+use Rattle.frames.specs.declared.types.Frame.{Frame}
+use Rattle.frames.specs.Flat.{Lands, StandsOn, ended, left_frames}
+use Rattle.frames.specs.Placed.{placed_bit}
+use Rattle.layers.specs.declared.nested.Ask.{Ask}
+use Rattle.layers.specs.Nested.{part_place, asked, pushed, layered}
+use Rattle.layers.specs.Sound.{LayerReaches}
+use Rattle.layers.specs.InPlace.{own, LayerLies}
+use Rattle.layers.specs.Flat.{task_frames, cut_where_ended}
+use Rattle.layers.specs.laws.Nested.{asks_fit}
+use Rattle.layers.specs.laws.Flat.{part_leaves, index_there, behind_there, front_there}
+use Rattle.layers.specs.laws.InPlace.{part_holds, asked_next, asked_memory, pushed_next, pushed_chosen, pushed_memory}
+use Rattle.layers.specs.laws.Over.{LayerOver}
+
+-- `a` is what the task asks, and `q` where the part lies
+module _ {Task P : Type 0} (l : LayerOver Task P) (at : Place) (m : Memory) (lies : LayerLies l.table l.below l.Holds at m)
+    (task : Task) (a : Ask) (e : a ≡ l.table.asks task) (q : Place) (is : q ≡ behind at (part_place l.below.size a.part)) where
+  module _ (who : ℕ) (o : Op) (stands : l.Stands who o task) where
+    part_there : a.part < l.table.parts
+    part_there = rw e (asks_fit l who o task stands).0
+
+    -- what the part's memory keeps
+    pub part_keeps : l.Holds (part q l.below.size m)
+    part_keeps = subst (λ x. l.Holds (part x l.below.size m)) (sym is) (part_holds l at m lies a.part part_there)
+
+    -- the part is asked behind the layer's own frame, which goes where the part has ended
+    pub part_asked : (stack behind_own left closed : List Frame) (first : ℕ) (given : Option Outcome) (after : Memory)
+        → behind_own ≡ stack ++ l.table.frame task ∷ [] → length stack ≡ first
+        → Lands l.below.frames q (l.below.begins a.who a.op (part q l.below.size m)).next (l.below.begins a.who a.op (part q l.below.size m)).memory behind_own m given left after
+        → closed ≡ cut_where_ended first given left
+        → Lands (task_frames l.table l.below task) at (asked l.below (l.table.asks task) (own l.table l.below at m)).next (asked l.below (l.table.asks task) (own l.table l.below at m)).memory stack m given closed after
+    part_asked stack behind_own left closed first given after owns long lands closes =
+        let b = l.below in
+        let here = own l.table b at m in
+        let suits : b.suits a.who a.op ≡ true = rw e (asks_fit l who o task stands).1 in
+        let next = ap (λ x. (b.begins a.who a.op (part x b.size m)).next) is ∙ asked_next l at m lies a part_there ∙ ap (λ x. (asked b x here).next) e in
+        let answer = lands.answer ∙ ap ended next in
+        record {
+          answer = answer;
+          stack = closes ∙ part_leaves b.frames (l.table.frame task) stack (asked b (l.table.asks task) here).next given left first long answer
+              (lands.stack ∙ (λ i. owns i ++ left_frames b.frames (next i)));
+          memory = lands.memory ∙ ap (λ x. with_part x (b.begins a.who a.op (part x b.size m)).memory m) is
+              ∙ asked_memory l at m lies a part_there suits ∙ ap (λ x. with_part at (asked b x here).memory m) e;
+        }
+
+  module _ (choice : Bool) (first : ℕ) (stack : List Frame) (who : ℕ) (o : Op) (p : P)
+      (on : StandsOn (layered l.table l.below).frames (LayerReaches l.table l.Stands l.Reaches) who first stack o (record { task = task; below = p })) where
+    -- the part's frames stand behind the layer's own
+    pub part_stands : StandsOn l.below.frames l.Reaches a.who (first + 1) stack a.op p
+    part_stands = record { reached = rw e on.reached.below; there = behind_there first stack (l.below.frames p) (l.table.frame task) on.there }
+
+    -- it makes its next bit action there
+    pub part_chooses : (chosen : Option (ℕ × Bool)) → (StandsOn l.below.frames l.Reaches a.who (first + 1) stack a.op p → chosen ≡ placed_bit q (l.below.goes p choice (part q l.below.size m)).chosen)
+        → chosen ≡ placed_bit at (pushed l.below (l.table.asks task).part p choice (own l.table l.below at m)).chosen
+    part_chooses chosen chooses =
+        chooses part_stands ∙ ap (λ x. placed_bit x (l.below.goes p choice (part x l.below.size m)).chosen) is
+        ∙ pushed_chosen l at m lies a.part p choice (part_there who o on.reached.stands)
+        ∙ ap (λ x. placed_bit at (pushed l.below x.part p choice (own l.table l.below at m)).chosen) e
+
+    pub part_moved : (given : Option Outcome) (left closed : List Frame) (after : Memory)
+        → (StandsOn l.below.frames l.Reaches a.who (first + 1) stack a.op p
+        → Lands l.below.frames q (l.below.goes p choice (part q l.below.size m)).next (l.below.goes p choice (part q l.below.size m)).memory (take (first + 1) stack) m given left after)
+        → closed ≡ cut_where_ended first given left
+        → Lands (task_frames l.table l.below task) at (pushed l.below (l.table.asks task).part p choice (own l.table l.below at m)).next
+        (pushed l.below (l.table.asks task).part p choice (own l.table l.below at m)).memory (take first stack) m given closed after
+    part_moved given left closed after lands_there closes =
+        let b = l.below in
+        let lands = lands_there part_stands in
+        let here = own l.table b at m in
+        let lt = part_there who o on.reached.stands in
+        let next = ap (λ x. (b.goes p choice (part x b.size m)).next) is ∙ pushed_next l at m lies a.part p choice lt ∙ ap (λ x. (pushed b x.part p choice here).next) e in
+        let answer = lands.answer ∙ ap ended next in
+        let there = index_there first stack (b.frames p) (l.table.frame task) on.there in
+        let front = front_there first stack (b.frames p) (l.table.frame task) on.there in
+        record {
+          answer = answer;
+          stack = closes ∙ part_leaves b.frames (l.table.frame task) (take first stack) (pushed b (l.table.asks task).part p choice here).next given left first
+              (omega (arith, there, length-take first stack)) answer (lands.stack ∙ (λ i. front i ++ left_frames b.frames (next i)));
+          memory = lands.memory ∙ ap (λ x. with_part x (b.goes p choice (part x b.size m)).memory m) is
+              ∙ pushed_memory l at m lies a.part p choice a.who a.op lt part_stands.reached
+              ∙ ap (λ x. with_part at (pushed b x.part p choice here).memory m) e;
+        }

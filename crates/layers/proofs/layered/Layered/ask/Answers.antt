@@ -1,0 +1,18 @@
+use Rattle.std.proofs.Common.{[], ◌∷◌, ◌++◌, sym, ap, ◌∙◌}
+use Rattle.layers.specs.laws.Over.{over}
+use Rattle.layers.proofs.PartSteps.{part_keeps, part_asked}
+use Rattle.layers.proofs.layered.Layered.ask.Goals as goal
+
+pub begin_on-end-requires-clause-holds : goal.begin_on-end-requires-clause-holds
+begin_on-end-requires-clause-holds g c =
+    let r = c.args.self.now in
+    let l = over (g.met.S.Register.lawful r.below) (g.met.L.Construction.sound r.layer) r.fit in
+    part_keeps l c.args.at c.args.store.now c.requires.lies c.args.task c.asks-ask.result c.asks-ask.ensures c.part_place-place.result c.part_place-place.ensures c.requires.stands.0 c.requires.stands.1.0 c.requires.stands.1.1
+
+pub returns : goal.returns
+returns g c =
+    let r = c.args.self.now in
+    let l = over (g.met.S.Register.lawful r.below) (g.met.L.Construction.sound r.layer) r.fit in
+    part_asked l c.args.at c.args.store.now c.requires.lies c.args.task c.asks-ask.result c.asks-ask.ensures c.part_place-place.result c.part_place-place.ensures c.requires.stands.0 c.requires.stands.1.0 c.requires.stands.1.1
+    c.args.stack.now c.push.new.self c.begin_on-end.new.stack c.close.new.stack c.len-first.result c.begin_on-end.result c.begin_on-end.new.store
+    (c.push.ensures ∙ ap (λ f. c.args.stack.now ++ f ∷ []) c.frame.ensures) (sym c.len-first.ensures) c.begin_on-end.ensures c.close.ensures
