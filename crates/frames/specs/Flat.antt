@@ -1,5 +1,5 @@
 -- Pending operations as flat stacks of frames: a layer's own frame in front of those of the part in work.
-use Rattle.std.specs.Prelude.{◌≡◌, ℕ, ◌+◌, List, [], ◌∷◌, ◌++◌, drop, Option, Some, None, MatchOption, ⊤}
+use Rattle.std.specs.Prelude.{◌≡◌, ◌≢◌, ℕ, ◌+◌, List, [], ◌∷◌, ◌++◌, drop, Option, Some, None, MatchOption, ⊤}
 use Rattle.std.specs.Option.{option_map}
 use Rattle.safe_bit.specs.declared.Place.{Place}
 use Rattle.safe_bit.specs.Memory.{Memory}
@@ -14,7 +14,7 @@ use Rattle.frames.specs.declared.types.Event.TheVariants.{Got, Wrote, Refused}
 use Rattle.frames.specs.declared.types.Frame.{Frame}
 use Rattle.frames.specs.declared.running.Running.{Running}
 use Rattle.frames.specs.declared.types.StepEvents.{StepEvents}
-use Rattle.frames.specs.Behaviour.{Behaviour}
+use Rattle.frames.specs.Behaviour.{Behaviour, Answers, StandsWell}
 use Rattle.frames.specs.Configuration.{Acted}
 
 -- how an operation that has come so far has ended, if it has
@@ -55,6 +55,17 @@ pub record Comes {P : Type 0} (frames : P → List Frame) (next : Next P) (inner
 pub record StandsOn {P : Type 0} (frames : P → List Frame) (Reaches : ℕ → Op → P → Type 0) (who first : ℕ) (stack : List Frame) (o : Op) (p : P) : Type 0 where
   pub reached : Reaches who o p
   pub there : drop first stack ≡ frames p
+
+-- a process's operation o has come to `next`: its end is answered, and its frames are all that is on the stack
+pub record StandsAt {P : Type 0} (b : Behaviour P) (Reaches : ℕ → Op → P → Type 0) (who : ℕ) (o : Op) (given : Option Outcome) (stack : List Frame) (next : Next P) : Type 0 where
+  pub stands : StandsWell (Reaches who o) (Answers b.values o) next
+  pub answer : given ≡ ended next
+  pub there : stack ≡ left_frames b.frames next
+
+-- what frames tell of a process: the point whose frames they are, if the process can stand there; else nothing
+abbrev pub IsTold : {P : Type 0} → (P → List Frame) → (ℕ → Op → P → Type 0) → ℕ → List Frame → Option P → Type 0
+IsTold frames Reaches who stack (Some p) = (o : Op) × (Reaches who o p × (stack ≡ frames p))
+IsTold {P} frames Reaches who stack None = (o : Op) (p : P) → Reaches who o p → stack ≢ frames p
 
 -- frames tell the point, which `find` finds, and the operation; no frames tell of none
 pub record FramesTell {P : Type 0} (b : Behaviour P) (Reaches : ℕ → Op → P → Type 0) (find : ℕ → List Frame → Option P) : Type 0 where

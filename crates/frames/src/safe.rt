@@ -135,11 +135,21 @@ impl Register for Safe {
         }
     }
 
-    fn pending(&self, stack: &FlatStack, first: usize, _who: u32) -> Option<SafePoint> {
-        if first >= stack.len() {
+    fn pending(&self, stack: &FlatStack, first: usize, who: u32) -> Option<SafePoint> {
+        if first >= stack.len() || stack.len() - first != 1 {
             return None;
         }
-        Some(point_of(stack.frame(first)))
+        let frame = stack.frame(first);
+        let point = point_of(frame);
+        if self.fits(who, frame.op) && frame.is(frame_of(point)) {
+            Some(point)
+        } else {
+            None
+        }
+    }
+
+    fn lay(&self, pending: &SafePoint, stack: &mut FlatStack) {
+        stack.push(frame_of(*pending));
     }
 
     fn action(&self, pending: &SafePoint, at: Place) -> Action {

@@ -1,6 +1,7 @@
 //! The words of a schedule: steps, operations, events, actions and frames.
 
 ghost use Rattle.std.specs.Prelude.{◌≡◌};
+ghost use Rattle.std.specs.Bool.{Decides};
 ghost use Rattle.frames.specs.Fitting.{process_of};
 
 use smallvec::SmallVec;
@@ -13,6 +14,15 @@ pub enum Op {
     /// A read.
     #[default]
     Read,
+}
+
+impl Op {
+    /// Whether two operations are the same.
+    pub fn is(self, other: Op) -> bool
+        ensures { Decides result (self ≡ other) }
+    {
+        self == other
+    }
 }
 
 /// One atomic step of a schedule.
@@ -69,6 +79,14 @@ pub enum Next<P> {
 #[derive(Clone, Copy, Debug, PartialEq, Eq)]
 pub struct Progress {
     pub end: Option<Outcome>,
+    pub chosen: Option<(u32, bool)>,
+}
+
+/// Where a pending operation stands after its next bit action, and the bit that a hit read chose, with
+/// the value given.
+#[derive(Clone, Copy, Debug, PartialEq, Eq)]
+pub struct Turned<P> {
+    pub next: Next<P>,
     pub chosen: Option<(u32, bool)>,
 }
 
@@ -146,6 +164,15 @@ pub struct Frame {
     pub op: Op,
     pub i: u32,
     pub x: u32,
+}
+
+impl Frame {
+    /// Whether two frames are the same.
+    pub fn is(self, other: Frame) -> bool
+        ensures { Decides result (self ≡ other) }
+    {
+        self == other
+    }
 }
 
 /// The most frames that a pending operation has.

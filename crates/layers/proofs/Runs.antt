@@ -16,8 +16,7 @@ use Rattle.layers.specs.declared.nested.Continuation.{Continuation}
 use Rattle.layers.specs.declared.nested.Continuation.TheVariants as continuation
 use Rattle.frames.specs.Placed.{placed_bit}
 use Rattle.frames.specs.Behaviour.{Behaviour, Begun, Moved, Answers, StandsWell}
-use Rattle.frames.specs.declared.running.Running.{Running}
-use Rattle.frames.specs.Flat.{Lands, StandsOn, IsReached, ended, left_frames, stack_of}
+use Rattle.frames.specs.Flat.{Lands, StandsOn, ended, left_frames}
 use Rattle.layers.specs.Nested.{Program, Table, layer_size, own_words, asked, pushed, advance, resume, layered}
 use Rattle.layers.specs.Sound.{IsSound, IsNotSpent, IsSpent, LayerHolds, LayerReaches}
 use Rattle.layers.specs.Settled.{settled, ContinuationStands, run_on, follow_on}
@@ -56,13 +55,6 @@ pub ended_leaves : {P : Type 0} (frames : P → List Frame) (next : Next P) (giv
 ended_leaves frames next given outcome front left answer e leaves = leaves ∙ ap (λ n. front ++ left_frames frames n) (done_of next outcome (sym answer ∙ e)) ∙ append-nil front
 
 module _ {Task P : Type 0} (l : LayerOver Task P) where
-  -- who has frames from an index on stands there
-  pub stands_where : (who first : ℕ) (stack : List Frame) (slot : Option (Running (Nested Task P))) → IsReached (LayerReaches l.table l.Stands l.Reaches) who slot
-      → drop first stack ≡ stack_of (layered l.table l.below) slot → first < length stack
-      → (o : Op) × ((n : Nested Task P) × StandsOn (layered l.table l.below).frames (LayerReaches l.table l.Stands l.Reaches) who first stack o n)
-  stands_where who first stack None h is lt = let none : length (drop first stack) ≡ 0 = ap length is in absurd (omega (arith, none, length-drop first stack, lt))
-  stands_where who first stack (Some r) h is lt = (r.op, (r.point, record { reached = h; there = is }))
-
   -- the task that is found by a frame is that in which a process stands
   pub found_task : (who first : ℕ) (stack : List Frame) (frame : Frame) → drop first stack ≡ frame ∷ drop (first + 1) stack
       → (o : Op) (n : Nested Task P) → StandsOn (layered l.table l.below).frames (LayerReaches l.table l.Stands l.Reaches) who first stack o n → l.table.find who frame ≡ n.task

@@ -111,6 +111,10 @@ pub trait Construction: Rules + Copy + Eq {
     fn find(&self, who: u32, frame: Frame) -> Self::Task
         ensures { result ≡ (Self.table self.now).find who frame };
 
+    /// Whether a process can stand in a task, in an operation.
+    fn stands(&self, who: u32, op: Op, task: Self::Task) -> bool
+        ensures { Decides result (Stands self.now who op task) };
+
     ghost sound: { (l : Self) → IsSoundTable (Self.table l) (Stands l) (left l) };
 
     // Equal layers have one table.

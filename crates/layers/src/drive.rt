@@ -1,19 +1,17 @@
 //! How a layer runs where it lies: each call runs the layer's program, part by part.
 
-ghost use Rattle.std.specs.Prelude.{◌≡◌, ℕ, ◌<◌, ◌≤◌, ◌+◌, true, false, Option, length, take, drop};
+ghost use Rattle.std.specs.Prelude.{◌≡◌, ℕ, ◌++◌, ◌<◌, ◌≤◌, ◌+◌, true, false, Option, length, take, drop};
 ghost use Rattle.safe_bit.specs.Parts.{behind, with_part, IsPlaced, LiesIn};
 ghost use Rattle.safe_bit.specs.Windows.{splice};
 ghost use Rattle.frames.specs.declared.types.Op.{Op};
 ghost use Rattle.frames.specs.declared.types.TheConstants.{STACK_FRAMES};
-ghost use Rattle.frames.specs.declared.running.Running.{Running};
-ghost use Rattle.frames.specs.Flat.{Lands, IsReached, stack_of};
+ghost use Rattle.frames.specs.Flat.{Lands, IsTold};
 ghost use Rattle.frames.specs.Placed.{placed_bit};
-ghost use Rattle.layers.specs.declared.nested.Nested.{Nested};
 ghost use Rattle.layers.specs.Nested as nested;
 ghost use Rattle.layers.specs.Nested.{layered};
 ghost use Rattle.layers.specs.Sound.{FitsBelow, IsNotSpent, IsSpent, LayerReaches};
 ghost use Rattle.layers.specs.Settled.{tasks_left};
-ghost use Rattle.layers.specs.Flat.{layered_point, cut_where_ended};
+ghost use Rattle.layers.specs.Flat.{IsToldTask, cut_where_ended};
 ghost use Rattle.layers.specs.Driver.{table_of, below_of, behaviour, own_memory, own_words, Holds, Lies, StandsIn, ContinuesWell, EndsTask, task_frames, first_parts, first_words, asked_part, moved_part, started, settled_behind, run_from, run_behind};
 
 use crate::construction::Construction;
@@ -21,11 +19,11 @@ use crate::layered::Layered;
 use crate::nested::{Continuation, Nested};
 use frames::flat::FlatStack;
 use frames::register::Register;
-use frames::types::{Op, Outcome, Progress};
+use frames::types::{Frame, Op, Outcome, Progress};
 use safe_bit::{Place, Store};
 
 /// What `who` has pending, by the frames from index `first` on: the first tells the task, the others
-/// the point of its part.
+/// the point of its part. None where these aren't the frames of an operation that it can have pending.
 pub(crate) fn pending<L: Construction, S: Register>(
     layer: &L,
     below: &S,
@@ -34,20 +32,51 @@ pub(crate) fn pending<L: Construction, S: Register>(
     who: u32,
 ) -> Option<Nested<L::Task, S::Pending>>
     requires fit { FitsBelow (L.table layer.now) (S.is below.now) }
-    requires stands { (slot : Option (Running (Nested L.Task S.Pending)))
-        × (IsReached (LayerReaches (L.table layer.now) (L.Stands layer.now) (S.Reaches below.now))
-        who slot
-        × (drop first stack.now ≡ stack_of (layered (L.table layer.now) (S.is below.now)) slot)) }
-    ensures { result ≡ layered_point (L.table layer.now) (S.point below.now) who
-        (drop first stack.now) }
+    ensures { IsTold (layered (L.table layer.now) (S.is below.now)).frames
+        (LayerReaches (L.table layer.now) (L.Stands layer.now) (S.Reaches below.now)) who
+        (drop first stack.now) result }
 {
-    if first >= stack.len() {
+    if first >= stack.len() || stack.len() - first < 2 {
         return None;
     }
-    let task = layer.find(who, stack.frame(first));
+    let task = standing(layer, who, stack.frame(first))?;
     let ask = layer.asks(task);
+    if !stack.frame(first + 1).op.is(ask.op) {
+        return None;
+    }
     let point = below.pending(stack, first + 1, ask.who)?;
     Some(Nested { task, below: point })
+}
+
+/// The task that a layer's own frame tells, if the process can stand in it.
+fn standing<L: Construction>(layer: &L, who: u32, frame: Frame) -> Option<L::Task>
+    ensures { IsToldTask (L.table layer.now) (L.Stands layer.now) who frame result }
+{
+    let task = layer.find(who, frame);
+    if layer.stands(who, frame.op, task) && layer.frame(task).is(frame) {
+        Some(task)
+    } else {
+        None
+    }
+}
+
+/// Puts the frames of a pending operation behind those on the stack: the layer's own, and then its part's.
+pub(crate) fn lay<L: Construction, S: Register>(
+    layer: &L,
+    below: &S,
+    pending: &Nested<L::Task, S::Pending>,
+    stack: &mut FlatStack,
+)
+    requires fit { FitsBelow (L.table layer.now) (S.is below.now) }
+    requires reached { (who : ℕ)
+        × ((op : Op) × LayerReaches (L.table layer.now) (L.Stands layer.now)
+        (S.Reaches below.now) who op pending.now) }
+    requires room { length stack.old + 1 + (S.is below.now).depth ≤ STACK_FRAMES }
+    ensures { stack.new
+        ≡ stack.old ++ (layered (L.table layer.now) (S.is below.now)).frames pending.now }
+{
+    stack.push(layer.frame(pending.task));
+    below.lay(&pending.below, stack);
 }
 
 impl<L: Construction, S: Register> Layered<L, S> {

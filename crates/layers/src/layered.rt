@@ -155,6 +155,10 @@ impl<L: Construction, S: Register> Register for Layered<L, S> {
         drive::pending(&self.layer, &self.below, stack, first, who)
     }
 
+    fn lay(&self, pending: &Self::Pending, stack: &mut FlatStack) {
+        drive::lay(&self.layer, &self.below, pending, stack);
+    }
+
     fn action(&self, pending: &Self::Pending, at: Place) -> Action {
         let ask = self.layer.asks(pending.task);
         let place = self.part_place(at, ask.part);

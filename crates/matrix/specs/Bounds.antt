@@ -1,6 +1,7 @@
 -- Bounds on codes, and on the numbers that they are made of.
-use Rattle.std.proofs.Common.{ℕ, ◌+◌, ◌*◌, ◌<◌, arith}
-use Rattle.std.proofs.lemmas.Nat.{mul-add-lt, div_below, mul-le}
+use Rattle.std.proofs.Common.{◌≡◌, ℕ, ◌+◌, ◌*◌, ◌<◌, ap, ◌∙◌, arith}
+use Rattle.std.specs.Prelude.{◌/◌}
+use Rattle.std.proofs.lemmas.Nat.{mul-add-lt, div_below, div-mul-add, mul-le}
 use Rattle.matrix.specs.Program.{codes, code_of, tag_of}
 
 -- a raised code is a code
@@ -19,3 +20,10 @@ pub tag_fits : (n values last code : ℕ) → 0 < n → 0 < values → code < co
 tag_fits n values last code some any lt =
     let pos : 0 < n * values = (let g = mul-le 1 1 n values some any in omega arith) in
     div_below code (n * values) (last + 1) pos (omega arith)
+
+-- the tag of a code of a tag
+pub tag_told : (n values tag who v : ℕ) → who < n → v < values → tag_of n values (code_of n values tag who v) ≡ tag
+tag_told n values tag who v few lt =
+    let row = mul-add-lt who values v n few lt in
+    let apart : code_of n values tag who v ≡ tag * (n * values) + (who * values + v) = omega arith in
+    ap (λ code. code / (n * values)) apart ∙ div-mul-add tag (n * values) (who * values + v) (omega (arith, row))

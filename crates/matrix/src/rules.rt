@@ -79,7 +79,8 @@ impl Matrix {
 }
 
 impl Matrix {
-    ghost use Rattle.matrix.specs.Program.{codes, code_of, tag_of, row_from, behind_column, column_from, ValueFits};
+    ghost use Rattle.matrix.specs.Program.{codes, code_of, tag_of, row_from, behind_column, column_from, ValueFits, InWork, RowFits};
+    ghost use Rattle.std.specs.Bool.{Decides};
     ghost use Rattle.matrix.specs.Turns.{ComesTo};
 
     /// What a process comes to that has read its column up to part `j`.
@@ -169,6 +170,35 @@ impl Matrix {
         ensures code { result ≡ code_of self.now.n self.now.values (tag + 1) who v }
     {
         ((tag + 1) * self.n + who) * self.values + v
+    }
+
+    /// Whether a process can be at part `j` of its column or its row, in an operation, with a code.
+    fn in_work(&self, who: u32, op: Op, j: u32, code: u32) -> bool
+        ensures { Decides result (InWork self.now.n self.now.values self.now.last who op who op j
+            code) }
+    {
+        let fits = match op {
+            Op::Write(v) => v < self.values,
+            Op::Read => true,
+        };
+        who < self.n && j < self.n && code < (self.last + 1) * self.n * self.values && fits
+    }
+
+    /// Whether a process in an operation can write the code to its row.
+    #[tactic(auto, using(crate::specs::Bounds::tag_told))]
+    fn row_fits(&self, who: u32, op: Op, code: u32) -> bool
+        requires process { who < self.now.n }
+        requires value { ValueFits self.now.values op }
+        requires code { code < codes self.now.n self.now.values self.now.last }
+        ensures { Decides result (RowFits self.now.n self.now.values who op code) }
+    {
+        match op {
+            Op::Write(v) => {
+                let tag = self.tag_of(code);
+                tag > 0 && code == self.raised(tag - 1, who, v)
+            }
+            Op::Read => true,
+        }
     }
 }
 
@@ -298,6 +328,23 @@ impl Construction for Matrix {
                 j,
                 code: x,
             },
+        }
+    }
+
+    fn stands(&self, who: u32, op: Op, task: MatrixTask) -> bool {
+        match task {
+            MatrixTask::Column {
+                who: p,
+                op: q,
+                j,
+                greatest,
+            } => p == who && q.is(op) && self.in_work(p, q, j, greatest),
+            MatrixTask::Row {
+                who: p,
+                op: q,
+                j,
+                code,
+            } => p == who && q.is(op) && self.in_work(p, q, j, code) && self.row_fits(p, q, code),
         }
     }
 

@@ -164,6 +164,19 @@ impl Construction for Copies {
         }
     }
 
+    fn stands(&self, who: u32, op: Op, task: CopiesTask) -> bool {
+        match (op, task) {
+            (Op::Write(w), CopiesTask::Writing { v, reader }) => {
+                let there = reader >= 1 && reader <= self.readers;
+                who == 0 && v == w && v < self.values && there
+            }
+            (Op::Read, CopiesTask::Reading { reader }) => {
+                reader == who && reader >= 1 && reader <= self.readers
+            }
+            _ => false,
+        }
+    }
+
     ghost sound = { λ l. copies_sound l.readers l.values l.some l.few };
 
     ghost alike = { λ a b h. layers_alike a.readers b.readers a.values b.values h };

@@ -151,6 +151,16 @@ impl Construction for RegularBit {
         }
     }
 
+    fn stands(&self, who: u32, op: Op, task: RegularTask) -> bool {
+        match (op, task) {
+            (Op::Write(w), RegularTask::Writing(v)) => who == 0 && v == w && v < 2,
+            (Op::Read, RegularTask::Reading(reader)) => {
+                reader == who && reader >= 1 && reader < self.processes
+            }
+            _ => false,
+        }
+    }
+
     ghost sound = { λ l. regular_sound l.processes l.some };
 
     ghost alike = { λ a b h. table_alike a.processes b.processes h };

@@ -173,6 +173,17 @@ impl Construction for Stamped {
         }
     }
 
+    fn stands(&self, who: u32, op: Op, task: StampedTask) -> bool {
+        match (op, task) {
+            (Op::Write(w), StampedTask::Writing(v, code)) => {
+                let own = code % self.values == v && code >= self.values;
+                who == 0 && v == w && own && code < (self.last + 1) * self.values
+            }
+            (Op::Read, StampedTask::Reading) => who == 1,
+            _ => false,
+        }
+    }
+
     ghost sound = { λ l. stamped_sound l.values l.last l.some };
 
     ghost alike = { λ a b h. table_alike a.values b.values a.last b.last h };

@@ -109,6 +109,10 @@ impl Register for UnaryTower {
         self.layers.pending(stack, first, who)
     }
 
+    fn lay(&self, pending: &Self::Pending, stack: &mut FlatStack) {
+        self.layers.lay(pending, stack);
+    }
+
     #[inline(always)]
     fn action(&self, pending: &Self::Pending, at: Place) -> Action {
         self.layers.action(pending, at)

@@ -222,6 +222,28 @@ impl Construction for Unary {
         }
     }
 
+    fn stands(&self, who: u32, op: Op, task: UnaryTask) -> bool {
+        match (op, task) {
+            (Op::Write(w), UnaryTask::Setting(x)) => who == 0 && x == w && w < self.values,
+            (Op::Write(w), UnaryTask::Clearing { x, i }) => {
+                who == 0 && x == w && i < w && w < self.values
+            }
+            (
+                Op::Read,
+                UnaryTask::Looking {
+                    who: reader,
+                    i,
+                    left,
+                },
+            ) => {
+                let bits = u64::from(i) + u64::from(left) + 1;
+                let reads = reader == who && who >= 1 && who < self.processes;
+                reads && bits == u64::from(self.values)
+            }
+            _ => false,
+        }
+    }
+
     ghost sound = { λ l. unary_sound l.values l.processes l.two l.some };
 
     ghost alike = { λ a b h. table_alike a.values b.values a.processes b.processes h };

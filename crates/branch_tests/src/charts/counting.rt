@@ -120,6 +120,10 @@ impl Register for Counting<'_> {
         Safe.pending(stack, first, who)
     }
 
+    fn lay(&self, pending: &SafePoint, stack: &mut FlatStack) {
+        Safe.lay(pending, stack);
+    }
+
     fn action(&self, pending: &SafePoint, at: Place) -> Action {
         Safe.action(pending, at)
     }

@@ -54,7 +54,7 @@ layer_decides a b = Decides-like (layer_eq a b) (λ p. sym (numbered a) ∙ ap l
 abbrev pub frame_eq : Frame → Frame → Bool
 frame_eq a b = layer_eq a.layer b.layer && (op_eq a.op b.op && (nat_eq a.i b.i && nat_eq a.x b.x))
 
-frame_decides : (a b : Frame) → Decides (frame_eq a b) (a ≡ b)
+pub frame_decides : (a b : Frame) → Decides (frame_eq a b) (a ≡ b)
 frame_decides a b =
     Decides-like (frame_eq a b) (λ p. λ i. record { layer = p.0 i; op = p.1.0 i; i = p.1.1.0 i; x = p.1.1.1 i })
     (λ p. (ap (λ f. f.layer) p, (ap (λ f. f.op) p, (ap (λ f. f.i) p, ap (λ f. f.x) p))))

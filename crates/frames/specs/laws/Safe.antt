@@ -158,7 +158,7 @@ told_bit : (b : Bool) → bit_of (value_of b) ≡ b
 told_bit false = refl
 told_bit true = refl
 
-point_told : (p : SafePoint) → point_at (safe_frame p).op (safe_frame p).i ≡ p
+pub point_told : (p : SafePoint) → point_at (safe_frame p).op (safe_frame p).i ≡ p
 point_told (at.WriteStart b) = ap at.WriteStart (told_bit b)
 point_told (at.WriteEnd b) = ap at.WriteEnd (told_bit b)
 point_told at.ReadStart = refl

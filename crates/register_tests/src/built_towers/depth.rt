@@ -86,6 +86,10 @@ impl Register for Deep {
         Safe.pending(stack, first, who)
     }
 
+    fn lay(&self, pending: &SafePoint, stack: &mut FlatStack) {
+        Safe.lay(pending, stack);
+    }
+
     fn action(&self, pending: &SafePoint, at: Place) -> Action {
         Safe.action(pending, at)
     }

@@ -106,6 +106,14 @@ impl Construction for ReadFirst {
         }
     }
 
+    fn stands(&self, who: u32, op: Op, task: Op) -> bool {
+        match (op, task) {
+            (Op::Write(w), Op::Write(v)) => who == 0 && w == v && v < 8,
+            (Op::Read, Op::Read) => who == 1,
+            _ => false,
+        }
+    }
+
     ghost sound = { λ _. read_first_sound };
 
     ghost alike = { λ _ _ _. refl };

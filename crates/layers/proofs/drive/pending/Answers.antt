@@ -1,22 +1,14 @@
-use Rattle.std.proofs.Common.{rules, ◌<◌, length, Some, ap, ◌∙◌}
-use Rattle.layers.specs.laws.Flat.{behind_there}
+use Rattle.std.proofs.Common.{arith, length-drop}
 use Rattle.layers.specs.laws.Over.{over}
-use Rattle.layers.proofs.Runs.{stands_where, found_task}
+use Rattle.layers.proofs.Frames.{too_few}
 use Rattle.layers.proofs.drive.pending.Goals as goal
+use Rattle.layers.proofs.drive.pending.Goals.{then-first-len-via-then-first-len, then-first-len-via-else-first-len+then-len-first-lt2}
 
-pub pending-requires : goal.pending-requires
-pending-requires g c =
+pub returns-then-first-len : goal.returns-then-first-len
+returns-then-first-len g c =
     let l = over (g.met.S.Register.lawful c.args.below.now) (g.met.L.Construction.sound c.args.layer.now) c.requires.fit in
-    let t = g.L.Rules.table c.args.layer.now in
-    let b = g.S.Behaves.is c.args.below.now in
-    let who = c.args.who in
-    let first = c.args.first in
-    let stack = c.args.stack.now in
-    let lt : first < length stack = search rules in
-    let there = stands_where l who first stack c.requires.stands.0 c.requires.stands.1.0 c.requires.stands.1.1 lt in
-    let n = there.1.0 in
-    let on = there.1.1 in
-    let is = c.asks-ask.ensures ∙ ap t.asks (c.find-task.ensures ∙ found_task l who first stack c.frame.result c.frame.ensures there.0 n on) in
-    record {
-      stands = (Some (record { op = c.asks-ask.result.op; point = n.below }), (rw is on.reached.below, behind_there first stack (b.frames n.below) (t.frame n.task) on.there));
-    }
+    too_few l (g.S.Register.point c.args.below.now) (g.met.S.Register.tells c.args.below.now) c.args.who c.args.first c.args.stack.now
+    (elim c.then-first-len.branch [
+      | then-first-len-via-then-first-len w ↦ omega (arith, length-drop c.args.first c.args.stack.now, c.len.ensures, w.if-first-len.true)
+      | then-first-len-via-else-first-len+then-len-first-lt2 w ↦ omega (arith, length-drop c.args.first c.args.stack.now, w.len-else-first-len.ensures, w.if-len-first-lt2.true)
+    ])
