@@ -1,0 +1,89 @@
+-- Keys among others.
+use Rattle.std.proofs.Common.{◌≡◌, ℕ, Bool, true, false, ◌||◌, nat_eq, eqb, List, [], ◌∷◌, ◌++◌, Option, Some, reverse, refl, sym, ap, ◌∙◌, true≢false, eq-eqb}
+use Rattle.std.proofs.lemmas.Bool.{eqb-true}
+use Rattle.std.proofs.lemmas.List.{reverse-append}
+use Rattle.std.specs.List.{AllByRecursion, list_any}
+use Rattle.lineage.specs.Family.{has, last_from, Stands}
+
+-- a number that is among others is the first of them, or among the rest
+pub has_cases : (x y : ℕ) (ys : List ℕ) (P : Type 0) → has x (y ∷ ys) ≡ true → (x ≡ y → P) → (has x ys ≡ true → P) → P
+has_cases x y ys P h same rest = by (nat_eq x y) refl
+  where
+    by : (b : Bool) → nat_eq x y ≡ b → P
+    by true e = same (eqb-true x y e)
+    by false e = rest (sym (ap (λ c. c || has x ys) e) ∙ h)
+
+pub has-head : (x : ℕ) (ys : List ℕ) → has x (x ∷ ys) ≡ true
+has-head x ys = ap (λ c. c || has x ys) (eq-eqb x x refl)
+
+pub has-tail : (x y : ℕ) (ys : List ℕ) → has x ys ≡ true → has x (y ∷ ys) ≡ true
+has-tail x y ys h = by (nat_eq x y) refl
+  where
+    by : (b : Bool) → nat_eq x y ≡ b → has x (y ∷ ys) ≡ true
+    by true e = ap (λ c. c || has x ys) e
+    by false e = ap (λ c. c || has x ys) e ∙ h
+
+-- among the one or the other
+pub has-append : (x : ℕ) (ys zs : List ℕ) → has x (ys ++ zs) ≡ (has x ys || has x zs)
+has-append x [] zs = refl
+has-append x (y ∷ ys) zs = by (nat_eq x y) (has-append x ys zs)
+  where
+    by : (b : Bool) → has x (ys ++ zs) ≡ (has x ys || has x zs) → (b || has x (ys ++ zs)) ≡ ((b || has x ys) || has x zs)
+    by true rest = refl
+    by false rest = rest
+
+or_false : (b c : Bool) → (b || c) ≡ (c || (b || false))
+or_false true true = refl
+or_false true false = refl
+or_false false true = refl
+or_false false false = refl
+
+-- the last goes first
+pub reverse_cons : (y : ℕ) (ys : List ℕ) → reverse (y ∷ ys) ≡ reverse ys ++ y ∷ []
+reverse_cons y ys = reverse-append (y ∷ []) ys
+
+pub has-reverse : (x : ℕ) (ys : List ℕ) → has x (reverse ys) ≡ has x ys
+has-reverse x [] = refl
+has-reverse x (y ∷ ys) =
+    ap (has x) (reverse_cons y ys) ∙ has-append x (reverse ys) (y ∷ []) ∙ ap (λ b. b || (nat_eq x y || false)) (has-reverse x ys)
+    ∙ sym (or_false (nat_eq x y) (has x ys))
+
+pub has_not_from : (x : ℕ) (ys : List ℕ) → (has x ys ≡ true → ⊥) → has x ys ≡ false
+has_not_from x ys h = by (has x ys) refl
+  where
+    by : (b : Bool) → has x ys ≡ b → has x ys ≡ false
+    by true e = absurd (h e)
+    by false e = e
+
+-- where a number stands
+pub stands : (x : ℕ) (ys : List ℕ) → has x ys ≡ true → Stands ys x
+stands x [] h = absurd (true≢false (sym h))
+stands x (y ∷ ys) h =
+    has_cases x y ys (Stands (y ∷ ys) x) h
+    (λ same. record { front = []; back = ys; is = ap (λ z. z ∷ ys) (sym same) })
+    (λ rest. let s = stands x ys rest in record { front = y ∷ s.front; back = s.back; is = ap (λ l. y ∷ l) s.is })
+
+pub stands_has : (x : ℕ) (front back : List ℕ) → has x (front ++ x ∷ back) ≡ true
+stands_has x [] back = has-head x back
+stands_has x (y ∷ front) back = has-tail x y (front ++ x ∷ back) (stands_has x front back)
+
+pub AllByRecursion-from_has : (x : ℕ) (ys : List ℕ) → has x ys ≡ false → AllByRecursion (λ y. eqb x y ≡ false) ys
+AllByRecursion-from_has x [] h = tt
+AllByRecursion-from_has x (y ∷ ys) h = by (eqb x y) refl (AllByRecursion-from_has x ys)
+  where
+    by : (b : Bool) → eqb x y ≡ b → (has x ys ≡ false → AllByRecursion (λ z. eqb x z ≡ false) ys) → AllByRecursion (λ z. eqb x z ≡ false) (y ∷ ys)
+    by true e rest = absurd (true≢false (sym (ap (λ c. c || has x ys) e) ∙ h))
+    by false e rest = (e, rest (sym (ap (λ c. c || has x ys) e) ∙ h))
+
+pub has_from_any : (x : ℕ) (ys : List ℕ) → list_any (eqb x) ys ≡ true → has x ys ≡ true
+has_from_any x [] h = h
+has_from_any x (y ∷ ys) h = by (eqb x y) refl (has_from_any x ys)
+  where
+    by : (b : Bool) → eqb x y ≡ b → (list_any (eqb x) ys ≡ true → has x ys ≡ true) → has x (y ∷ ys) ≡ true
+    by true e rest = ap (λ c. c || has x ys) e
+    by false e rest = ap (λ c. c || has x ys) e ∙ rest (sym (ap (λ c. c || list_any (eqb x) ys) e) ∙ h)
+
+-- the last of keys
+pub last_from-push : (first : Option ℕ) (ks : List ℕ) (k : ℕ) → last_from first (ks ++ k ∷ []) ≡ Some k
+last_from-push first [] k = refl
+last_from-push first (j ∷ ks) k = last_from-push (Some j) ks k

@@ -1,0 +1,123 @@
+-- A node put behind a path.
+use Rattle.std.proofs.Common.{◌≡◌, ◌≢◌, ℕ, ◌+◌, ◌<◌, ◌^◌, nat_eq, List, [], ◌∷◌, ◌++◌, length, map, set, Option, Some, None, refl, sym, ◌∙◌, ap, subst, arith, inl, inr, ◌⊎◌, eq-eqb, ne_eqb}
+use Rattle.std.specs.Prelude.{is_some}
+use Rattle.std.specs.List.{count_by}
+use Rattle.std.proofs.lemmas.Bool.{cases_eq}
+use Rattle.std.proofs.lemmas.List.{get_or-set_same, get_or-set_other, length-set, map-set}
+use Rattle.std.proofs.lemmas.List.Sums.{sum_by-set}
+use Rattle.lineage.specs.declared.node.Node.{Node}
+use Rattle.lineage.specs.Family.{path_in, IsAdded}
+use Rattle.lineage.specs.Climbs.{IsClimb, Ends}
+use Rattle.lineage.specs.Held.{tip_at, is_key, node, node_at, item_in, above_in, above_of, path_to, stands_on, holders_of, family_on, IsOn, IsSound}
+use Rattle.lineage.proofs.Once.{has-head, has-tail, reverse_cons}
+use Rattle.lineage.proofs.Walks.{path_to_is, path_at, item_is}
+use Rattle.lineage.proofs.Counts.{one, count_changed}
+use Rattle.lineage.proofs.Kept.{over_climb, over_path, map_same, absent_holders}
+
+-- a node that is new changes no other item
+pub added : {X : Type 0} (s t : List (Option (Node X))) (tips new : List (Option ℕ)) (key : ℕ) (n : Node X) → node_at s key ≡ None → node_at t key ≡ Some n
+    → ((k : ℕ) → k ≢ key → item_in (node_at t k) ≡ item_in (node_at s k)) → IsAdded (family_on s tips) (family_on t new) key n.item
+added s t tips new key n vacant here others = record {
+  was_vacant = item_is s tips key ∙ ap item_in vacant;
+  here = item_is t new key ∙ ap item_in here;
+  others = λ k ne. item_is t new k ∙ others k ne ∙ sym (item_is s tips k);
+}
+
+module _ {X : Type 0} (s t : List (Option (Node X))) (tips new : List (Option ℕ)) (path key : ℕ) (item : X) (sound : IsSound s tips) (within : path < length tips)
+    (vacant : node_at s key ≡ None) (here : node_at t key ≡ Some (node item (tip_at tips path) 1)) (others : (k : ℕ) → k ≢ key → node_at t k ≡ node_at s k)
+    (now : new ≡ set tips path (Some key)) where
+  -- what was linked is as it was
+  not_new : (k : ℕ) (next : Option ℕ) → above_of s k ≡ Some next → k ≢ key
+  not_new k next e same = let no : above_of s k ≡ None = ap (above_of s) same ∙ ap above_in vacant in cc
+
+  keeps : (k : ℕ) (next : Option ℕ) → above_of s k ≡ Some next → above_of t k ≡ Some next
+  keeps k next e = ap above_in (others k (not_new k next e)) ∙ e
+
+  link : above_of t key ≡ Some (tip_at tips path)
+  link = ap above_in here
+
+  tip_here : tip_at new path ≡ Some key
+  tip_here = ap (λ l. tip_at l path) now ∙ get_or-set_same tips path (Some key) None within
+
+  tip_other : (i : ℕ) → i ≢ path → tip_at new i ≡ tip_at tips i
+  tip_other i ne = ap (λ l. tip_at l i) now ∙ get_or-set_other tips path i (Some key) None ne
+
+  -- the climb from the new tip
+  climb_new : (up : List ℕ) → IsClimb (above_of s) (tip_at tips path) up → IsClimb (above_of t) (Some key) (key ∷ up)
+  climb_new up h = (refl, (tip_at tips path, (link, over_climb s t keeps (tip_at tips path) up h)))
+
+  ends_now : (i : ℕ) → (i ≡ path) ⊎ (i ≢ path) → Ends (above_of t) (tip_at new i)
+  ends_now i (inl e) =
+      let old = sound.ends path in
+      record { up = key ∷ old.up; is = subst (λ o. IsClimb (above_of t) o (key ∷ old.up)) (sym (ap (tip_at new) e ∙ tip_here)) (climb_new old.up old.is) }
+  ends_now i (inr ne) =
+      let old = sound.ends i in
+      record { up = old.up; is = subst (λ o. IsClimb (above_of t) o old.up) (sym (tip_other i ne)) (over_climb s t keeps (tip_at tips i) old.up old.is) }
+
+  on_now : (k : ℕ) (o : IsOn s tips k) → (o.path ≡ path) ⊎ (o.path ≢ path) → IsOn t new k
+  on_now k o (inl e) = record {
+    path = path;
+    up = key ∷ o.up;
+    is = subst (λ z. IsClimb (above_of t) z (key ∷ o.up)) (sym tip_here) (climb_new o.up (subst (λ i. IsClimb (above_of s) (tip_at tips i) o.up) e o.is));
+    on = has-tail k key o.up o.on;
+  }
+  on_now k o (inr ne) = record {
+    path = o.path;
+    up = o.up;
+    is = subst (λ z. IsClimb (above_of t) z o.up) (sym (tip_other o.path ne)) (over_climb s t keeps (tip_at tips o.path) o.up o.is);
+    on = o.on;
+  }
+
+  on_new : IsOn t new key
+  on_new =
+      let old = sound.ends path in
+      record { path = path; up = key ∷ old.up; is = subst (λ z. IsClimb (above_of t) z (key ∷ old.up)) (sym tip_here) (climb_new old.up old.is); on = has-head key old.up }
+
+  -- only the new node has one more that stands on it
+  holders_now : (m : ℕ) → holders_of t new m ≡ holders_of s tips m + one (nat_eq m key)
+  holders_now m =
+      let a = sum_by-set (λ x. one (is_key m x)) tips path (Some key) None within in
+      let b = count_changed (stands_on m) refl key s t (λ j ne. ap (stands_on m) (others j ne)) in
+      let was : one (stands_on m (node_at s key)) ≡ 0 = ap (λ o. one (stands_on m o)) vacant in
+      let is : one (stands_on m (node_at t key)) ≡ one (is_key m (tip_at tips path)) = ap (λ o. one (stands_on m o)) here in
+      let c : count_by (is_key m) new ≡ count_by (is_key m) (set tips path (Some key)) = ap (count_by (is_key m)) now in
+      omega (arith, a, b, was, is, c)
+
+  counted_now : (k : ℕ) (n : Node X) → node_at t k ≡ Some n → (k ≡ key) ⊎ (k ≢ key) → n.holders ≡ holders_of t new k
+  counted_now k n e (inl same) =
+      let is : Some n ≡ Some (node item (tip_at tips path) 1) = sym e ∙ ap (node_at t) same ∙ here in
+      let holders : n.holders ≡ 1 = cc in
+      let none : holders_of s tips k ≡ 0 = absent_holders s tips sound k (ap (node_at s) same ∙ vacant) in
+      let yes : one (nat_eq k key) ≡ 1 = ap one (eq-eqb k key same) in
+      let all = holders_now k in
+      omega (arith, holders, none, yes, all)
+  counted_now k n e (inr ne) =
+      let old = sound.counted k n (sym (others k ne) ∙ e) in
+      let no : one (nat_eq k key) ≡ 0 = ap one (ne_eqb k key ne) in
+      let all = holders_now k in
+      omega (arith, old, no, all)
+
+  live_now : (k : ℕ) (n : Node X) → node_at t k ≡ Some n → (k ≡ key) ⊎ (k ≢ key) → IsOn t new k
+  live_now k n e (inl same) = subst (IsOn t new) (sym same) on_new
+  live_now k n e (inr ne) = let o = sound.live k n (sym (others k ne) ∙ e) in on_now k o (cases_eq o.path path)
+
+  pub pushed_sound : count_by is_some t ≡ count_by is_some s + 1 → length tips + count_by is_some s + 1 < 2 ^ 64 → IsSound t new
+  pushed_sound len room = record {
+    ends = λ i. ends_now i (cases_eq i path);
+    live = λ k n e. live_now k n e (cases_eq k key);
+    counted = λ k n e. counted_now k n e (cases_eq k key);
+    few = let l : length new ≡ length tips = ap length now ∙ length-set tips path (Some key) in omega (arith, l, len, room);
+  }
+
+  pub pushed_paths : map (path_to t) new ≡ set (map (path_to s) tips) path (path_in (family_on s tips) path ++ key ∷ [])
+  pushed_paths =
+      let old = sound.ends path in
+      let last : path_to t (Some key) ≡ path_in (family_on s tips) path ++ key ∷ [] =
+      path_to_is t (Some key) (key ∷ old.up) (climb_new old.up old.is) ∙ reverse_cons key old.up
+      ∙ ap (λ l. l ++ key ∷ []) (sym (path_to_is s (tip_at tips path) old.up old.is) ∙ sym (path_at s tips path)) in
+      ap (map (path_to t)) now ∙ map-set (path_to t) tips path (Some key)
+      ∙ ap (λ l. set l path (path_to t (Some key))) (map_same (path_to t) (path_to s) tips (λ i. over_path s t keeps (tip_at tips i) (sound.ends i)))
+      ∙ ap (set (map (path_to s) tips) path) last
+
+  pub pushed_added : IsAdded (family_on s tips) (family_on t new) key item
+  pushed_added = added s t tips new key (node item (tip_at tips path) 1) vacant here (λ k ne. ap item_in (others k ne))

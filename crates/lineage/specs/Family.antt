@@ -1,0 +1,67 @@
+-- What a contract sees of a lineage: the items, and which of them each path has.
+use Rattle.std.specs.Prelude.{ℕ, ◌≡◌, ◌≢◌, Bool, true, false, ◌||◌, nat_eq, List, [], ◌∷◌, ◌++◌, Option, Some, None, IsSome, slice_index_or, if◌then◌else◌}
+use Rattle.std.specs.List.{flat_map}
+
+-- the item at each key if there is one, and of each path its keys from the first to the last
+pub record Family (X : Type 0) : Type 0 where
+  pub items : List (Option X)
+  pub paths : List (List ℕ)
+
+module _ {X : Type 0} where
+  -- the item at a key
+  abbrev pub item_at : Family X → ℕ → Option X
+  item_at f k = slice_index_or f.items k None
+
+  -- the keys of the path at an index; none where there is no path
+  abbrev pub path_in : Family X → ℕ → List ℕ
+  path_in f i = slice_index_or f.paths i []
+
+-- whether a number is among others
+abbrev pub has : ℕ → List ℕ → Bool
+has x [] = false
+has x (y ∷ ys) = nat_eq x y || has x ys
+
+-- the last of keys; `first` where there is none
+abbrev pub last_from : Option ℕ → List ℕ → Option ℕ
+last_from first [] = first
+last_from first (k ∷ ks) = last_from (Some k) ks
+
+abbrev pub last_of : List ℕ → Option ℕ
+last_of keys = last_from None keys
+
+-- a path has a key: those before it, and those behind it
+pub record Stands (keys : List ℕ) (key : ℕ) : Type 0 where
+  pub front : List ℕ
+  pub back : List ℕ
+  pub is : keys ≡ front ++ key ∷ back
+
+-- a path in which a new key comes right above a key
+abbrev pub above_key : ℕ → ℕ → ℕ → List ℕ
+above_key key new k = if nat_eq key k then new ∷ k ∷ [] else k ∷ []
+
+abbrev pub divided_keys : ℕ → ℕ → List ℕ → List ℕ
+divided_keys key new keys = flat_map (above_key key new) keys
+
+module _ {X : Type 0} where
+  -- a new key has an item, and each other key what it had
+  pub record IsAdded (old new : Family X) (key : ℕ) (item : X) : Type 0 where
+    pub was_vacant : item_at old key ≡ None
+    pub here : item_at new key ≡ Some item
+    pub others : (k : ℕ) → k ≢ key → item_at new k ≡ item_at old k
+
+  -- each key has what it had
+  abbrev pub KeepsItems : Family X → Family X → Type 0
+  KeepsItems old new = (k : ℕ) → item_at new k ≡ item_at old k
+
+  -- a path goes last: that of a key, which has the keys of each path down to it; or, with no key, one with no item
+  pub record IsForked (old new : Family X) (key : Option ℕ) : Type 0 where
+    pub path : List ℕ
+    pub paths : new.paths ≡ old.paths ++ path ∷ []
+    pub last : last_of path ≡ key
+    pub shared : (k i : ℕ) (front back : List ℕ) → key ≡ Some k → path_in old i ≡ front ++ k ∷ back → path ≡ front ++ k ∷ []
+    pub items : KeepsItems old new
+
+  -- what every lineage keeps
+  pub record IsFamily (f : Family X) : Type 0 where
+    pub held : (i k : ℕ) → has k (path_in f i) ≡ true → IsSome (item_at f k)
+    pub live : (k : ℕ) → IsSome (item_at f k) → (i : ℕ) × (has k (path_in f i) ≡ true)

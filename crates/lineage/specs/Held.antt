@@ -1,0 +1,94 @@
+-- What a lineage's fields hold.
+use Rattle.std.specs.Prelude.{◌≡◌, ℕ, ◌+◌, ◌<◌, ◌^◌, Bool, true, false, nat_eq, List, Option, Some, None, is_some, map, reverse, length, slice_index_or}
+use Rattle.std.specs.List.{count_by}
+use Rattle.lineage.specs.declared.node.Node.{Node}
+use Rattle.lineage.specs.declared.lineage.Lineage.TheInside.{Inside}
+use Rattle.lineage.specs.Family.{Family, has}
+use Rattle.lineage.specs.Climbs.{IsClimb, climb, Ends}
+
+-- the tip of the path at an index
+abbrev pub tip_at : List (Option ℕ) → ℕ → Option ℕ
+tip_at tips i = slice_index_or tips i None
+
+-- whether this is the key
+abbrev pub is_key : ℕ → Option ℕ → Bool
+is_key k None = false
+is_key k (Some j) = nat_eq k j
+
+abbrev pub is_above : ℕ → Option (Option ℕ) → Bool
+is_above k None = false
+is_above k (Some next) = is_key k next
+
+module _ {X : Type 0} where
+  abbrev pub node : X → Option ℕ → ℕ → Node X
+  node item above holders = record { item = item; above = above; holders = holders }
+
+  -- the node at a key, where there is one
+  abbrev pub node_at : List (Option (Node X)) → ℕ → Option (Node X)
+  node_at s k = slice_index_or s k None
+
+  abbrev pub item_in : Option (Node X) → Option X
+  item_in None = None
+  item_in (Some n) = Some n.item
+
+  abbrev pub above_in : Option (Node X) → Option (Option ℕ)
+  above_in None = None
+  above_in (Some n) = Some n.above
+
+  -- what a key stands on, where it has an item
+  abbrev pub above_of : List (Option (Node X)) → ℕ → Option (Option ℕ)
+  above_of s k = above_in (node_at s k)
+
+  -- the keys from here up
+  abbrev pub keys_up : List (Option (Node X)) → Option ℕ → List ℕ
+  keys_up s at = climb (above_of s) (length s) at
+
+  -- the keys down to a tip
+  abbrev pub path_to : List (Option (Node X)) → Option ℕ → List ℕ
+  path_to s at = reverse (keys_up s at)
+
+  -- whether a node stands right on a key
+  abbrev pub stands_on : ℕ → Option (Node X) → Bool
+  stands_on k o = is_above k (above_in o)
+
+  -- how many tips and nodes stand right on a key
+  abbrev pub holders_of : List (Option (Node X)) → List (Option ℕ) → ℕ → ℕ
+  holders_of s tips k = count_by (is_key k) tips + count_by (stands_on k) s
+
+  -- a node that one more stands on, where it is the one
+  abbrev pub with_holder : Bool → Option (Node X) → Option (Node X)
+  with_holder b None = None
+  with_holder false (Some n) = Some n
+  with_holder true (Some n) = Some (node n.item n.above (n.holders + 1))
+
+  -- a node right above another, and that one below it
+  abbrev pub over : X → Option (Node X) → Option (Node X)
+  over item None = None
+  over item (Some n) = Some (node item n.above 1)
+
+  abbrev pub under : ℕ → Option (Node X) → Option (Node X)
+  under key None = None
+  under key (Some n) = Some (node n.item (Some key) n.holders)
+
+  -- a key is on the way up from a tip
+  pub record IsOn (s : List (Option (Node X))) (tips : List (Option ℕ)) (k : ℕ) : Type 0 where
+    pub path : ℕ
+    pub up : List ℕ
+    pub is : IsClimb (above_of s) (tip_at tips path) up
+    pub on : has k up ≡ true
+
+  -- each climb ends; each node is on a path, and counts what stands on it
+  pub record IsSound (s : List (Option (Node X))) (tips : List (Option ℕ)) : Type 0 where
+    pub ends : (i : ℕ) → Ends (above_of s) (tip_at tips i)
+    pub live : (k : ℕ) (n : Node X) → node_at s k ≡ Some n → IsOn s tips k
+    pub counted : (k : ℕ) (n : Node X) → node_at s k ≡ Some n → n.holders ≡ holders_of s tips k
+    pub few : length tips + count_by is_some s < 2 ^ 64
+
+  abbrev pub family_on : List (Option (Node X)) → List (Option ℕ) → Family X
+  family_on s tips = record { items = map item_in s; paths = map (path_to s) tips }
+
+  abbrev pub family_of : Inside X → Family X
+  family_of t = family_on t.nodes.slots t.tips.items
+
+  abbrev pub IsHeld : Inside X → Type 0
+  IsHeld t = IsSound t.nodes.slots t.tips.items

@@ -1,0 +1,120 @@
+//! Paths of items, first to last.
+
+ghost use Rattle.std.specs.Prelude.{ℕ, ◌≡◌, List, ◌++◌, length, [], ◌∷◌, map, Some, None, IfOk, IfSome, IfNone};
+ghost use Rattle.std.specs.Option.{option_copied};
+ghost use Rattle.lineage.specs.Family.{item_at, path_in, last_of};
+ghost use Rattle.lineage.specs.Climbs.{Ends};
+ghost use Rattle.lineage.specs.Held.{above_of, path_to, tip_at};
+
+mod divide;
+mod fork;
+mod push;
+
+pub use crate::node::Key;
+use crate::node::Node;
+use slab::Slab;
+use std::alloc::{AllocError, Global};
+use std::marker::Model;
+
+/// Paths of items that share their beginnings.
+#[derive(Drop)]
+pub struct Lineage<X> {
+    nodes: Slab<Node<X>>,
+    tips: Vec<Option<Key>>,
+}
+
+impl<X> Model for Lineage<X> {
+    ghost use Rattle.lineage.specs.Family.{Family};
+
+    ghost Value = { Family X };
+
+    ghost use Rattle.lineage.specs.Held.{family_of, IsHeld};
+
+    ghost view = { family_of };
+
+    ghost invariant = { IsHeld };
+}
+
+impl<X: Drop> Lineage<X> {
+    /// No path and no item. It takes no memory.
+    pub fn new(alloc: Global) -> Lineage<X>
+        ensures items { result.items ≡ [] }
+        ensures paths { result.paths ≡ [] }
+    {
+        Lineage {
+            nodes: Slab::new(alloc),
+            tips: Vec::new(alloc),
+        }
+    }
+
+    /// How many paths there are.
+    pub fn count(&self) -> usize
+        ensures { result ≡ length self.now.paths }
+    {
+        self.tips.len()
+    }
+
+    /// The item at a key; none where there is none.
+    pub fn item(&self, key: Key) -> Option<&X>
+        ensures { option_copied result ≡ item_at self.now key }
+    {
+        let node = self.nodes.get(key)?;
+        Some(&node.item)
+    }
+
+    /// The last key of the path at an index; none where there is no such path, or it has no item.
+    pub fn last(&self, path: usize) -> Option<Key>
+        ensures { result ≡ last_of (path_in self.now path) }
+    {
+        tip_at(&self.tips, path)
+    }
+
+    /// The key that comes before a key, the same in each path that has it; none for a path's first, and where no item has the
+    /// key.
+    pub fn above(&self, key: Key) -> Option<Key>
+        ensures each { (i : ℕ) (front back : List ℕ) → path_in self.now i ≡ front ++ key ∷ back
+            → result ≡ last_of front }
+        ensures none { item_at self.now key ≡ None → result ≡ None }
+    {
+        self.nodes.get(key)?.above
+    }
+
+    /// The keys of the path at an index, in order; none where there is no such path.
+    pub fn keys(&self, alloc: Global, path: usize) -> Result<Vec<Key>, AllocError>
+        ensures { IfOk result (λ keys. keys.items ≡ path_in self.now path) }
+    {
+        keys_down_to(alloc, &self.nodes, tip_at(&self.tips, path))
+    }
+}
+
+/// The last key of the path at an index.
+fn tip_at(tips: &[Option<Key>], path: usize) -> Option<Key>
+    ensures { result ≡ tip_at tips.now path }
+{
+    match tips.get(path) {
+        Some(tip) => *tip,
+        None => None,
+    }
+}
+
+/// The keys down to a tip, from the first on.
+fn keys_down_to<X>(
+    alloc: Global,
+    nodes: &Slab<Node<X>>,
+    tip: Option<Key>,
+) -> Result<Vec<Key>, AllocError>
+    requires { Ends (above_of nodes.now.slots) tip }
+    ensures { IfOk result (λ keys. keys.items ≡ path_to nodes.now.slots tip) }
+{
+    let mut keys = Vec::new(alloc);
+    let mut at = tip;
+    while let Some(key) = at {
+        keys.push(key)?;
+        at = match nodes.get(key) {
+            Some(node) => node.above,
+            None => None,
+        };
+    }
+    keys.reverse();
+    Ok(keys)
+}

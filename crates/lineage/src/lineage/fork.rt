@@ -1,0 +1,56 @@
+//! A new path that shares the beginning of others.
+
+ghost use Rattle.std.specs.Prelude.{◌≡◌, ◌<◌, ◌+◌, ◌^◌, ◌++◌, ◌∷◌, [], ℕ, length, Some, None, IfSome, IsSome, OnOk, OnErr, vec_capacity};
+ghost use Rattle.slab.specs.Slab.{get, slab_len, ContainsKey};
+ghost use Rattle.lineage.specs.Family.{IsForked, item_at};
+ghost use Rattle.lineage.specs.Held.{is_key, with_holder};
+
+use super::{Key, Lineage};
+use crate::node::Node;
+use slab::Slab;
+use std::alloc::AllocError;
+
+impl<X: Drop> Lineage<X> {
+    /// Puts a new path last, which ends with a key that is there, and has all that comes before it in other paths; or one with
+    /// no item.
+    ///
+    /// # Errors
+    ///
+    /// Where there is no memory for it. Then nothing is changed.
+    pub fn fork(&mut self, key: Option<Key>) -> Result<(), AllocError>
+        requires { IfSome key (λ k. IsSome (item_at self.old k)) }
+        ensures ok { OnOk result (IsForked self.old self.new key) }
+        ensures err { OnErr result (self.new ≡ self.old) }
+    {
+        reserve_tip(&mut self.tips, self.nodes.len())?;
+        hold(&mut self.nodes, key);
+        self.tips.push_reserved(key);
+        Ok(())
+    }
+}
+
+/// Makes room for one more path.
+fn reserve_tip(tips: &mut Vec<Option<Key>>, nodes: usize) -> Result<(), AllocError>
+    ensures items { tips.new.items ≡ tips.old.items }
+    ensures room { OnOk result (length tips.new.items < vec_capacity tips.new) }
+    ensures few { OnOk result (length tips.old.items + nodes + 1 < 2 ^ 64) }
+{
+    // So that what stands on a key can be counted. No memory holds as many.
+    if tips.len() >= usize::MAX - nodes {
+        return Err(AllocError);
+    }
+    tips.reserve(1)
+}
+
+/// Counts one more that stands on a key.
+fn hold<X>(nodes: &mut Slab<Node<X>>, key: Option<Key>)
+    requires there { IfSome key (λ k. ContainsKey nodes.old k) }
+    requires few { (k : ℕ) (n : Node X) → key ≡ Some k → get nodes.old k ≡ Some n
+        → n.holders + 1 < 2 ^ 64 }
+    ensures nodes { (k : ℕ) → get nodes.new k ≡ with_holder (is_key k key) (get nodes.old k) }
+    ensures len { slab_len nodes.new ≡ slab_len nodes.old }
+{
+    if let Some(key) = key {
+        nodes[key].holders += 1;
+    }
+}

@@ -1,0 +1,62 @@
+//! A new item behind a path.
+
+ghost use Rattle.std.specs.Prelude.{◌≡◌, ◌≢◌, ◌<◌, ◌+◌, ◌^◌, ◌++◌, ◌∷◌, [], ℕ, length, slice_set, Some, None, IfOk, OnOk, OnErr};
+ghost use Rattle.slab.specs.Slab.{get, slab_len, HasRoomFor};
+ghost use Rattle.lineage.specs.Family.{IsAdded, path_in};
+ghost use Rattle.lineage.specs.Held.{node, tip_at};
+
+use super::{Key, Lineage};
+use crate::node::Node;
+use slab::Slab;
+use std::alloc::AllocError;
+
+impl<X: Drop> Lineage<X> {
+    /// Puts a new item last in the path at an index, and in that path alone. Its key.
+    ///
+    /// # Errors
+    ///
+    /// Where there is no memory for it. Then nothing is changed, and the item is dropped.
+    pub fn push(&mut self, path: usize, item: X) -> Result<Key, AllocError>
+        requires { path < length self.old.paths }
+        ensures item { IfOk result (λ key. IsAdded self.old self.new key item) }
+        ensures paths { IfOk result (λ key. self.new.paths
+            ≡ slice_set self.old.paths path (path_in self.old path ++ key ∷ [])) }
+        ensures err { OnErr result (self.new ≡ self.old) }
+    {
+        reserve_node(&mut self.nodes, self.tips.len())?;
+        Ok(push_node(&mut self.nodes, &mut self.tips, path, item))
+    }
+}
+
+/// Makes room for one more node.
+pub(super) fn reserve_node<X>(nodes: &mut Slab<Node<X>>, tips: usize) -> Result<(), AllocError>
+    ensures slots { nodes.new.slots ≡ nodes.old.slots }
+    ensures room { OnOk result (HasRoomFor nodes.new 1) }
+    ensures few { OnOk result (tips + slab_len nodes.old + 1 < 2 ^ 64) }
+{
+    // So that what stands on a key can be counted. No memory holds as many.
+    if nodes.len() >= usize::MAX - tips {
+        return Err(AllocError);
+    }
+    nodes.reserve(1)
+}
+
+/// Puts a new item last in a path. Its key.
+fn push_node<X>(nodes: &mut Slab<Node<X>>, tips: &mut Vec<Option<Key>>, path: usize, item: X) -> Key
+    requires room { HasRoomFor nodes.old 1 }
+    requires path { path < length tips.old.items }
+    ensures vacant { get nodes.old result ≡ None }
+    ensures here { get nodes.new result ≡ Some (node item (tip_at tips.old.items path) 1) }
+    ensures others { (k : ℕ) → k ≢ result → get nodes.new k ≡ get nodes.old k }
+    ensures len { slab_len nodes.new ≡ slab_len nodes.old + 1 }
+    ensures tips { tips.new.items ≡ slice_set tips.old.items path (Some result) }
+{
+    let above = tips[path];
+    let key = nodes.insert_reserved(Node {
+        item,
+        above,
+        holders: 1,
+    });
+    tips[path] = Some(key);
+    key
+}
