@@ -6,3 +6,9 @@ pub mod Kept
 pub mod Pushes
 pub mod Forks
 pub mod Divisions
+pub mod Removed
+pub mod Onto
+pub mod Releases
+pub mod Drops
+pub mod Same
+pub mod Alone

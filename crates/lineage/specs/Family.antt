@@ -61,6 +61,17 @@ module _ {X : Type 0} where
     pub shared : (k i : ℕ) (front back : List ℕ) → key ≡ Some k → path_in old i ≡ front ++ k ∷ back → path ≡ front ++ k ∷ []
     pub items : KeepsItems old new
 
+  -- what no path has any more is gone, and all else is as it was
+  pub record IsReleased (old new : Family X) : Type 0 where
+    pub kept : (i k : ℕ) → has k (path_in new i) ≡ true → item_at new k ≡ item_at old k
+    pub gone : (k : ℕ) → ((i : ℕ) → has k (path_in new i) ≡ false) → item_at new k ≡ None
+
+  -- no other path has the last key of a path
+  pub record EndsAlone (f : Family X) (path : ℕ) : Type 0 where
+    pub key : ℕ
+    pub last : last_of (path_in f path) ≡ Some key
+    pub own : (j : ℕ) → j ≢ path → has key (path_in f j) ≡ false
+
   -- what every lineage keeps
   pub record IsFamily (f : Family X) : Type 0 where
     pub held : (i k : ℕ) → has k (path_in f i) ≡ true → IsSome (item_at f k)

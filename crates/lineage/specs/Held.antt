@@ -1,5 +1,5 @@
 -- What a lineage's fields hold.
-use Rattle.std.specs.Prelude.{◌≡◌, ℕ, ◌+◌, ◌<◌, ◌^◌, Bool, true, false, nat_eq, List, Option, Some, None, is_some, map, reverse, length, slice_index_or}
+use Rattle.std.specs.Prelude.{◌≡◌, ℕ, ◌+◌, ◌-◌, ◌<◌, ◌^◌, Bool, true, false, nat_eq, nat_le, if◌then◌else◌, List, Option, Some, None, is_some, map, reverse, length, slice_index_or}
 use Rattle.std.specs.List.{count_by}
 use Rattle.lineage.specs.declared.node.Node.{Node}
 use Rattle.lineage.specs.declared.lineage.Lineage.TheInside.{Inside}
@@ -69,6 +69,21 @@ module _ {X : Type 0} where
   abbrev pub under : ℕ → Option (Node X) → Option (Node X)
   under key None = None
   under key (Some n) = Some (node n.item (Some key) n.holders)
+
+  -- a node that one less stands on: it goes with the last one
+  abbrev pub less_one : Option (Node X) → Option (Node X)
+  less_one None = None
+  less_one (Some n) = if nat_le n.holders 1 then None else Some (node n.item n.above (n.holders - 1))
+
+  -- what then has one less too
+  abbrev pub next_up : Option (Node X) → Option ℕ
+  next_up None = None
+  next_up (Some n) = if nat_le n.holders 1 then n.above else None
+
+  -- each node that is there has the item and stands where it did
+  abbrev pub Stays : List (Option (Node X)) → List (Option (Node X)) → Type 0
+  Stays old new =
+      (k : ℕ) (n : Node X) → node_at new k ≡ Some n → (m : Node X) × ((node_at old k ≡ Some m) × ((n.item ≡ m.item) × (n.above ≡ m.above)))
 
   -- a key is on the way up from a tip
   pub record IsOn (s : List (Option (Node X))) (tips : List (Option ℕ)) (k : ℕ) : Type 0 where

@@ -1,20 +1,22 @@
 //! Paths of items, first to last.
 
-ghost use Rattle.std.specs.Prelude.{ℕ, ◌≡◌, List, ◌++◌, length, [], ◌∷◌, map, Some, None, IfOk, IfSome, IfNone};
+ghost use Rattle.std.specs.Prelude.{ℕ, ◌≡◌, List, ◌++◌, length, [], ◌∷◌, map, Some, None, IfOk, IsSome, slice_set, true, false};
 ghost use Rattle.std.specs.Option.{option_copied};
-ghost use Rattle.lineage.specs.Family.{item_at, path_in, last_of};
+ghost use Rattle.lineage.specs.Family.{item_at, path_in, last_of, EndsAlone, IsFamily};
 ghost use Rattle.lineage.specs.Climbs.{Ends};
 ghost use Rattle.lineage.specs.Held.{above_of, path_to, tip_at};
 
 mod divide;
 mod fork;
 mod push;
+mod release;
 
 pub use crate::node::Key;
 use crate::node::Node;
 use slab::Slab;
 use std::alloc::{AllocError, Global};
 use std::marker::Model;
+use std::mem;
 
 /// Paths of items that share their beginnings.
 #[derive(Drop)]
@@ -67,6 +69,34 @@ impl<X: Drop> Lineage<X> {
         ensures { result ≡ last_of (path_in self.now path) }
     {
         tip_at(&self.tips, path)
+    }
+
+    /// Gives a key another item. The one that it had. It takes no memory.
+    pub fn replace(&mut self, key: Key, item: X) -> X
+        requires { IsSome (item_at self.old key) }
+        ensures was { item_at self.old key ≡ Some result }
+        ensures items { self.new.items ≡ slice_set self.old.items key (Some item) }
+        ensures paths { self.new.paths ≡ self.old.paths }
+    {
+        mem::replace(&mut self.nodes[key].item, item)
+    }
+
+    /// Whether no other path has the last item of the path at an index; not so where that has no item.
+    pub fn ends_alone(&self, path: usize) -> bool
+        ensures yes { result ≡ true → EndsAlone self.now path }
+        ensures no { result ≡ false → EndsAlone self.now path → ⊥ }
+    {
+        let Some(key) = tip_at(&self.tips, path) else {
+            return false;
+        };
+        self.nodes[key].holders == 1
+    }
+
+    /// What a lineage keeps by its type. It does nothing: callers learn this by its contract.
+    pub fn held(&self)
+        ensures { IsFamily self.now }
+    {
+        let _count = self.tips.len();
     }
 
     /// The key that comes before a key, the same in each path that has it; none for a path's first, and where no item has the

@@ -1,0 +1,63 @@
+-- What is left where a path has gone.
+use Rattle.std.proofs.Common.{◌≡◌, ℕ, true, false, List, map, Option, Some, None, refl, sym, ◌∙◌, ap, subst, true≢false}
+use Rattle.std.specs.Prelude.{IsSome}
+use Rattle.std.specs.List.{remove}
+use Rattle.lineage.specs.declared.node.Node.{Node}
+use Rattle.lineage.specs.Family.{has, path_in, IsFamily, IsReleased}
+use Rattle.lineage.specs.Held.{tip_at, node_at, item_in, above_in, above_of, path_to, family_on, Stays, IsOn, IsSound}
+use Rattle.lineage.proofs.Once.{has-reverse}
+use Rattle.lineage.proofs.Climbs.{climb_there}
+use Rattle.lineage.proofs.Walks.{path_to_is, path_at, item_is}
+use Rattle.lineage.proofs.Kept.{node_from, over_path, map_same}
+use Rattle.lineage.proofs.Removed.{map-remove}
+
+module _ {X : Type 0} (s : List (Option (Node X))) (tips : List (Option ℕ)) (sound : IsSound s tips) where
+  pub on_path : (k : ℕ) (o : IsOn s tips k) → has k (path_in (family_on s tips) o.path) ≡ true
+  on_path k o =
+      ap (has k) (path_at s tips o.path ∙ path_to_is s (tip_at tips o.path) o.up o.is) ∙ has-reverse k o.up ∙ o.on
+
+  pub path_there : (i k : ℕ) → has k (path_in (family_on s tips) i) ≡ true → (n : Node X) × (node_at s k ≡ Some n)
+  path_there i k m =
+      let e = sound.ends i in
+      let on : has k e.up ≡ true = sym (ap (has k) (path_at s tips i ∙ path_to_is s (tip_at tips i) e.up e.is) ∙ has-reverse k e.up) ∙ m in
+      let l = climb_there (above_of s) (tip_at tips i) e.up k e.is on in
+      let n = node_from (node_at s k) l.0 l.1 in
+      (n.0, n.1.0)
+
+  -- each key of a path has an item, and each item is on a path
+  pub is_family : IsFamily (family_on s tips)
+  is_family = record {
+    held = λ i k m. let n = path_there i k m in subst IsSome (sym (item_is s tips k ∙ ap item_in n.1)) refl;
+    live = λ k some. by k (node_at s k) refl (subst IsSome (item_is s tips k) some);
+  }
+    where
+      by : (k : ℕ) (o : Option (Node X)) → node_at s k ≡ o → IsSome (item_in (node_at s k)) → (i : ℕ) × (has k (path_in (family_on s tips) i) ≡ true)
+      by k None e some = absurd (true≢false (sym (subst (λ z. IsSome (item_in z)) e some)))
+      by k (Some n) e some = let o = sound.live k n e in (o.path, on_path k o)
+
+module _ {X : Type 0} (s t : List (Option (Node X))) (tips : List (Option ℕ)) (path : ℕ) (now : IsSound t (remove tips path)) (stays : Stays s t) where
+  links : (k : ℕ) (next : Option ℕ) → above_of t k ≡ Some next → above_of s k ≡ Some next
+  links k next e =
+      let n = node_from (node_at t k) next e in
+      let m = stays k n.0 n.1.0 in
+      ap above_in m.1.0 ∙ ap Some (sym m.1.1.1 ∙ n.1.1)
+
+  pub dropped_paths : map (path_to t) (remove tips path) ≡ remove (map (path_to s) tips) path
+  dropped_paths =
+      map_same (path_to t) (path_to s) (remove tips path) (λ i. sym (over_path t s links (tip_at (remove tips path) i) (now.ends i)))
+      ∙ map-remove (path_to s) tips path
+
+  pub released : IsReleased (family_on s tips) (family_on t (remove tips path))
+  released = record {
+    kept = λ i k m.
+        let n = path_there t (remove tips path) now i k m in
+        let o = stays k n.0 n.1 in
+        item_is t (remove tips path) k ∙ ap item_in n.1 ∙ ap Some o.1.1.0 ∙ sym (ap item_in o.1.0) ∙ sym (item_is s tips k);
+    gone = λ k none. item_is t (remove tips path) k ∙ by k (node_at t k) refl none;
+  }
+    where
+      by : (k : ℕ) (o : Option (Node X)) → node_at t k ≡ o → ((i : ℕ) → has k (path_in (family_on t (remove tips path)) i) ≡ false) → item_in (node_at t k) ≡ None
+      by k None e none = ap item_in e
+      by k (Some n) e none =
+          let o = now.live k n e in
+          absurd (true≢false (sym (on_path t (remove tips path) now k o) ∙ none o.path))

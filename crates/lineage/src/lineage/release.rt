@@ -1,0 +1,53 @@
+//! Paths that go, and items with the last path that has them.
+
+ghost use Rattle.std.specs.Prelude.{◌≡◌, ◌≢◌, ◌<◌, ℕ, length, Some};
+ghost use Rattle.std.specs.List.{remove};
+ghost use Rattle.slab.specs.Slab.{get, ContainsKey};
+ghost use Rattle.lineage.specs.Family.{IsReleased};
+ghost use Rattle.lineage.specs.Held.{IsSound, Stays, next_up, less_one};
+
+use super::{Key, Lineage};
+use crate::node::Node;
+use slab::Slab;
+
+impl<X: Drop> Lineage<X> {
+    /// Drops the path at an index, with the items that no other path has; later paths move down by one. It takes no memory.
+    pub fn drop_path(&mut self, path: usize)
+        requires { path < length self.old.paths }
+        ensures paths { self.new.paths ≡ remove self.old.paths path }
+        ensures items { IsReleased self.old self.new }
+    {
+        release(&mut self.nodes, &mut self.tips, path);
+    }
+}
+
+/// Drops a path, and each node on its way up that nothing stands on any more.
+fn release<X: Drop>(nodes: &mut Slab<Node<X>>, tips: &mut Vec<Option<Key>>, path: usize)
+    requires sound { IsSound nodes.old.slots tips.old.items }
+    requires path { path < length tips.old.items }
+    ensures tips { tips.new.items ≡ remove tips.old.items path }
+    ensures sound { IsSound nodes.new.slots tips.new.items }
+    ensures stays { Stays nodes.old.slots nodes.new.slots }
+{
+    let mut at = tips.remove(path);
+    while let Some(key) = at {
+        at = let_go(nodes, key);
+    }
+}
+
+/// Counts one less that stands on a key; the node goes with the last one. The key that it stood on then has one less too.
+fn let_go<X: Drop>(nodes: &mut Slab<Node<X>>, key: Key) -> Option<Key>
+    requires { ContainsKey nodes.old key }
+    ensures next { result ≡ next_up (get nodes.old key) }
+    ensures here { get nodes.new key ≡ less_one (get nodes.old key) }
+    ensures others { (k : ℕ) → k ≢ key → get nodes.new k ≡ get nodes.old k }
+{
+    let node = &mut nodes[key];
+    if node.holders > 1 {
+        node.holders -= 1;
+        return None;
+    }
+    let above = node.above;
+    nodes.remove(key);
+    above
+}
