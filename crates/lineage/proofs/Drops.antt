@@ -1,14 +1,16 @@
 -- What is left where a path has gone.
-use Rattle.std.proofs.Common.{◌≡◌, ℕ, true, false, List, map, Option, Some, None, refl, sym, ◌∙◌, ap, subst, true≢false}
+use Rattle.std.proofs.Common.{◌≡◌, ℕ, true, false, List, map, Option, Some, None, refl, sym, ◌∙◌, ap, subst, true≢false, ◌<◌, length, get_or, arith}
 use Rattle.std.specs.Prelude.{IsSome}
 use Rattle.std.specs.List.{remove}
 use Rattle.lineage.specs.declared.node.Node.{Node}
 use Rattle.lineage.specs.Family.{has, path_in, IsFamily, IsReleased}
-use Rattle.lineage.specs.Held.{tip_at, node_at, item_in, above_in, above_of, path_to, family_on, Stays, IsOn, IsSound}
+use Rattle.lineage.specs.Held.{tip_at, node_at, item_in, above_in, above_of, path_to, family_on, Stays, IsOn, IsSound, IsReleasing}
 use Rattle.lineage.proofs.Once.{has-reverse}
 use Rattle.lineage.proofs.Climbs.{climb_there}
 use Rattle.lineage.proofs.Walks.{path_to_is, path_at, item_is}
 use Rattle.lineage.proofs.Kept.{node_from, over_path, map_same}
+use Rattle.std.proofs.lemmas.List.{get_or_read, length-map}
+use Rattle.lineage.proofs.Releases.{released_first}
 use Rattle.lineage.proofs.Removed.{map-remove}
 
 module _ {X : Type 0} (s : List (Option (Node X))) (tips : List (Option ℕ)) (sound : IsSound s tips) where
@@ -61,3 +63,11 @@ module _ {X : Type 0} (s t : List (Option (Node X))) (tips : List (Option ℕ)) 
       by k (Some n) e none =
           let o = now.live k n e in
           absurd (true≢false (sym (on_path t (remove tips path) now k o) ∙ none o.path))
+
+-- the first step, as a call tells it
+pub let_go_from : {X : Type 0} (s : List (Option (Node X))) (tips : List (Option ℕ)) (path : ℕ) (tip : Option ℕ) → IsSound s tips → path < length (map (path_to s) tips)
+    → tip ≡ get_or tips path tip → IsReleasing s s (remove tips path) tip
+let_go_from s tips path tip sound paths value =
+    let n = length-map tips (path_to s) in
+    let within : path < length tips = omega (arith, n, paths) in
+    subst (IsReleasing s s (remove tips path)) (sym (get_or_read tips path tip within value None)) (released_first s tips path sound within)

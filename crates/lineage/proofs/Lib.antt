@@ -12,3 +12,5 @@ pub mod Releases
 pub mod Drops
 pub mod Same
 pub mod Alone
+pub mod Chains
+pub mod Exchanges

@@ -109,15 +109,18 @@ module _ {X : Type 0} (s t : List (Option (Node X))) (tips new : List (Option �
     few = let l : length new ≡ length tips = ap length now ∙ length-set tips path (Some key) in omega (arith, l, len, room);
   }
 
+  -- the path has the key last
+  pub pushed_last : path_to t (Some key) ≡ path_to s (tip_at tips path) ++ key ∷ []
+  pushed_last =
+      let old = sound.ends path in
+      path_to_is t (Some key) (key ∷ old.up) (climb_new old.up old.is) ∙ reverse_cons key old.up
+      ∙ ap (λ l. l ++ key ∷ []) (sym (path_to_is s (tip_at tips path) old.up old.is))
+
   pub pushed_paths : map (path_to t) new ≡ set (map (path_to s) tips) path (path_in (family_on s tips) path ++ key ∷ [])
   pushed_paths =
-      let old = sound.ends path in
-      let last : path_to t (Some key) ≡ path_in (family_on s tips) path ++ key ∷ [] =
-      path_to_is t (Some key) (key ∷ old.up) (climb_new old.up old.is) ∙ reverse_cons key old.up
-      ∙ ap (λ l. l ++ key ∷ []) (sym (path_to_is s (tip_at tips path) old.up old.is) ∙ sym (path_at s tips path)) in
       ap (map (path_to t)) now ∙ map-set (path_to t) tips path (Some key)
       ∙ ap (λ l. set l path (path_to t (Some key))) (map_same (path_to t) (path_to s) tips (λ i. over_path s t keeps (tip_at tips i) (sound.ends i)))
-      ∙ ap (set (map (path_to s) tips) path) last
+      ∙ ap (set (map (path_to s) tips) path) (pushed_last ∙ ap (λ l. l ++ key ∷ []) (sym (path_at s tips path)))
 
   pub pushed_added : IsAdded (family_on s tips) (family_on t new) key item
   pushed_added = added s t tips new key (node item (tip_at tips path) 1) vacant here (λ k ne. ap item_in (others k ne))

@@ -1,5 +1,5 @@
 -- What goes with a path, from its tip up.
-use Rattle.std.proofs.Common.{◌≡◌, ◌≢◌, ℕ, ◌+◌, ◌-◌, ◌<◌, ◌≤◌, ◌^◌, true, false, nat_eq, nat_le, cond, List, [], ◌∷◌, length, Option, Some, None, refl, sym, ◌∙◌, ap, subst, arith, inl, inr, ◌⊎◌, eq-eqb, ne_eqb, true≢false}
+use Rattle.std.proofs.Common.{◌≡◌, ◌≢◌, ℕ, ◌+◌, ◌-◌, ◌<◌, ◌≤◌, true, false, nat_eq, nat_le, cond, List, [], ◌∷◌, length, Option, Some, None, refl, sym, ◌∙◌, ap, subst, arith, inl, inr, ◌⊎◌, eq-eqb, ne_eqb, true≢false}
 use Rattle.std.specs.Prelude.{is_some}
 use Rattle.std.specs.List.{count_by, remove}
 use Rattle.std.proofs.lemmas.Bool.{cases_eq, cases_lt}
@@ -9,7 +9,7 @@ use Rattle.std.proofs.lemmas.List.Sums.{sum_by-remove}
 use Rattle.lineage.specs.declared.node.Node.{Node}
 use Rattle.lineage.specs.Family.{has}
 use Rattle.lineage.specs.Climbs.{IsClimb, Ends}
-use Rattle.lineage.specs.Held.{tip_at, is_key, is_above, node, node_at, above_in, above_of, keys_up, stands_on, holders_of, next_up, less_one, Stays, IsOn, IsSound}
+use Rattle.lineage.specs.Held.{tip_at, is_key, is_above, node, node_at, above_in, above_of, keys_up, stands_on, holders_of, next_up, less_one, IsOn, IsSound, IsReleasing}
 use Rattle.lineage.proofs.Once.{has_cases, has_not_from}
 use Rattle.lineage.proofs.Climbs.{climb_unique, climb_kept, climb_step, not_again}
 use Rattle.lineage.proofs.Walks.{keys_up_is}
@@ -17,15 +17,6 @@ use Rattle.lineage.proofs.Counts.{one, count_changed, count_same, count_some, co
 use Rattle.lineage.proofs.Kept.{node_from, over_climb, is_key_true}
 use Rattle.lineage.proofs.Onto.{climb_on, not_above}
 use Rattle.lineage.proofs.Removed.{removed_from, stays_at}
-
--- the climb `at` is let go: its first key counts one that is gone, and what is on it may be on no path
-pub record IsReleasing {X : Type 0} (first s : List (Option (Node X))) (tips : List (Option ℕ)) (at : Option ℕ) : Type 0 where
-  pub ends : (i : ℕ) → Ends (above_of s) (tip_at tips i)
-  pub going : Ends (above_of s) at
-  pub live : (k : ℕ) (n : Node X) → node_at s k ≡ Some n → IsOn s tips k ⊎ (has k going.up ≡ true)
-  pub counted : (k : ℕ) (n : Node X) → node_at s k ≡ Some n → n.holders ≡ holders_of s tips k + one (is_key k at)
-  pub few : length tips + count_by is_some s < 2 ^ 64
-  pub stays : Stays first s
 
 -- the first step: the tip goes
 pub released_first : {X : Type 0} (s : List (Option (Node X))) (tips : List (Option ℕ)) (path : ℕ) → IsSound s tips → path < length tips

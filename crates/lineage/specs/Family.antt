@@ -1,5 +1,5 @@
 -- What a contract sees of a lineage: the items, and which of them each path has.
-use Rattle.std.specs.Prelude.{ℕ, ◌≡◌, ◌≢◌, Bool, true, false, ◌||◌, nat_eq, List, [], ◌∷◌, ◌++◌, Option, Some, None, IsSome, slice_index_or, if◌then◌else◌}
+use Rattle.std.specs.Prelude.{ℕ, ◌≡◌, ◌≢◌, Bool, true, false, ◌||◌, nat_eq, List, [], ◌∷◌, ◌++◌, Option, Some, None, IsSome, slice_index_or, slice_set, map, if◌then◌else◌}
 use Rattle.std.specs.List.{flat_map}
 
 -- the item at each key if there is one, and of each path its keys from the first to the last
@@ -64,6 +64,15 @@ module _ {X : Type 0} where
   -- what no path has any more is gone, and all else is as it was
   pub record IsReleased (old new : Family X) : Type 0 where
     pub kept : (i k : ℕ) → has k (path_in new i) ≡ true → item_at new k ≡ item_at old k
+    pub gone : (k : ℕ) → ((i : ℕ) → has k (path_in new i) ≡ false) → item_at new k ≡ None
+
+  -- a path has new items alone; what no path has any more is gone, and all else is as it was
+  pub record IsExchanged (old new : Family X) (path : ℕ) (items : List X) : Type 0 where
+    pub keys : List ℕ
+    pub paths : new.paths ≡ slice_set old.paths path keys
+    pub items_are : map (item_at new) keys ≡ map Some items
+    pub fresh : (k : ℕ) → has k keys ≡ true → item_at old k ≡ None
+    pub kept : (i k : ℕ) → has k (path_in new i) ≡ true → has k keys ≡ false → item_at new k ≡ item_at old k
     pub gone : (k : ℕ) → ((i : ℕ) → has k (path_in new i) ≡ false) → item_at new k ≡ None
 
   -- no other path has the last key of a path

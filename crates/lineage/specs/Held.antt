@@ -1,5 +1,5 @@
 -- What a lineage's fields hold.
-use Rattle.std.specs.Prelude.{◌≡◌, ℕ, ◌+◌, ◌-◌, ◌<◌, ◌^◌, Bool, true, false, nat_eq, nat_le, if◌then◌else◌, List, Option, Some, None, is_some, map, reverse, length, slice_index_or}
+use Rattle.std.specs.Prelude.{[], ◌∷◌, ◌++◌, ◌⊎◌, ◌≡◌, ℕ, ◌+◌, ◌-◌, ◌<◌, ◌^◌, Bool, true, false, nat_eq, nat_le, if◌then◌else◌, List, Option, Some, None, is_some, map, reverse, length, slice_index_or}
 use Rattle.std.specs.List.{count_by}
 use Rattle.lineage.specs.declared.node.Node.{Node}
 use Rattle.lineage.specs.declared.lineage.Lineage.TheInside.{Inside}
@@ -98,6 +98,27 @@ module _ {X : Type 0} where
     pub live : (k : ℕ) (n : Node X) → node_at s k ≡ Some n → IsOn s tips k
     pub counted : (k : ℕ) (n : Node X) → node_at s k ≡ Some n → n.holders ≡ holders_of s tips k
     pub few : length tips + count_by is_some s < 2 ^ 64
+
+  -- the climb `at` is let go: its first key counts one that is gone, and what is on it may be on no path; so far each node that
+  -- is there was there at first
+  pub record IsReleasing (first s : List (Option (Node X))) (tips : List (Option ℕ)) (at : Option ℕ) : Type 0 where
+    pub ends : (i : ℕ) → Ends (above_of s) (tip_at tips i)
+    pub going : Ends (above_of s) at
+    pub live : (k : ℕ) (n : Node X) → node_at s k ≡ Some n → IsOn s tips k ⊎ (has k going.up ≡ true)
+    pub counted : (k : ℕ) (n : Node X) → node_at s k ≡ Some n → n.holders ≡ holders_of s tips k + (if is_key k at then 1 else 0)
+    pub few : length tips + count_by is_some s < 2 ^ 64
+    pub stays : Stays first s
+
+  -- a path of these items is put last; all that was there is as it was
+  pub record IsPutLast (s t : List (Option (Node X))) (tips new : List (Option ℕ)) (items : List X) : Type 0 where
+    pub sound : IsSound t new
+    pub tip : Option ℕ
+    pub tips_are : new ≡ tips ++ tip ∷ []
+    pub there : (k : ℕ) → has k (path_to t tip) ≡ true → (n : Node X) × (node_at t k ≡ Some n)
+    pub fresh : (k : ℕ) → has k (path_to t tip) ≡ true → node_at s k ≡ None
+    pub items_are : map (λ k. item_in (node_at t k)) (path_to t tip) ≡ map Some items
+    pub kept : (k : ℕ) (n : Node X) → node_at s k ≡ Some n → node_at t k ≡ Some n
+    pub old : (k : ℕ) → has k (path_to t tip) ≡ false → node_at t k ≡ node_at s k
 
   abbrev pub family_on : List (Option (Node X)) → List (Option ℕ) → Family X
   family_on s tips = record { items = map item_in s; paths = map (path_to s) tips }

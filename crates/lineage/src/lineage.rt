@@ -7,6 +7,7 @@ ghost use Rattle.lineage.specs.Climbs.{Ends};
 ghost use Rattle.lineage.specs.Held.{above_of, path_to, tip_at};
 
 mod divide;
+mod exchange;
 mod fork;
 mod push;
 mod release;

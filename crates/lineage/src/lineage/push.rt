@@ -42,13 +42,19 @@ pub(super) fn reserve_node<X>(nodes: &mut Slab<Node<X>>, tips: usize) -> Result<
 }
 
 /// Puts a new item last in a path. Its key.
-fn push_node<X>(nodes: &mut Slab<Node<X>>, tips: &mut Vec<Option<Key>>, path: usize, item: X) -> Key
+pub(super) fn push_node<X>(
+    nodes: &mut Slab<Node<X>>,
+    tips: &mut Vec<Option<Key>>,
+    path: usize,
+    item: X,
+) -> Key
     requires room { HasRoomFor nodes.old 1 }
     requires path { path < length tips.old.items }
     ensures vacant { get nodes.old result ≡ None }
     ensures here { get nodes.new result ≡ Some (node item (tip_at tips.old.items path) 1) }
     ensures others { (k : ℕ) → k ≢ result → get nodes.new k ≡ get nodes.old k }
     ensures len { slab_len nodes.new ≡ slab_len nodes.old + 1 }
+    ensures capacity { nodes.new.capacity ≡ nodes.old.capacity }
     ensures tips { tips.new.items ≡ slice_set tips.old.items path (Some result) }
 {
     let above = tips[path];

@@ -1,10 +1,10 @@
 //! Paths that go, and items with the last path that has them.
 
-ghost use Rattle.std.specs.Prelude.{◌≡◌, ◌≢◌, ◌<◌, ℕ, length, Some};
+ghost use Rattle.std.specs.Prelude.{◌≡◌, ◌≢◌, ◌<◌, ℕ, List, Option, length};
 ghost use Rattle.std.specs.List.{remove};
 ghost use Rattle.slab.specs.Slab.{get, ContainsKey};
 ghost use Rattle.lineage.specs.Family.{IsReleased};
-ghost use Rattle.lineage.specs.Held.{IsSound, Stays, next_up, less_one};
+ghost use Rattle.lineage.specs.Held.{IsReleasing, IsSound, Stays, next_up, less_one};
 
 use super::{Key, Lineage};
 use crate::node::Node;
@@ -17,19 +17,20 @@ impl<X: Drop> Lineage<X> {
         ensures paths { self.new.paths ≡ remove self.old.paths path }
         ensures items { IsReleased self.old self.new }
     {
-        release(&mut self.nodes, &mut self.tips, path);
+        let tip = self.tips.remove(path);
+        let_go_up(&mut self.nodes, tip);
     }
 }
 
-/// Drops a path, and each node on its way up that nothing stands on any more.
-fn release<X: Drop>(nodes: &mut Slab<Node<X>>, tips: &mut Vec<Option<Key>>, path: usize)
-    requires sound { IsSound nodes.old.slots tips.old.items }
-    requires path { path < length tips.old.items }
-    ensures tips { tips.new.items ≡ remove tips.old.items path }
-    ensures sound { IsSound nodes.new.slots tips.new.items }
+/// Lets go of a tip, and of each node on the way up that nothing stands on any more.
+pub(super) fn let_go_up<X: Drop>(nodes: &mut Slab<Node<X>>, tip: Option<Key>)
+    requires { (tips : List (Option ℕ))
+        × IsReleasing nodes.old.slots nodes.old.slots tips tip }
+    ensures sound { (tips : List (Option ℕ)) → IsReleasing nodes.old.slots nodes.old.slots tips tip
+        → IsSound nodes.new.slots tips }
     ensures stays { Stays nodes.old.slots nodes.new.slots }
 {
-    let mut at = tips.remove(path);
+    let mut at = tip;
     while let Some(key) = at {
         at = let_go(nodes, key);
     }

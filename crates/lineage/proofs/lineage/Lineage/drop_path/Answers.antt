@@ -1,19 +1,36 @@
-use Rattle.std.proofs.Common.{map, sym, ◌∙◌, ap, subst}
+use Rattle.std.proofs.Common.{◌<◌, length, map, sym, ◌∙◌, ap, subst}
+use Rattle.std.specs.List.{remove}
 use Rattle.lineage.specs.Family.{IsReleased}
 use Rattle.lineage.specs.Held.{IsSound, path_to, family_on}
-use Rattle.lineage.proofs.Drops.{dropped_paths, released}
+use Rattle.lineage.proofs.Drops.{dropped_paths, released, let_go_from}
 use Rattle.lineage.proofs.lineage.Lineage.drop_path.Goals as goal
+
+pub let_go_up-requires : goal.let_go_up-requires
+let_go_up-requires g c =
+    let a = c.self.inside in
+    (remove a.tips.items c.args.path, let_go_from a.nodes.slots a.tips.items c.args.path c.remove-tip.result c.self.invariant (subst (λ f. c.args.path < length f.paths) (sym c.self.view_is) c.requires) c.remove-tip.ensures.value)
+
+pub invariant_of-self : goal.invariant_of-self
+invariant_of-self g c =
+    let a = c.self.inside in
+    subst (IsSound c.let_go_up.new.nodes.slots) (sym c.remove-tip.ensures.items)
+    (c.let_go_up.ensures.sound (remove a.tips.items c.args.path)
+    (let_go_from a.nodes.slots a.tips.items c.args.path c.remove-tip.result c.self.invariant (subst (λ f. c.args.path < length f.paths) (sym c.self.view_is) c.requires) c.remove-tip.ensures.value))
 
 pub returns-clause-paths : goal.returns-clause-paths
 returns-clause-paths g c =
     let a = c.self.inside in
-    let here = c.release.ensures in
-    rw (← c.self.view_is) (ap (map (path_to c.release.new.nodes.slots)) here.tips
-    ∙ dropped_paths a.nodes.slots c.release.new.nodes.slots a.tips.items c.args.path (subst (IsSound c.release.new.nodes.slots) here.tips here.sound) here.stays)
+    let here = c.let_go_up.ensures in
+    let sound = here.sound (remove a.tips.items c.args.path)
+    (let_go_from a.nodes.slots a.tips.items c.args.path c.remove-tip.result c.self.invariant (subst (λ f. c.args.path < length f.paths) (sym c.self.view_is) c.requires) c.remove-tip.ensures.value) in
+    rw (← c.self.view_is) (ap (map (path_to c.let_go_up.new.nodes.slots)) c.remove-tip.ensures.items
+    ∙ dropped_paths a.nodes.slots c.let_go_up.new.nodes.slots a.tips.items c.args.path sound here.stays)
 
 pub returns-clause-items : goal.returns-clause-items
 returns-clause-items g c =
     let a = c.self.inside in
-    let here = c.release.ensures in
-    let all = released a.nodes.slots c.release.new.nodes.slots a.tips.items c.args.path (subst (IsSound c.release.new.nodes.slots) here.tips here.sound) here.stays in
-    rw (← c.self.view_is) (subst (λ tips. IsReleased (family_on a.nodes.slots a.tips.items) (family_on c.release.new.nodes.slots tips)) (sym here.tips) all)
+    let here = c.let_go_up.ensures in
+    let sound = here.sound (remove a.tips.items c.args.path)
+    (let_go_from a.nodes.slots a.tips.items c.args.path c.remove-tip.result c.self.invariant (subst (λ f. c.args.path < length f.paths) (sym c.self.view_is) c.requires) c.remove-tip.ensures.value) in
+    let all = released a.nodes.slots c.let_go_up.new.nodes.slots a.tips.items c.args.path sound here.stays in
+    rw (← c.self.view_is) (subst (λ tips. IsReleased (family_on a.nodes.slots a.tips.items) (family_on c.let_go_up.new.nodes.slots tips)) (sym c.remove-tip.ensures.items) all)

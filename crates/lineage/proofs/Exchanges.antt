@@ -1,0 +1,199 @@
+-- A path that takes the place of another.
+use Rattle.std.proofs.Common.{◌≡◌, ◌≢◌, ℕ, ◌+◌, ◌-◌, ◌<◌, ◌^◌, zero, suc, true, false, List, [], ◌∷◌, ◌++◌, length, map, get_or, set, take, Option, Some, None, refl, sym, ◌∙◌, ap, subst, arith, inl, inr, ◌⊎◌, true≢false}
+use Rattle.std.specs.Prelude.{is_some}
+use Rattle.std.specs.List.{count_by, swap_remove}
+use Rattle.std.proofs.lemmas.Bool.{cases_eq}
+use Rattle.std.proofs.lemmas.List.{get_or-set_same, get_or-set_other, get_or_push, set-append_left, take_at, length-set, length-map, length_push, ext_get_or, get_or_read, get_or_append_left}
+use Rattle.std.proofs.lemmas.List.Sums.{sum_by-set, sum_by_push}
+use Rattle.lineage.specs.declared.node.Node.{Node}
+use Rattle.lineage.specs.Family.{has, item_at, path_in, IsExchanged}
+use Rattle.lineage.specs.Climbs.{IsClimb, Ends}
+use Rattle.lineage.specs.Held.{tip_at, is_key, node_at, item_in, above_in, above_of, path_to, with_holder, family_on, Stays, IsOn, IsSound, IsReleasing, IsPutLast}
+use Rattle.lineage.proofs.Climbs.{climb_unique}
+use Rattle.lineage.proofs.Walks.{path_at, item_is}
+use Rattle.lineage.proofs.Counts.{one}
+use Rattle.lineage.proofs.Kept.{node_from, over_path}
+use Rattle.lineage.proofs.Forks.{forked_sound}
+use Rattle.lineage.proofs.Drops.{on_path, path_there}
+use Rattle.lineage.proofs.Chains.{map_on}
+
+-- the last tip takes the place of another
+pub swapped : (tips : List (Option ℕ)) (tip d : Option ℕ) (path : ℕ) → path < length tips → swap_remove (tips ++ tip ∷ []) path d ≡ set tips path tip
+swapped tips tip d path within =
+    let many : length (tips ++ tip ∷ []) ≡ length tips + 1 = length_push tips tip in
+    let n : length (tips ++ tip ∷ []) - 1 ≡ length tips = omega (arith, many) in
+    ap (λ m. take m (set (tips ++ tip ∷ []) path (get_or (tips ++ tip ∷ []) m d))) n
+    ∙ ap (λ y. take (length tips) (set (tips ++ tip ∷ []) path y)) (get_or_push tips tip d (length tips) refl)
+    ∙ ap (take (length tips)) (set-append_left tips (tip ∷ []) path tip within)
+    ∙ take_at (set tips path tip) (tip ∷ []) (length tips) (length-set tips path tip)
+
+tips_from : (P : Option ℕ → Type 0) (tips : List (Option ℕ)) (tip : Option ℕ) → ((i : ℕ) → P (tip_at (tips ++ tip ∷ []) i)) → (i : ℕ) → P (tip_at tips i)
+tips_from P [] tip h i = h (suc zero)
+tips_from P (t ∷ tips) tip h zero = h zero
+tips_from P (t ∷ tips) tip h (suc i) = tips_from P tips tip (λ j. h (suc j)) i
+
+tip_cases : (tips : List (Option ℕ)) (tip : Option ℕ) (i : ℕ) → (tip_at (tips ++ tip ∷ []) i ≡ tip) ⊎ (tip_at (tips ++ tip ∷ []) i ≡ tip_at tips i)
+tip_cases [] tip zero = inl refl
+tip_cases [] tip (suc i) = inr refl
+tip_cases (t ∷ tips) tip zero = inr refl
+tip_cases (t ∷ tips) tip (suc i) = tip_cases tips tip i
+
+module _ {X : Type 0} (t : List (Option (Node X))) (tips : List (Option ℕ)) (tip : Option ℕ) (path : ℕ) (sound : IsSound t (tips ++ tip ∷ [])) (within : path < length tips) where
+  tip_here : tip_at (set tips path tip) path ≡ tip
+  tip_here = get_or-set_same tips path tip None within
+
+  tip_other : (i : ℕ) → i ≢ path → tip_at (set tips path tip) i ≡ tip_at tips i
+  tip_other i ne = get_or-set_other tips path i tip None ne
+
+  ends_tip : Ends (above_of t) tip
+  ends_tip = subst (Ends (above_of t)) (get_or_push tips tip None (length tips) refl) (sound.ends (length tips))
+
+  ends_old : (i : ℕ) → Ends (above_of t) (tip_at tips i)
+  ends_old = tips_from (Ends (above_of t)) tips tip sound.ends
+
+  ends_now : (i : ℕ) → (i ≡ path) ⊎ (i ≢ path) → Ends (above_of t) (tip_at (set tips path tip) i)
+  ends_now i (inl e) = subst (Ends (above_of t)) (sym (ap (tip_at (set tips path tip)) e ∙ tip_here)) ends_tip
+  ends_now i (inr ne) = subst (Ends (above_of t)) (sym (tip_other i ne)) (ends_old i)
+
+  live_now : (k : ℕ) (o : IsOn t (tips ++ tip ∷ []) k) → (tip_at (tips ++ tip ∷ []) o.path ≡ tip) ⊎ (tip_at (tips ++ tip ∷ []) o.path ≡ tip_at tips o.path)
+      → (o.path ≡ path) ⊎ (o.path ≢ path) → IsOn t (set tips path tip) k ⊎ (has k (ends_old path).up ≡ true)
+  live_now k o (inl new) at = inl (record { path = path; up = o.up; is = subst (λ z. IsClimb (above_of t) z o.up) (new ∙ sym tip_here) o.is; on = o.on })
+  live_now k o (inr old) (inl e) =
+      let is : IsClimb (above_of t) (tip_at tips path) o.up = subst (λ z. IsClimb (above_of t) z o.up) (old ∙ ap (tip_at tips) e) o.is in
+      let same = climb_unique (above_of t) (tip_at tips path) o.up (ends_old path).up is (ends_old path).is in
+      inr (subst (λ u. has k u ≡ true) same o.on)
+  live_now k o (inr old) (inr ne) = inl (record { path = o.path; up = o.up; is = subst (λ z. IsClimb (above_of t) z o.up) (old ∙ sym (tip_other o.path ne)) o.is; on = o.on })
+
+  -- then the tip that was there is let go
+  pub exchanged_first : IsReleasing t t (set tips path tip) (tip_at tips path)
+  exchanged_first = record {
+    ends = λ i. ends_now i (cases_eq i path);
+    going = ends_old path;
+    live = λ k n e. let o = sound.live k n e in live_now k o (tip_cases tips tip o.path) (cases_eq o.path path);
+    counted = λ k n e.
+        let is = sound.counted k n e in
+        let a = sum_by-set (λ x. one (is_key k x)) tips path tip None within in
+        let b = sum_by_push (λ x. one (is_key k x)) tips tip in
+        omega (arith, is, a, b);
+    few =
+        let few = sound.few in
+        let a = length-set tips path tip in let b = length_push tips tip in
+        omega (arith, few, a, b);
+    stays = λ k n e. (n, (e, (refl, refl)));
+  }
+
+module _ {X : Type 0} (s t u : List (Option (Node X))) (tips now : List (Option ℕ)) (path : ℕ) (items : List X) (before : IsSound s tips) (within : path < length tips)
+    (put : IsPutLast s t tips now items) (sound : IsSound u (set tips path put.tip)) (stays : Stays t u) where
+  abbrev new : List (Option ℕ)
+  new = set tips path put.tip
+
+  abbrev keys : List ℕ
+  keys = path_to t put.tip
+
+  new_here : tip_at new path ≡ put.tip
+  new_here = get_or-set_same tips path put.tip None within
+
+  -- what is left stands where it stood
+  links : (k : ℕ) (next : Option ℕ) → above_of u k ≡ Some next → above_of t k ≡ Some next
+  links k next e =
+      let n = node_from (node_at u k) next e in
+      let m = stays k n.0 n.1.0 in
+      ap above_in m.1.0 ∙ ap Some (sym m.1.1.1 ∙ n.1.1)
+
+  keeps : (k : ℕ) (next : Option ℕ) → above_of s k ≡ Some next → above_of t k ≡ Some next
+  keeps k next e =
+      let n = node_from (node_at s k) next e in
+      ap above_in (put.kept k n.0 n.1.0) ∙ ap Some n.1.1
+
+  path_here : path_to u (tip_at new path) ≡ keys
+  path_here = sym (over_path u t links (tip_at new path) (sound.ends path)) ∙ ap (path_to t) new_here
+
+  path_other : (i : ℕ) → i ≢ path → path_to u (tip_at new i) ≡ path_to s (tip_at tips i)
+  path_other i ne =
+      sym (over_path u t links (tip_at new i) (sound.ends i)) ∙ ap (path_to t) (get_or-set_other tips path i put.tip None ne)
+      ∙ over_path s t keeps (tip_at tips i) (before.ends i)
+
+  many : length (map (path_to s) tips) ≡ length tips
+  many = length-map tips (path_to s)
+
+  each : (i : ℕ) → (i ≡ path) ⊎ (i ≢ path) → path_in (family_on u new) i ≡ get_or (set (map (path_to s) tips) path keys) i []
+  each i (inl e) =
+      path_at u new i ∙ ap (λ j. path_to u (tip_at new j)) e ∙ path_here
+      ∙ sym (ap (λ j. get_or (set (map (path_to s) tips) path keys) j []) e ∙ get_or-set_same (map (path_to s) tips) path keys [] (subst (λ n. path < n) (sym many) within))
+  each i (inr ne) =
+      path_at u new i ∙ path_other i ne ∙ sym (path_at s tips i) ∙ sym (get_or-set_other (map (path_to s) tips) path i keys [] ne)
+
+  exchanged_paths : map (path_to u) new ≡ set (map (path_to s) tips) path keys
+  exchanged_paths =
+      let a = length-map new (path_to u) in let b = length-set tips path put.tip in let c = length-set (map (path_to s) tips) path keys in let d = many in
+      let lengths : length (map (path_to u) new) ≡ length (set (map (path_to s) tips) path keys) = omega (arith, a, b, c, d) in
+      ext_get_or [] (map (path_to u) new) (set (map (path_to s) tips) path keys) lengths (λ i lt. each i (cases_eq i path))
+
+  -- what is left has the item that it had
+  item_left : (i k : ℕ) → has k (path_in (family_on u new) i) ≡ true → item_in (node_at u k) ≡ item_in (node_at t k)
+  item_left i k m =
+      let n = path_there u new sound i k m in
+      let o = stays k n.0 n.1 in
+      ap item_in n.1 ∙ ap Some o.1.1.0 ∙ sym (ap item_in o.1.0)
+
+  on_new : (k : ℕ) → has k keys ≡ true → has k (path_in (family_on u new) path) ≡ true
+  on_new k m = ap (has k) (path_at u new path ∙ path_here) ∙ m
+
+  pub exchanged : IsExchanged (family_on s tips) (family_on u new) path items
+  exchanged = record {
+    keys = keys;
+    paths = exchanged_paths;
+    items_are = map_on (item_at (family_on u new)) (λ k. item_in (node_at t k)) keys (λ k m. item_is u new k ∙ item_left path k (on_new k m)) ∙ put.items_are;
+    fresh = λ k m. item_is s tips k ∙ ap item_in (put.fresh k m);
+    kept = λ i k m off. item_is u new k ∙ item_left i k m ∙ ap item_in (put.old k off) ∙ sym (item_is s tips k);
+    gone = λ k none. item_is u new k ∙ by k (node_at u k) refl none;
+  }
+    where
+      by : (k : ℕ) (o : Option (Node X)) → node_at u k ≡ o → ((i : ℕ) → has k (path_in (family_on u new) i) ≡ false) → item_in (node_at u k) ≡ None
+      by k None e none = ap item_in e
+      by k (Some n) e none =
+          let o = sound.live k n e in
+          absurd (true≢false (sym (on_path u new sound k o) ∙ none o.path))
+
+-- an empty path goes last
+pub opened_sound : {X : Type 0} (s : List (Option (Node X))) (tips : List (Option ℕ)) → IsSound s tips → length tips + 1 + count_by is_some s < 2 ^ 64 → IsSound s (tips ++ None ∷ [])
+opened_sound {X} s tips sound room =
+    forked_sound s s tips (tips ++ None ∷ []) None sound tt (λ k. same (node_at s k)) refl refl (omega (arith, room))
+  where
+    same : (o : Option (Node X)) → o ≡ with_holder false o
+    same None = refl
+    same (Some n) = refl
+
+-- all of it, from what each step tells
+module _ {X : Type 0} (s reserved t : List (Option (Node X))) (tips room now after : List (Option ℕ)) (items : List X) (path : ℕ) (tip : Option ℕ) (sound : IsSound s tips)
+    (paths : path < length (map (path_to s) tips)) (slots : reserved ≡ s) (tips_same : room ≡ tips) (put_there : IsPutLast reserved t room now items)
+  where
+    within_tips : path < length tips
+    within_tips = let n = length-map tips (path_to s) in omega (arith, n, paths)
+
+    put_last : IsPutLast s t tips now items
+    put_last = subst (λ z. IsPutLast z t tips now items) slots (subst (λ xs. IsPutLast reserved t xs now items) tips_same put_there)
+
+    many_now : length now ≡ length tips + 1
+    many_now = ap length put_last.tips_are ∙ length_push tips put_last.tip
+
+    pub within_now : path < length now
+    within_now = omega (arith, many_now, within_tips)
+
+    module _ (value : tip ≡ get_or now path tip) (after_is : after ≡ swap_remove now path tip) where
+      set_tip : after ≡ set tips path put_last.tip
+      set_tip = after_is ∙ ap (λ xs. swap_remove xs path tip) put_last.tips_are ∙ swapped tips put_last.tip tip path within_tips
+
+      tip_was : tip_at tips path ≡ tip
+      tip_was =
+          sym (get_or_read now path tip within_now value None ∙ ap (λ xs. tip_at xs path) put_last.tips_are ∙ get_or_append_left tips (put_last.tip ∷ []) None path within_tips)
+
+      pub let_go_first : IsReleasing t t after tip
+      let_go_first =
+          subst (λ xs. IsReleasing t t xs tip) (sym set_tip)
+          (subst (IsReleasing t t (set tips path put_last.tip)) tip_was (exchanged_first t tips put_last.tip path (subst (IsSound t) put_last.tips_are put_last.sound) within_tips))
+
+      pub all_exchanged : (u : List (Option (Node X))) → IsSound u after → Stays t u → IsExchanged (family_on s tips) (family_on u after) path items
+      all_exchanged u done stays =
+          subst (λ xs. IsExchanged (family_on s tips) (family_on u xs) path items) (sym set_tip)
+          (exchanged s t u tips now path items sound within_tips put_last (subst (IsSound u) set_tip done) stays)
