@@ -12,13 +12,13 @@ use Rattle.schedule_trie.specs.Forest.{Forest, branch, name_of, index_of, slots_
 nat_lt_true : (a b : ℕ) → a < b → nat_lt a b ≡ true
 nat_lt_true a b h = grind (arith, nat_tests)
 
-nat_lt_false : (a b : ℕ) → b ≤ a → nat_lt a b ≡ false
+pub nat_lt_false : (a b : ℕ) → b ≤ a → nat_lt a b ≡ false
 nat_lt_false a b h = grind (arith, nat_tests)
 
 nat_le_true : (a b : ℕ) → a ≤ b → nat_le a b ≡ true
 nat_le_true a b h = grind (arith, nat_tests)
 
-nat_le_false : (a b : ℕ) → b < a → nat_le a b ≡ false
+pub nat_le_false : (a b : ℕ) → b < a → nat_le a b ≡ false
 nat_le_false a b h = grind (arith, nat_tests)
 
 nat_lt-more : (a b : ℕ) → nat_lt (1 + a) (suc b) ≡ nat_lt a b

@@ -22,6 +22,7 @@ pub mod ForkSteps
 pub mod ForkCuts
 pub mod ForkCutSteps
 pub mod ForkAnswers
+pub mod InsertAnswers
 pub mod Positions
 pub mod Upwards
 pub mod Released

@@ -3,6 +3,7 @@
 ghost use Rattle.std.specs.Prelude.{◌≡◌};
 ghost use Rattle.schedule_trie.specs.Refusals as spec;
 
+use std::alloc::AllocError;
 use std::fmt;
 use thiserror::Error;
 
@@ -72,6 +73,16 @@ impl Refusal {
             Refusal::BadLine => "BadLine",
             Refusal::Memory => "Memory",
         }
+    }
+}
+
+impl From<AllocError> for Refusal {
+    ghost use Rattle.schedule_trie.specs.declared.refusal.Refusal.TheVariants.{Memory};
+
+    ghost from_gives = { λ _ e. e ≡ Memory };
+
+    fn from(_e: AllocError) -> Refusal {
+        Refusal::Memory
     }
 }
 

@@ -3,8 +3,9 @@
 ghost use Rattle.std.specs.Prelude.{◌<◌, ◌≤◌, length, IfSome, IfNone, Ok, Err, OnOk, IfErr, OnErr, IfOk, false, [], Some, None, map, slice_get, ◌++◌, ◌≡◌};
 ghost use Rattle.std.specs.Option.{option_map, option_copied};
 ghost use Rattle.std.specs.List.{position};
-ghost use Rattle.schedule_trie.specs.Forest.{path_of, step_of, cell_at, place_of, is_cell, opened, opening, IsRefused, replace_step, index_of, slots_in, name_in, len_of, AreNamedApart, IsForest};
-ghost use Rattle.schedule_trie.specs.Cut.{IsBlank, IsNoted, above_of, before_key, keys_by, if_lacks, note_of, AreLimits, has, IsOwnEnd, IsPushed, LackedByOthers, forest, IsCut, KeepsNotesBut, HoldsCellAt, IsStepSet, piece_at, slots_of, keys_in, line, StandsAt};
+ghost use Rattle.schedule_trie.specs.Forest.{path_of, step_of, cell_at, place_of, is_cell, opened, opening, IsRefused, index_of, slots_in, name_in, len_of, AreNamedApart, IsForest};
+ghost use Rattle.schedule_trie.specs.Edits.{Replace, IsEdited, IsUnedited};
+ghost use Rattle.schedule_trie.specs.Cut.{IsBlank, IsNoted, above_of, before_key, keys_by, if_lacks, note_of, AreLimits, has, IsOwnEnd, IsPushed, LackedByOthers, forest, IsCut, IsStepSet, piece_at, slots_of, keys_in, line, StandsAt};
 
 mod detach;
 mod division;
@@ -65,10 +66,7 @@ impl<T: Drop> Trie<T> {
         if steps.len() > limits.cells as usize {
             return Err(Refusal::Full);
         }
-        match Trie::with_steps(alloc, limits, steps) {
-            Ok(trie) => Ok(trie),
-            Err(_) => Err(Refusal::Memory),
-        }
+        Ok(Trie::with_steps(alloc, limits, steps)?)
     }
 
     /// A trie of steps that fit.
@@ -190,10 +188,7 @@ impl<T: Drop> Trie<T> {
         let Some(index) = self.index(branch) else {
             return Err(Refusal::NoBranch);
         };
-        match self.steps_at(alloc, index) {
-            Ok(steps) => Ok(steps),
-            Err(_) => Err(Refusal::Memory),
-        }
+        Ok(self.steps_at(alloc, index)?)
     }
 
     /// The steps of the branch at an index.
@@ -224,10 +219,7 @@ impl<T: Drop> Trie<T> {
         let Some(index) = self.index(branch) else {
             return Err(Refusal::NoBranch);
         };
-        match Vec::from_slice(alloc, self.keys_at(index)) {
-            Ok(keys) => Ok(keys),
-            Err(_) => Err(Refusal::Memory),
-        }
+        Ok(Vec::from_slice(alloc, self.keys_at(index))?)
     }
 
     /// The key of the segment right above a segment, the same on each branch that has it; none for a branch's first segment,
@@ -277,15 +269,8 @@ impl<T: Drop> Trie<T> {
     ///
     /// NoBranch; NoPlace where the branch has no cell there. Then nothing is changed.
     pub fn replace(&mut self, branch: &Name, place: u32, step: Step) -> Result<(), Refusal>
-        ensures ok { OnOk result (replace_step (forest self.old) branch.now place step
-            ≡ Ok (forest self.new)) }
-        ensures err { IfErr result (λ e. replace_step (forest self.old) branch.now place step
-            ≡ Err e) }
-        ensures unchanged { OnErr result (self.new ≡ self.old) }
-        ensures notes { OnOk result (KeepsNotesBut self.old self.new
-            (HoldsCellAt self.old branch.now place)) }
-        ensures cut { OnOk result (IsCut self.new) }
-        ensures limits { self.new.limits ≡ self.old.limits }
+        ensures ok { OnOk result (IsEdited self.old self.new (Replace branch.now place step)) }
+        ensures err { IfErr result (IsUnedited self.old self.new (Replace branch.now place step)) }
     {
         let Some(index) = self.index(branch) else {
             return Err(Refusal::NoBranch);

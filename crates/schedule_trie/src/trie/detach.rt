@@ -2,8 +2,9 @@
 
 ghost use Rattle.std.specs.Prelude.{◌≡◌, ◌<◌, ◌≤◌, ◌+◌, length, Ok, OnOk, IfOk, IfErr, OnErr};
 ghost use Rattle.slab.specs.Slab.{get};
-ghost use Rattle.schedule_trie.specs.Forest.{detach, IsRefused, slots_in};
-ghost use Rattle.schedule_trie.specs.Cut.{forest, piece_at, keys_in, IsCut, KeepsAllNotes};
+ghost use Rattle.schedule_trie.specs.Edits.{Detach, IsEdited, IsUnedited};
+ghost use Rattle.schedule_trie.specs.Forest.{slots_in};
+ghost use Rattle.schedule_trie.specs.Cut.{forest, piece_at, keys_in};
 ghost use Rattle.schedule_trie.specs.Copies.{AreCopies, ArePut, IsDetached};
 
 use super::Trie;
@@ -22,14 +23,8 @@ impl<T: Drop> Trie<T> {
     ///
     /// NoBranch; Full where so many more cells may not be made; Memory. Then nothing is changed.
     pub fn detach(&mut self, alloc: Global, branch: &Name) -> Result<(), Refusal>
-        ensures ok { OnOk result (detach self.old.limits (forest self.old) branch.now
-            ≡ Ok (forest self.new)) }
-        ensures err { IfErr result
-            (IsRefused (detach self.old.limits (forest self.old) branch.now)) }
-        ensures unchanged { OnErr result (self.new ≡ self.old) }
-        ensures notes { OnOk result (KeepsAllNotes self.old self.new) }
-        ensures cut { OnOk result (IsCut self.new) }
-        ensures limits { self.new.limits ≡ self.old.limits }
+        ensures ok { OnOk result (IsEdited self.old self.new (Detach branch.now)) }
+        ensures err { IfErr result (IsUnedited self.old self.new (Detach branch.now)) }
     {
         let Some(index) = self.index(branch) else {
             return Err(Refusal::NoBranch);
@@ -37,10 +32,8 @@ impl<T: Drop> Trie<T> {
         if self.len_at(index) > self.limits.cells - self.made {
             return Err(Refusal::Full);
         }
-        match self.detach_at(alloc, index) {
-            Ok(()) => Ok(()),
-            Err(_) => Err(Refusal::Memory),
-        }
+        self.detach_at(alloc, index)?;
+        Ok(())
     }
 
     /// Gives the branch at an index cells of its own, which fit.

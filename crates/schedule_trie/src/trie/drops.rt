@@ -1,8 +1,7 @@
 //! Branches that are dropped.
 
-ghost use Rattle.std.specs.Prelude.{◌≡◌, ◌<◌, length, Ok, Err, OnOk, IfErr, OnErr};
-ghost use Rattle.schedule_trie.specs.Forest.{drop_branch};
-ghost use Rattle.schedule_trie.specs.Cut.{forest, IsCut, KeepsAllNotes};
+ghost use Rattle.std.specs.Prelude.{◌<◌, length, Ok, Err, OnOk, IfErr};
+ghost use Rattle.schedule_trie.specs.Edits.{Drop, IsEdited, IsUnedited};
 ghost use Rattle.schedule_trie.specs.Releases.{IsDropped};
 
 use super::Trie;
@@ -17,12 +16,8 @@ impl<T: Drop> Trie<T> {
     ///
     /// NoBranch; LastBranch where it is the only one. Then nothing is changed.
     pub fn drop_branch(&mut self, branch: &Name) -> Result<(), Refusal>
-        ensures ok { OnOk result (drop_branch (forest self.old) branch.now ≡ Ok (forest self.new)) }
-        ensures err { IfErr result (λ e. drop_branch (forest self.old) branch.now ≡ Err e) }
-        ensures unchanged { OnErr result (self.new ≡ self.old) }
-        ensures notes { OnOk result (KeepsAllNotes self.old self.new) }
-        ensures cut { OnOk result (IsCut self.new) }
-        ensures limits { self.new.limits ≡ self.old.limits }
+        ensures ok { OnOk result (IsEdited self.old self.new (Drop branch.now)) }
+        ensures err { IfErr result (IsUnedited self.old self.new (Drop branch.now)) }
     {
         let Some(index) = self.index(branch) else {
             return Err(Refusal::NoBranch);

@@ -3,8 +3,9 @@
 ghost use Rattle.std.specs.Prelude.{◌≡◌, ◌+◌, ◌<◌, ◌≤◌, ◌++◌, ◌∷◌, [], length, nat_eq, map, take, drop, slice_index, None, Ok, OnOk, OnErr, IfErr, IfOk, vec_capacity};
 ghost use Rattle.std.specs.Cmp.Lexicographic.{pointwise};
 ghost use Rattle.indexmap.specs.IndexMap.{insert_entry, spare};
-ghost use Rattle.schedule_trie.specs.Forest.{fork, index_of, slots_in, IsRefused};
-ghost use Rattle.schedule_trie.specs.Cut.{forest, keys_in, line, piece_at, slots_of, IsCut, KeepsNotesBut, IsParted};
+ghost use Rattle.schedule_trie.specs.Edits.{Fork, IsEdited, IsUnedited};
+ghost use Rattle.schedule_trie.specs.Forest.{index_of, slots_in};
+ghost use Rattle.schedule_trie.specs.Cut.{forest, keys_in, line, piece_at, slots_of};
 ghost use Rattle.schedule_trie.specs.Forks.{IsForked, LiesAt};
 ghost use Rattle.schedule_trie.specs.Held.{strand_of, HavePathRoom};
 ghost use Rattle.slab.specs.Slab.{HasRoomFor};
@@ -33,15 +34,8 @@ impl<T: Drop> Trie<T> {
         place: u32,
         name: Name,
     ) -> Result<(), Refusal>
-        ensures ok { OnOk result (fork self.old.limits (forest self.old) branch.now place name
-            ≡ Ok (forest self.new)) }
-        ensures err { IfErr result
-            (IsRefused (fork self.old.limits (forest self.old) branch.now place name)) }
-        ensures unchanged { OnErr result (self.new ≡ self.old) }
-        ensures notes { OnOk result (KeepsNotesBut self.old self.new
-            (IsParted self.old branch.now place)) }
-        ensures cut { OnOk result (IsCut self.new) }
-        ensures limits { self.new.limits ≡ self.old.limits }
+        ensures ok { OnOk result (IsEdited self.old self.new (Fork branch.now place name)) }
+        ensures err { IfErr result (IsUnedited self.old self.new (Fork branch.now place name)) }
     {
         let Some(index) = self.index(branch) else {
             return Err(Refusal::NoBranch);
@@ -58,10 +52,8 @@ impl<T: Drop> Trie<T> {
         if self.branches() >= self.limits.branches {
             return Err(Refusal::TooManyBranches);
         }
-        match self.fork_at(alloc, index, place, name) {
-            Ok(()) => Ok(()),
-            Err(_) => Err(Refusal::Memory),
-        }
+        self.fork_at(alloc, index, place, name)?;
+        Ok(())
     }
 
     /// Makes a new last branch of the first cells of the branch at an index, with a name that no branch has.

@@ -2,8 +2,9 @@
 
 ghost use Rattle.std.specs.Prelude.{◌≡◌, ◌<◌, ◌≤◌, ◌++◌, length, Ok, OnOk, IfOk, IfErr, OnErr};
 ghost use Rattle.std.specs.List.{insert as inserted_at};
-ghost use Rattle.schedule_trie.specs.Forest.{insert, slots_in, IsRefused};
-ghost use Rattle.schedule_trie.specs.Cut.{forest, piece_at, slots_of, IsCut, KeepsNotesBut, KeepsUnchanged, CanGrowAt, IsPutBefore, IsInserted};
+ghost use Rattle.schedule_trie.specs.Edits.{Insert, IsEdited, IsUnedited};
+ghost use Rattle.schedule_trie.specs.Forest.{slots_in};
+ghost use Rattle.schedule_trie.specs.Cut.{forest, piece_at, slots_of, IsPutBefore, IsInserted};
 
 use super::Trie;
 use super::division::{divide, reserve_division};
@@ -32,16 +33,8 @@ impl<T: Drop> Trie<T> {
         place: u32,
         step: Step,
     ) -> Result<(), Refusal>
-        ensures ok { OnOk result (insert self.old.limits (forest self.old) branch.now place step
-            ≡ Ok (forest self.new)) }
-        ensures err { IfErr result
-            (IsRefused (insert self.old.limits (forest self.old) branch.now place step)) }
-        ensures unchanged { OnErr result (self.new ≡ self.old) }
-        ensures notes { OnOk result (KeepsNotesBut self.old self.new
-            (CanGrowAt self.old branch.now place)) }
-        ensures others { OnOk result (KeepsUnchanged self.old self.new) }
-        ensures cut { OnOk result (IsCut self.new) }
-        ensures limits { self.new.limits ≡ self.old.limits }
+        ensures ok { OnOk result (IsEdited self.old self.new (Insert branch.now place step)) }
+        ensures err { IfErr result (IsUnedited self.old self.new (Insert branch.now place step)) }
     {
         let Some(index) = self.index(branch) else {
             return Err(Refusal::NoBranch);
@@ -52,10 +45,8 @@ impl<T: Drop> Trie<T> {
         if self.limits.cells <= self.made {
             return Err(Refusal::Full);
         }
-        match self.insert_at(alloc, index, place, step) {
-            Ok(()) => Ok(()),
-            Err(_) => Err(Refusal::Memory),
-        }
+        self.insert_at(alloc, index, place, step)?;
+        Ok(())
     }
 
     /// Puts a new cell at a place of the branch at an index.

@@ -1,8 +1,8 @@
 //! Cells that go.
 
-ghost use Rattle.std.specs.Prelude.{◌≡◌, ◌<◌, length, map, Ok, Err, OnOk, IfErr, OnErr};
-ghost use Rattle.schedule_trie.specs.Forest.{remove_cell};
-ghost use Rattle.schedule_trie.specs.Cut.{forest, piece_at, slots_of, keys_without, strand_without, IsCut, IsRemoved, KeepsNotesBut, HoldsCellAt};
+ghost use Rattle.std.specs.Prelude.{◌≡◌, ◌<◌, length, map, Ok, Err, OnOk, IfErr};
+ghost use Rattle.schedule_trie.specs.Edits.{Remove, IsEdited, IsUnedited};
+ghost use Rattle.schedule_trie.specs.Cut.{piece_at, slots_of, keys_without, strand_without, IsRemoved};
 ghost use Rattle.schedule_trie.specs.Held.{strand_of};
 
 use crate::name::Name;
@@ -18,14 +18,8 @@ impl<T: Drop> Trie<T> {
     ///
     /// NoBranch; NoPlace where the branch has no cell there. Then nothing is changed.
     pub fn remove(&mut self, branch: &Name, place: u32) -> Result<(), Refusal>
-        ensures ok { OnOk result (remove_cell (forest self.old) branch.now place
-            ≡ Ok (forest self.new)) }
-        ensures err { IfErr result (λ e. remove_cell (forest self.old) branch.now place ≡ Err e) }
-        ensures unchanged { OnErr result (self.new ≡ self.old) }
-        ensures notes { OnOk result (KeepsNotesBut self.old self.new
-            (HoldsCellAt self.old branch.now place)) }
-        ensures cut { OnOk result (IsCut self.new) }
-        ensures limits { self.new.limits ≡ self.old.limits }
+        ensures ok { OnOk result (IsEdited self.old self.new (Remove branch.now place)) }
+        ensures err { IfErr result (IsUnedited self.old self.new (Remove branch.now place)) }
     {
         let Some(index) = self.index(branch) else {
             return Err(Refusal::NoBranch);

@@ -1,0 +1,56 @@
+-- Edits of branches as data, and what each makes of a cut.
+use Rattle.std.specs.Prelude.{ℕ, ◌≡◌, List, Result, Ok, Err}
+use Rattle.frames.specs.declared.types.Step.{Step}
+use Rattle.schedule_trie.specs.declared.refusal.Refusal.{Refusal}
+use Rattle.schedule_trie.specs.declared.limits.Limits.{Limits}
+use Rattle.schedule_trie.specs.Forest.{Forest, insert, remove_cell, replace_step, fork, detach, drop_branch, IsRefused}
+use Rattle.schedule_trie.specs.Cut.{Cut, forest, IsCut, KeepsNotesBut, KeepsUnchanged, KeepsAllNotes, HoldsCellAt, CanGrowAt, IsParted}
+
+-- an edit of the branch of a name: a new cell at a place; the cell there taken out, or given another step; a new branch, of
+-- another name, of the cells before a place; cells of its own for the branch; or the branch dropped
+pub data Edit : Type 0 where
+  Insert : List ℕ → ℕ → Step → Edit
+  Remove : List ℕ → ℕ → Edit
+  Replace : List ℕ → ℕ → Step → Edit
+  Fork : List ℕ → ℕ → List ℕ → Edit
+  Detach : List ℕ → Edit
+  Drop : List ℕ → Edit
+
+-- the forest after an edit, or the first reason that refuses it
+abbrev pub edited : Limits → Forest → Edit → Result Forest Refusal
+edited limits f (Insert name place step) = insert limits f name place step
+edited limits f (Remove name place) = remove_cell f name place
+edited limits f (Replace name place step) = replace_step f name place step
+edited limits f (Fork name place new) = fork limits f name place new
+edited limits f (Detach name) = detach limits f name
+edited limits f (Drop name) = drop_branch f name
+
+-- an edit touches at most one segment that was there, one that its place tells; an insert none whose cells stay
+abbrev pub KeepsNotesBy : {T : Type 0} → Edit → Cut T → Cut T → Type 0
+KeepsNotesBy (Insert name place step) old new = KeepsNotesBut old new (CanGrowAt old name place) × KeepsUnchanged old new
+KeepsNotesBy (Remove name place) old new = KeepsNotesBut old new (HoldsCellAt old name place)
+KeepsNotesBy (Replace name place step) old new = KeepsNotesBut old new (HoldsCellAt old name place)
+KeepsNotesBy (Fork name place made) old new = KeepsNotesBut old new (IsParted old name place)
+KeepsNotesBy (Detach name) old new = KeepsAllNotes old new
+KeepsNotesBy (Drop name) old new = KeepsAllNotes old new
+
+-- an edit is made
+pub record IsEdited {T : Type 0} (old new : Cut T) (edit : Edit) : Type 0 where
+  pub forest : edited old.limits (forest old) edit ≡ Ok (forest new)
+  pub notes : KeepsNotesBy edit old new
+  pub cut : IsCut new
+  pub limits : new.limits ≡ old.limits
+
+-- why an edit is refused: for the first reason that holds; or, where it takes memory, for want of it where none does
+abbrev pub WhyRefused : Edit → Result Forest Refusal → Refusal → Type 0
+WhyRefused (Insert name place step) model e = IsRefused model e
+WhyRefused (Remove name place) model e = model ≡ Err e
+WhyRefused (Replace name place step) model e = model ≡ Err e
+WhyRefused (Fork name place new) model e = IsRefused model e
+WhyRefused (Detach name) model e = IsRefused model e
+WhyRefused (Drop name) model e = model ≡ Err e
+
+-- an edit is refused, and nothing is changed
+pub record IsUnedited {T : Type 0} (old new : Cut T) (edit : Edit) (e : Refusal) : Type 0 where
+  pub why : WhyRefused edit (edited old.limits (forest old) edit) e
+  pub unchanged : new ≡ old
