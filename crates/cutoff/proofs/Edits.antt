@@ -1,5 +1,5 @@
 -- What an edit leaves of a chart: steps that fit, and stored runs that are true.
-use Rattle.std.proofs.Common.{◌≡◌, ℕ, zero, suc, ◌<◌, Bool, true, false, nat_eq, nat_le, nat_lt, cond, List, [], ◌∷◌, ◌++◌, length, map, Option, Some, None, Result, Ok, Err, OnOk, OnErr, MatchOption, refl, sym, ap, subst}
+use Rattle.std.proofs.Common.{◌≡◌, ℕ, zero, suc, ◌<◌, Bool, true, false, nat_eq, nat_le, nat_lt, cond, List, [], ◌∷◌, ◌++◌, length, map, Option, Some, None, Ok, Err, MatchOption, refl, sym, ap, subst}
 use Rattle.std.specs.Prelude.{⊤}
 use Rattle.std.specs.List.{All}
 use Rattle.std.proofs.lemmas.List.Elements.{All-nil, All-cons, All-head, All-tail}
@@ -15,8 +15,8 @@ use Rattle.schedule_trie.specs.Forest.{Forest, Branch, step_of, slots_in, number
 use Rattle.schedule_trie.specs.Cut.{Cut, Piece, piece_at, note_of, forest, KeepsNotes, IsBlank, IsCut}
 use Rattle.schedule_trie.proofs.Notes.{notes_kept}
 use Rattle.cutoff.specs.Fitting.{StoredRun}
-use Rattle.cutoff.specs.Links.{alone, IsStored, IsTold, IsLinked}
-use Rattle.cutoff.specs.Held.{Charted, IsCharted, StepsFit}
+use Rattle.cutoff.specs.Links.{IsStored, IsTold, IsLinked}
+use Rattle.cutoff.specs.Held.{IsCharted, StepsFit}
 
 -- facts on each element of two lists
 module _ {X : Type 0} (Q : X → Type 0) where
@@ -88,19 +88,6 @@ pub linked_kept : {R P : Type 0} (E : R → R → Bool) (h : R) (next : ℕ) (ab
     → IsLinked E h next above c old → IsLinked E h next above c new
 linked_kept E h next above c old new notes l =
     record { exits = l.exits; as_many = l.as_many; each = notes_kept (IsTold E h l.exits) (unnoted_told E h l.exits) old new notes l.each; came = l.came }
-
--- a chart after an edit of its trie that went well, or was refused
-pub edited : {R P Y : Type 0} (E : R → R → Bool) (b : Behaviour P) (next : ℕ) (c : Charted R P) (new : Cut (StoredRun R P)) (result : Result Y Refusal)
-    → IsCharted E b next c → OnErr result (new ≡ c.cut) → OnOk result (KeepsNotes c.cut new) → OnOk result (IsCut new) → OnOk result (StepsFit b (forest new))
-    → IsCharted E b next (record { cut = new; start = c.start; value = c.value })
-edited E b next c new (Ok y) was same notes cut fits =
-    record { within = was.within; begins = was.begins; fits = fits; whole = cut; linked = linked_kept E c.start.register next None (alone c.start) c.cut new notes was.linked }
-edited E b next c new (Err e) was same notes cut fits =
-    subst (λ d. IsCharted E b next (record { cut = d; start = c.start; value = c.value })) (sym same) was
-
-pub on_ok_map : {Y Z A B : Type 0} (result : Result Y Z) → (A → B) → OnOk result A → OnOk result B
-on_ok_map (Ok y) f a = f a
-on_ok_map (Err e) f a = tt
 
 -- a chart at first
 pub started : {R P : Type 0} (E : R → R → Bool) (is : R → Behaviour P) (register : R) (value : ℕ) (limits : Limits) (steps : List Step) (cut : Cut (StoredRun R P))

@@ -9,4 +9,5 @@ pub mod Paths
 pub mod Installed
 pub mod Plannings
 pub mod Commands
+pub mod Edited
 pub mod EarlyCutoff

@@ -1,6 +1,7 @@
 pub mod Fitting
 pub mod Links
 pub mod Held
+pub mod Edits
 pub mod Plans
 pub mod Installs
 pub mod EarlyCutoff

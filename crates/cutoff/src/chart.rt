@@ -75,9 +75,7 @@ impl<R: Register> Chart<R> {
         ensures err { IfErr result (IsRefused (opened limits steps.now)) }
     {
         let trie = Trie::new(alloc, limits, steps)?;
-        let Ok(start) = Config::initial(alloc, register, value) else {
-            return Err(Refusal::Memory);
-        };
+        let start = Config::initial(alloc, register, value)?;
         Ok(Chart {
             trie,
             start,
@@ -201,17 +199,15 @@ impl<R: Register> Chart<R> {
             return Err(Refusal::NoPlace);
         }
         let keys = self.trie.segments(alloc, branch)?;
-        match settle_along(
+        let spot = settle_along(
             alloc,
             &mut self.trie,
             &mut self.next,
             &self.start,
             &keys,
             place,
-        ) {
-            Ok(spot) => Ok(spot),
-            Err(_) => Err(Refusal::Memory),
-        }
+        )?;
+        Ok(spot)
     }
 
     /// The segments that no stored run fits where their branch comes to them: the first of the named branch, and that of each
@@ -229,10 +225,8 @@ impl<R: Register> Chart<R> {
             (λ e. if_lacks (index_of (forest self.now.cut).branches branch.now) ≡ e) }
     {
         let keys = self.trie.segments(alloc, branch)?;
-        match plan_all(alloc, &self.trie, &self.start, &keys) {
-            Ok(jobs) => Ok(jobs),
-            Err(_) => Err(Refusal::Memory),
-        }
+        let jobs = plan_all(alloc, &self.trie, &self.start, &keys)?;
+        Ok(jobs)
     }
 
     /// Stores a run that was made elsewhere, if it fits its segment and stored runs fit all segments above. It takes no

@@ -1,9 +1,9 @@
 //! Edits of a chart: those of its branches. Each keeps the stored run of every segment that it neither changes nor cuts.
 
-ghost use Rattle.std.specs.Prelude.{◌≡◌, true, Ok, Err, OnOk, OnErr, IfErr};
+ghost use Rattle.std.specs.Prelude.{◌≡◌, true, OnOk, IfErr};
 ghost use Rattle.frames.specs.Configuration.{fits_step};
-ghost use Rattle.schedule_trie.specs.Forest.{IsRefused, insert, remove_cell, replace_step, fork, detach, drop_branch};
-ghost use Rattle.schedule_trie.specs.Cut.{IsCut, KeepsNotesBut, KeepsUnchanged, KeepsAllNotes, HoldsCellAt, CanGrowAt, IsParted, forest};
+ghost use Rattle.schedule_trie.specs.Edits.{Insert, Remove, Replace, Fork, Detach, Drop, IsEdited};
+ghost use Rattle.cutoff.specs.Edits.{IsUneditedChart, KeepsBeginning};
 
 use super::Chart;
 use frames::register::Register;
@@ -28,18 +28,11 @@ impl<R: Register> Chart<R> {
         step: Step,
     ) -> Result<(), Refusal>
         requires { fits_step (R.is self.old.start.register) step ≡ true }
-        ensures ok { OnOk result (insert self.old.cut.limits
-            (forest self.old.cut) branch.now place step ≡ Ok (forest self.new.cut)) }
+        ensures ok { OnOk result
+            (IsEdited self.old.cut self.new.cut (Insert branch.now place step)) }
         ensures err { IfErr result
-            (IsRefused (insert self.old.cut.limits (forest self.old.cut) branch.now place step)) }
-        ensures unchanged { OnErr result (self.new ≡ self.old) }
-        ensures notes { OnOk result (KeepsNotesBut self.old.cut self.new.cut
-            (CanGrowAt self.old.cut branch.now place)) }
-        ensures others { OnOk result (KeepsUnchanged self.old.cut self.new.cut) }
-        ensures cut { OnOk result (IsCut self.new.cut) }
-        ensures limits { self.new.cut.limits ≡ self.old.cut.limits }
-        ensures start { self.new.start ≡ self.old.start }
-        ensures value { self.new.value ≡ self.old.value }
+            (IsUneditedChart self.old self.new (Insert branch.now place step)) }
+        ensures keeps { KeepsBeginning self.old self.new }
     {
         self.trie.insert(alloc, branch, place, step)
     }
@@ -50,17 +43,9 @@ impl<R: Register> Chart<R> {
     ///
     /// NoBranch; NoPlace where the branch has no cell there. Then nothing is changed.
     pub fn remove(&mut self, branch: &Name, place: u32) -> Result<(), Refusal>
-        ensures ok { OnOk result (remove_cell (forest self.old.cut) branch.now place
-            ≡ Ok (forest self.new.cut)) }
-        ensures err { IfErr result (λ e. remove_cell (forest self.old.cut) branch.now place
-            ≡ Err e) }
-        ensures unchanged { OnErr result (self.new ≡ self.old) }
-        ensures notes { OnOk result (KeepsNotesBut self.old.cut self.new.cut
-            (HoldsCellAt self.old.cut branch.now place)) }
-        ensures cut { OnOk result (IsCut self.new.cut) }
-        ensures limits { self.new.cut.limits ≡ self.old.cut.limits }
-        ensures start { self.new.start ≡ self.old.start }
-        ensures value { self.new.value ≡ self.old.value }
+        ensures ok { OnOk result (IsEdited self.old.cut self.new.cut (Remove branch.now place)) }
+        ensures err { IfErr result (IsUneditedChart self.old self.new (Remove branch.now place)) }
+        ensures keeps { KeepsBeginning self.old self.new }
     {
         self.trie.remove(branch, place)
     }
@@ -73,17 +58,11 @@ impl<R: Register> Chart<R> {
     /// NoBranch; NoPlace where the branch has no cell there. Then nothing is changed.
     pub fn replace(&mut self, branch: &Name, place: u32, step: Step) -> Result<(), Refusal>
         requires { fits_step (R.is self.old.start.register) step ≡ true }
-        ensures ok { OnOk result (replace_step (forest self.old.cut) branch.now place step
-            ≡ Ok (forest self.new.cut)) }
-        ensures err { IfErr result (λ e. replace_step (forest self.old.cut) branch.now place step
-            ≡ Err e) }
-        ensures unchanged { OnErr result (self.new ≡ self.old) }
-        ensures notes { OnOk result (KeepsNotesBut self.old.cut self.new.cut
-            (HoldsCellAt self.old.cut branch.now place)) }
-        ensures cut { OnOk result (IsCut self.new.cut) }
-        ensures limits { self.new.cut.limits ≡ self.old.cut.limits }
-        ensures start { self.new.start ≡ self.old.start }
-        ensures value { self.new.value ≡ self.old.value }
+        ensures ok { OnOk result
+            (IsEdited self.old.cut self.new.cut (Replace branch.now place step)) }
+        ensures err { IfErr result
+            (IsUneditedChart self.old self.new (Replace branch.now place step)) }
+        ensures keeps { KeepsBeginning self.old self.new }
     {
         self.trie.replace(branch, place, step)
     }
@@ -101,17 +80,10 @@ impl<R: Register> Chart<R> {
         place: u32,
         name: Name,
     ) -> Result<(), Refusal>
-        ensures ok { OnOk result (fork self.old.cut.limits
-            (forest self.old.cut) branch.now place name ≡ Ok (forest self.new.cut)) }
+        ensures ok { OnOk result (IsEdited self.old.cut self.new.cut (Fork branch.now place name)) }
         ensures err { IfErr result
-            (IsRefused (fork self.old.cut.limits (forest self.old.cut) branch.now place name)) }
-        ensures unchanged { OnErr result (self.new ≡ self.old) }
-        ensures notes { OnOk result (KeepsNotesBut self.old.cut self.new.cut
-            (IsParted self.old.cut branch.now place)) }
-        ensures cut { OnOk result (IsCut self.new.cut) }
-        ensures limits { self.new.cut.limits ≡ self.old.cut.limits }
-        ensures start { self.new.start ≡ self.old.start }
-        ensures value { self.new.value ≡ self.old.value }
+            (IsUneditedChart self.old self.new (Fork branch.now place name)) }
+        ensures keeps { KeepsBeginning self.old self.new }
     {
         self.trie.fork(alloc, branch, place, name)
     }
@@ -122,16 +94,9 @@ impl<R: Register> Chart<R> {
     ///
     /// NoBranch; Full where so many more cells may not be made; Memory. Then nothing is changed.
     pub fn detach(&mut self, alloc: Global, branch: &Name) -> Result<(), Refusal>
-        ensures ok { OnOk result (detach self.old.cut.limits (forest self.old.cut) branch.now
-            ≡ Ok (forest self.new.cut)) }
-        ensures err { IfErr result
-            (IsRefused (detach self.old.cut.limits (forest self.old.cut) branch.now)) }
-        ensures unchanged { OnErr result (self.new ≡ self.old) }
-        ensures notes { OnOk result (KeepsAllNotes self.old.cut self.new.cut) }
-        ensures cut { OnOk result (IsCut self.new.cut) }
-        ensures limits { self.new.cut.limits ≡ self.old.cut.limits }
-        ensures start { self.new.start ≡ self.old.start }
-        ensures value { self.new.value ≡ self.old.value }
+        ensures ok { OnOk result (IsEdited self.old.cut self.new.cut (Detach branch.now)) }
+        ensures err { IfErr result (IsUneditedChart self.old self.new (Detach branch.now)) }
+        ensures keeps { KeepsBeginning self.old self.new }
     {
         self.trie.detach(alloc, branch)
     }
@@ -142,15 +107,9 @@ impl<R: Register> Chart<R> {
     ///
     /// NoBranch; LastBranch where it is the only one. Then nothing is changed.
     pub fn drop_branch(&mut self, branch: &Name) -> Result<(), Refusal>
-        ensures ok { OnOk result (drop_branch (forest self.old.cut) branch.now
-            ≡ Ok (forest self.new.cut)) }
-        ensures err { IfErr result (λ e. drop_branch (forest self.old.cut) branch.now ≡ Err e) }
-        ensures unchanged { OnErr result (self.new ≡ self.old) }
-        ensures notes { OnOk result (KeepsAllNotes self.old.cut self.new.cut) }
-        ensures cut { OnOk result (IsCut self.new.cut) }
-        ensures limits { self.new.cut.limits ≡ self.old.cut.limits }
-        ensures start { self.new.start ≡ self.old.start }
-        ensures value { self.new.value ≡ self.old.value }
+        ensures ok { OnOk result (IsEdited self.old.cut self.new.cut (Drop branch.now)) }
+        ensures err { IfErr result (IsUneditedChart self.old self.new (Drop branch.now)) }
+        ensures keeps { KeepsBeginning self.old self.new }
     {
         self.trie.drop_branch(branch)
     }

@@ -2,7 +2,7 @@ use Rattle.std.proofs.Common.{Some, None, refl, sym, subst}
 use Rattle.frames.specs.Recorded.{AllFit}
 use Rattle.cutoff.specs.Fitting.{steps_at}
 use Rattle.cutoff.specs.Plans.{Descends}
-use Rattle.cutoff.proofs.Edits.{on_ok_map}
+use Rattle.std.proofs.lemmas.Result.{on_ok_weaker}
 use Rattle.cutoff.proofs.Descents.{missed_there}
 use Rattle.cutoff.proofs.plan.plan_branch.Goals as goal
 
@@ -19,7 +19,7 @@ returns-in-Some g c =
     let E = g.R.PartialEq.eq in
     let b = g.R.Behaves.is c.args.start.now.register in
     let ends = subst (λ m. Descends E b c.args.trie.now c.args.start.now c.args.keys.now m c.descend-missed.result.1.now) c.in-Some.is c.descend-missed.ensures.ends in
-    on_ok_map c.plan_segment.result (λ e. (Some c.in-Some.key, c.descend-missed.result.1.now, ends, e)) c.plan_segment.ensures
+    on_ok_weaker c.plan_segment.result (λ e. (Some c.in-Some.key, c.descend-missed.result.1.now, ends, e)) c.plan_segment.ensures
 
 pub returns-in-None : goal.returns-in-None
 returns-in-None g c =

@@ -24,18 +24,18 @@ settle_along-requires-clause-few g c =
     let h : c.in-Some.len ≤ 4294967295 = omega arith in
     rw c.deref.ensures.value (subst (λ n. n ≤ 4294967295) (sym e) h)
 
-pub returns-in-Ok-clause-keeps : goal.returns-in-Ok-clause-keeps
-returns-in-Ok-clause-keeps g c =
-    let b = g.R.Behaves.is c.self.inside.start.register in
-    let keys : c.deref.result.now ≡ keys_named c.self.inside.trie c.args.branch.now = c.deref.ensures.value ∙ sym (keys_there b c.self.inside.trie c.args.branch.now c.in_ok-keys.keys.items c.in-Some.len c.in-Some.ensures c.in_ok-keys.ensures.ok) in
-    subst (λ v. KeepsRuns v.cut c.settle_along.new.trie (IsFilled g.R.PartialEq.eq (g.R.Behaves.is v.start.register) v.cut c.settle_along.new.trie v.start (reached_by v.cut c.args.branch.now c.args.place))) c.self.view_is
-    (subst (λ ks. KeepsRuns c.self.inside.trie c.settle_along.new.trie (IsFilled g.R.PartialEq.eq b c.self.inside.trie c.settle_along.new.trie c.self.inside.start (reached c.self.inside.trie c.args.place ks))) keys
-    c.in-Ok.ensures.keeps)
-
 pub returns-clause-keeps : goal.returns-clause-keeps
 returns-clause-keeps g c =
     let b = g.R.Behaves.is c.self.inside.start.register in
     let keys : c.deref.result.now ≡ keys_named c.self.inside.trie c.args.branch.now = c.deref.ensures.value ∙ sym (keys_there b c.self.inside.trie c.args.branch.now c.in_ok-keys.keys.items c.in-Some.len c.in-Some.ensures c.in_ok-keys.ensures.ok) in
     subst (λ v. KeepsRuns v.cut c.settle_along.new.trie (IsFilled g.R.PartialEq.eq (g.R.Behaves.is v.start.register) v.cut c.settle_along.new.trie v.start (reached_by v.cut c.args.branch.now c.args.place))) c.self.view_is
     (subst (λ ks. KeepsRuns c.self.inside.trie c.settle_along.new.trie (IsFilled g.R.PartialEq.eq b c.self.inside.trie c.settle_along.new.trie c.self.inside.start (reached c.self.inside.trie c.args.place ks))) keys
-    c.in-Err.ensures.keeps)
+    c.in_ok-spot.ensures.keeps)
+
+pub returns-in_err-spot-clause-keeps : goal.returns-in_err-spot-clause-keeps
+returns-in_err-spot-clause-keeps g c =
+    let b = g.R.Behaves.is c.self.inside.start.register in
+    let keys : c.deref.result.now ≡ keys_named c.self.inside.trie c.args.branch.now = c.deref.ensures.value ∙ sym (keys_there b c.self.inside.trie c.args.branch.now c.in_ok-keys.keys.items c.in-Some.len c.in-Some.ensures c.in_ok-keys.ensures.ok) in
+    subst (λ v. KeepsRuns v.cut c.settle_along.new.trie (IsFilled g.R.PartialEq.eq (g.R.Behaves.is v.start.register) v.cut c.settle_along.new.trie v.start (reached_by v.cut c.args.branch.now c.args.place))) c.self.view_is
+    (subst (λ ks. KeepsRuns c.self.inside.trie c.settle_along.new.trie (IsFilled g.R.PartialEq.eq b c.self.inside.trie c.settle_along.new.trie c.self.inside.start (reached c.self.inside.trie c.args.place ks))) keys
+    c.in_err-spot.ensures.keeps)

@@ -1,0 +1,63 @@
+-- A chart after an edit.
+use Rattle.std.proofs.Common.{◌≡◌, ℕ, Bool, true, None, Result, Ok, Err, OnOk, IfErr, sym, subst}
+use Rattle.frames.specs.Behaviour.{Behaviour}
+use Rattle.frames.specs.Configuration.{fits_step}
+use Rattle.schedule_trie.specs.declared.limits.Limits.{Limits}
+use Rattle.schedule_trie.specs.declared.refusal.Refusal.{Refusal}
+use Rattle.schedule_trie.specs.Forest.{Forest}
+use Rattle.schedule_trie.specs.Cut.{Cut, forest, KeepsNotes}
+use Rattle.schedule_trie.specs.Edits.{Edit, Insert, Remove, Replace, Fork, Detach, Drop, edited, KeepsNotesBy, IsEdited, IsUnedited}
+use Rattle.cutoff.specs.Fitting.{StoredRun}
+use Rattle.cutoff.specs.Links.{alone}
+use Rattle.cutoff.specs.Held.{Charted, IsCharted, StepsFit}
+use Rattle.cutoff.specs.Edits.{IsUneditedChart}
+use Rattle.cutoff.proofs.Commands.{insert_fits, remove_fits, fork_fits, detach_fits, drop_fits}
+use Rattle.cutoff.proofs.Edits.{replace_fits, linked_kept}
+
+-- the step that an edit brings, if any, fits
+abbrev pub Brings : {P : Type 0} → Behaviour P → Edit → Type 0
+Brings b (Insert name place step) = fits_step b step ≡ true
+Brings b (Remove name place) = Unit {0}
+Brings b (Replace name place step) = fits_step b step ≡ true
+Brings b (Fork name place new) = Unit {0}
+Brings b (Detach name) = Unit {0}
+Brings b (Drop name) = Unit {0}
+
+edited_fits : {P : Type 0} (b : Behaviour P) (limits : Limits) (f g : Forest) (edit : Edit) → Brings b edit → StepsFit b f → edited limits f edit ≡ Ok g → StepsFit b g
+edited_fits b limits f g (Insert name place step) new fits e = insert_fits b limits f g name place step new fits e
+edited_fits b limits f g (Remove name place) new fits e = remove_fits b f g name place fits e
+edited_fits b limits f g (Replace name place step) new fits e = replace_fits b f g name place step new fits e
+edited_fits b limits f g (Fork name place made) new fits e = fork_fits b limits f g name place made fits e
+edited_fits b limits f g (Detach name) new fits e = detach_fits b limits f g name fits e
+edited_fits b limits f g (Drop name) new fits e = drop_fits b f g name fits e
+
+notes_by : {T : Type 0} (edit : Edit) (old new : Cut T) → KeepsNotesBy edit old new → KeepsNotes old new
+notes_by (Insert name place step) old new h = h.0.notes
+notes_by (Remove name place) old new h = h.notes
+notes_by (Replace name place step) old new h = h.notes
+notes_by (Fork name place made) old new h = h.notes
+notes_by (Detach name) old new h = h.0
+notes_by (Drop name) old new h = h.0
+
+-- what a chart keeps, after an edit of its trie that was made or refused
+pub charted : {R P Y : Type 0} (E : R → R → Bool) (b : Behaviour P) (next : ℕ) (c : Charted R P) (new : Cut (StoredRun R P)) (edit : Edit) (result : Result Y Refusal)
+    → IsCharted E b next c → Brings b edit → OnOk result (IsEdited c.cut new edit) → IfErr result (IsUnedited c.cut new edit)
+    → IsCharted E b next (record { cut = new; start = c.start; value = c.value })
+charted E b next c new edit (Ok y) was brings ok err =
+    record {
+      within = was.within;
+      begins = was.begins;
+      fits = edited_fits b c.cut.limits (forest c.cut) (forest new) edit brings was.fits ok.forest;
+      whole = ok.cut;
+      linked = linked_kept E c.start.register next None (alone c.start) c.cut new (notes_by edit c.cut new ok.notes) was.linked;
+    }
+charted E b next c new edit (Err e) was brings ok err =
+    subst (λ d. IsCharted E b next (record { cut = d; start = c.start; value = c.value })) (sym err.unchanged) was
+
+-- a refused edit of the trie is one of the chart
+pub chart_unedited : {R P Y : Type 0} (c d : Charted R P) (new : Cut (StoredRun R P)) (edit : Edit) (result : Result Y Refusal) → c ≡ d
+    → IfErr result (IsUnedited c.cut new edit) → IfErr result (IsUneditedChart d (record { cut = new; start = c.start; value = c.value }) edit)
+chart_unedited c d new edit (Ok y) same err = tt
+chart_unedited c d new edit (Err e) same err =
+    subst (λ v. IsUneditedChart v (record { cut = new; start = c.start; value = c.value }) edit e) same
+    (record { why = err.why; unchanged = λ i. record { cut = err.unchanged i; start = c.start; value = c.value } })

@@ -1,0 +1,16 @@
+-- What an edit keeps of a chart beside its cut, and a refused one of all.
+use Rattle.std.specs.Prelude.{◌≡◌}
+use Rattle.schedule_trie.specs.declared.refusal.Refusal.{Refusal}
+use Rattle.schedule_trie.specs.Cut.{forest}
+use Rattle.schedule_trie.specs.Edits.{Edit, edited, WhyRefused}
+use Rattle.cutoff.specs.Held.{Charted}
+
+-- the branches begin from the same configuration and value
+pub record KeepsBeginning {R P : Type 0} (old new : Charted R P) : Type 0 where
+  pub start : new.start ≡ old.start
+  pub value : new.value ≡ old.value
+
+-- an edit is refused, as of a cut, and nothing of the chart is changed
+pub record IsUneditedChart {R P : Type 0} (old new : Charted R P) (edit : Edit) (e : Refusal) : Type 0 where
+  pub why : WhyRefused edit (edited old.cut.limits (forest old.cut) edit) e
+  pub unchanged : new ≡ old
