@@ -1,10 +1,15 @@
 -- What a lens keeps.
-use Rattle.std.specs.Prelude.{Contains}
+use Rattle.std.specs.Prelude.{ℕ, Contains}
+use Rattle.checkpoints.specs.Segment.{SegmentRun}
 use Rattle.frames.specs.Behaviour.{Behaviour}
 use Rattle.frames.specs.Configuration.{Configuration}
 use Rattle.cutoff.specs.Fitting.{RunPart}
 use Rattle.lru.specs.LruCache.{LruCache}
 use Rattle.views.specs.Spots.{IsAlike, part_end}
+
+-- a configuration is at a place of a run: it is like the one that the run's first so many steps come to
+abbrev pub IsAt : {R P : Type 0} → (R → Behaviour P) → SegmentRun R P → ℕ → Configuration R P → Type 0
+IsAt is run count c = IsAlike is c (part_end is (record { run = run; count = count }))
 
 -- each configuration is like the one that the steps of its run that count come to
 abbrev pub AreTrue : {R P : Type 0} → (R → Behaviour P) → LruCache (RunPart R P) (Configuration R P) → Type 0

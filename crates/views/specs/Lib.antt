@@ -1,4 +1,5 @@
 pub mod Numbered
+pub mod Cells
 pub mod Breaks
 pub mod page
 pub mod Pages
@@ -8,6 +9,7 @@ pub mod laws
 pub mod RunPages
 pub mod Slips
 pub mod Looks
+pub mod ChartLooks
 pub mod VerdictWords
 pub mod Strays
 pub mod LawWords

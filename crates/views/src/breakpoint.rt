@@ -1,7 +1,8 @@
 //! Breaks: what a seek stops at.
 
-ghost use Rattle.std.specs.Prelude.{◌≡◌, length};
+ghost use Rattle.std.specs.Prelude.{◌≡◌};
 ghost use Rattle.views.specs.Breaks as spec;
+ghost use Rattle.views.specs.Cells.{HasCells};
 
 use frames::types::{Event, StepEvents};
 use safe_bit::Store;
@@ -54,7 +55,7 @@ impl Break {
 
     /// Whether memory of so many cells meets it.
     pub fn is_shown(self, store: &Store, cells: u32) -> bool
-        requires { length store.now.cells ≡ cells }
+        requires { HasCells store.now cells }
         ensures { result ≡ spec.is_shown self store.now }
     {
         match self {

@@ -1,8 +1,10 @@
 //! What is kept between pages.
 
-ghost use Rattle.std.specs.Prelude.{◌≡◌, ◌≤◌, ◌<◌, IfOk, IfSome, OnErr, length};
+ghost use Rattle.std.specs.Prelude.{◌≡◌, ◌≤◌, ◌<◌, [], IfOk, IfSome, OnErr, length};
 ghost use Rattle.std.specs.Arc.{arc_value};
-ghost use Rattle.views.specs.Spots.{IsAlike, part_end};
+ghost use Rattle.lru.specs.LruCache.{lru_cache};
+ghost use Rattle.views.specs.declared.lens.TheConstants.{PLACES};
+ghost use Rattle.views.specs.Lenses.{IsAt};
 
 use crate::run_place::RunPlace;
 use crate::spot::{front, make};
@@ -42,8 +44,10 @@ impl<R: Register> Model for Lens<R> {
 }
 
 impl<R: Register> Lens<R> {
-    /// A lens that holds nothing.
-    pub fn new(alloc: Global) -> Result<Lens<R>, AllocError> {
+    /// A lens that holds nothing, with room for 32 places.
+    pub fn new(alloc: Global) -> Result<Lens<R>, AllocError>
+        ensures { IfOk result (λ lens. lens ≡ lru_cache [] PLACES) }
+    {
         let Some(most) = NonZeroUsize::new(PLACES) else {
             unreachable!()
         };
@@ -58,9 +62,7 @@ impl<R: Register> Lens<R> {
         run: &Arc<Run<R>>,
         count: u32,
     ) -> Result<Config<R>, AllocError>
-        ensures { IfOk result
-            (λ c. IsAlike R.is c
-            (part_end R.is (record { run = arc_value run.now; count = count }))) }
+        ensures { IfOk result (λ c. IsAt R.is (arc_value run.now) count c) }
     {
         if count as usize >= run.steps().len() {
             return ended(alloc, run, count);
@@ -77,9 +79,7 @@ impl<R: Register> Lens<R> {
         count: u32,
     ) -> Result<(u32, Config<R>), AllocError>
         ensures before { IfOk result (λ r. r.0 ≤ count) }
-        ensures config { IfOk result
-            (λ r. IsAlike R.is r.1
-            (part_end R.is (record { run = arc_value run.now; count = r.0 }))) }
+        ensures config { IfOk result (λ r. IsAt R.is (arc_value run.now) r.0 r.1) }
     {
         if let Some(config) = self.find(alloc, run, count) {
             return Ok((count, config));
@@ -104,10 +104,8 @@ impl<R: Register> Lens<R> {
     ) -> Config<R>
         requires order { made ≤ count }
         requires within { count < length (arc_value run.now).steps }
-        requires from { IsAlike R.is config (part_end R.is
-            (record { run = arc_value run.now; count = made })) }
-        ensures { IsAlike R.is result
-            (part_end R.is (record { run = arc_value run.now; count = count })) }
+        requires from { IsAt R.is (arc_value run.now) made config }
+        ensures { IsAt R.is (arc_value run.now) count result }
     {
         let goes_back = count - made > 1 && self.has(run, count.saturating_add(1));
         let passed = if goes_back { STRETCH } else { 1 };
@@ -127,10 +125,8 @@ impl<R: Register> Lens<R> {
     ) -> Config<R>
         requires order { made ≤ count }
         requires within { count < length (arc_value run.now).steps }
-        requires from { IsAlike R.is config (part_end R.is
-            (record { run = arc_value run.now; count = made })) }
-        ensures { IsAlike R.is result
-            (part_end R.is (record { run = arc_value run.now; count = count })) }
+        requires from { IsAt R.is (arc_value run.now) made config }
+        ensures { IsAt R.is (arc_value run.now) count result }
     {
         let mut config = config;
         for place in made..count {
@@ -150,9 +146,7 @@ impl<R: Register> Lens<R> {
 
     /// The configuration of a place, where it is kept and there is memory for a copy. The place is then the last to go.
     fn find(&mut self, alloc: Global, run: &Arc<Run<R>>, count: u32) -> Option<Config<R>>
-        ensures { IfSome result
-            (λ c. IsAlike R.is c
-            (part_end R.is (record { run = arc_value run.now; count = count }))) }
+        ensures { IfSome result (λ c. IsAt R.is (arc_value run.now) count c) }
     {
         let Ok(place) = RunPlace::new(run, count) else {
             return None;
@@ -172,8 +166,7 @@ impl<R: Register> Lens<R> {
         count: u32,
         config: &Config<R>,
     ) -> Result<(), AllocError>
-        requires { IsAlike R.is config.now (part_end R.is
-            (record { run = arc_value run.now; count = count })) }
+        requires { IsAt R.is (arc_value run.now) count config.now }
         ensures { OnErr result (self.new ≡ self.old) }
     {
         let place = RunPlace::new(run, count)?;
@@ -188,8 +181,7 @@ impl<R: Register> Lens<R> {
 /// A configuration like the one that a run comes to.
 fn ended<R: Register>(alloc: Global, run: &Run<R>, count: u32) -> Result<Config<R>, AllocError>
     requires { length run.now.steps ≤ count }
-    ensures { IfOk result
-        (λ c. IsAlike R.is c (part_end R.is (record { run = run.now; count = count }))) }
+    ensures { IfOk result (λ c. IsAt R.is run.now count c) }
 {
     run.exit().copy(alloc)
 }
@@ -198,8 +190,8 @@ fn ended<R: Register>(alloc: Global, run: &Run<R>, count: u32) -> Result<Config<
 fn advanced<R: Register>(run: &Run<R>, made: u32, count: u32, config: Config<R>) -> Config<R>
     requires order { made ≤ count }
     requires within { count < length run.now.steps }
-    requires from { IsAlike R.is config (part_end R.is (record { run = run.now; count = made })) }
-    ensures { IsAlike R.is result (part_end R.is (record { run = run.now; count = count })) }
+    requires from { IsAt R.is run.now made config }
+    ensures { IsAt R.is run.now count result }
 {
     let mut config = config;
     make(&mut config, &front(run.steps(), count)[made as usize..]);

@@ -5,14 +5,13 @@ ghost use Rattle.schedule_trie.specs.Forest.{IsRefused};
 ghost use Rattle.schedule_trie.specs.Cut.{forest};
 ghost use Rattle.cutoff.specs.Fitting.{part_of};
 ghost use Rattle.cutoff.specs.Held.{look};
-ghost use Rattle.views.specs.Spots.{IsSpotOf};
 ghost use Rattle.views.specs.Looks as spec;
 ghost use Rattle.views.specs.Looks.{looked, steps_in, IsKept};
+ghost use Rattle.views.specs.ChartLooks.{shown_by, page_in, steps_page, IsSpotIn};
+ghost use Rattle.views.specs.Slips.{IsReady};
 ghost use Rattle.frames.specs.Recorded.{AllFit};
 ghost use Rattle.frames.specs.Regularity.{NeverStray};
-ghost use Rattle.views.specs.Slips.{IsReady};
 ghost use Rattle.views.specs.Strays.{Judges, JudgesSome, JudgesFrom, ShowsNoStray};
-ghost use Rattle.views.specs.declared.page.Page.TheVariants as spec_page;
 
 use crate::lens::Lens;
 use crate::listed::Listed;
@@ -61,9 +60,7 @@ impl<R: Register> Slip<R> {
     /// stored.
     pub fn at(alloc: Global, chart: &mut Chart<R>, query: Query) -> Result<Slip<R>, Refusal>
         requires { spec.is_at_branch query ≡ true }
-        ensures page { IfOk result
-            (λ slip. Some slip ≡ spec.page_of (R.is chart.old.start.register) chart.old.value
-            (forest chart.old.cut) query) }
+        ensures page { IfOk result (λ slip. Some slip ≡ shown_by R.is chart.old query) }
         ensures found { OnOk result (looked query (forest chart.old.cut)
             ≡ Ok (forest chart.old.cut)) }
         ensures err { IfErr result (IsRefused (looked query (forest chart.old.cut))) }
@@ -155,9 +152,7 @@ fn place_slip<R: Register>(
     place: u32,
 ) -> Result<Slip<R>, Refusal>
     requires { JudgesFrom chart.old.value kind }
-    ensures page { IfOk result
-        (λ slip. slip ≡ spec.place_page (R.is chart.old.start.register) chart.old.value kind branch
-        place (steps_in (forest chart.old.cut) branch)) }
+    ensures page { IfOk result (λ slip. slip ≡ page_in R.is chart.old kind branch place) }
     ensures found { OnOk result (look (forest chart.old.cut) branch place
         ≡ Ok (forest chart.old.cut)) }
     ensures err { IfErr result (IsRefused (look (forest chart.old.cut) branch place)) }
@@ -186,9 +181,8 @@ fn settled<R: Register>(
     branch: &Name,
     place: u32,
 ) -> Result<(u32, Spot<R>), Refusal>
-    ensures spot { IfOk result
-        (λ s. IsSpotOf R.is chart.old.start chart.old.value
-        (steps_in (forest chart.old.cut) branch.now) place s.0 (map part_of s.1.runs.items)) }
+    ensures spot { IfOk result (λ s. IsSpotIn R.is chart.old branch.now place s.0
+        (map part_of s.1.runs.items)) }
     ensures found { OnOk result (look (forest chart.old.cut) branch.now place
         ≡ Ok (forest chart.old.cut)) }
     ensures err { IfErr result (IsRefused (look (forest chart.old.cut) branch.now place)) }
@@ -211,10 +205,7 @@ fn steps_slip<R: Register>(
     chart: &Chart<R>,
     branch: Name,
 ) -> Result<Slip<R>, Refusal>
-    ensures page { IfOk result
-        (λ slip. slip
-        ≡ spec_page.Steps
-        (record { branch = branch; steps = steps_in (forest chart.now.cut) branch })) }
+    ensures page { IfOk result (λ slip. slip ≡ steps_page (forest chart.now.cut) branch) }
     ensures found { OnOk result (look (forest chart.now.cut) branch 0 ≡ Ok (forest chart.now.cut)) }
     ensures err { IfErr result (IsRefused (look (forest chart.now.cut) branch 0)) }
     ensures judges { IfOk result (Judges (R.is chart.now.start.register)) }
