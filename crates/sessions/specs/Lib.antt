@@ -6,4 +6,5 @@ pub mod World
 pub mod Acts
 pub mod Logs
 pub mod Held
+pub mod Bounds
 pub mod Looks

@@ -1,6 +1,6 @@
 //! Seeks: the places of a branch at which breaks are met.
 
-ghost use Rattle.std.specs.Prelude.{ℕ, Bool, List, ◌≡◌, ◌<◌, ◌≤◌, ◌+◌, ◌^◌, ◌&&◌, ◌||◌, nat_lt, IfOk, IfSome, length, map, slice_index_or, take, if◌then◌else◌, Some, None};
+ghost use Rattle.std.specs.Prelude.{ℕ, Bool, List, ◌≡◌, ◌<◌, ◌≤◌, ◌+◌, ◌&&◌, ◌||◌, nat_lt, IfOk, IfSome, length, map, slice_index_or, take, if◌then◌else◌, Some, None};
 ghost use Rattle.std.specs.List.{list_any};
 ghost use Rattle.std.specs.Option.{option_or};
 ghost use Rattle.safe_bit.specs.Parts.{HasSize};
@@ -9,7 +9,9 @@ ghost use Rattle.frames.specs.Recorded.{AllFit};
 ghost use Rattle.schedule_trie.specs.Cut.{forest};
 ghost use Rattle.cutoff.specs.Fitting.{counted, part_of};
 ghost use Rattle.views.specs.Breaks as breaks_spec;
+ghost use Rattle.views.specs.Cells.{HasCells};
 ghost use Rattle.views.specs.Looks.{IsKept, steps_in};
+ghost use Rattle.sessions.specs.Bounds.{IsPlace};
 ghost use Rattle.sessions.specs.Seeks.{hits, next_of, no_events, places_with};
 ghost use Rattle.sessions.specs.Walks.{Tells, TellAll};
 ghost use Rattle.sessions.specs.Seeks.{IsNextHit, is_hit};
@@ -100,7 +102,7 @@ fn records_any(breaks: &[Break], events: StepEvents) -> bool
 
 /// Whether a step that records these events, or the memory behind it, of so many cells, meets a break.
 fn meets(one: &Break, events: StepEvents, store: &Store, cells: u32) -> bool
-    requires { length store.now.cells ≡ cells }
+    requires { HasCells store.now cells }
     ensures { result
         ≡ (breaks_spec.is_recorded one.now events || breaks_spec.is_shown one.now store.now) }
 {
@@ -130,7 +132,7 @@ fn along_events(
     place: u32,
     found: Option<u32>,
 ) -> Option<u32>
-    requires { place + length events.now < 2 ^ 32 }
+    requires { IsPlace (place + length events.now) }
     ensures { (test : ℕ → Bool) → ((i : ℕ) → i < length events.now
         → test ((place + 1) + i) ≡ spec.records_any breaks.now
         (slice_index_or events.now i no_events)) → found
@@ -156,7 +158,7 @@ fn along_steps<R: Register>(
     found: Option<u32>,
 ) -> Option<u32>
     requires fits { AllFit (R.is config.register) steps.now }
-    requires room { place + length steps.now < 2 ^ 32 }
+    requires room { IsPlace (place + length steps.now) }
     ensures { (test : ℕ → Bool) → ((i : ℕ) → i < length steps.now
         → test ((place + 1) + i) ≡ breaks_spec.is_met breaks.now
         (slice_index_or (history (R.is config.register) config steps.now) i no_events)
@@ -184,7 +186,7 @@ fn along_run<R: Register>(
     count: u32,
     progress: Progress,
 ) -> Result<Option<u32>, AllocError>
-    requires { progress.place + count < 2 ^ 32 }
+    requires { IsPlace (progress.place + count) }
     ensures { IfOk result
         (λ all. (test : ℕ → Bool) → Tells R.is breaks.now test progress.place
         (record { run = run.now; count = count }) → progress.found
@@ -216,7 +218,7 @@ fn along_runs<R: Register>(
     runs: &[(Arc<Run<R>>, u32)],
 ) -> Result<Option<u32>, AllocError>
     requires size { HasSize (R.is first.now.register).size first.now.memory }
-    requires room { counted (map part_of runs.now) < 2 ^ 32 }
+    requires room { IsPlace (counted (map part_of runs.now)) }
     ensures { IfOk result (λ all. (test : ℕ → Bool) → test 0
         ≡ breaks_spec.is_met breaks.now no_events first.now.memory
         → TellAll R.is breaks.now test 0 (map part_of runs.now)
@@ -272,7 +274,7 @@ fn settled<R: Register>(
         (map part_of runs.items)) }
     ensures counts { IfOk result (λ runs. counted (map part_of runs.items)
         ≡ length (steps_in (forest chart.old.cut) branch.now)) }
-    ensures room { IfOk result (λ runs. counted (map part_of runs.items) < 2 ^ 32) }
+    ensures room { IfOk result (λ runs. IsPlace (counted (map part_of runs.items))) }
     ensures kept { IsKept chart.old chart.new }
 {
     let Some(len) = chart.len(branch) else {

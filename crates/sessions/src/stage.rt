@@ -11,6 +11,7 @@ ghost use Rattle.sessions.specs.World.{opening};
 ghost use Rattle.sessions.specs.Acts.{acted, answered, early_refusals, first_refusal, late_refusals, refused};
 ghost use Rattle.sessions.specs.Acts as spec;
 ghost use Rattle.sessions.specs.Held.{Does, NoneDue, NoneDueLate, world_of};
+ghost use Rattle.sessions.specs.Bounds.{CanLog};
 
 mod cursors;
 mod edits;
@@ -128,7 +129,7 @@ impl<R: Register> Stage<R> {
         if_at: Option<u64>,
         command: &Command,
     ) -> Result<Reply, AllocError>
-        requires room { self.old.logged < self.old.limits.log }
+        requires room { CanLog self.old }
         ensures ok { IfOk result (λ reply. acted who if_at command.now (world_of R.is self.old)
             ≡ record { world = world_of R.is self.new; reply = reply }) }
         ensures err { OnErr result (world_of R.is self.new ≡ world_of R.is self.old) }
@@ -142,7 +143,7 @@ impl<R: Register> Stage<R> {
 
     /// Answers a command that nothing refuses early.
     fn answer(&mut self, alloc: Global, who: u32, command: &Command) -> Result<Reply, AllocError>
-        requires room { self.old.logged < self.old.limits.log }
+        requires room { CanLog self.old }
         requires session { who < 16 }
         requires fits { spec.fits_command (R.is self.old.chart.start.register) command.now ≡ true }
         ensures ok { let w = world_of R.is self.old in IfOk result
@@ -164,7 +165,7 @@ impl<R: Register> Stage<R> {
 
     /// Counts a refused command, unless the log is full.
     fn refuse(&mut self, refusal: Refusal) -> Reply
-        requires { self.old.logged < self.old.limits.log }
+        requires { CanLog self.old }
         ensures world { world_of R.is self.new ≡ refused refusal (world_of R.is self.old) }
         ensures reply { result ≡ Reply.No refusal }
     {
@@ -205,7 +206,7 @@ impl<R: Register> Stage<R> {
 
     /// Does a command that nothing refuses early.
     fn work(&mut self, alloc: Global, who: u32, command: &Command) -> Result<Reply, Refusal>
-        requires room { self.old.logged < self.old.limits.log }
+        requires room { CanLog self.old }
         requires session { who < 16 }
         requires fits { spec.fits_command (R.is self.old.chart.start.register) command.now ≡ true }
         ensures { Does R.is who command.now self.old self.new result }

@@ -4,6 +4,7 @@ ghost use Rattle.std.specs.Prelude.{◌≡◌, ◌<◌, IfOk, length};
 ghost use Rattle.schedule_trie.specs.Cut.{forest};
 ghost use Rattle.sessions.specs.Cursors as spec;
 ghost use Rattle.sessions.specs.Held.{Does, Done, command_of, world_of};
+ghost use Rattle.sessions.specs.Bounds.{CanLog};
 ghost use Rattle.std.specs.Option.{option_map};
 ghost use Rattle.sessions.specs.Acts.{hit_of, hit_reply};
 ghost use Rattle.sessions.specs.BreakLists.{breaks_at};
@@ -27,7 +28,7 @@ use views::breakpoint::Break;
 impl<R: Register> Stage<R> {
     /// Begins a session, whether it was there or not.
     pub(super) fn join(&mut self, alloc: Global, who: u32) -> Reply
-        requires room { self.old.logged < self.old.limits.log }
+        requires room { CanLog self.old }
         requires session { who < 16 }
         ensures { Done R.is who Command.Join self.old self.new result }
     {
@@ -39,7 +40,7 @@ impl<R: Register> Stage<R> {
 
     /// Ends a session.
     pub(super) fn leave(&mut self, alloc: Global, who: u32) -> Reply
-        requires room { self.old.logged < self.old.limits.log }
+        requires room { CanLog self.old }
         requires session { who < 16 }
         ensures { Done R.is who Command.Leave self.old self.new result }
     {
@@ -55,7 +56,7 @@ impl<R: Register> Stage<R> {
     ///
     /// NoBranch; NoPlace where the branch is shorter.
     pub(super) fn go(&mut self, who: u32, branch: &Name, place: u32) -> Result<Reply, Refusal>
-        requires room { self.old.logged < self.old.limits.log }
+        requires room { CanLog self.old }
         requires session { who < 16 }
         ensures { Does R.is who (Command.Go branch.now place) self.old self.new result }
     {
@@ -79,7 +80,7 @@ impl<R: Register> Stage<R> {
     ///
     /// Memory.
     pub(super) fn seek(&mut self, alloc: Global, who: u32, way: Way) -> Result<Reply, Refusal>
-        requires room { self.old.logged < self.old.limits.log }
+        requires room { CanLog self.old }
         requires session { who < 16 }
         ensures { Does R.is who (command_of way) self.old self.new result }
     {
@@ -115,7 +116,7 @@ impl<R: Register> Stage<R> {
     ///
     /// Memory.
     pub(super) fn set_break(&mut self, who: u32, added: Break) -> Result<Reply, Refusal>
-        requires room { self.old.logged < self.old.limits.log }
+        requires room { CanLog self.old }
         requires session { who < 16 }
         ensures { Does R.is who (Command.Break added) self.old self.new result }
     {
@@ -132,7 +133,7 @@ impl<R: Register> Stage<R> {
     ///
     /// NoBreak where it isn't there.
     pub(super) fn clear_break(&mut self, who: u32, gone: Break) -> Result<Reply, Refusal>
-        requires room { self.old.logged < self.old.limits.log }
+        requires room { CanLog self.old }
         requires session { who < 16 }
         ensures { Does R.is who (Command.Clear gone) self.old self.new result }
     {

@@ -1,8 +1,9 @@
 //! Edits of a world's branches, each of which is counted.
 
-ghost use Rattle.std.specs.Prelude.{◌≡◌, ◌<◌, ◌+◌, ℕ, true};
+ghost use Rattle.std.specs.Prelude.{◌≡◌, ◌+◌, ℕ, true};
 ghost use Rattle.frames.specs.Configuration.{fits_step};
 ghost use Rattle.sessions.specs.Held.{Does, WhyNoInsert, WhyNoRemove, world_of};
+ghost use Rattle.sessions.specs.Bounds.{CanLog};
 
 use super::Stage;
 use crate::command::Command;
@@ -27,7 +28,7 @@ impl<R: Register> Stage<R> {
         place: u32,
         step: Step,
     ) -> Result<Reply, Refusal>
-        requires room { self.old.logged < self.old.limits.log }
+        requires room { CanLog self.old }
         requires fits { fits_step (R.is self.old.chart.start.register) step ≡ true }
         ensures { (who : ℕ)
             → Does R.is who (Command.Insert branch.now place step) self.old self.new result }
@@ -63,7 +64,7 @@ impl<R: Register> Stage<R> {
     ///
     /// NoBranch; NoPlace.
     pub(super) fn remove(&mut self, branch: &Name, place: u32) -> Result<Reply, Refusal>
-        requires room { self.old.logged < self.old.limits.log }
+        requires room { CanLog self.old }
         ensures { (who : ℕ)
             → Does R.is who (Command.Remove branch.now place) self.old self.new result }
     {
@@ -100,7 +101,7 @@ impl<R: Register> Stage<R> {
         place: u32,
         step: Step,
     ) -> Result<Reply, Refusal>
-        requires room { self.old.logged < self.old.limits.log }
+        requires room { CanLog self.old }
         requires fits { fits_step (R.is self.old.chart.start.register) step ≡ true }
         ensures { (who : ℕ)
             → Does R.is who (Command.Replace branch.now place step) self.old self.new result }
@@ -121,7 +122,7 @@ impl<R: Register> Stage<R> {
         place: u32,
         name: &Name,
     ) -> Result<Reply, Refusal>
-        requires room { self.old.logged < self.old.limits.log }
+        requires room { CanLog self.old }
         ensures { (who : ℕ)
             → Does R.is who (Command.Fork branch.now place name.now) self.old self.new result }
     {
@@ -135,7 +136,7 @@ impl<R: Register> Stage<R> {
     ///
     /// NoBranch; Full; Memory.
     pub(super) fn detach(&mut self, alloc: Global, branch: &Name) -> Result<Reply, Refusal>
-        requires room { self.old.logged < self.old.limits.log }
+        requires room { CanLog self.old }
         ensures { (who : ℕ) → Does R.is who (Command.Detach branch.now) self.old self.new result }
     {
         self.chart.detach(alloc, branch)?;
@@ -148,7 +149,7 @@ impl<R: Register> Stage<R> {
     ///
     /// NoBranch; LastBranch; Occupied.
     pub(super) fn drop_branch(&mut self, branch: &Name) -> Result<Reply, Refusal>
-        requires room { self.old.logged < self.old.limits.log }
+        requires room { CanLog self.old }
         ensures { (who : ℕ) → Does R.is who (Command.Drop branch.now) self.old self.new result }
     {
         // NoBranch and LastBranch come first.
@@ -162,7 +163,7 @@ impl<R: Register> Stage<R> {
 
     /// Counts an accepted edit.
     fn count_edit(&mut self) -> Reply
-        requires { self.old.logged < self.old.limits.log }
+        requires { CanLog self.old }
         ensures new { self.new
             ≡ record self.old { edits = self.old.edits + 1; logged = self.old.logged + 1 } }
         ensures reply { result ≡ Reply.Edited (self.old.edits + 1) }
