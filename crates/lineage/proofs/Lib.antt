@@ -14,3 +14,4 @@ pub mod Same
 pub mod Alone
 pub mod Chains
 pub mod Exchanges
+pub mod Skips

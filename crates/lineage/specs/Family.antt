@@ -1,5 +1,5 @@
 -- What a contract sees of a lineage: the items, and which of them each path has.
-use Rattle.std.specs.Prelude.{ℕ, ◌≡◌, ◌≢◌, Bool, true, false, ◌||◌, nat_eq, List, [], ◌∷◌, ◌++◌, Option, Some, None, IsSome, slice_index_or, slice_set, map, if◌then◌else◌}
+use Rattle.std.specs.Prelude.{ℕ, ◌≡◌, ◌≢◌, Bool, true, false, not, ◌||◌, nat_eq, List, [], ◌∷◌, ◌++◌, Option, Some, None, IsSome, slice_index_or, slice_set, map, filter, if◌then◌else◌}
 use Rattle.std.specs.List.{flat_map}
 
 -- the item at each key if there is one, and of each path its keys from the first to the last
@@ -41,6 +41,13 @@ above_key key new k = if nat_eq key k then new ∷ k ∷ [] else k ∷ []
 
 abbrev pub divided_keys : ℕ → ℕ → List ℕ → List ℕ
 divided_keys key new keys = flat_map (above_key key new) keys
+
+-- a path without a key
+abbrev pub other_key : ℕ → ℕ → Bool
+other_key key k = not (nat_eq key k)
+
+abbrev pub keys_without : ℕ → List ℕ → List ℕ
+keys_without key keys = filter (other_key key) keys
 
 module _ {X : Type 0} where
   -- a new key has an item, and each other key what it had

@@ -19,6 +19,11 @@ abbrev pub is_above : ℕ → Option (Option ℕ) → Bool
 is_above k None = false
 is_above k (Some next) = is_key k next
 
+-- what is stood on where a key is skipped
+abbrev pub past : ℕ → Option ℕ → Option ℕ → Option ℕ
+past key above None = None
+past key above (Some k) = if nat_eq key k then above else Some k
+
 module _ {X : Type 0} where
   abbrev pub node : X → Option ℕ → ℕ → Node X
   node item above holders = record { item = item; above = above; holders = holders }
@@ -79,6 +84,17 @@ module _ {X : Type 0} where
   abbrev pub next_up : Option (Node X) → Option ℕ
   next_up None = None
   next_up (Some n) = if nat_le n.holders 1 then n.above else None
+
+  -- a node that stands on what is above a key, where it stood on the key
+  abbrev pub past_node : ℕ → Option ℕ → Option (Node X) → Option (Node X)
+  past_node key above None = None
+  past_node key above (Some n) = Some (node n.item (past key above n.above) n.holders)
+
+  -- a node that others stand on instead of one, where it is the one
+  abbrev pub passed_on : Bool → ℕ → Option (Node X) → Option (Node X)
+  passed_on b others None = None
+  passed_on false others (Some n) = Some n
+  passed_on true others (Some n) = Some (node n.item n.above (n.holders - 1 + others))
 
   -- each node that is there has the item and stands where it did
   abbrev pub Stays : List (Option (Node X)) → List (Option (Node X)) → Type 0

@@ -11,6 +11,7 @@ mod exchange;
 mod fork;
 mod push;
 mod release;
+mod take_out;
 
 pub use crate::node::Key;
 use crate::node::Node;

@@ -1,0 +1,407 @@
+-- A node that goes: what stood on it stands on what it stood on.
+use Rattle.std.proofs.Common.{◌≡◌, ◌≢◌, ℕ, ◌+◌, ◌-◌, ◌<◌, ◌≤◌, ◌^◌, zero, suc, Bool, true, false, not, cond, nat_eq, List, [], ◌∷◌, ◌++◌, length, map, reverse, get_or, set, Option, Some, None, refl, sym, ◌∙◌, ap, subst, arith, inl, inr, ◌⊎◌, eq-eqb, ne_eqb, append-nil, true≢false}
+use Rattle.std.specs.Prelude.{is_some, IsSome, IfSome}
+use Rattle.std.specs.List.{count_by}
+use Rattle.std.proofs.lemmas.Bool.{cases_eq, cases_lt}
+use Rattle.std.proofs.lemmas.List.{get_or-set_same, get_or-set_other, length-map, ext_get_or}
+use Rattle.std.proofs.lemmas.List.Sums.{sum_by-set, sum_by-cons, get_or-le-sum_by}
+use Rattle.lineage.specs.declared.node.Node.{Node}
+use Rattle.lineage.specs.Family.{has, keys_without, item_at}
+use Rattle.lineage.specs.Climbs.{IsClimb}
+use Rattle.lineage.specs.Held.{tip_at, is_key, is_above, node, node_at, item_in, above_in, above_of, path_to, stands_on, holders_of, past, past_node, passed_on, family_on, IsSound}
+use Rattle.lineage.proofs.Once.{has-head, has-tail, has_cases, reverse_cons}
+use Rattle.lineage.proofs.Walks.{path_to_is, item_is, link_within}
+use Rattle.lineage.proofs.Counts.{one, count_changed, count_same, count_few}
+use Rattle.lineage.proofs.Kept.{map_same, map-map, node_climb, node_from, linked_there}
+use Rattle.lineage.proofs.Climbs.{not_again}
+
+abbrev pub past_link : ℕ → Option ℕ → Option (Option ℕ) → Option (Option ℕ)
+past_link key top None = None
+past_link key top (Some next) = Some (past key top next)
+
+module _ (key : ℕ) (top : Option ℕ) where
+  past_key : (k : ℕ) → key ≡ k → past key top (Some k) ≡ top
+  past_key k e = ap (λ b. cond b top (Some k)) (eq-eqb key k e)
+
+  past_other : (k : ℕ) → key ≢ k → past key top (Some k) ≡ Some k
+  past_other k ne = ap (λ b. cond b top (Some k)) (ne_eqb key k ne)
+
+  past_twice : (o : Option ℕ) → (o ≡ Some key → ⊥) → past key top o ≡ o
+  past_twice None h = refl
+  past_twice (Some k) h = past_other k (λ e. h (ap Some (sym e)))
+
+  kept_other : (k : ℕ) (keys : List ℕ) → key ≢ k → keys_without key (k ∷ keys) ≡ k ∷ keys_without key keys
+  kept_other k keys ne = ap (λ b. cond (not b) (k ∷ keys_without key keys) (keys_without key keys)) (ne_eqb key k ne)
+
+  gone_key : (k : ℕ) (keys : List ℕ) → key ≡ k → keys_without key (k ∷ keys) ≡ keys_without key keys
+  gone_key k keys e = ap (λ b. cond (not b) (k ∷ keys_without key keys) (keys_without key keys)) (eq-eqb key k e)
+
+  without-append : (xs ys : List ℕ) → keys_without key (xs ++ ys) ≡ keys_without key xs ++ keys_without key ys
+  without-append [] ys = refl
+  without-append (x ∷ xs) ys = by (cases_eq key x) (without-append xs ys)
+    where
+      by : (key ≡ x) ⊎ (key ≢ x) → keys_without key (xs ++ ys) ≡ keys_without key xs ++ keys_without key ys
+          → keys_without key (x ∷ xs ++ ys) ≡ keys_without key (x ∷ xs) ++ keys_without key ys
+      by (inl e) ih = gone_key x (xs ++ ys) e ∙ ih ∙ ap (λ l. l ++ keys_without key ys) (sym (gone_key x xs e))
+      by (inr ne) ih = kept_other x (xs ++ ys) ne ∙ ap (λ l. x ∷ l) ih ∙ ap (λ l. l ++ keys_without key ys) (sym (kept_other x xs ne))
+
+  without-reverse : (up : List ℕ) → reverse (keys_without key up) ≡ keys_without key (reverse up)
+  without-reverse [] = refl
+  without-reverse (k ∷ up) = by (cases_eq key k) (without-reverse up)
+    where
+      whole : keys_without key (reverse (k ∷ up)) ≡ keys_without key (reverse up) ++ keys_without key (k ∷ [])
+      whole = ap (keys_without key) (reverse_cons k up) ∙ without-append (reverse up) (k ∷ [])
+
+      by : (key ≡ k) ⊎ (key ≢ k) → reverse (keys_without key up) ≡ keys_without key (reverse up) → reverse (keys_without key (k ∷ up)) ≡ keys_without key (reverse (k ∷ up))
+      by (inl e) ih =
+          ap reverse (gone_key k up e) ∙ ih ∙ sym (append-nil (keys_without key (reverse up)))
+          ∙ ap (λ l. keys_without key (reverse up) ++ l) (sym (gone_key k [] e)) ∙ sym whole
+      by (inr ne) ih =
+          ap reverse (kept_other k up ne) ∙ reverse_cons k (keys_without key up) ∙ ap (λ l. l ++ k ∷ []) ih
+          ∙ ap (λ l. keys_without key (reverse up) ++ l) (sym (kept_other k [] ne)) ∙ sym whole
+
+  has_without : (x : ℕ) (up : List ℕ) → x ≢ key → has x up ≡ true → has x (keys_without key up) ≡ true
+  has_without x [] ne h = h
+  has_without x (k ∷ up) ne h = by (cases_eq key k) (has_cases x k up ((x ≡ k) ⊎ (has x (keys_without key up) ≡ true)) h (λ e. inl e) (λ m. inr (has_without x up ne m)))
+    where
+      by : (key ≡ k) ⊎ (key ≢ k) → (x ≡ k) ⊎ (has x (keys_without key up) ≡ true) → has x (keys_without key (k ∷ up)) ≡ true
+      by (inl e) (inl same) = absurd (ne (same ∙ sym e))
+      by (inl e) (inr m) = ap (has x) (gone_key k up e) ∙ m
+      by (inr nk) (inl same) = ap (has x) (kept_other k up nk) ∙ subst (λ z. has z (k ∷ keys_without key up) ≡ true) (sym same) (has-head k (keys_without key up))
+      by (inr nk) (inr m) = ap (has x) (kept_other k up nk) ∙ has-tail x k (keys_without key up) m
+
+-- each climb goes past the key
+climb_past : (p q : ℕ → Option (Option ℕ)) (key : ℕ) (top : Option ℕ) → p key ≡ Some top → (top ≡ Some key → ⊥) → ((k : ℕ) → k ≢ key → q k ≡ past_link key top (p k))
+    → (at : Option ℕ) (up : List ℕ) → IsClimb p at up → IsClimb q (past key top at) (keys_without key up)
+climb_past p q key top here itself links at [] h = ap (past key top) h
+climb_past p q key top here itself links at (k ∷ up) h = by (cases_eq key k) (climb_past p q key top here itself links h.1.0 up h.1.1.1)
+  where
+    by : (key ≡ k) ⊎ (key ≢ k) → IsClimb q (past key top h.1.0) (keys_without key up) → IsClimb q (past key top at) (keys_without key (k ∷ up))
+    by (inl e) ih =
+        let link : Some h.1.0 ≡ Some top = sym h.1.1.0 ∙ ap p (sym e) ∙ here in
+        let next : h.1.0 ≡ top = cc in
+        let a : past key top at ≡ top = ap (past key top) h.0 ∙ past_key key top k e in
+        let b : past key top h.1.0 ≡ top = ap (past key top) next ∙ past_twice key top top itself in
+        subst (λ l. IsClimb q (past key top at) l) (sym (gone_key key top k up e))
+        (subst (λ o. IsClimb q o (keys_without key up)) (b ∙ sym a) ih)
+    by (inr ne) ih =
+        let a : past key top at ≡ Some k = ap (past key top) h.0 ∙ past_other key top k ne in
+        let l : q k ≡ Some (past key top h.1.0) = links k (λ e. ne (sym e)) ∙ ap (past_link key top) h.1.1.0 in
+        let c : IsClimb q (past key top at) (k ∷ keys_without key up) = (a, (past key top h.1.0, (l, ih))) in
+        subst (λ l. IsClimb q (past key top at) l) (sym (kept_other key top k up ne)) c
+
+-- what stood on the key stands on what is above it
+each_past : (key m : ℕ) (top : Option ℕ) → m ≢ key → (o : Option ℕ) → one (is_key m (past key top o)) ≡ one (is_key m o) + cond (is_key m top) (one (is_key key o)) 0
+each_past key m top ne None = by (is_key m top)
+  where
+    by : (b : Bool) → 0 ≡ 0 + cond b 0 0
+    by true = omega arith
+    by false = omega arith
+each_past key m top ne (Some k) = by (cases_eq key k)
+  where
+    sum : (b : Bool) → one b ≡ 0 + cond b 1 0
+    sum true = omega arith
+    sum false = omega arith
+
+    none : (n : ℕ) (b : Bool) → n ≡ n + cond b 0 0
+    none n true = omega arith
+    none n false = omega arith
+
+    by : (key ≡ k) ⊎ (key ≢ k) → one (is_key m (past key top (Some k))) ≡ one (nat_eq m k) + cond (is_key m top) (one (nat_eq key k)) 0
+    by (inl e) =
+        ap (λ o. one (is_key m o)) (past_key key top k e) ∙ sum (is_key m top)
+        ∙ ap (λ n. n + cond (is_key m top) 1 0) (sym (ap one (ne_eqb m k (λ w. ne (w ∙ sym e)))))
+        ∙ ap (λ b. one (nat_eq m k) + cond (is_key m top) (one b) 0) (sym (eq-eqb key k e))
+    by (inr nk) =
+        ap (λ o. one (is_key m o)) (past_other key top k nk) ∙ none (one (nat_eq m k)) (is_key m top)
+        ∙ ap (λ b. one (nat_eq m k) + cond (is_key m top) (one b) 0) (sym (ne_eqb key k nk))
+
+each_past_link : (key m : ℕ) (top : Option ℕ) → m ≢ key → (o : Option (Option ℕ)) → one (is_above m (past_link key top o)) ≡ one (is_above m o) + cond (is_key m top) (one (is_above key o)) 0
+each_past_link key m top ne None = each_past key m top ne None
+each_past_link key m top ne (Some next) = each_past key m top ne next
+
+-- the sums of such
+sum_past : {A : Type 0} (f p q : A → Bool) (b : Bool) (xs : List A) → ((x : A) → one (f x) ≡ one (p x) + cond b (one (q x)) 0) → count_by f xs ≡ count_by p xs + cond b (count_by q xs) 0
+sum_past f p q true [] h = omega arith
+sum_past f p q false [] h = omega arith
+sum_past f p q true (x ∷ xs) h =
+    let a = sum_by-cons (λ y. one (f y)) x xs in let b = sum_by-cons (λ y. one (p y)) x xs in let c = sum_by-cons (λ y. one (q y)) x xs in
+    let d = h x in let e = sum_past f p q true xs h in
+    omega (arith, a, b, c, d, e)
+sum_past f p q false (x ∷ xs) h =
+    let a = sum_by-cons (λ y. one (f y)) x xs in let b = sum_by-cons (λ y. one (p y)) x xs in
+    let d = h x in let e = sum_past f p q false xs h in
+    omega (arith, a, b, d, e)
+
+count_map : {A B : Type 0} (p : B → Bool) (f : A → B) (xs : List A) → count_by p (map f xs) ≡ count_by (λ x. p (f x)) xs
+count_map p f [] = refl
+count_map p f (x ∷ xs) =
+    let a = sum_by-cons (λ y. one (p y)) (f x) (map f xs) in let b = sum_by-cons (λ y. one (p (f y))) x xs in let c = count_map p f xs in
+    omega (arith, a, b, c)
+
+map_at : {A B : Type 0} (f : Option A → Option B) (xs : List (Option A)) (i : ℕ) → f None ≡ None → get_or (map f xs) i None ≡ f (get_or xs i None)
+map_at f [] i h = sym h
+map_at f (x ∷ xs) zero h = refl
+map_at f (x ∷ xs) (suc i) h = map_at f xs i h
+
+both : (b : Bool) (x y : ℕ) → cond b x 0 + cond b y 0 ≡ cond b (x + y) 0
+both true x y = refl
+both false x y = omega arith
+
+-- tips, each of which is skipped past
+pub all_past : (key : ℕ) (top : Option ℕ) (xs ys : List (Option ℕ)) → length ys ≡ length xs → ((k : ℕ) → k < length xs → tip_at ys k ≡ past key top (tip_at xs k)) → ys ≡ map (past key top) xs
+all_past key top xs ys len h =
+    ext_get_or None ys (map (past key top) xs) (len ∙ sym (length-map xs (past key top)))
+    (λ i lt. h i (subst (λ n. i < n) len lt) ∙ sym (map_at (past key top) xs i refl))
+
+-- tests that no element passes both
+sum_apart : {A : Type 0} (p q r : A → Bool) (xs : List A) → ((x : A) → one (p x) + one (q x) ≤ one (r x)) → count_by p xs + count_by q xs ≤ count_by r xs
+sum_apart p q r [] h = omega arith
+sum_apart p q r (x ∷ xs) h =
+    let a = sum_by-cons (λ y. one (p y)) x xs in let b = sum_by-cons (λ y. one (q y)) x xs in let c = sum_by-cons (λ y. one (r y)) x xs in
+    let d = h x in let e = sum_apart p q r xs h in
+    omega (arith, a, b, c, d, e)
+
+module _ {X : Type 0} where
+  link_of : (key : ℕ) (top : Option ℕ) (b : Bool) (h : ℕ) (o : Option (Node X)) → above_in (past_node key top (passed_on b h o)) ≡ past_link key top (above_in o)
+  link_of key top true h None = refl
+  link_of key top false h None = refl
+  link_of key top true h (Some m) = refl
+  link_of key top false h (Some m) = refl
+
+  item_of : (key : ℕ) (top : Option ℕ) (b : Bool) (h : ℕ) (o : Option (Node X)) → item_in (past_node key top (passed_on b h o)) ≡ item_in o
+  item_of key top true h None = refl
+  item_of key top false h None = refl
+  item_of key top true h (Some m) = refl
+  item_of key top false h (Some m) = refl
+
+  some_of : (key : ℕ) (top : Option ℕ) (b : Bool) (h : ℕ) (o : Option (Node X)) → is_some (past_node key top (passed_on b h o)) ≡ is_some o
+  some_of key top true h None = refl
+  some_of key top false h None = refl
+  some_of key top true h (Some m) = refl
+  some_of key top false h (Some m) = refl
+
+  was_of : (key : ℕ) (top : Option ℕ) (b : Bool) (h : ℕ) (o : Option (Node X)) (m : Node X) → past_node key top (passed_on b h o) ≡ Some m
+      → (w : Node X) × ((o ≡ Some w) × (m.holders ≡ cond b (w.holders - 1 + h) w.holders))
+  was_of key top true h None m e = absurd (cc)
+  was_of key top false h None m e = absurd (cc)
+  was_of key top true h (Some w) m e =
+      let is : Some (node w.item (past key top w.above) (w.holders - 1 + h)) ≡ Some m = e in
+      let same : node w.item (past key top w.above) (w.holders - 1 + h) ≡ m = cc in
+      (w, (refl, sym (ap (λ (z : Node X). z.holders) same)))
+  was_of key top false h (Some w) m e =
+      let is : Some (node w.item (past key top w.above) w.holders) ≡ Some m = e in
+      let same : node w.item (past key top w.above) w.holders ≡ m = cc in
+      (w, (refl, sym (ap (λ (z : Node X). z.holders) same)))
+
+  -- a node doesn't stand on itself
+  module _ (s : List (Option (Node X))) (tips : List (Option ℕ)) (key : ℕ) (n : Node X) (sound : IsSound s tips) (there : node_at s key ≡ Some n) where
+    pub not_itself : n.above ≡ Some key → ⊥
+    not_itself e =
+        let c = node_climb s tips sound key n there in
+        let links : Some c.1.1.0 ≡ Some n.above = sym c.1.1.1.0 ∙ ap above_in there in
+        let next : c.1.1.0 ≡ Some key = let a : c.1.1.0 ≡ n.above = cc in a ∙ e in
+        let again : has key c.0 ≡ true = first c.0 (subst (λ o. IsClimb (above_of s) o c.0) next c.1.1.1.1) in
+        true≢false (sym again ∙ not_again (above_of s) key c.0 c.1)
+      where
+        first : (up : List ℕ) → IsClimb (above_of s) (Some key) up → has key up ≡ true
+        first [] h = absurd (cc)
+        first (k ∷ up) h = let a : Some key ≡ Some k = h.0 in let same : key ≡ k = cc in subst (λ z. has z (k ∷ up) ≡ true) (sym same) (has-head k up)
+
+    -- what it stands on is there without it
+    pub above_there : (r : List (Option (Node X))) → ((k : ℕ) → k ≢ key → node_at r k ≡ node_at s k) → IfSome n.above (λ k. IsSome (node_at r k))
+    above_there r others = by n.above refl
+      where
+        by : (o : Option ℕ) → n.above ≡ o → IfSome o (λ k. IsSome (node_at r k))
+        by None e = tt
+        by (Some k) e =
+            let l = linked_there s tips sound key k (ap above_in there ∙ ap Some e) in
+            let w = node_from (node_at s k) l.0 l.1 in
+            subst IsSome (sym (others k (λ same. not_itself (e ∙ ap Some same)) ∙ w.1.0)) refl
+
+    -- and counts few enough
+    pub few_passed : (r : List (Option (Node X))) → ((k : ℕ) → k ≢ key → node_at r k ≡ node_at s k) → (k : ℕ) (m : Node X) → n.above ≡ Some k → node_at r k ≡ Some m
+        → (1 ≤ m.holders) × (m.holders - 1 + n.holders < 2 ^ 64)
+    few_passed r others k m e here =
+        let ne : k ≢ key = λ same. not_itself (e ∙ ap Some same) in
+        let a = sound.counted k m (sym (others k ne) ∙ here) in
+        let b = sound.counted key n there in
+        let some = get_or-le-sum_by (λ o. one (stands_on k o)) s key None (link_within s key n.above (ap above_in there)) in
+        let c : one (stands_on k (node_at s key)) ≡ 1 = ap (λ o. one (stands_on k o)) there ∙ ap (λ o. one (is_key k o)) e ∙ ap one (eq-eqb k k refl) in
+        let d = sum_apart (is_key k) (is_key key) (λ _. true) tips (apart_tip k ne) in
+        let f = sum_apart (stands_on k) (stands_on key) is_some s (apart_node k ne) in
+        let h = count_few (λ (_ : Option ℕ). true) tips in
+        let few = sound.few in
+        (omega (arith, a, some, c), omega (arith, a, b, d, f, h, few, some, c))
+      where
+        both_not : (i : ℕ) → i ≢ key → (j : ℕ) → one (nat_eq i j) + one (nat_eq key j) ≤ 1
+        both_not i ne j = on (cases_eq i j)
+          where
+            least : (b : Bool) → 0 + one b ≤ 1
+            least true = omega arith
+            least false = omega arith
+
+            on : (i ≡ j) ⊎ (i ≢ j) → one (nat_eq i j) + one (nat_eq key j) ≤ 1
+            on (inl same) =
+                let x = ap one (eq-eqb i j same) in
+                let y = ap one (ne_eqb key j (λ w. ne (same ∙ sym w))) in
+                omega (arith, x, y)
+            on (inr no_one) = let x = ap one (ne_eqb i j no_one) in let y = least (nat_eq key j) in omega (arith, x, y)
+
+        apart_tip : (i : ℕ) → i ≢ key → (o : Option ℕ) → one (is_key i o) + one (is_key key o) ≤ 1
+        apart_tip i ne None = omega arith
+        apart_tip i ne (Some j) = both_not i ne j
+
+        apart_node : (i : ℕ) → i ≢ key → (o : Option (Node X)) → one (stands_on i o) + one (stands_on key o) ≤ one (is_some o)
+        apart_node i ne None = omega arith
+        apart_node i ne (Some w) = apart_tip i ne w.above
+
+  -- what the steps leave, one after the other
+  none_of : (key : ℕ) (top : Option ℕ) (b : Bool) (h : ℕ) (o : Option (Node X)) → o ≡ None → past_node key top (passed_on b h o) ≡ None
+  none_of key top true h o e = ap (λ z. past_node key top (passed_on true h z)) e
+  none_of key top false h o e = ap (λ z. past_node key top (passed_on false h z)) e
+
+  module _ (s r p t : List (Option (Node X))) (key : ℕ) (top : Option ℕ) (h : ℕ) (passed : (k : ℕ) → node_at p k ≡ passed_on (is_key k top) h (node_at r k))
+      (skipped : (k : ℕ) → node_at t k ≡ past_node key top (node_at p k)) where
+    pub gone_from : node_at r key ≡ None → node_at t key ≡ None
+    gone_from e = skipped key ∙ ap (past_node key top) (passed key) ∙ none_of key top (is_key key top) h (node_at r key) e
+
+    pub others_from : ((k : ℕ) → k ≢ key → node_at r k ≡ node_at s k) → (k : ℕ) → k ≢ key → node_at t k ≡ past_node key top (passed_on (is_key k top) h (node_at s k))
+    others_from others k ne = skipped k ∙ ap (past_node key top) (passed k ∙ ap (passed_on (is_key k top) h) (others k ne))
+
+  module _ (s t : List (Option (Node X))) (tips new : List (Option ℕ)) (key : ℕ) (n : Node X) (sound : IsSound s tips) (there : node_at s key ≡ Some n) (gone : node_at t key ≡ None)
+      (others : (k : ℕ) → k ≢ key → node_at t k ≡ past_node key n.above (passed_on (is_key k n.above) n.holders (node_at s k))) (now : new ≡ map (past key n.above) tips) where
+    itself : n.above ≡ Some key → ⊥
+    itself = not_itself s tips key n sound there
+
+    links_now : (k : ℕ) → k ≢ key → above_of t k ≡ past_link key n.above (above_of s k)
+    links_now k ne = ap above_in (others k ne) ∙ link_of key n.above (is_key k n.above) n.holders (node_at s k)
+
+    tip_is : (i : ℕ) → tip_at new i ≡ past key n.above (tip_at tips i)
+    tip_is i = ap (λ l. tip_at l i) now ∙ map_at (past key n.above) tips i refl
+
+    climbs : (i : ℕ) (up : List ℕ) → IsClimb (above_of s) (tip_at tips i) up → IsClimb (above_of t) (tip_at new i) (keys_without key up)
+    climbs i up h =
+        subst (λ o. IsClimb (above_of t) o (keys_without key up)) (sym (tip_is i))
+        (climb_past (above_of s) (above_of t) key n.above (ap above_in there) itself links_now (tip_at tips i) up h)
+
+    not_key : (k : ℕ) (m : Node X) → node_at t k ≡ Some m → k ≢ key
+    not_key k m e same = let none : node_at t k ≡ None = ap (node_at t) same ∙ gone in cc
+
+    was : (k : ℕ) (m : Node X) → node_at t k ≡ Some m → (w : Node X) × ((node_at s k ≡ Some w) × (m.holders ≡ cond (is_key k n.above) (w.holders - 1 + n.holders) w.holders))
+    was k m e = was_of key n.above (is_key k n.above) n.holders (node_at s k) m (sym (others k (not_key k m e)) ∙ e)
+
+    within : key < length s
+    within = link_within s key n.above (ap above_in there)
+
+    abbrev rest : List (Option (Node X))
+    rest = set s key None
+
+    rest_key : node_at rest key ≡ None
+    rest_key = get_or-set_same s key None None within
+
+    rest_other : (k : ℕ) → k ≢ key → node_at rest k ≡ node_at s k
+    rest_other k ne = get_or-set_other s key k None None ne
+
+    nodes_now : (m : ℕ) → m ≢ key → count_by (stands_on m) t + one (is_key m n.above) ≡ count_by (stands_on m) s + cond (is_key m n.above) (count_by (stands_on key) s) 0
+    nodes_now m ne =
+        let p = λ (o : Option (Node X)). is_above m (past_link key n.above (above_in o)) in
+        let a = count_same (stands_on m) refl (map (past_node key n.above) rest) t (λ j. each j (cases_eq j key)) in
+        let b = count_map (stands_on m) (past_node key n.above) rest in
+        let c = sum_past (λ o. stands_on m (past_node key n.above o)) p p false rest (λ o. ap one (same o) ∙ (let z : one (p o) ≡ one (p o) + 0 = omega arith in z)) in
+        let d = sum_by-set (λ o. one (p o)) s key None None within in
+        let e = sum_past p (stands_on m) (stands_on key) (is_key m n.above) s (λ o. each_past_link key m n.above ne (above_in o)) in
+        let f : one (p (node_at s key)) ≡ one (is_key m n.above) = ap (λ o. one (p o)) there ∙ ap (λ o. one (is_key m o)) (past_twice key n.above n.above itself) in
+        omega (arith, a, b, c, d, e, f)
+      where
+        same : (o : Option (Node X)) → stands_on m (past_node key n.above o) ≡ is_above m (past_link key n.above (above_in o))
+        same None = refl
+        same (Some w) = refl
+
+        each : (j : ℕ) → (j ≡ key) ⊎ (j ≢ key) → stands_on m (node_at t j) ≡ stands_on m (get_or (map (past_node key n.above) rest) j None)
+        each j (inl e) =
+            ap (λ i. stands_on m (node_at t i)) e ∙ ap (stands_on m) gone
+            ∙ sym (ap (stands_on m) (map_at (past_node key n.above) rest j refl ∙ ap (past_node key n.above) (ap (node_at rest) e ∙ rest_key)))
+        each j (inr ne) =
+            ap (is_above m) (links_now j ne)
+            ∙ sym (same (node_at s j)) ∙ sym (ap (stands_on m) (map_at (past_node key n.above) rest j refl ∙ ap (past_node key n.above) (rest_other j ne)))
+
+    holders_now : (m : ℕ) → m ≢ key → holders_of t new m + one (is_key m n.above) ≡ holders_of s tips m + cond (is_key m n.above) n.holders 0
+    holders_now m ne =
+        let a = nodes_now m ne in
+        let b : count_by (is_key m) new ≡ count_by (is_key m) (map (past key n.above) tips) = ap (count_by (is_key m)) now in
+        let c = count_map (is_key m) (past key n.above) tips in
+        let d = sum_past (λ o. is_key m (past key n.above o)) (is_key m) (is_key key) (is_key m n.above) tips (each_past key m n.above ne) in
+        let e = both (is_key m n.above) (count_by (is_key key) tips) (count_by (stands_on key) s) in
+        let f = ap (λ h. cond (is_key m n.above) h 0) (sound.counted key n there) in
+        omega (arith, a, b, c, d, e, f)
+
+    counted_now : (k : ℕ) (m : Node X) → node_at t k ≡ Some m → m.holders ≡ holders_of t new k
+    counted_now k m e = by (is_key k n.above) refl
+      where
+        by : (b : Bool) → is_key k n.above ≡ b → m.holders ≡ holders_of t new k
+        by true it =
+            let w = was k m e in
+            let is = w.1.1 ∙ ap (λ b. cond b (w.0.holders - 1 + n.holders) w.0.holders) it in
+            let old = sound.counted k w.0 w.1.0 in
+            let all = holders_now k (not_key k m e) in
+            let x = ap one it in
+            let y = ap (λ b. cond b n.holders 0) it in
+            let some = get_or-le-sum_by (λ o. one (stands_on k o)) s key None within in
+            let z : one (stands_on k (node_at s key)) ≡ 1 = ap (λ o. one (stands_on k o)) there ∙ ap one it in
+            omega (arith, is, old, all, x, y, some, z)
+        by false it =
+            let w = was k m e in
+            let is = w.1.1 ∙ ap (λ b. cond b (w.0.holders - 1 + n.holders) w.0.holders) it in
+            let old = sound.counted k w.0 w.1.0 in
+            let all = holders_now k (not_key k m e) in
+            let x = ap one it in
+            let y = ap (λ b. cond b n.holders 0) it in
+            omega (arith, is, old, all, x, y)
+
+    pub skipped_sound : IsSound t new
+    skipped_sound = record {
+      ends = λ i. let e = sound.ends i in record { up = keys_without key e.up; is = climbs i e.up e.is };
+      live = λ k m e.
+          let w = was k m e in
+          let o = sound.live k w.0 w.1.0 in
+          record { path = o.path; up = keys_without key o.up; is = climbs o.path o.up o.is; on = has_without key n.above k o.up (not_key k m e) o.on };
+      counted = counted_now;
+      few =
+          let a = ap length now in let b = length-map tips (past key n.above) in
+          let c = count_changed is_some refl key s t (λ j ne. ap is_some (others j ne) ∙ some_of key n.above (is_key j n.above) n.holders (node_at s j)) in
+          let d = ap (λ o. one (is_some o)) gone in
+          let few = sound.few in
+          omega (arith, a, b, c, d, few);
+    }
+
+    pub skipped_paths : map (path_to t) new ≡ map (keys_without key) (map (path_to s) tips)
+    skipped_paths =
+        ap (map (path_to t)) now ∙ map-map (past key n.above) (path_to t) tips
+        ∙ map_same (λ o. path_to t (past key n.above o)) (λ o. keys_without key (path_to s o)) tips (λ i.
+        let e = sound.ends i in
+        ap (path_to t) (sym (tip_is i)) ∙ path_to_is t (tip_at new i) (keys_without key e.up) (climbs i e.up e.is) ∙ without-reverse key n.above e.up
+        ∙ ap (keys_without key) (sym (path_to_is s (tip_at tips i) e.up e.is)))
+        ∙ sym (map-map (path_to s) (keys_without key) tips)
+
+    pub skipped_items : (k : ℕ) → k ≢ key → item_at (family_on t new) k ≡ item_at (family_on s tips) k
+    skipped_items k ne = item_is t new k ∙ ap item_in (others k ne) ∙ item_of key n.above (is_key k n.above) n.holders (node_at s k) ∙ sym (item_is s tips k)
+
+-- nodes one after the other
+module _ {X : Type 0} (s t u : List (Option (Node X))) (place : ℕ) where
+  pub skipped_more : (key : ℕ) (top : Option ℕ) → ((k : ℕ) → k < place → node_at t k ≡ past_node key top (node_at s k)) → ((k : ℕ) → place ≤ k → node_at t k ≡ node_at s k)
+      → node_at u place ≡ past_node key top (node_at t place) → ((k : ℕ) → k ≢ place → node_at u k ≡ node_at t k) → (k : ℕ) → k < place + 1 → node_at u k ≡ past_node key top (node_at s k)
+  skipped_more key top done later here others k lt = by (cases_eq k place)
+    where
+      by : (k ≡ place) ⊎ (k ≢ place) → node_at u k ≡ past_node key top (node_at s k)
+      by (inl e) = ap (node_at u) e ∙ here ∙ ap (past_node key top) (later place (omega arith) ∙ ap (node_at s) (sym e))
+      by (inr ne) = others k ne ∙ done k (below (cases_lt k place))
+        where
+          below : (k < place) ⊎ (place ≤ k) → k < place
+          below (inl l) = l
+          below (inr le) = let same : k ≡ place = omega (arith, lt, le) in absurd (ne same)
+
+  pub skipped_later : ((k : ℕ) → place ≤ k → node_at t k ≡ node_at s k) → ((k : ℕ) → k ≢ place → node_at u k ≡ node_at t k) → (k : ℕ) → place + 1 ≤ k → node_at u k ≡ node_at s k
+  skipped_later later others k le =
+      let le2 : place ≤ k = omega (arith, le) in
+      others k (λ e. absurd (omega (arith, e, le))) ∙ later k le2

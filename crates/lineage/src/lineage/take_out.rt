@@ -1,0 +1,80 @@
+//! An item that goes from each path.
+
+ghost use Rattle.std.specs.Prelude.{◌≡◌, ◌≢◌, ◌<◌, ◌≤◌, ◌+◌, ◌-◌, ◌^◌, ℕ, length, map, Some, None, IfSome, IsSome};
+ghost use Rattle.slab.specs.Slab.{get, ContainsKey};
+ghost use Rattle.lineage.specs.Family.{item_at, keys_without};
+ghost use Rattle.lineage.specs.Held.{is_key, past, past_node, passed_on};
+
+use super::{Key, Lineage};
+use crate::node::Node;
+use slab::Slab;
+
+impl<X: Drop> Lineage<X> {
+    /// Takes the item at a key out of each path that has it: what stood on it stands on what it stood on. The item. It takes no
+    /// memory, and looks at each item and path.
+    pub fn take_out(&mut self, key: Key) -> X
+        requires { IsSome (item_at self.old key) }
+        ensures was { item_at self.old key ≡ Some result }
+        ensures gone { item_at self.new key ≡ None }
+        ensures others { (k : ℕ) → k ≢ key → item_at self.new k ≡ item_at self.old k }
+        ensures paths { self.new.paths ≡ map (keys_without key) self.old.paths }
+    {
+        let node = self.nodes.remove(key);
+        pass_on(&mut self.nodes, node.above, node.holders);
+        skip_in_nodes(&mut self.nodes, key, node.above);
+        skip_in_tips(&mut self.tips, key, node.above);
+        node.item
+    }
+}
+
+/// What is stood on where a key is skipped.
+fn past(at: Option<Key>, key: Key, above: Option<Key>) -> Option<Key>
+    ensures { result ≡ past key above at }
+{
+    match at {
+        Some(other) => { if key == other { above } else { Some(other) } }
+        None => None,
+    }
+}
+
+/// Counts at what a node stood on those that stood on the node, instead of the node.
+fn pass_on<X>(nodes: &mut Slab<Node<X>>, above: Option<Key>, holders: usize)
+    requires there { IfSome above (λ k. ContainsKey nodes.old k) }
+    requires few { (k : ℕ) (n : Node X) → above ≡ Some k → get nodes.old k ≡ Some n
+        → (1 ≤ n.holders) × (n.holders - 1 + holders < 2 ^ 64) }
+    ensures { (k : ℕ) → get nodes.new k ≡ passed_on (is_key k above) holders (get nodes.old k) }
+{
+    if let Some(key) = above {
+        nodes[key].holders = nodes[key].holders - 1 + holders;
+    }
+}
+
+/// Lets each node that stands on a key stand on what is above it.
+fn skip_in_nodes<X>(nodes: &mut Slab<Node<X>>, key: Key, above: Option<Key>)
+    ensures { (k : ℕ) → get nodes.new k ≡ past_node key above (get nodes.old k) }
+{
+    for place in 0..nodes.capacity() {
+        skip_at(nodes, place, key, above);
+    }
+}
+
+/// Lets a node that stands on a key stand on what is above it.
+fn skip_at<X>(nodes: &mut Slab<Node<X>>, place: Key, key: Key, above: Option<Key>)
+    ensures here { get nodes.new place ≡ past_node key above (get nodes.old place) }
+    ensures others { (k : ℕ) → k ≢ place → get nodes.new k ≡ get nodes.old k }
+{
+    let Some(node) = nodes.get(place) else {
+        return;
+    };
+    let skipped = past(node.above, key, above);
+    nodes[place].above = skipped;
+}
+
+/// Lets each path that ends with a key end with what is above it.
+fn skip_in_tips(tips: &mut Vec<Option<Key>>, key: Key, above: Option<Key>)
+    ensures { tips.new.items ≡ map (past key above) tips.old.items }
+{
+    for place in 0..tips.len() {
+        tips[place] = past(tips[place], key, above);
+    }
+}
