@@ -1,15 +1,15 @@
 -- What is left where a path has gone.
-use Rattle.std.proofs.Common.{◌≡◌, ℕ, true, false, List, map, Option, Some, None, refl, sym, ◌∙◌, ap, subst, true≢false, ◌<◌, length, get_or, arith}
+use Rattle.std.proofs.Common.{◌≡◌, ℕ, true, false, List, ◌∷◌, reverse, drop, map, Option, Some, None, refl, sym, ◌∙◌, ap, subst, true≢false, ◌<◌, length, get_or, arith}
 use Rattle.std.specs.Prelude.{IsSome}
 use Rattle.std.specs.List.{remove}
 use Rattle.lineage.specs.declared.node.Node.{Node}
 use Rattle.lineage.specs.Family.{has, path_in, IsFamily, IsReleased}
 use Rattle.lineage.specs.Held.{tip_at, node_at, item_in, above_in, above_of, path_to, family_on, Stays, IsOn, IsSound, IsReleasing}
 use Rattle.lineage.proofs.Once.{has-reverse}
-use Rattle.lineage.proofs.Climbs.{climb_there}
-use Rattle.lineage.proofs.Walks.{path_to_is, path_at, item_is}
+use Rattle.lineage.proofs.Climbs.{climb_there, climb_unique}
+use Rattle.lineage.proofs.Walks.{path_to_is, path_at, item_is, climb_at}
 use Rattle.lineage.proofs.Kept.{node_from, over_path, map_same}
-use Rattle.std.proofs.lemmas.List.{get_or_read, length-map}
+use Rattle.std.proofs.lemmas.List.{get_or_read, length-map, reverse-reverse}
 use Rattle.lineage.proofs.Releases.{released_first}
 use Rattle.lineage.proofs.Removed.{map-remove}
 
@@ -31,6 +31,11 @@ module _ {X : Type 0} (s : List (Option (Node X))) (tips : List (Option ℕ)) (s
   is_family = record {
     held = λ i k m. let n = path_there i k m in subst IsSome (sym (item_is s tips k ∙ ap item_in n.1)) refl;
     live = λ k some. by k (node_at s k) refl (subst IsSome (item_is s tips k) some);
+    shared = λ i j k front back front2 back2 e e2.
+        let a = climb_at s tips i k front back sound e in
+        let b = climb_at s tips j k front2 back2 sound e2 in
+        let same = ap (drop 1) (climb_unique (above_of s) (Some k) (k ∷ reverse front) (k ∷ reverse front2) a b) in
+        sym (reverse-reverse front) ∙ ap reverse same ∙ reverse-reverse front2;
   }
     where
       by : (k : ℕ) (o : Option (Node X)) → node_at s k ≡ o → IsSome (item_in (node_at s k)) → (i : ℕ) × (has k (path_in (family_on s tips) i) ≡ true)

@@ -14,4 +14,5 @@ pub mod Same
 pub mod Alone
 pub mod Chains
 pub mod Exchanges
+pub mod Past
 pub mod Skips

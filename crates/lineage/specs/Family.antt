@@ -88,7 +88,9 @@ module _ {X : Type 0} where
     pub last : last_of (path_in f path) ≡ Some key
     pub own : (j : ℕ) → j ≢ path → has key (path_in f j) ≡ false
 
-  -- what every lineage keeps
+  -- what every lineage keeps: each key of a path has an item, each item is on a path, and paths that share a key share all
+  -- before it, so that no key stands twice in a path
   pub record IsFamily (f : Family X) : Type 0 where
     pub held : (i k : ℕ) → has k (path_in f i) ≡ true → IsSome (item_at f k)
     pub live : (k : ℕ) → IsSome (item_at f k) → (i : ℕ) × (has k (path_in f i) ≡ true)
+    pub shared : (i j k : ℕ) (front back front2 back2 : List ℕ) → path_in f i ≡ front ++ k ∷ back → path_in f j ≡ front2 ++ k ∷ back2 → front ≡ front2
