@@ -80,19 +80,21 @@ fn insert_at(rt: &impl Abort, place: u32) -> Command {
     }
 }
 
+/// A session, its guard, and its command.
+type Call<'a> = (u32, Option<u64>, &'a Command);
+
 /// Brings a command; what the call promises of histories is forgotten.
 fn bring<W: Wait>(
     rt: &W,
     alloc: Global,
     desk: &Desk<Safe>,
     chair: &mut Chair<Safe>,
-    who: u32,
-    if_at: Option<u64>,
-    command: &Command,
+    call: Call<'_>,
 ) -> Receipt
     requires { IsAt (λ _. safe_behaviour) desk.now chair.old }
     ensures { IsAt (λ _. safe_behaviour) desk.now chair.new }
 {
+    let (who, if_at, command) = call;
     desk.act(rt, alloc, chair, who, if_at, command)
 }
 

@@ -59,6 +59,9 @@ where
     (owner, slots)
 }
 
+/// What the caller works with: its end of the deque, and a slot for the outcome of each job.
+type Bench<R> = (Owner, Slots<R>);
+
 /// Runs the jobs that are in the deque, with thieves in threads of their own. What a thief has taken
 /// goes over to the owner. A thief for which there is no memory is done without; one for which no
 /// thread can be made finds an empty deque, since the caller then works first.
@@ -68,17 +71,17 @@ fn share<R: Threads + Wait + Sync, J: Job + Sync, G: Gate<R> + Sync>(
     gate: &G,
     jobs: &[J],
     thieves: u32,
-    mut owner: Owner,
-    slots: Slots<J::Run>,
-) -> (Owner, Slots<J::Run>)
+    bench: Bench<J::Run>,
+) -> Bench<J::Run>
 where
     J::Run: Send + Drop,
-    requires fifo { worker_flavor owner ≡ 0 }
-    requires parts { thieves < (worker_view owner).parts }
-    requires ready { IsAtWork J.gives jobs.now (worker_view owner) slots.items }
-    ensures same { SameOwner owner result.0 }
+    requires fifo { worker_flavor bench.0 ≡ 0 }
+    requires parts { thieves < (worker_view bench.0).parts }
+    requires ready { IsAtWork J.gives jobs.now (worker_view bench.0) bench.1.items }
+    ensures same { SameOwner bench.0 result.0 }
     ensures done { IsAtWork J.gives jobs.now (worker_view result.0) result.1.items }
 {
+    let (mut owner, slots) = bench;
     if thieves == 0 {
         return work(rt, alloc, gate, jobs, owner, slots);
     }
@@ -101,7 +104,7 @@ where
             requires ready { IsAtWork J.gives jobs.now (worker_view owner) slots.items }
             ensures { SameOwner owner result.0 × IsAtWork J.gives jobs.entry.now
                 (worker_view result.0) result.1.items }
-        { share(rt, alloc, gate, jobs, thieves - 1, owner, slots) },
+        { share(rt, alloc, gate, jobs, thieves - 1, (owner, slots)) },
     );
     owner.absorb::<ComesBack>(thief.pass);
     put_all(&mut slots, thief.tray);
@@ -145,7 +148,7 @@ impl Crew {
         let slots = vacant(alloc, jobs.len())?;
         let owner = deal(alloc, jobs.len())?;
         let thieves = needed(thieves, jobs.len());
-        let (owner, slots) = share(rt, alloc, gate, jobs, thieves, owner, slots);
+        let (owner, slots) = share(rt, alloc, gate, jobs, thieves, (owner, slots));
         let (_, slots) = work(rt, alloc, gate, jobs, owner, slots);
         Ok(under_keys(jobs, slots, all))
     }

@@ -197,9 +197,7 @@ fn edit_and_drop<R: Abort + Wait>(
         alloc,
         desk,
         &mut chair,
-        0,
-        None,
-        &Command::Drop { branch },
+        (0, None, &Command::Drop { branch }),
     );
     (chair, all && matches!(receipt.reply, Reply::Edited(_)))
 }
@@ -272,7 +270,7 @@ fn beside<R: Abort + Threads + Wait + Sync>(
         name: name(rt, b"a"),
     };
     let (mut chair, second) = halves(&desk, chair);
-    bring(rt, alloc, &desk, &mut chair, 0, None, &fork);
+    bring(rt, alloc, &desk, &mut chair, (0, None, &fork));
     let (mut chair, fine) = edited_beside_fills(rt, alloc, &desk, chair, second);
     let (_, text) = text_at(rt, alloc, &desk, &mut chair, query)?;
     let Some(log) = closed(desk, chair) else {

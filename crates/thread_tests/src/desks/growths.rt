@@ -61,8 +61,8 @@ fn two_chairs_wanting_memory(rt: HostRuntime) {
     };
     let (mut first, mut second) = halves(&desk, first);
     let insert = insert_at(&rt, 0);
-    let done = bring(&rt, alloc, &desk, &mut first, 0, Some(0), &insert);
-    let late = bring(&rt, alloc, &desk, &mut second, 1, Some(0), &insert);
+    let done = bring(&rt, alloc, &desk, &mut first, (0, Some(0), &insert));
+    let late = bring(&rt, alloc, &desk, &mut second, (1, Some(0), &insert));
     assert!(rt; are_allowed(done, late));
     assert_eq!(rt; asked(&desk, &mut first), late.at);
     if let Some(text) = shown(&rt, alloc, &desk, &mut first) {
@@ -86,7 +86,7 @@ fn bring_again<R: Abort + Wait>(
     ensures { IsAt (λ _. safe_behaviour) desk.now result.0 }
 {
     for _ in 0..TRIES {
-        let receipt = bring(rt, alloc, desk, &mut chair, who, Some(0), command);
+        let receipt = bring(rt, alloc, desk, &mut chair, (who, Some(0), command));
         if receipt.reply != Reply::No(Refusal::Memory) {
             return (chair, receipt);
         }

@@ -61,7 +61,7 @@ fn insert_guarded<R: Abort + Wait>(
     let mut guard = 0u64;
     let mut made = 0u32;
     for _ in 0..2 * EDITS {
-        let receipt = bring(rt, alloc, desk, &mut chair, who, Some(guard), &insert);
+        let receipt = bring(rt, alloc, desk, &mut chair, (who, Some(guard), &insert));
         let Some((count, is_made)) = count_told(receipt) else {
             return (chair, false);
         };

@@ -36,8 +36,8 @@ fn with_break<W: Wait>(
     let (desk, chair) = thousand(alloc, 65_536)?;
     let (mut first, second) = halves(&desk, chair);
     let unmet = Command::Break(Break::Refused);
-    bring(rt, alloc, &desk, &mut first, 0, None, &Command::Join);
-    bring(rt, alloc, &desk, &mut first, 0, None, &unmet);
+    bring(rt, alloc, &desk, &mut first, (0, None, &Command::Join));
+    bring(rt, alloc, &desk, &mut first, (0, None, &unmet));
     Ok((desk, first, second))
 }
 
@@ -53,7 +53,7 @@ fn seek_until_told<W: Wait>(
     ensures { IsAt (λ _. safe_behaviour) desk.now result.0 }
 {
     for _ in 0..SEEKS {
-        let receipt = bring(rt, alloc, desk, &mut chair, 0, None, &Command::Seek);
+        let receipt = bring(rt, alloc, desk, &mut chair, (0, None, &Command::Seek));
         flags.say_held();
         if flags.is_told() {
             return (chair, matches!(receipt.reply, Reply::NoHit));

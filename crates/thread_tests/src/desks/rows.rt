@@ -32,14 +32,14 @@ fn two_inserts<R: Abort + Wait>(
     let (desk, first) = opened(alloc, 16)?;
     let (mut first, mut second) = halves(&desk, first);
     let insert = insert_at(rt, 0);
-    let done = bring(rt, alloc, &desk, &mut first, 0, Some(0), &insert);
+    let done = bring(rt, alloc, &desk, &mut first, (0, Some(0), &insert));
     assert!(rt;
         done == Receipt {
             at: 1,
             reply: Reply::Edited(1)
         }
     );
-    let late = bring(rt, alloc, &desk, &mut second, 1, Some(0), &insert);
+    let late = bring(rt, alloc, &desk, &mut second, (1, Some(0), &insert));
     assert!(rt;
         late == Receipt {
             at: 2,
@@ -94,7 +94,7 @@ fn chairs_out(rt: HostRuntime) -> Result<(), Fail> {
     let chairs = log.entries().iter().map(|entry| entry.chair);
     assert!(rt; chairs.eq([0, 1]));
     let (desk, mut chair) = opened(rt.alloc(), 1)?;
-    let joined = bring(&rt, rt.alloc(), &desk, &mut chair, 0, None, &Command::Join);
+    let joined = bring(&rt, rt.alloc(), &desk, &mut chair, (0, None, &Command::Join));
     assert!(rt;
         joined
             == Receipt {
@@ -102,7 +102,7 @@ fn chairs_out(rt: HostRuntime) -> Result<(), Fail> {
                 reply: Reply::Joined
             }
     );
-    let full = bring(&rt, rt.alloc(), &desk, &mut chair, 0, None, &Command::Join);
+    let full = bring(&rt, rt.alloc(), &desk, &mut chair, (0, None, &Command::Join));
     assert!(rt;
         full == Receipt {
             at: 1,
