@@ -13,6 +13,7 @@ import re
 import sys
 
 MOST_COLUMNS, MOST_PARAMETERS = 100, 6
+TOP = os.path.dirname(os.path.dirname(os.path.realpath(__file__)))
 CLAUSE = re.compile(r"\b(?:requires|ensures)\b[^{}\n]*\{")
 FUNCTION = re.compile(r"\bfn (\w+)")
 # What isn't code: texts, single characters, comments; a lifetime is no character.
@@ -87,30 +88,43 @@ def long_functions(code):
             yield code.count("\n", 0, found.start()) + 1, found.group(1), count
 
 
+def faults_in(path):
+    """Yields what is hard to read in a file: where, and what."""
+    with open(path, encoding="utf-8") as file:
+        text = file.read()
+    code, name = code_of(text), os.path.relpath(path, TOP)
+    for line, columns in wide_clauses(text, code):
+        yield f"{name}:{line}: a clause is {columns} columns wide"
+    for line, function, count in long_functions(code):
+        yield f"{name}:{line}: {function} takes {count} parameters"
+
+
+def crates():
+    """Returns the names of all crates."""
+    return sorted(os.path.basename(os.path.dirname(it)) for it in glob.glob(f"{TOP}/crates/*/src"))
+
+
+def faults_of(crate):
+    """Returns what is hard to read in a crate's contracts."""
+    paths = sorted(glob.glob(f"{TOP}/crates/{crate}/src/**/*.rt", recursive=True))
+    return [it for path in paths for it in faults_in(path)]
+
+
+def fault_of(crate):
+    """Returns what is hard to read in a crate's contracts, as a text, or nothing."""
+    return "; ".join(faults_of(crate)) or None
+
+
 def main(names):
-    top = os.path.dirname(os.path.dirname(os.path.realpath(__file__)))
-    unknown = [it for it in names if not os.path.isdir(f"{top}/crates/{it}/src")]
+    unknown = set(names) - set(crates())
     if unknown:
         print(__doc__, end="", file=sys.stderr)
         return 2
-    sources = [f"{top}/crates/{it}/src" for it in names] or glob.glob(f"{top}/crates/*/src")
-    wide = long = 0
-    for folder in sorted(sources):
-        for path in sorted(glob.glob(f"{folder}/**/*.rt", recursive=True)):
-            with open(path, encoding="utf-8") as file:
-                text = file.read()
-            code, name = code_of(text), os.path.relpath(path, top)
-            for line, columns in wide_clauses(text, code):
-                print(f"{name}:{line}: a clause is {columns} columns wide")
-                wide += 1
-            for line, function, count in long_functions(code):
-                print(f"{name}:{line}: {function} takes {count} parameters")
-                long += 1
-    print(
-        f"clauses: {wide} wider than {MOST_COLUMNS} columns; "
-        f"{long} functions of more than {MOST_PARAMETERS} parameters"
-    )
-    return 1 if wide or long else 0
+    faults = [it for crate in names or crates() for it in faults_of(crate)]
+    for it in faults:
+        print(it)
+    print(f"clauses: {len(faults)} of more than {MOST_COLUMNS} columns or {MOST_PARAMETERS} parameters")
+    return 1 if faults else 0
 
 
 if __name__ == "__main__":

@@ -12,13 +12,11 @@ use Rattle.std.proofs.lemmas.Bool.Decides.{nat_tests}
 use Rattle.tower_file.specs.declared.tower.TowerSpec.{TowerSpec}
 use Rattle.tower_file.specs.Files.{File}
 use Rattle.conversation.specs.declared.fault.StreamFault.{StreamFault}
-use Rattle.conversation.specs.declared.fault.StreamFault.TheVariants as streams
 use Rattle.towerbench.specs.declared.fault.Fault.{Fault}
 use Rattle.towerbench.specs.declared.fault.Fault.TheVariants as fault
 use Rattle.script.specs.Answers.{answer_line}
 use Rattle.conversation.specs.Scripts.{answers_to}
 use Rattle.conversation.specs.Conversations.{Answering, Breaks}
-use Rattle.towerbench.specs.Faults.{of_streams}
 use Rattle.towerbench.specs.Opening.{opening, opened, answers_of, answers_on, FailsOver, EndsOver, Ran, RanInto}
 
 -- steps that were opened are within the cells
@@ -30,6 +28,16 @@ opened_within limits steps f e = by (nat_lt limits.cells (length steps)) refl e
     by false few e = grind (arith, nat_tests)
 
 module _ (old now before after : Option (List ℕ)) where
+  -- what a run from an opening comes to is what it comes to from the same parts
+  pub as_given : {P : Type 0} (r : Result ⊤ Fault) (l limits : Limits) (v value : ℕ) (b d : Behaviour P) (ss steps : List Step)
+      → l ≡ limits → v ≡ value → b ≡ d → ss ≡ steps → EndsOver l ss (answers_to answer_line (opening b v l ss)) old now before after r
+      → EndsOver limits steps (answers_to answer_line (opening d value limits steps)) old now before after r
+  as_given {P} r l limits v value b d ss steps same_limits same_value same_tower same_steps h =
+      subst (λ (x : Limits). EndsOver x steps (answers_to answer_line (opening d value x steps)) old now before after r) same_limits
+      (subst (λ (x : ℕ). EndsOver l steps (answers_to answer_line (opening d x l steps)) old now before after r) same_value
+      (subst (λ (x : Behaviour P). EndsOver l steps (answers_to answer_line (opening x v l steps)) old now before after r) same_tower
+      (subst (λ (x : List Step). EndsOver l x (answers_to answer_line (opening b v l x)) old now before after r) same_steps h)))
+
   -- what a run over a register comes to is what it comes to over the file of its tower
   pub on_file : {P : Type 0} (r : Result ⊤ Fault) (limits : Limits) (value : ℕ) (b d : Behaviour P) (steps : List Step) (tower given : TowerSpec) (f : File)
       → b ≡ d → steps ≡ f.steps → given ≡ f.spec → given ≡ tower → ((ss : List Step) → answers_of tower limits ss ≡ answers_to answer_line (opening d value limits ss))
@@ -42,17 +50,11 @@ module _ (old now before after : Option (List ℕ)) where
       (subst (λ (x : Behaviour P). EndsOver limits steps (answers_to answer_line (opening x value limits steps)) old now before after r) same_tower h))
 
   module _ (limits : Limits) (steps : List Step) (answering : Answering) where
-    by_fault : (e : StreamFault) → length steps ≤ limits.cells → Breaks answering e old now before after → FailsOver limits steps answering old now before after (of_streams e)
-    by_fault streams.Read room b = record { room = room; broke = b }
-    by_fault streams.Write room b = record { room = room; broke = b }
-    by_fault streams.TooLong room b = record { room = room; broke = b }
-    by_fault streams.Memory room b = record { room = room; broke = b }
-
     -- a fault of the streams, handed on
-    pub handed : (r : Result ⊤ Fault) (e : StreamFault) (Is : Fault → Type 0) → IsErrAnd r Is → ((x : Fault) → Is x → x ≡ of_streams e) → length steps ≤ limits.cells
+    pub handed : (r : Result ⊤ Fault) (e : StreamFault) (Is : Fault → Type 0) → IsErrAnd r Is → ((x : Fault) → Is x → x ≡ fault.Stream e) → length steps ≤ limits.cells
         → Breaks answering e old now before after → EndsOver limits steps answering old now before after r
     handed (Ok done) e Is k same room b = absurd k
-    handed (Err x) e Is k same room b = subst (λ (y : Fault). FailsOver limits steps answering old now before after y) (sym (same x k)) (by_fault e room b)
+    handed (Err x) e Is k same room b = subst (λ (y : Fault). FailsOver limits steps answering old now before after y) (sym (same x k)) (record { room = room; broke = b })
 
   -- what a run comes to, clause by clause, told of the file that the bytes spell
   module _ (file : Option (List ℕ)) (limits : Limits) where
@@ -63,10 +65,7 @@ module _ (old now before after : Option (List ℕ)) where
       over_open : (x : Fault) → FailsOver limits f.steps (answers_on f limits) old now before after x → RanInto file limits old now before after x
       over_open (fault.File e) h = absurd h
       over_open (fault.Refused e) h = (f, (is, h))
-      over_open fault.Read h = (f, (is, h))
-      over_open fault.Write h = (f, (is, h))
-      over_open fault.TooLong h = (f, (is, h))
-      over_open fault.Memory h = (f, (is, h))
+      over_open (fault.Stream e) h = (f, (is, h))
 
       pub with_file : (r : Result ⊤ Fault) → EndsOver limits f.steps (answers_on f limits) old now before after r → Runs r
       with_file (Ok done) h = record { done = (f, (is, h)); fault = tt }

@@ -1,4 +1,4 @@
-pub mod Faults
 pub mod Opening
 pub mod Endings
 pub mod Seats
+pub mod Openings

@@ -13,7 +13,6 @@ use Rattle.tower_file.specs.Files.{File, file_of}
 use Rattle.tower_file.specs.Reading.{reading}
 use Rattle.tower_file.specs.Spelling.{SpellsSteps}
 use Rattle.conversation.specs.declared.fault.StreamFault.{StreamFault}
-use Rattle.conversation.specs.declared.fault.StreamFault.TheVariants as streams
 use Rattle.towerbench.specs.declared.fault.Fault.{Fault}
 use Rattle.towerbench.specs.declared.fault.Fault.TheVariants as fault
 use Rattle.schedule_trie.specs.declared.limits.Limits.{Limits}
@@ -64,10 +63,7 @@ pub record IsBroken (limits : Limits) (steps : List Step) (answering : Answering
 abbrev pub FailsOver : Limits → List Step → Answering → Option (List ℕ) → Option (List ℕ) → Option (List ℕ) → Option (List ℕ) → Fault → Type 0
 FailsOver limits steps answering old now before after (fault.File e) = ⊥
 FailsOver limits steps answering old now before after (fault.Refused r) = forests.IsRefused (forests.opened limits steps) r × IsUntouched old now before after
-FailsOver limits steps answering old now before after fault.Read = IsBroken limits steps answering streams.Read old now before after
-FailsOver limits steps answering old now before after fault.Write = IsBroken limits steps answering streams.Write old now before after
-FailsOver limits steps answering old now before after fault.TooLong = IsBroken limits steps answering streams.TooLong old now before after
-FailsOver limits steps answering old now before after fault.Memory = IsBroken limits steps answering streams.Memory old now before after
+FailsOver limits steps answering old now before after (fault.Stream e) = IsBroken limits steps answering e old now before after
 
 abbrev pub EndsOver : Limits → List Step → Answering → Option (List ℕ) → Option (List ℕ) → Option (List ℕ) → Option (List ℕ) → Result ⊤ Fault → Type 0
 EndsOver limits steps answering old now before after (Ok done) = IsDone limits steps answering old now before after
@@ -89,7 +85,4 @@ IsFileFault e bytes = Fails e.kind e (reading bytes) × (e.kind ≡ kind.Memory 
 abbrev pub RanInto : Option (List ℕ) → Limits → Option (List ℕ) → Option (List ℕ) → Option (List ℕ) → Option (List ℕ) → Fault → Type 0
 RanInto file limits old now before after (fault.File e) = MatchOption file ⊥ (IsFileFault e) × IsUntouched old now before after
 RanInto file limits old now before after (fault.Refused r) = FailsOpen file limits old now before after (fault.Refused r)
-RanInto file limits old now before after fault.Read = FailsOpen file limits old now before after fault.Read
-RanInto file limits old now before after fault.Write = FailsOpen file limits old now before after fault.Write
-RanInto file limits old now before after fault.TooLong = FailsOpen file limits old now before after fault.TooLong
-RanInto file limits old now before after fault.Memory = FailsOpen file limits old now before after fault.Memory
+RanInto file limits old now before after (fault.Stream e) = FailsOpen file limits old now before after (fault.Stream e)

@@ -16,18 +16,9 @@ pub enum Fault {
     /// memory for them.
     #[error("open refused {0}")]
     Refused(Refusal),
-    /// A read failed.
-    #[error("read failed")]
-    Read,
-    /// A write failed, or took no bytes.
-    #[error("write failed")]
-    Write,
-    /// The script has no end within its limits.
-    #[error("script too long")]
-    TooLong,
-    /// There was no memory to go on.
-    #[error("memory")]
-    Memory,
+    /// A stream of the script failed, or there was no memory to go on.
+    #[error("{0}")]
+    Stream(StreamFault),
 }
 
 /// A fault of the program: of reading its words or its file, of its run, or of printing the help.
@@ -45,18 +36,24 @@ pub enum ProgramFault {
     Memory,
 }
 
+impl From<Refusal> for Fault {
+    ghost use Rattle.std.specs.Prelude.{◌≡◌};
+    ghost use Rattle.towerbench.specs.declared.fault.Fault.TheVariants.{Refused};
+
+    ghost from_gives = { λ refusal fault. fault ≡ Refused refusal };
+
+    fn from(refusal: Refusal) -> Fault {
+        Fault::Refused(refusal)
+    }
+}
+
 impl From<StreamFault> for Fault {
     ghost use Rattle.std.specs.Prelude.{◌≡◌};
-    ghost use Rattle.towerbench.specs.Faults.{of_streams};
+    ghost use Rattle.towerbench.specs.declared.fault.Fault.TheVariants.{Stream};
 
-    ghost from_gives = { λ fault e. e ≡ of_streams fault };
+    ghost from_gives = { λ stream fault. fault ≡ Stream stream };
 
     fn from(fault: StreamFault) -> Fault {
-        match fault {
-            StreamFault::Read => Fault::Read,
-            StreamFault::Write => Fault::Write,
-            StreamFault::TooLong => Fault::TooLong,
-            StreamFault::Memory => Fault::Memory,
-        }
+        Fault::Stream(fault)
     }
 }

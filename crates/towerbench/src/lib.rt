@@ -5,6 +5,7 @@
 pub mod answer;
 pub mod ending;
 pub mod fault;
+pub mod opening;
 pub mod run;
 pub mod seat;
 pub mod serve;

@@ -1,20 +1,18 @@
 //! A run: the script comes from a reader, the answers go to a writer.
 
-ghost use Rattle.std.specs.Prelude.{◌≡◌, ◌<◌, Some, OnOk, IfErr};
+ghost use Rattle.std.specs.Prelude.{◌≡◌, Some, OnOk, IfErr};
 ghost use Rattle.std.specs.Option.{option_map};
-ghost use Rattle.frames.specs.Recorded.{AllFit};
-ghost use Rattle.conversation.specs.Scripts.{answers_to};
-ghost use Rattle.script.specs.Answers.{answer_line};
 ghost use Rattle.command_line.specs.Ranges.{AreLimits, limits_of};
-ghost use Rattle.towerbench.specs.Opening.{answers_on, opening, EndsOver, Ran, RanInto};
+ghost use Rattle.towerbench.specs.Opening.{answers_on, EndsOver, Ran, RanInto};
+ghost use Rattle.towerbench.specs.Openings.{CanOpen, EndsFrom};
 
 use crate::fault::Fault;
+use crate::opening::Opening;
+use crate::seat::Seat;
 use crate::serve::serve;
 use command_line::options::Options;
-use desk::Desk;
 use frames::register::{Behaves, Register};
 use frames::safe::Safe;
-use frames::types::Step;
 use std::alloc::Global;
 use std::io::{Read, Write};
 use std::sync::Wait;
@@ -46,8 +44,8 @@ pub fn run<H: Threads + Wait + Sync, R: Read, W: Write>(
         (W.contents writer.old) (W.contents writer.new)) }
 {
     let Some(bytes) = file else {
-        let none = Vec::new(alloc);
-        return begin(rt, alloc, Safe, 0, none, options, reader, writer);
+        let opening = Opening::new(Safe, 0, Vec::new(alloc), options);
+        return begin(rt, alloc, opening, reader, writer);
     };
     match parse(alloc, bytes) {
         Ok(file) => run_file(rt, alloc, file, options, reader, writer),
@@ -97,42 +95,29 @@ fn run_file<H: Threads + Wait + Sync, R: Read, W: Write>(
     let spec = file.spec();
     let steps = file.into_steps();
     match spec {
-        TowerSpec::Safe { init } => begin(rt, alloc, Safe, init, steps, options, reader, writer),
+        TowerSpec::Safe { init } => {
+            let opening = Opening::new(Safe, init, steps, options);
+            begin(rt, alloc, opening, reader, writer)
+        }
         TowerSpec::Copies { readers, init } => {
-            begin(
-                rt,
-                alloc,
-                copies(readers),
-                init,
-                steps,
-                options,
-                reader,
-                writer,
-            )
+            let opening = Opening::new(copies(readers), init, steps, options);
+            begin(rt, alloc, opening, reader, writer)
         }
         TowerSpec::Regular { readers, init } => {
-            begin(
-                rt,
-                alloc,
-                regular(readers),
-                init,
-                steps,
-                options,
-                reader,
-                writer,
-            )
+            let opening = Opening::new(regular(readers), init, steps, options);
+            begin(rt, alloc, opening, reader, writer)
         }
         TowerSpec::Unary {
             values,
             readers,
             init,
         } => {
-            let register = unary(values, readers);
-            begin(rt, alloc, register, init, steps, options, reader, writer)
+            let opening = Opening::new(unary(values, readers), init, steps, options);
+            begin(rt, alloc, opening, reader, writer)
         }
         TowerSpec::Stamped { values, last } => {
-            let register = stamped(values, last);
-            begin_stamped(rt, alloc, register, steps, options, reader, writer)
+            let opening = Opening::new(stamped(values, last), 0, steps, options);
+            begin_stamped(rt, alloc, opening, reader, writer)
         }
         TowerSpec::Matrix {
             processes,
@@ -141,82 +126,65 @@ fn run_file<H: Threads + Wait + Sync, R: Read, W: Write>(
             last_stamp,
         } => {
             let register = matrix(processes, values, last_tag, last_stamp);
-            begin_matrix(rt, alloc, register, steps, options, reader, writer)
+            let opening = Opening {
+                register,
+                value: 0,
+                steps,
+                options,
+            };
+            begin_matrix(rt, alloc, opening, reader, writer)
         }
     }
 }
 
-/// Answers a script on a stamped register at 0. It and the matrix begin in functions of their own, so that what is proved of their types is proved side by side.
+/// Answers a script on a stamped register. It and the matrix begin in functions of their own, so that what is proved of their types is proved side by side.
 fn begin_stamped<H: Threads + Wait + Sync, R: Read, W: Write>(
     rt: &H,
     alloc: Global,
-    register: StampedTower,
-    steps: Vec<Step>,
-    options: Options,
+    opening: Opening<StampedTower>,
     reader: &mut R,
     writer: &mut W,
 ) -> Result<(), Fault>
-    requires value { 0 < (⟦<StampedTower as Behaves>⟧.is register).values }
-    requires limits { AreLimits options }
-    requires fit { AllFit (⟦<StampedTower as Behaves>⟧.is register) steps.items }
-    ensures { EndsOver (limits_of options) steps.items
-        (answers_to answer_line
-        (opening (⟦<StampedTower as Behaves>⟧.is register) 0 (limits_of options) steps.items))
+    requires { CanOpen ⟦<StampedTower as Behaves>⟧.is opening }
+    ensures { EndsFrom ⟦<StampedTower as Behaves>⟧.is opening
         (R.remaining reader.old) (R.remaining reader.new)
         (W.contents writer.old) (W.contents writer.new) result }
 {
-    begin(rt, alloc, register, 0, steps, options, reader, writer)
+    begin(rt, alloc, opening, reader, writer)
 }
 
-/// Answers a script on a matrix at 0.
+/// Answers a script on a matrix.
 fn begin_matrix<H: Threads + Wait + Sync, R: Read, W: Write>(
     rt: &H,
     alloc: Global,
-    register: MatrixTower,
-    steps: Vec<Step>,
-    options: Options,
+    opening: Opening<MatrixTower>,
     reader: &mut R,
     writer: &mut W,
 ) -> Result<(), Fault>
-    requires value { 0 < (⟦<MatrixTower as Behaves>⟧.is register).values }
-    requires limits { AreLimits options }
-    requires fit { AllFit (⟦<MatrixTower as Behaves>⟧.is register) steps.items }
-    ensures { EndsOver (limits_of options) steps.items
-        (answers_to answer_line
-        (opening (⟦<MatrixTower as Behaves>⟧.is register) 0 (limits_of options) steps.items))
+    requires { CanOpen ⟦<MatrixTower as Behaves>⟧.is opening }
+    ensures { EndsFrom ⟦<MatrixTower as Behaves>⟧.is opening
         (R.remaining reader.old) (R.remaining reader.new)
         (W.contents writer.old) (W.contents writer.new) result }
 {
-    begin(rt, alloc, register, 0, steps, options, reader, writer)
+    begin(rt, alloc, opening, reader, writer)
 }
 
-/// Answers a script on a register at a value, and steps that fit it, which are let go before anything is read.
+/// Answers a script at a desk that is opened for it. The steps are let go before anything is read.
 fn begin<B: Register + Send + Sync, H: Threads + Wait + Sync, R: Read, W: Write>(
     rt: &H,
     alloc: Global,
-    register: B,
-    value: u32,
-    steps: Vec<Step>,
-    options: Options,
+    opening: Opening<B>,
     reader: &mut R,
     writer: &mut W,
 ) -> Result<(), Fault>
 where
     B::Pending: Send + Sync,
-    requires value { value < (B.is register).values }
-    requires limits { AreLimits options }
-    requires fit { AllFit (B.is register) steps.items }
-    ensures { EndsOver (limits_of options) steps.items
-        (answers_to answer_line (opening (B.is register) value (limits_of options) steps.items))
+    requires { CanOpen B.is opening }
+    ensures { EndsFrom B.is opening
         (R.remaining reader.old) (R.remaining reader.new)
         (W.contents writer.old) (W.contents writer.new) result }
 {
-    let opened = Desk::open(alloc, register, value, options.limits(), &steps);
-    drop(steps);
-    let (desk, chair) = match opened {
-        Ok(opened) => opened,
-        Err(refusal) => return Err(Fault::Refused(refusal)),
-    };
-    serve(rt, alloc, desk, chair, options.workers, reader, writer)?;
+    let seat = Seat::open(rt, alloc, opening)?;
+    serve(alloc, seat, reader, writer)?;
     Ok(())
 }

@@ -1,15 +1,15 @@
 //! A seat at a desk: where a script's lines are answered.
 
-ghost use Rattle.std.specs.Prelude.{◌≡◌, ◌≤◌, ◌⊎◌, Some, Ok, OnOk, IfOk, IfErr, Err};
-ghost use Rattle.turn.specs.Shares.{HasAll};
-ghost use Rattle.turn.specs.Chairs.{view};
+ghost use Rattle.std.specs.Prelude.{◌≡◌, ◌≤◌, ◌⊎◌, length, Some, Ok, OnOk, IfOk, IfErr, Err};
+ghost use Rattle.schedule_trie.specs.Forest.{opened, IsRefused};
 ghost use Rattle.sessions.specs.Acts.{acted};
 ghost use Rattle.sessions.specs.Looks.{looked, shown_in};
 ghost use Rattle.desk.specs.Works.{NeedsBranch};
-ghost use Rattle.desk.specs.Chairs.{IsAt};
-ghost use Rattle.desk.specs.Histories.{seen};
+ghost use Rattle.command_line.specs.Ranges.{limits_of};
+ghost use Rattle.towerbench.specs.Openings.{CanOpen, opening_world};
 ghost use Rattle.towerbench.specs.Seats.{world_at};
 
+use crate::opening::Opening;
 use desk::{Chair, Desk, Item, Journal, Report};
 use frames::register::Register;
 use schedule_trie::name::Name;
@@ -59,20 +59,32 @@ where
 }
 
 impl<'a, R: Register, W> Seat<'a, R, W> {
-    /// The seat of a chair at its desk, with so many thieves for its fills.
-    pub fn new(rt: &'a W, desk: Desk<R>, chair: Chair<R>, thieves: u32) -> Seat<'a, R, W>
-        requires at { IsAt R.is desk chair }
-        requires whole { HasAll (view chair).shares }
-        requires thieves { thieves ≤ 4 }
-        ensures { result ≡ record { first = desk.first.value; seen = seen (view chair) } }
+    /// Opens a desk, and takes the seat of its one chair. The steps are let go.
+    ///
+    /// # Errors
+    ///
+    /// Full where there are more steps than cells may be made; Memory.
+    pub fn open(rt: &'a W, alloc: Global, opening: Opening<R>) -> Result<Seat<'a, R, W>, Refusal>
+        requires { CanOpen R.is opening }
+        ensures opens { IfOk result (λ seat. world_at R.is seat ≡ opening_world R.is opening) }
+        ensures room { OnOk result (length opening.steps.items ≤ opening.options.cells) }
+        ensures err { let limits = limits_of opening.options in
+            IfErr result (IsRefused (opened limits opening.steps.items)) }
     {
-        Seat {
+        let Opening {
+            register,
+            value,
+            steps,
+            options,
+        } = opening;
+        let (desk, chair) = Desk::open(alloc, register, value, options.limits(), &steps)?;
+        Ok(Seat {
             rt,
             desk,
             chair,
-            thieves,
+            thieves: options.workers,
             lens: None,
-        }
+        })
     }
 }
 

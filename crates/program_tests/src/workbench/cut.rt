@@ -3,6 +3,7 @@
 ghost use Rattle.command_line.specs.Ranges.{AreLimits};
 
 use command_line::options::Options;
+use conversation::fault::StreamFault;
 use std::alloc::{AllocError, Global};
 use std::io;
 use std::io::{ErrorKind, Read, Write};
@@ -168,7 +169,7 @@ fn a_read_fails_behind_each_byte(rt: HostRuntime) -> Result<(), Fail> {
         for count in 0..=script.len() {
             let (told, taken) = ended(&rt, rt.alloc(), &script[..count], way);
             let answers = answers_within(rt.alloc(), count)?;
-            assert_eq!(rt; told, Some(Fault::Read), "{count}");
+            assert_eq!(rt; told, Some(Fault::Stream(StreamFault::Read)), "{count}");
             assert!(rt; taken == answers, "{count}");
         }
     }
@@ -191,7 +192,7 @@ fn a_write_fails_behind_each_byte(rt: HostRuntime) -> Result<(), Fail> {
             };
             let (told, taken) = ended(&rt, rt.alloc(), &script, way);
             let fault = if room < answers.len() {
-                Some(Fault::Write)
+                Some(Fault::Stream(StreamFault::Write))
             } else {
                 None
             };

@@ -1,5 +1,6 @@
 //! The texts of faults.
 
+use conversation::fault::StreamFault;
 use schedule_trie::refusal::Refusal;
 use std::test::Fail;
 use tower_file::{FaultKind, FileFault};
@@ -22,7 +23,10 @@ fn memory_told(rt: HostRuntime) -> Result<(), Fail> {
             ProgramFault::Run(Fault::Refused(Refusal::Memory)),
             "open refused 40 Memory",
         ),
-        (ProgramFault::Run(Fault::Memory), "memory"),
+        (
+            ProgramFault::Run(Fault::Stream(StreamFault::Memory)),
+            "memory",
+        ),
         (ProgramFault::Memory, "memory"),
         (ProgramFault::Help, "write failed"),
     ] {

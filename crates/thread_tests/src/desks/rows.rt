@@ -94,7 +94,13 @@ fn chairs_out(rt: HostRuntime) -> Result<(), Fail> {
     let chairs = log.entries().iter().map(|entry| entry.chair);
     assert!(rt; chairs.eq([0, 1]));
     let (desk, mut chair) = opened(rt.alloc(), 1)?;
-    let joined = bring(&rt, rt.alloc(), &desk, &mut chair, (0, None, &Command::Join));
+    let joined = bring(
+        &rt,
+        rt.alloc(),
+        &desk,
+        &mut chair,
+        (0, None, &Command::Join),
+    );
     assert!(rt;
         joined
             == Receipt {
@@ -102,7 +108,13 @@ fn chairs_out(rt: HostRuntime) -> Result<(), Fail> {
                 reply: Reply::Joined
             }
     );
-    let full = bring(&rt, rt.alloc(), &desk, &mut chair, (0, None, &Command::Join));
+    let full = bring(
+        &rt,
+        rt.alloc(),
+        &desk,
+        &mut chair,
+        (0, None, &Command::Join),
+    );
     assert!(rt;
         full == Receipt {
             at: 1,

@@ -34,7 +34,13 @@ pub(super) fn insert_all<R: Abort + Wait>(
 {
     let mut all = true;
     for place in 0..count {
-        let receipt = bring(rt, alloc, desk, &mut chair, (0, None, &insert_at(rt, place)));
+        let receipt = bring(
+            rt,
+            alloc,
+            desk,
+            &mut chair,
+            (0, None, &insert_at(rt, place)),
+        );
         all &= matches!(receipt.reply, Reply::Edited(_));
     }
     (chair, all)
@@ -150,7 +156,14 @@ fn round<R: Abort + Wait>(
     let news = asked(desk, &mut other);
     let seen = looked(rt, alloc, desk, chair, lens);
     let later = asked(desk, chair);
-    let guarded = bring(rt, alloc, desk, chair, (who, Some(later), &insert_at(rt, 1))).at;
+    let guarded = bring(
+        rt,
+        alloc,
+        desk,
+        chair,
+        (who, Some(later), &insert_at(rt, 1)),
+    )
+    .at;
     take_in(desk, chair, other);
     edited <= news && seen <= later && later <= guarded
 }

@@ -1,15 +1,12 @@
-use Rattle.std.proofs.Common.{refl, List, [], ap, subst, ◌∙◌}
+use Rattle.std.proofs.Common.{refl, [], ap, ◌∙◌}
 use Rattle.std.specs.Option.{option_map}
 use Rattle.tower_file.specs.declared.tower.TowerSpec.TheVariants.{Safe}
 use Rattle.tower_file.specs.declared.version.Version.TheVariants.{One}
 use Rattle.tower_file.specs.Files.{file_of}
 use Rattle.command_line.specs.Ranges.{limits_of}
-use Rattle.frames.specs.declared.types.Step.{Step}
 use Rattle.frames.specs.SafeBit.{safe_behaviour}
-use Rattle.conversation.specs.Scripts.{answers_to}
-use Rattle.script.specs.Answers.{answer_line}
-use Rattle.towerbench.specs.Opening.{opening, opened, answers_on, EndsOver}
-use Rattle.towerbench.proofs.Opened.{with_file}
+use Rattle.towerbench.specs.Opening.{opened}
+use Rattle.towerbench.proofs.Opened.{as_given, with_file}
 use Rattle.towerbench.proofs.run.run.Goals as goal
 
 pub returns-in_default : goal.returns-in_default
@@ -20,8 +17,9 @@ returns-in_default g c =
     let after = g.W.Write.contents c.begin.new.writer in
     with_file old now before after (option_map (λ bytes. bytes.now) c.args.file) (limits_of c.args.options) (file_of One (Safe 0) [])
     (ap (λ file. opened (option_map (λ bytes. bytes.now) file)) c.in_default.is) c.begin.result
-    (subst (λ (steps : List Step). EndsOver (limits_of c.args.options) steps (answers_to answer_line (opening safe_behaviour 0 (limits_of c.args.options) steps)) old now before after c.begin.result) c.new-none.ensures.items
-    c.begin.ensures)
+    (let o = c.new-opening.result in
+    as_given old now before after c.begin.result (limits_of o.options) (limits_of c.args.options) o.value 0 _ safe_behaviour o.steps.items []
+    (ap limits_of c.new-opening.ensures.options) c.new-opening.ensures.value refl (rw c.new-opening.ensures.steps c.new.ensures.items) c.begin.ensures)
 
 pub returns-in-Ok : goal.returns-in-Ok
 returns-in-Ok g c =
