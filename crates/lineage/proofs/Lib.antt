@@ -14,5 +14,6 @@ pub mod Same
 pub mod Alone
 pub mod Chains
 pub mod Exchanges
+pub mod ForksAbove
 pub mod Past
 pub mod Skips

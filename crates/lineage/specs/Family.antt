@@ -50,6 +50,10 @@ abbrev pub keys_without : ℕ → List ℕ → List ℕ
 keys_without key keys = filter (other_key key) keys
 
 module _ {X : Type 0} where
+  -- a key has another item
+  abbrev pub with_item : Family X → ℕ → X → Family X
+  with_item f key item = record f { items = slice_set f.items key (Some item) }
+
   -- a new key has an item, and each other key what it had
   pub record IsAdded (old new : Family X) (key : ℕ) (item : X) : Type 0 where
     pub was_vacant : item_at old key ≡ None
@@ -67,6 +71,13 @@ module _ {X : Type 0} where
     pub last : last_of path ≡ key
     pub shared : (k i : ℕ) (front back : List ℕ) → key ≡ Some k → path_in old i ≡ front ++ k ∷ back → path ≡ front ++ k ∷ []
     pub items : KeepsItems old new
+
+  -- a new key comes right above a key in each path, and a path that ends with it goes last
+  pub record IsForkedAbove (old new : Family X) (key fresh : ℕ) (item : X) : Type 0 where
+    pub path : List ℕ
+    pub paths : new.paths ≡ map (divided_keys key fresh) old.paths ++ path ∷ []
+    pub shared : (i : ℕ) (front back : List ℕ) → path_in old i ≡ front ++ key ∷ back → path ≡ front ++ fresh ∷ []
+    pub added : IsAdded old new fresh item
 
   -- what no path has any more is gone, and all else is as it was
   pub record IsReleased (old new : Family X) : Type 0 where

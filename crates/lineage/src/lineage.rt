@@ -40,6 +40,10 @@ impl<X> Model for Lineage<X> {
 }
 
 impl<X: Drop> Lineage<X> {
+    ghost use Rattle.std.specs.Borrow.{Lends, sem};
+    ghost use Rattle.lineage.specs.contracts.lineage.Lineage.{the_row};
+    ghost use Rattle.lineage.specs.Family.{with_item};
+
     /// No path and no item. It takes no memory.
     pub fn new(alloc: Global) -> Lineage<X>
         ensures items { result.items ≡ [] }
@@ -81,6 +85,17 @@ impl<X: Drop> Lineage<X> {
         ensures paths { self.new.paths ≡ self.old.paths }
     {
         mem::replace(&mut self.nodes[key].item, item)
+    }
+
+    /// The item at a key, for writing.
+    pub fn item_mut(&mut self, key: Key) -> &mut X
+        requires { IsSome (item_at self.old key) }
+        ensures* writes_back { sem 𝓛
+            (Lends (the_row X.row) X.row self.entry result (with_item self.old key)) }
+        ensures value { item_at self.old key ≡ Some result.now }
+    {
+        let node = &mut self.nodes[key];
+        &mut node.item
     }
 
     /// Whether no other path has the last item of the path at an index; not so where that has no item.

@@ -30,7 +30,7 @@ impl<X: Drop> Lineage<X> {
 }
 
 /// Puts a new item right above a key. Its key.
-fn put_above<X>(nodes: &mut Slab<Node<X>>, key: Key, item: X) -> Key
+pub(super) fn put_above<X>(nodes: &mut Slab<Node<X>>, key: Key, item: X) -> Key
     requires room { HasRoomFor nodes.old 1 }
     requires there { ContainsKey nodes.old key }
     ensures vacant { get nodes.old result ≡ None }

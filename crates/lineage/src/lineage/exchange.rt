@@ -32,7 +32,7 @@ impl<X: Drop> Lineage<X> {
 }
 
 /// Makes room for one more path of so many new nodes.
-fn reserve_path<X>(
+pub(super) fn reserve_path<X>(
     nodes: &mut Slab<Node<X>>,
     tips: &mut Vec<Option<Key>>,
     count: usize,

@@ -1,10 +1,12 @@
 //! A new path that shares the beginning of others.
 
-ghost use Rattle.std.specs.Prelude.{◌≡◌, ◌<◌, ◌+◌, ◌^◌, ◌++◌, ◌∷◌, [], ℕ, length, Some, None, IfSome, IsSome, OnOk, OnErr, vec_capacity};
+ghost use Rattle.std.specs.Prelude.{◌≡◌, ◌<◌, ◌+◌, ◌^◌, ◌++◌, ◌∷◌, [], ℕ, length, Some, None, IfSome, IsSome, IfOk, OnOk, OnErr, vec_capacity};
 ghost use Rattle.slab.specs.Slab.{get, slab_len, ContainsKey};
-ghost use Rattle.lineage.specs.Family.{IsForked, item_at};
+ghost use Rattle.lineage.specs.Family.{IsForked, IsForkedAbove, item_at};
 ghost use Rattle.lineage.specs.Held.{is_key, with_holder};
 
+use super::divide::put_above;
+use super::exchange::reserve_path;
 use super::{Key, Lineage};
 use crate::node::Node;
 use slab::Slab;
@@ -26,6 +28,24 @@ impl<X: Drop> Lineage<X> {
         hold(&mut self.nodes, key);
         self.tips.push_reserved(key);
         Ok(())
+    }
+
+    /// Puts a new item right above a key, in each path that has it, and a new path last that ends with the new one. Its key. It
+    /// looks at no path.
+    ///
+    /// # Errors
+    ///
+    /// Where there is no memory for them. Then nothing is changed, and the item is dropped.
+    pub fn fork_above(&mut self, key: Key, item: X) -> Result<Key, AllocError>
+        requires { IsSome (item_at self.old key) }
+        ensures ok { IfOk result (λ fresh. IsForkedAbove self.old self.new key fresh item) }
+        ensures err { OnErr result (self.new ≡ self.old) }
+    {
+        reserve_path(&mut self.nodes, &mut self.tips, 1)?;
+        let fresh = put_above(&mut self.nodes, key, item);
+        hold(&mut self.nodes, Some(fresh));
+        self.tips.push_reserved(Some(fresh));
+        Ok(fresh)
     }
 }
 

@@ -1,0 +1,73 @@
+-- A new path that ends with a new key right above another.
+use Rattle.std.proofs.Common.{◌≡◌, ◌≢◌, ℕ, zero, suc, ◌+◌, ◌<◌, ◌^◌, Bool, true, false, ◌||◌, nat_eq, cond, List, [], ◌∷◌, ◌++◌, length, map, reverse, get_or, Option, Some, None, refl, sym, ◌∙◌, ap, subst, arith, true≢false, eq-eqb}
+use Rattle.std.specs.Prelude.{is_some, IsSome}
+use Rattle.std.specs.List.{count_by}
+use Rattle.std.proofs.lemmas.List.Concat.{flat_map-append}
+use Rattle.lineage.specs.declared.node.Node.{Node}
+use Rattle.lineage.specs.Family.{has, path_in, item_at, above_key, divided_keys, IsForkedAbove}
+use Rattle.lineage.specs.Held.{is_key, node_at, item_in, over, under, with_holder, family_on, IsSound}
+use Rattle.lineage.proofs.Once.{has-reverse}
+use Rattle.lineage.proofs.Climbs.{not_again}
+use Rattle.lineage.proofs.Walks.{climb_at, item_is}
+use Rattle.lineage.proofs.Divisions.{divided_sound, divided_paths, divided_added}
+use Rattle.lineage.proofs.Forks.{forked, forked_sound, few_holders}
+
+module _ (key fresh : ℕ) where
+  -- keys without the key are not divided
+  divided-other : (ks : List ℕ) → has key ks ≡ false → divided_keys key fresh ks ≡ ks
+  divided-other [] h = refl
+  divided-other (k ∷ ks) h = by (nat_eq key k) refl (divided-other ks)
+    where
+      by : (b : Bool) → nat_eq key k ≡ b → (has key ks ≡ false → divided_keys key fresh ks ≡ ks) → divided_keys key fresh (k ∷ ks) ≡ k ∷ ks
+      by true e rest = absurd (true≢false (sym (ap (λ c. c || has key ks) e) ∙ h))
+      by false e rest =
+          ap (λ c. cond c (fresh ∷ k ∷ []) (k ∷ []) ++ divided_keys key fresh ks) e
+          ∙ ap (λ l. k ∷ l) (rest (sym (ap (λ c. c || has key ks) e) ∙ h))
+
+  divided-here : (front back : List ℕ) → has key front ≡ false → divided_keys key fresh (front ++ key ∷ back) ≡ front ++ fresh ∷ key ∷ divided_keys key fresh back
+  divided-here front back h =
+      flat_map-append (above_key key fresh) front (key ∷ back)
+      ∙ ap (λ l. l ++ divided_keys key fresh (key ∷ back)) (divided-other front h)
+      ∙ ap (λ c. front ++ (cond c (fresh ∷ key ∷ []) (key ∷ []) ++ divided_keys key fresh back)) (eq-eqb key key refl)
+
+  pub divided-get : (paths : List (List ℕ)) (i : ℕ) → get_or (map (divided_keys key fresh) paths) i [] ≡ divided_keys key fresh (get_or paths i [])
+  divided-get [] i = refl
+  divided-get (p ∷ ps) zero = refl
+  divided-get (p ∷ ps) (suc i) = divided-get ps i
+
+module _ {X : Type 0} (s t u : List (Option (Node X))) (tips new : List (Option ℕ)) (key fresh : ℕ) (item : X) (n : Node X) (sound : IsSound s tips)
+    (there : node_at s key ≡ Some n) (vacant : node_at s fresh ≡ None) (at_fresh : node_at t fresh ≡ over item (node_at s key))
+    (below : node_at t key ≡ under fresh (node_at s key)) (others : (k : ℕ) → k ≢ key → k ≢ fresh → node_at t k ≡ node_at s k)
+    (more : count_by is_some t ≡ count_by is_some s + 1) (room : length tips + 1 + (count_by is_some s + 1) < 2 ^ 64) where
+  pub mid_sound : IsSound t tips
+  mid_sound = divided_sound s t tips key fresh item n sound there vacant at_fresh below others more (omega arith)
+
+  pub mid_there : IsSome (node_at t fresh)
+  mid_there = subst IsSome (sym (at_fresh ∙ ap (over item) there)) refl
+
+  mid_item : IsSome (item_at (family_on t tips) fresh)
+  mid_item = subst IsSome (sym (item_is t tips fresh ∙ ap item_in (at_fresh ∙ ap (over item) there))) refl
+
+  pub mid_few : (k : ℕ) (m : Node X) → node_at t k ≡ Some m → m.holders + 1 < 2 ^ 64
+  mid_few k m e = few_holders t tips k m mid_sound e (omega (arith, more))
+
+  module _ (now : (k : ℕ) → node_at u k ≡ with_holder (is_key k (Some fresh)) (node_at t k)) (tips_are : new ≡ tips ++ Some fresh ∷ []) where
+    pub above_sound : count_by is_some u ≡ count_by is_some t → IsSound u new
+    above_sound len = forked_sound t u tips new (Some fresh) mid_sound mid_item now tips_are len (omega (arith, more))
+
+    pub forked_above : IsForkedAbove (family_on s tips) (family_on u new) key fresh item
+    forked_above =
+        let f = forked t u tips new (Some fresh) mid_sound mid_item now tips_are in
+        let a = divided_added s t tips key fresh item n sound there vacant at_fresh below others in
+        let ps = divided_paths s t tips key fresh item n sound there vacant at_fresh below others in
+        record {
+          path = f.path;
+          paths = f.paths ∙ ap (λ l. l ++ f.path ∷ []) ps;
+          shared = λ i front back e.
+              let once : has key front ≡ false = sym (has-reverse key front) ∙ not_again _ key (reverse front) (climb_at s tips i key front back sound e) in
+              f.shared fresh i front (key ∷ divided_keys key fresh back) refl (in_mid i ps ∙ ap (divided_keys key fresh) e ∙ divided-here key fresh front back once);
+          added = record { was_vacant = a.was_vacant; here = f.items fresh ∙ a.here; others = λ k ne. f.items k ∙ a.others k ne };
+        }
+      where
+        in_mid : (i : ℕ) → (family_on t tips).paths ≡ map (divided_keys key fresh) (family_on s tips).paths → path_in (family_on t tips) i ≡ divided_keys key fresh (path_in (family_on s tips) i)
+        in_mid i ps = ap (λ l. get_or l i []) ps ∙ divided-get key fresh (family_on s tips).paths i
