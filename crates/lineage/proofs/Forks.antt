@@ -1,5 +1,5 @@
 -- A new path that ends with a key.
-use Rattle.std.proofs.Common.{◌≡◌, ℕ, ◌+◌, ◌<◌, ◌^◌, Bool, true, false, List, [], ◌∷◌, ◌++◌, length, map, reverse, Option, Some, None, refl, sym, ◌∙◌, ap, subst, arith}
+use Rattle.std.proofs.Common.{◌≡◌, ℕ, zero, suc, ◌+◌, ◌<◌, ◌^◌, Bool, true, false, List, [], ◌∷◌, ◌++◌, length, map, reverse, Option, Some, None, refl, sym, ◌∙◌, ap, subst, arith}
 use Rattle.std.specs.Prelude.{is_some, IsSome, IfSome}
 use Rattle.std.specs.List.{count_by}
 use Rattle.std.proofs.lemmas.List.{get_or_append_left, map_push, reverse-reverse, length_push}
@@ -40,6 +40,12 @@ module _ {X : Type 0} where
       let same : m ≡ n = cc in
       let none : m.holders ≡ m.holders + 0 = omega arith in
       (m, (refl, sym (ap (λ (z : Node X). z.holders) same) ∙ none))
+
+  same_items : (s t : List (Option (Node X))) → length t ≡ length s → ((k : ℕ) → item_in (node_at t k) ≡ item_in (node_at s k)) → map item_in t ≡ map item_in s
+  same_items [] [] e h = refl
+  same_items [] (n ∷ t) e h = absurd (omega arith)
+  same_items (m ∷ s) [] e h = absurd (omega arith)
+  same_items (m ∷ s) (n ∷ t) e h = λ i. h zero i ∷ same_items s t (omega arith) (λ k. h (suc k)) i
 
   pub some_node : (o : Option (Node X)) → IsSome (item_in o) → (n : Node X) × (o ≡ Some n)
   some_node None h = absurd (cc)
@@ -107,15 +113,18 @@ module _ {X : Type 0} where
         ap (path_to s) is ∙ path_to_is s (Some k) (k ∷ reverse front) (climb_at s tips i k front back sound e)
         ∙ reverse_cons k (reverse front) ∙ ap (λ l. l ++ k ∷ []) (reverse-reverse front)
 
-    pub forked : IsForked (family_on s tips) (family_on t new) key
-    forked = record {
+    same_item : (k : ℕ) → item_in (node_at t k) ≡ item_in (node_at s k)
+    same_item k = ap item_in (now k) ∙ held_item (is_key k key) (node_at s k)
+
+    pub forked : length t ≡ length s → IsForked (family_on s tips) (family_on t new) key
+    forked long = record {
       path = path_to s key;
       paths = ap (map (path_to t)) tips_are ∙ map_push (path_to t) tips key
           ∙ ap (λ l. l ++ path_to t key ∷ []) (map_same (path_to t) (path_to s) tips (λ i. over_path s t keeps (tip_at tips i) (sound.ends i)))
           ∙ ap (λ p. map (path_to s) tips ++ p ∷ []) (over_path s t keeps key ends_key);
       last = ap last_of (path_to_is s key ends_key.up ends_key.is) ∙ climb_top (above_of s) key ends_key.up ends_key.is;
       shared = shared_path;
-      items = λ k. item_is t new k ∙ ap item_in (now k) ∙ held_item (is_key k key) (node_at s k) ∙ sym (item_is s tips k);
+      items = same_items s t long same_item;
     }
 
   -- no key has more that stands on it than can be counted

@@ -14,7 +14,7 @@ use Rattle.lineage.proofs.Forks.{forked, forked_sound, few_holders}
 
 module _ (key fresh : ℕ) where
   -- keys without the key are not divided
-  divided-other : (ks : List ℕ) → has key ks ≡ false → divided_keys key fresh ks ≡ ks
+  pub divided-other : (ks : List ℕ) → has key ks ≡ false → divided_keys key fresh ks ≡ ks
   divided-other [] h = refl
   divided-other (k ∷ ks) h = by (nat_eq key k) refl (divided-other ks)
     where
@@ -24,7 +24,7 @@ module _ (key fresh : ℕ) where
           ap (λ c. cond c (fresh ∷ k ∷ []) (k ∷ []) ++ divided_keys key fresh ks) e
           ∙ ap (λ l. k ∷ l) (rest (sym (ap (λ c. c || has key ks) e) ∙ h))
 
-  divided-here : (front back : List ℕ) → has key front ≡ false → divided_keys key fresh (front ++ key ∷ back) ≡ front ++ fresh ∷ key ∷ divided_keys key fresh back
+  pub divided-here : (front back : List ℕ) → has key front ≡ false → divided_keys key fresh (front ++ key ∷ back) ≡ front ++ fresh ∷ key ∷ divided_keys key fresh back
   divided-here front back h =
       flat_map-append (above_key key fresh) front (key ∷ back)
       ∙ ap (λ l. l ++ divided_keys key fresh (key ∷ back)) (divided-other front h)
@@ -55,9 +55,9 @@ module _ {X : Type 0} (s t u : List (Option (Node X))) (tips new : List (Option 
     pub above_sound : count_by is_some u ≡ count_by is_some t → IsSound u new
     above_sound len = forked_sound t u tips new (Some fresh) mid_sound mid_item now tips_are len (omega (arith, more))
 
-    pub forked_above : IsForkedAbove (family_on s tips) (family_on u new) key fresh item
-    forked_above =
-        let f = forked t u tips new (Some fresh) mid_sound mid_item now tips_are in
+    pub forked_above : length u ≡ length t → IsForkedAbove (family_on s tips) (family_on u new) key fresh item
+    forked_above long =
+        let f = forked t u tips new (Some fresh) mid_sound mid_item now tips_are long in
         let a = divided_added s t tips key fresh item n sound there vacant at_fresh below others in
         let ps = divided_paths s t tips key fresh item n sound there vacant at_fresh below others in
         record {
@@ -66,7 +66,7 @@ module _ {X : Type 0} (s t u : List (Option (Node X))) (tips new : List (Option 
           shared = λ i front back e.
               let once : has key front ≡ false = sym (has-reverse key front) ∙ not_again _ key (reverse front) (climb_at s tips i key front back sound e) in
               f.shared fresh i front (key ∷ divided_keys key fresh back) refl (in_mid i ps ∙ ap (divided_keys key fresh) e ∙ divided-here key fresh front back once);
-          added = record { was_vacant = a.was_vacant; here = f.items fresh ∙ a.here; others = λ k ne. f.items k ∙ a.others k ne };
+          added = record { was_vacant = a.was_vacant; here = ap (λ l. get_or l fresh None) f.items ∙ a.here; others = λ k ne. ap (λ l. get_or l k None) f.items ∙ a.others k ne };
         }
       where
         in_mid : (i : ℕ) → (family_on t tips).paths ≡ map (divided_keys key fresh) (family_on s tips).paths → path_in (family_on t tips) i ≡ divided_keys key fresh (path_in (family_on s tips) i)

@@ -60,17 +60,13 @@ module _ {X : Type 0} where
     pub here : item_at new key ≡ Some item
     pub others : (k : ℕ) → k ≢ key → item_at new k ≡ item_at old k
 
-  -- each key has what it had
-  abbrev pub KeepsItems : Family X → Family X → Type 0
-  KeepsItems old new = (k : ℕ) → item_at new k ≡ item_at old k
-
   -- a path goes last: that of a key, which has the keys of each path down to it; or, with no key, one with no item
   pub record IsForked (old new : Family X) (key : Option ℕ) : Type 0 where
     pub path : List ℕ
     pub paths : new.paths ≡ old.paths ++ path ∷ []
     pub last : last_of path ≡ key
     pub shared : (k i : ℕ) (front back : List ℕ) → key ≡ Some k → path_in old i ≡ front ++ k ∷ back → path ≡ front ++ k ∷ []
-    pub items : KeepsItems old new
+    pub items : new.items ≡ old.items
 
   -- a new key comes right above a key in each path, and a path that ends with it goes last
   pub record IsForkedAbove (old new : Family X) (key fresh : ℕ) (item : X) : Type 0 where

@@ -7,8 +7,8 @@ use Rattle.indexmap.specs.IndexMap.{IsUnique}
 use Rattle.schedule_trie.specs.declared.trie.Trie.TheInside.{Inside}
 use Rattle.schedule_trie.specs.Forest.{name_of, AreNamedApart}
 use Rattle.schedule_trie.specs.Cut.{forest, piece_at}
-use Rattle.schedule_trie.specs.Held.{cut_of}
-use Rattle.schedule_trie.proofs.Lines.{names_on}
+use Rattle.schedule_trie.specs.Held.{names_of, cut_of}
+use Rattle.schedule_trie.proofs.Strands.{names_on}
 
 -- a name differs from all those that it is distinct from
 differs : (name other : List ℕ) (names : List (List ℕ)) (i : ℕ) → AllByRecursion (λ n. pointwise nat_eq name n ≡ false) names → slice_get names i ≡ Some other
@@ -45,4 +45,4 @@ named_apart names apart i = by (slice_get names i) refl
 
 pub branches_apart : {T : Type 0} (t : Inside T) → IsUnique (pointwise nat_eq) t.branches → AreNamedApart (forest (cut_of t)).branches
 branches_apart t unique =
-    named_apart (map name_of (forest (cut_of t)).branches) (subst (IsDistinct (pointwise nat_eq)) (sym (names_on (piece_at (cut_of t).pieces) t.branches.entries)) unique)
+    named_apart (map name_of (forest (cut_of t)).branches) (subst (IsDistinct (pointwise nat_eq)) (sym (names_on (piece_at (cut_of t).pieces) (names_of t) t.segments.paths)) unique)

@@ -116,13 +116,6 @@ module _ {T : Type 0} (at new : ℕ → Option (Piece T)) (strands : List Strand
       by true e = subst (Linked above_now None) (sym (ap (keys_in (set_keys strands index keys)) (eqb-true i index e) ∙ keys_in-set_same strands index keys inside)) linked_new
       by false e = subst (Linked above_now None) (sym (keys_in-set_other strands index i keys (not_equal i index e))) (linked_old i)
 
-  pub shares_both : SharesAbove (strand [] (keys_in strands index) ∷ set_keys strands index keys)
-  shares_both = record { above = above_now; linked = linked }
-    where
-      linked : (i : ℕ) → Linked above_now None (keys_in (strand [] (keys_in strands index) ∷ set_keys strands index keys) i)
-      linked zero = linked_old index
-      linked (suc i) = linked_now i
-
   held_now : (i k : ℕ) → has k (keys_in (set_keys strands index keys) i) ≡ true → IsSome (new k)
   held_now i k h = by (nat_eq i index) refl
     where
@@ -133,24 +126,11 @@ module _ {T : Type 0} (at new : ℕ → Option (Piece T)) (strands : List Strand
           let was : has k (keys_in strands i) ≡ true = subst (λ l. has k l ≡ true) (keys_in-set_other strands index i keys (not_equal i index e)) h in
           subst IsSome (sym (held_kept i k was)) (sound.held i k was)
 
-  live_now : (k : ℕ) → IsSome (new k) → (has k (keys_in strands index) ≡ true) ⊎ ((i : ℕ) × (has k (keys_in (set_keys strands index keys) i) ≡ true))
-  live_now k h = by (has k keys) refl
-    where
-      old_live : (i : ℕ) → has k (keys_in strands i) ≡ true → (b : Bool) → nat_eq i index ≡ b
-          → (has k (keys_in strands index) ≡ true) ⊎ ((j : ℕ) × (has k (keys_in (set_keys strands index keys) j) ≡ true))
-      old_live i g true e = inl (subst (λ n. has k (keys_in strands n) ≡ true) (eqb-true i index e) g)
-      old_live i g false e = inr (i, subst (λ l. has k l ≡ true) (sym (keys_in-set_other strands index i keys (not_equal i index e))) g)
-
-      by : (b : Bool) → has k keys ≡ b → (has k (keys_in strands index) ≡ true) ⊎ ((i : ℕ) × (has k (keys_in (set_keys strands index keys) i) ≡ true))
-      by true e = inr (index, subst (λ l. has k l ≡ true) (sym (keys_in-set_same strands index keys inside)) e)
-      by false e = let p = sound.live k (subst IsSome (others k e) h) in old_live p.0 p.1 (nat_eq p.0 index) refl
-
-  pub sound_beside : IsSoundBut new (set_keys strands index keys) (keys_in strands index) more
+  pub sound_beside : IsSoundBut new (set_keys strands index keys) more
   sound_beside = record {
     held = held_now;
     segments = segments;
     apart = new_apart;
-    live = live_now;
     shares = record { above = above_now; linked = linked_now };
   }
 

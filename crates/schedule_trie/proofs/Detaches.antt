@@ -1,106 +1,153 @@
 -- A branch is detached, by what the fields become.
-use Rattle.std.proofs.Common.{◌≡◌, ℕ, ◌+◌, ◌<◌, ◌≤◌, true, false, List, [], ◌∷◌, length, map, Option, Some, None, slice_get, refl, sym, ap, subst, ◌∙◌}
-use Rattle.std.specs.Global.{Vec}
-use Rattle.std.proofs.Math.ListN.{get_or-map}
-use Rattle.slab.specs.Slab.{Slab, get}
-use Rattle.indexmap.specs.IndexMap.{values, with_value_at}
+use Rattle.std.proofs.Common.{◌≡◌, ℕ, zero, suc, ◌+◌, ◌<◌, ◌≤◌, Bool, true, false, cond, List, [], ◌∷◌, ◌++◌, length, map, set, get_or, Option, Some, None, refl, sym, ap, subst, ◌∙◌, true≢false}
+use Rattle.std.proofs.lemmas.List.{length-set, get_or-set_same}
+use Rattle.lineage.specs.Family.{Family, item_at, path_in, Stands, IsExchanged, IsFamily}
+use Rattle.lineage.proofs.Once.{stands}
 use Rattle.schedule_trie.specs.declared.segment.Segment.{Segment}
 use Rattle.schedule_trie.specs.declared.trie.Trie.TheInside.{Inside}
 use Rattle.schedule_trie.specs.Forest.{slots_in}
-use Rattle.schedule_trie.specs.Cut.{Piece, strand, piece_at, forest, line, keys_in, set_keys, has, SharesAbove, IsSound, branches_on}
-use Rattle.schedule_trie.specs.Held.{piece_of, pieces_of, strand_of, cut_of, IsHeld}
-use Rattle.schedule_trie.specs.Releases.{IsReleased}
-use Rattle.schedule_trie.specs.Copies.{AreCopies, ArePut, IsDetached}
+use Rattle.schedule_trie.specs.Cut.{Piece, piece_at, forest, line, keys_in, set_keys, has, Once, IsSound, branches_on}
+use Rattle.schedule_trie.specs.Held.{piece_of, strands_of, names_of, cut_of, IsHeld}
+use Rattle.schedule_trie.specs.Copies.{AreCopies, IsDetached}
+use Rattle.schedule_trie.proofs.Once.{has_not_from, has-head, has-tail}
 use Rattle.schedule_trie.proofs.Lines.{slots_in_on}
-use Rattle.schedule_trie.proofs.StepSet.{cut_from_sound}
+use Rattle.schedule_trie.proofs.StepSet.{piece_seen, cut_from_sound}
 use Rattle.schedule_trie.proofs.Whole.{length-set_keys}
-use Rattle.schedule_trie.proofs.PushFresh.{strands_set, keys_value}
-use Rattle.schedule_trie.proofs.Released.{IsSoundBut, pieces_released, released_sound, released_branches, released_notes}
-use Rattle.schedule_trie.proofs.Renumbered.{AreCopied, copied_from}
-use Rattle.schedule_trie.proofs.Beside.{old_kept, new_notes, new_apart, shares_both, sound_beside, only_renumbered}
+use Rattle.schedule_trie.proofs.Strands.{keys_in-of, length-strands, strands-set}
+use Rattle.schedule_trie.proofs.Released.{IsReleased, IsSoundBut, released_sound, released_branches, released_notes}
+use Rattle.schedule_trie.proofs.Renumbered.{AreCopied, HaveValues, copied_from}
+use Rattle.schedule_trie.proofs.Beside.{old_kept, new_notes, new_apart, sound_beside, only_renumbered}
 
-module _ {T : Type 0} (t : Inside T) (mid : Slab (Segment T)) (index len : ℕ) (copies : List (Segment T)) (v w : Vec ℕ) (held : IsHeld t)
-    (value : slice_get (values t.branches) index ≡ Some v) (inside : index < length (cut_of t).strands)
+-- a list in which what comes before a key is one list has each key once
+once_from : (keys : List ℕ) → ((k : ℕ) (front back front2 back2 : List ℕ) → keys ≡ front ++ k ∷ back → keys ≡ front2 ++ k ∷ back2 → front ≡ front2) → Once keys
+once_from [] h = tt
+once_from (x ∷ xs) h = (
+  has_not_from x xs (λ g.
+      let s : Stands xs x = stands x xs g in
+      let no : [] ≡ x ∷ s.front = h x [] xs (x ∷ s.front) s.back refl (ap (λ l. x ∷ l) s.is) in
+      cc),
+  once_from xs (λ k front back front2 back2 e f.
+      let same : x ∷ front ≡ x ∷ front2 = h k (x ∷ front) back (x ∷ front2) back2 (ap (λ l. x ∷ l) e) (ap (λ l. x ∷ l) f) in
+      cc),
+)
+
+-- values by what each key has
+have_values : {X : Type 0} (at : ℕ → Option X) (keys : List ℕ) (xs : List X) → map at keys ≡ map Some xs → HaveValues at keys xs
+have_values at [] [] e = tt
+have_values at [] (x ∷ xs) e = absurd (cc)
+have_values at (k ∷ ks) [] e = absurd (cc)
+have_values at (k ∷ ks) (x ∷ xs) e =
+    let first : at k ≡ Some x = cc in
+    let rest : map at ks ≡ map Some xs = cc in
+    (first, have_values at ks xs rest)
+
+map_on : {Y : Type 0} (f g : ℕ → Y) (keys : List ℕ) → ((k : ℕ) → has k keys ≡ true → f k ≡ g k) → map f keys ≡ map g keys
+map_on f g [] h = refl
+map_on f g (k ∷ ks) h = λ i. h k (has-head k ks) i ∷ map_on f g ks (λ j e. h j (has-tail j k ks e)) i
+
+module _ {T : Type 0} (t u : Inside T) (index len : ℕ) (copies : List (Segment T)) (held : IsHeld t) (inside : index < length (cut_of t).strands)
     (are : AreCopies (piece_at (cut_of t).pieces) t.made (keys_in (cut_of t).strands index) copies)
-    (put : ArePut (get t.segments) (get mid) copies w.items) (size : len ≡ length (slots_in (forest (cut_of t)).branches index)) where
-  path : keys_in (cut_of t).strands index ≡ v.items
-  path = keys_value t.branches.entries index v value
+    (exchanged : IsExchanged t.segments u.segments index copies) (family : IsFamily u.segments)
+    (names : names_of u ≡ names_of t) (made : u.made ≡ t.made + len) (limits : u.limits ≡ t.limits)
+    (size : len ≡ length (slots_in (forest (cut_of t)).branches index)) where
+  abbrev fresh_keys : List ℕ
+  fresh_keys = exchanged.keys
 
   abbrev at : ℕ → Option (Piece T)
   at = piece_at (cut_of t).pieces
 
+  -- each segment before the branch lets go of what it had
+  abbrev put : ℕ → Option (Segment T)
+  put k = cond (has k fresh_keys) (item_at u.segments k) (item_at t.segments k)
+
   abbrev new : ℕ → Option (Piece T)
-  new = piece_at (pieces_of mid.slots)
+  new k = piece_of (put k)
 
-  seen : (k : ℕ) → new k ≡ piece_of (get mid k)
-  seen k = get_or-map piece_of mid.slots k None
+  inside_paths : index < length t.segments.paths
+  inside_paths = subst (λ n. index < n) (sym held.paths) (subst (λ n. index < n) (length-strands (names_of t) t.segments.paths) inside)
 
-  was_seen : (k : ℕ) → at k ≡ piece_of (get t.segments k)
-  was_seen k = get_or-map piece_of t.segments.slots k None
+  path_here : path_in u.segments index ≡ fresh_keys
+  path_here = ap (λ l. get_or l index []) exchanged.paths ∙ get_or-set_same t.segments.paths index fresh_keys [] inside_paths
 
-  copied : AreCopied at new t.made (keys_in (cut_of t).strands index) w.items
-  copied = copied_from at new (get mid) t.made (keys_in (cut_of t).strands index) w.items copies seen are put.values_there
+  once : Once fresh_keys
+  once = once_from fresh_keys (λ k front back front2 back2 e f. family.shared index index k front back front2 back2 (path_here ∙ e) (path_here ∙ f))
 
-  vacant : (k : ℕ) → has k w.items ≡ true → at k ≡ None
-  vacant k h = was_seen k ∙ ap piece_of (put.vacant k h)
+  put_fresh : (k : ℕ) → has k fresh_keys ≡ true → put k ≡ item_at u.segments k
+  put_fresh k h = ap (λ b. cond b (item_at u.segments k) (item_at t.segments k)) h
 
-  others : (k : ℕ) → has k w.items ≡ false → new k ≡ at k
-  others k h = seen k ∙ ap piece_of (put.others k h) ∙ sym (was_seen k)
+  put_other : (k : ℕ) → has k fresh_keys ≡ false → put k ≡ item_at t.segments k
+  put_other k h = ap (λ b. cond b (item_at u.segments k) (item_at t.segments k)) h
+
+  copied : AreCopied at new t.made (keys_in (cut_of t).strands index) fresh_keys
+  copied =
+      copied_from at new put t.made (keys_in (cut_of t).strands index) fresh_keys copies (λ j. refl) are
+      (have_values put fresh_keys copies (map_on put (item_at u.segments) fresh_keys put_fresh ∙ exchanged.items_are))
+
+  vacant : (k : ℕ) → has k fresh_keys ≡ true → at k ≡ None
+  vacant k h = piece_seen t k ∙ ap piece_of (exchanged.fresh k h)
+
+  others : (k : ℕ) → has k fresh_keys ≡ false → new k ≡ at k
+  others k h = ap piece_of (put_other k h) ∙ sym (piece_seen t k)
 
   most : t.made + length (line at (keys_in (cut_of t).strands index)) ≡ t.made + len
   most = ap (λ n. t.made + n) (sym (size ∙ ap length (slots_in_on at (cut_of t).strands index)))
 
-  strands : map strand_of (with_value_at t.branches index w).entries ≡ set_keys (cut_of t).strands index w.items
-  strands = strands_set t.branches.entries index w
+  strands : (cut_of u).strands ≡ set_keys (cut_of t).strands index fresh_keys
+  strands = (λ i. strands_of (names i) (exchanged.paths i)) ∙ strands-set (names_of t) t.segments.paths index fresh_keys held.paths
 
-  pub detach_shares : SharesAbove (strand [] v.items ∷ map strand_of (with_value_at t.branches index w).entries)
-  detach_shares =
-      subst (λ l. SharesAbove (strand [] v.items ∷ l)) (sym strands)
-      (subst (λ p. SharesAbove (strand [] p ∷ set_keys (cut_of t).strands index w.items)) path
-      (shares_both at new (cut_of t).strands t.made (t.made + len) index w.items held.sound inside copied most vacant put.once others))
+  many : length u.segments.paths ≡ length (names_of u)
+  many = ap length exchanged.paths ∙ length-set t.segments.paths index fresh_keys ∙ held.paths ∙ sym (ap length names)
 
-  module _ (slab : Slab (Segment T)) (room : t.made + len ≤ t.limits.cells)
-      (released : IsReleased (get mid) (get slab) (map strand_of (with_value_at t.branches index w).entries) v.items) where
-    abbrev detached : Inside T
-    detached = record t { segments = slab; branches = with_value_at t.branches index w; made = t.made + len }
+  keys : (i : ℕ) → keys_in (cut_of u).strands i ≡ path_in u.segments i
+  keys i = keys_in-of (names_of u) u.segments.paths i many
 
-    pieces : IsReleased new (piece_at (cut_of detached).pieces) (cut_of detached).strands v.items
-    pieces = pieces_released mid slab (cut_of detached).strands v.items released
+  pieces : IsReleased new (piece_at (cut_of u).pieces) (cut_of u).strands
+  pieces = record {
+    kept = λ i k h. piece_seen u k ∙ ap piece_of (kept i k (sym (ap (has k) (keys i)) ∙ h) (has k fresh_keys) refl);
+    gone = λ k lacked. piece_seen u k ∙ ap piece_of (exchanged.gone k (λ i. sym (ap (has k) (keys i)) ∙ lacked i));
+  }
+    where
+      kept : (i k : ℕ) → has k (path_in u.segments i) ≡ true → (b : Bool) → has k fresh_keys ≡ b → item_at u.segments k ≡ put k
+      kept i k h true e = sym (put_fresh k e)
+      kept i k h false e = exchanged.kept i k h e ∙ sym (put_other k e)
 
-    before : IsSoundBut new (cut_of detached).strands v.items (t.made + len)
-    before =
-        subst (λ l. IsSoundBut new l v.items (t.made + len)) (sym strands)
-        (subst (λ p. IsSoundBut new (set_keys (cut_of t).strands index w.items) p (t.made + len)) path
-        (sound_beside at new (cut_of t).strands t.made (t.made + len) index w.items held.sound inside copied most vacant put.once others))
+  before : IsSoundBut new (cut_of u).strands u.made
+  before =
+      subst (λ n. IsSoundBut new (cut_of u).strands n) (sym made)
+      (subst (λ l. IsSoundBut new l (t.made + len)) (sym strands)
+      (sound_beside at new (cut_of t).strands t.made (t.made + len) index fresh_keys held.whole.sound inside copied most vacant once others))
 
-    sound : IsSound (piece_at (cut_of detached).pieces) (cut_of detached).strands (t.made + len)
-    sound = released_sound new (piece_at (cut_of detached).pieces) (cut_of detached).strands v.items pieces (t.made + len) before
+  sound : IsSound (piece_at (cut_of u).pieces) (cut_of u).strands u.made
+  sound = released_sound new (piece_at (cut_of u).pieces) (cut_of u).strands pieces u.made before
 
-    count : length (cut_of detached).strands ≡ length (cut_of t).strands
-    count = ap length strands ∙ length-set_keys (cut_of t).strands index w.items
+  count : length (cut_of u).strands ≡ length (cut_of t).strands
+  count = ap length strands ∙ length-set_keys (cut_of t).strands index fresh_keys
 
-    pub detach_held : IsHeld detached
-    detach_held = record {
+  pub detach_held : t.made + len ≤ t.limits.cells → IsHeld u
+  detach_held room = record {
+    whole = record {
       sound = sound;
       within = record {
-        cells = room;
-        branches_fit = subst (λ n. n ≤ t.limits.branches) (sym count) held.within.branches_fit;
-        some = subst (λ n. 0 < n) (sym count) held.within.some;
-        most_cells = held.within.most_cells;
-        most_branches = held.within.most_branches;
+        cells = subst (λ l. u.made ≤ l.cells) (sym limits) (subst (λ n. n ≤ t.limits.cells) (sym made) room);
+        branches_fit = subst (λ l. length (cut_of u).strands ≤ l.branches) (sym limits) (subst (λ n. n ≤ t.limits.branches) (sym count) held.whole.within.branches_fit);
+        some = subst (λ n. 0 < n) (sym count) held.whole.within.some;
+        most_cells = subst (λ l. l.cells ≤ 16777216) (sym limits) held.whole.within.most_cells;
+        most_branches = subst (λ l. l.branches ≤ 1024) (sym limits) held.whole.within.most_branches;
       };
-    }
+    };
+    paths = many;
+  }
 
-    pub detach_told : IsDetached (cut_of t) (cut_of detached) index
-    detach_told = record {
-      branches = released_branches new (piece_at (cut_of detached).pieces) (cut_of detached).strands v.items pieces
-          ∙ ap (branches_on new) strands
-          ∙ only_renumbered at new (cut_of t).strands t.made (t.made + len) index w.items held.sound inside copied most vacant put.once others;
-      made = ap (λ n. t.made + n) size;
-      limits = refl;
-      notes = released_notes (cut_of t) (cut_of detached) new v.items
-          (new_apart at new (cut_of t).strands t.made (t.made + len) index w.items held.sound inside copied most vacant put.once others) pieces
-          (old_kept at new (cut_of t).strands t.made (t.made + len) index w.items held.sound inside copied most vacant put.once others)
-          (new_notes at new (cut_of t).strands t.made (t.made + len) index w.items held.sound inside copied most vacant put.once others);
-      cut = cut_from_sound (cut_of detached) (t.made + len) sound;
-    }
+  pub detach_told : IsDetached (cut_of t) (cut_of u) index
+  detach_told = record {
+    branches = released_branches new (piece_at (cut_of u).pieces) (cut_of u).strands pieces
+        ∙ ap (branches_on new) strands
+        ∙ only_renumbered at new (cut_of t).strands t.made (t.made + len) index fresh_keys held.whole.sound inside copied most vacant once others;
+    made = made ∙ ap (λ n. t.made + n) size;
+    limits = limits;
+    notes = released_notes (cut_of t) (cut_of u) new
+        (new_apart at new (cut_of t).strands t.made (t.made + len) index fresh_keys held.whole.sound inside copied most vacant once others) pieces
+        (old_kept at new (cut_of t).strands t.made (t.made + len) index fresh_keys held.whole.sound inside copied most vacant once others)
+        (new_notes at new (cut_of t).strands t.made (t.made + len) index fresh_keys held.whole.sound inside copied most vacant once others);
+    cut = cut_from_sound (cut_of u) u.made sound;
+  }

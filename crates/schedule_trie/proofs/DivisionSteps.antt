@@ -1,39 +1,38 @@
 -- A division, by what the fields become.
-use Rattle.std.proofs.Common.{◌≡◌, ℕ, List, map, Some, None, IsSome, sym, ap, ◌∙◌}
-use Rattle.std.proofs.Math.ListN.{get_or-map}
-use Rattle.slab.specs.Slab.{Slab, get}
+use Rattle.std.proofs.Common.{◌≡◌, ℕ, ◌<◌, List, Option, [], Some, None, IsSome, set, refl, sym, ap, subst, ◌∙◌, true≢false}
+use Rattle.std.proofs.lemmas.List.{get_or-set_same, get_or-set_other}
+use Rattle.lineage.specs.Family.{Family, item_at, with_item, IsAdded}
 use Rattle.schedule_trie.specs.declared.slot.Slot.{Slot}
 use Rattle.schedule_trie.specs.declared.segment.Segment.{Segment}
 use Rattle.schedule_trie.specs.declared.trie.Trie.TheInside.{Inside}
-use Rattle.schedule_trie.specs.Cut.{piece, piece_at, keys_in, Once}
-use Rattle.schedule_trie.specs.Held.{piece_of, pieces_of, strand_of, cut_of, IsHeld}
-use Rattle.schedule_trie.proofs.Once.{Once-from_linked}
+use Rattle.schedule_trie.specs.Cut.{Piece, piece, piece_at}
+use Rattle.schedule_trie.specs.Held.{piece_of, cut_of}
+use Rattle.schedule_trie.proofs.StepSet.{piece_seen, key_within}
 use Rattle.schedule_trie.proofs.Division.{Divides}
 
--- more room changes nothing that is seen
-pub cut_reserved : {T : Type 0} (t r : Inside T) → r.segments.slots ≡ t.segments.slots → map strand_of r.branches.entries ≡ map strand_of t.branches.entries
-    → r.made ≡ t.made → r.limits ≡ t.limits → cut_of r ≡ cut_of t
-cut_reserved t r slots strands made limits = λ i. record { strands = strands i; pieces = pieces_of (slots i); made = made i; limits = limits i }
+-- what was there is there behind what is added
+pub still_there : {X : Type 0} (old new : Family X) (key fresh : ℕ) (x : X) → IsAdded old new fresh x → IsSome (item_at old key) → IsSome (item_at new key)
+still_there old new key fresh x added h =
+    subst IsSome (sym (added.others key (λ e. true≢false (sym (subst IsSome (ap (item_at old) e ∙ added.was_vacant) h))))) h
 
--- each path has each key once
-pub held_once : {T : Type 0} (t : Inside T) → IsHeld t → (i : ℕ) → Once (keys_in (cut_of t).strands i)
-held_once t held i = Once-from_linked held.sound.shares.above (keys_in (cut_of t).strands i) (held.sound.shares.linked i)
+-- a new segment is put above one, which then has the cells below
+module _ {T : Type 0} (t d : Inside T) (mid : Family (Segment T)) (key fresh : ℕ) (above v w : Segment T) (below : List Slot)
+    (was : IsSome (piece_at (cut_of t).pieces key)) (added : IsAdded t.segments mid fresh above) (there : item_at mid key ≡ Some v)
+    (after : d.segments.items ≡ set mid.items key (Some w)) (items : w.slots.items ≡ below) (note : w.note ≡ None) where
+  apart : fresh ≡ key → ⊥
+  apart e = let none : None ≡ piece_at (cut_of t).pieces key = sym (ap piece_of added.was_vacant) ∙ sym (piece_seen t fresh) ∙ ap (piece_at (cut_of t).pieces) e in absurd (cc)
 
-module _ {T : Type 0} (t d : Inside T) (slab : Slab (Segment T)) (key fresh : ℕ) (above : Segment T) (below : List Slot) (same : slab.slots ≡ t.segments.slots) where
-  seen_before : (j : ℕ) → piece_at (cut_of t).pieces j ≡ piece_of (get slab j)
-  seen_before j = ap (λ l. piece_at (pieces_of l) j) (sym same) ∙ get_or-map piece_of slab.slots j None
+  here : item_at d.segments key ≡ Some w
+  here = ap (λ l. item_at (record { items = l; paths = [] }) key) after ∙ get_or-set_same mid.items key (Some w) None (key_within mid.items key v there)
 
-  seen_after : (j : ℕ) → piece_at (cut_of d).pieces j ≡ piece_of (get d.segments j)
-  seen_after j = get_or-map piece_of d.segments.slots j None
+  other : (j : ℕ) → (j ≡ key → ⊥) → item_at d.segments j ≡ item_at mid j
+  other j ne = ap (λ l. item_at (record { items = l; paths = [] }) j) after ∙ get_or-set_other mid.items key j (Some w) None ne
 
-  -- what `divide` tells of the slab
-  pub divides_from : IsSome (piece_at (cut_of t).pieces key) → get slab fresh ≡ None → piece_of (get d.segments key) ≡ Some (piece below None)
-      → get d.segments fresh ≡ Some above → ((j : ℕ) → (j ≡ key → ⊥) → (j ≡ fresh → ⊥) → get d.segments j ≡ get slab j)
-      → Divides (piece_at (cut_of t).pieces) (piece_at (cut_of d).pieces) key fresh (piece above.slots.items above.note) (piece below None)
-  divides_from was vacant lower upper others = record {
+  pub divides_from : Divides (piece_at (cut_of t).pieces) (piece_at (cut_of d).pieces) key fresh (piece above.slots.items above.note) (piece below None)
+  divides_from = record {
     was = was;
-    vacant = seen_before fresh ∙ ap piece_of vacant;
-    upper = seen_after fresh ∙ ap piece_of upper;
-    lower = seen_after key ∙ lower;
-    others = λ j n m. seen_after j ∙ ap piece_of (others j n m) ∙ sym (seen_before j);
+    vacant = piece_seen t fresh ∙ ap piece_of added.was_vacant;
+    upper = piece_seen d fresh ∙ ap piece_of (other fresh apart ∙ added.here);
+    lower = piece_seen d key ∙ ap piece_of here ∙ (λ i. Some (piece (items i) (note i)));
+    others = λ j n m. piece_seen d j ∙ ap piece_of (other j n ∙ added.others j m) ∙ sym (piece_seen t j);
   }

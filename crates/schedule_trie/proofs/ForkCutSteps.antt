@@ -1,23 +1,25 @@
 -- A fork inside a segment, by what the fields become.
-use Rattle.std.proofs.Common.{◌≡◌, ◌≢◌, ℕ, ◌+◌, ◌-◌, ◌<◌, nat_eq, List, [], ◌∷◌, ◌++◌, length, map, take, drop, get_or, Option, Some, None, IsSome, refl, sym, ap, subst, ◌∙◌, arith}
+use Rattle.std.proofs.Common.{◌≡◌, ℕ, ◌+◌, ◌-◌, ◌<◌, nat_eq, List, [], ◌∷◌, ◌++◌, length, map, take, drop, get_or, set, Option, Some, None, IsSome, refl, sym, ap, subst, ◌∙◌, arith}
 use Rattle.std.specs.Cmp.Lexicographic.{pointwise}
 use Rattle.std.specs.Global.{Vec}
-use Rattle.std.proofs.lemmas.List.{length-map, length-drop, length-take-le, take-append-drop}
-use Rattle.std.proofs.Math.Seq.{take-length}
-use Rattle.slab.specs.Slab.{get}
+use Rattle.std.proofs.lemmas.List.{length-append, length-drop, length-map, length-take-le, take-append-drop}
+use Rattle.std.proofs.Math.Seq.{take-append_seam, take-length}
 use Rattle.indexmap.specs.IndexMap.{insert_entry}
+use Rattle.lineage.specs.Family.{Family, item_at, path_in, divided_keys, IsForkedAbove}
 use Rattle.schedule_trie.specs.declared.slot.Slot.{Slot}
 use Rattle.schedule_trie.specs.declared.segment.Segment.{Segment}
 use Rattle.schedule_trie.specs.declared.trie.Trie.TheInside.{Inside}
 use Rattle.schedule_trie.specs.Forest.{branch, index_of, slots_in}
 use Rattle.schedule_trie.specs.Cut.{Cut, Piece, piece, piece_at, slots_of, line, forest, keys_in, IsParted, IsWhole, divided_strand}
-use Rattle.schedule_trie.specs.Held.{piece_of, pieces_of, strand_of, cut_of, IsHeld}
+use Rattle.schedule_trie.specs.Held.{pieces_of, strands_of, names_of, cut_of, IsHeld}
 use Rattle.schedule_trie.specs.Forks.{IsForked}
 use Rattle.schedule_trie.proofs.Division.{Divides, notes-divided}
 use Rattle.schedule_trie.proofs.DivisionSteps.{divides_from}
 use Rattle.schedule_trie.proofs.ForkCuts.{cut, cut_whole, same_branches, cut_front, cut_line}
 use Rattle.schedule_trie.proofs.ForkSteps.{fork_held, fork_told}
+use Rattle.schedule_trie.proofs.InsertSteps.{unnoted}
 use Rattle.schedule_trie.proofs.Notes.{notes_but}
+use Rattle.schedule_trie.proofs.Strands.{keys_in-of, strands-divided}
 use Rattle.schedule_trie.proofs.Touched.{parted}
 
 -- a list from a place on
@@ -28,41 +30,58 @@ there_from_slots : {T : Type 0} (o : Option (Piece T)) (n : ℕ) → n < length 
 there_from_slots None n h = absurd (omega arith)
 there_from_slots (Some p) n h = refl
 
-module _ {T : Type 0} (c : Cut T) (before u : Inside T) (name : List ℕ) (index count key new rest : ℕ) (v : Vec ℕ) (es : List (List ℕ × Vec ℕ))
-    (above : Segment T) (below : Vec Slot) (whole : IsWhole c) (room : length c.strands < c.limits.branches) (free : index_of (forest c).branches name ≡ None)
-    (pieces : pieces_of before.segments.slots ≡ c.pieces) (made : u.made ≡ c.made) (limits : u.limits ≡ c.limits)
-    (inside : count < length (keys_in c.strands index)) (at_key : key ≡ get_or (keys_in c.strands index) count 0)
-    (some : 0 < rest) (within : rest < length (slots_of (piece_at c.pieces key)))
-    (vacant : get before.segments new ≡ None) (upper : get u.segments new ≡ Some above) (lower : piece_of (get u.segments key) ≡ Some (piece below.items None))
-    (others : (j : ℕ) → j ≢ key → j ≢ new → get u.segments j ≡ get before.segments j)
-    (first : above.slots.items ≡ take rest (slots_of (piece_at c.pieces key))) (second : below.items ≡ drop rest (slots_of (piece_at c.pieces key))) (note : above.note ≡ None)
-    (strands : map strand_of es ≡ map (divided_strand key new) c.strands)
-    (path : v.items ≡ take count (keys_in c.strands index) ++ new ∷ [])
-    (entries : u.branches.entries ≡ insert_entry (pointwise nat_eq) es name v) where
-  was : IsSome (piece_at (cut_of before).pieces key)
-  was = subst (λ l. IsSome (piece_at l key)) (sym pieces) (there_from_slots (piece_at c.pieces key) rest within)
+get_or-here : (front back : List ℕ) (key : ℕ) → get_or (front ++ key ∷ back) (length front) 0 ≡ key
+get_or-here [] back key = refl
+get_or-here (f ∷ fs) back key = get_or-here fs back key
 
-  divides : Divides (piece_at c.pieces) (piece_at (pieces_of u.segments.slots)) key new (piece above.slots.items above.note) (piece below.items None)
-  divides = subst (λ l. Divides (piece_at l) (piece_at (pieces_of u.segments.slots)) key new (piece above.slots.items above.note) (piece below.items None)) pieces
-      (divides_from before u before.segments key new above below.items refl was vacant lower upper others)
+module _ {T : Type 0} (t u : Inside T) (mid : Family (Segment T)) (name : List ℕ) (index key new rest : ℕ) (front back : List ℕ)
+    (above below : Vec Slot) (v w : Segment T) (more : Option ℕ) (held : IsHeld t) (room : length (cut_of t).strands < (cut_of t).limits.branches)
+    (free : index_of (forest (cut_of t)).branches name ≡ None) (made : u.made ≡ t.made) (limits : u.limits ≡ t.limits)
+    (parting : keys_in (cut_of t).strands index ≡ front ++ key ∷ back) (some : 0 < rest) (within : rest < length (slots_of (piece_at (cut_of t).pieces key)))
+    (forked : IsForkedAbove t.segments mid key new (unnoted above)) (there : item_at mid key ≡ Some v) (after : u.segments.items ≡ set mid.items key (Some w))
+    (slots : w.slots ≡ below) (note : w.note ≡ None) (paths : u.segments.paths ≡ mid.paths)
+    (first : above.items ≡ take rest (slots_of (piece_at (cut_of t).pieces key))) (second : below.items ≡ drop rest (slots_of (piece_at (cut_of t).pieces key)))
+    (entries : u.branches.entries ≡ insert_entry (pointwise nat_eq) t.branches.entries name more) where
+  abbrev c : Cut T
+  c = cut_of t
 
-  parts : above.slots.items ++ below.items ≡ slots_of (piece_at c.pieces key)
+  abbrev count : ℕ
+  count = length front
+
+  front_is : take count (keys_in c.strands index) ≡ front
+  front_is = ap (take count) parting ∙ take-append_seam front (key ∷ back)
+
+  inside : count < length (keys_in c.strands index)
+  inside = let whole : length (keys_in c.strands index) ≡ count + length (key ∷ back) = ap length parting ∙ length-append front (key ∷ back) in omega (arith, whole)
+
+  at_key : key ≡ get_or (keys_in c.strands index) count 0
+  at_key = sym (ap (λ l. get_or l count 0) parting ∙ get_or-here front back key)
+
+  divides : Divides (piece_at c.pieces) (piece_at (pieces_of u.segments.items)) key new (piece above.items None) (piece below.items None)
+  divides = divides_from t u mid key new (unnoted above) v w below.items (there_from_slots (piece_at c.pieces key) rest within) forked.added there after (ap (λ z. z.items) slots) note
+
+  parts : above.items ++ below.items ≡ slots_of (piece_at c.pieces key)
   parts = (λ i. first i ++ second i) ∙ take-append-drop rest (slots_of (piece_at c.pieces key))
 
-  len : length above.slots.items ≡ rest
+  len : length above.items ≡ rest
   len = ap length first ∙ length-take-le rest (slots_of (piece_at c.pieces key)) (omega arith)
 
   abbrev middle : Cut T
-  middle = cut c (pieces_of u.segments.slots) index count key new rest (piece above.slots.items above.note) (piece below.items None) whole inside at_key divides parts len some within
+  middle = cut c (pieces_of u.segments.items) index count key new rest (piece above.items None) (piece below.items None) held.whole inside at_key divides parts len some within
 
   middle_whole : IsWhole middle
-  middle_whole = cut_whole c (pieces_of u.segments.slots) index count key new rest (piece above.slots.items above.note) (piece below.items None) whole inside at_key divides parts len some within
+  middle_whole = cut_whole c (pieces_of u.segments.items) index count key new rest (piece above.items None) (piece below.items None) held.whole inside at_key divides parts len some within
 
   same : (forest middle).branches ≡ (forest c).branches
-  same = same_branches c (pieces_of u.segments.slots) index count key new rest (piece above.slots.items above.note) (piece below.items None) whole inside at_key divides parts len some within
+  same = same_branches c (pieces_of u.segments.items) index count key new rest (piece above.items None) (piece below.items None) held.whole inside at_key divides parts len some within
 
-  path_now : v.items ≡ take (count + 1) (keys_in middle.strands index)
-  path_now = path ∙ sym (cut_front c (pieces_of u.segments.slots) index count key new rest (piece above.slots.items above.note) (piece below.items None) whole inside at_key divides parts len some within)
+  path : path_in t.segments index ≡ front ++ key ∷ back
+  path = sym (keys_in-of (names_of t) t.segments.paths index held.paths) ∙ parting
+
+  path_now : forked.path ≡ take (count + 1) (keys_in middle.strands index)
+  path_now =
+      forked.shared index front back path ∙ ap (λ l. l ++ new ∷ []) (sym front_is)
+      ∙ sym (cut_front c (pieces_of u.segments.items) index count key new rest (piece above.items None) (piece below.items None) held.whole inside at_key divides parts len some within)
 
   free_now : index_of (forest middle).branches name ≡ None
   free_now = ap (λ l. index_of l name) same ∙ free
@@ -70,15 +89,21 @@ module _ {T : Type 0} (c : Cut T) (before u : Inside T) (name : List ℕ) (index
   room_now : length middle.strands < c.limits.branches
   room_now = subst (λ n. n < c.limits.branches) (sym (length-map c.strands (divided_strand key new))) room
 
+  as_many : length (map (divided_keys key new) t.segments.paths) ≡ length (names_of t)
+  as_many = length-map t.segments.paths (divided_keys key new) ∙ held.paths
+
   pub cut_fork_held : IsHeld u
-  cut_fork_held = fork_held middle u name index (count + 1) v es strands refl made limits free_now path_now entries middle_whole room_now
+  cut_fork_held = fork_held middle u name index (count + 1) t.branches.entries (map (divided_keys key new) t.segments.paths) forked.path more
+      (strands-divided key new (names_of t) t.segments.paths) as_many refl made limits free_now path_now (paths ∙ forked.paths) entries middle_whole room_now
 
   abbrev place : ℕ
-  place = length (line (piece_at c.pieces) (take count (keys_in c.strands index))) + rest
+  place = length (line (piece_at c.pieces) front) + rest
 
   told : IsForked middle (cut_of u) index place name
-  told = fork_told middle u name index (count + 1) v es strands refl made limits free_now path_now entries middle_whole room_now place
-      (cut_line c (pieces_of u.segments.slots) index count key new rest (piece above.slots.items above.note) (piece below.items None) whole inside at_key divides parts len some within)
+  told = fork_told middle u name index (count + 1) t.branches.entries (map (divided_keys key new) t.segments.paths) forked.path more
+      (strands-divided key new (names_of t) t.segments.paths) as_many refl made limits free_now path_now (paths ∙ forked.paths) entries middle_whole room_now place
+      (cut_line c (pieces_of u.segments.items) index count key new rest (piece above.items None) (piece below.items None) held.whole inside at_key divides parts len some within
+      ∙ ap (λ l. length (line (piece_at c.pieces) l) + rest) front_is)
 
   pub cut_fork_told : IsForked c (cut_of u) index place name
   cut_fork_told = record {
@@ -86,8 +111,9 @@ module _ {T : Type 0} (c : Cut T) (before u : Inside T) (name : List ℕ) (index
     made = told.made;
     limits = told.limits;
     notes = λ source found. notes_but c (cut_of u) key (IsParted c source place)
-        (notes-divided c (cut_of u) key new (piece above.slots.items above.note) (piece below.items None) divides note refl)
+        (notes-divided c (cut_of u) key new (piece above.items None) (piece below.items None) divides refl refl)
         (subst (IsParted c source place) (sym at_key)
-        (parted c source index found count rest place inside some (subst (λ k. rest < length (slots_of (piece_at c.pieces k))) at_key within) refl));
+        (parted c source index found count rest place inside some (subst (λ k. rest < length (slots_of (piece_at c.pieces k))) at_key within)
+        (ap (λ l. length (line (piece_at c.pieces) l) + rest) front_is)));
     cut = told.cut;
   }

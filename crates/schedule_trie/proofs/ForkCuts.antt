@@ -11,7 +11,7 @@ use Rattle.schedule_trie.proofs.Lines.{once_at}
 use Rattle.schedule_trie.proofs.Pushes.{line-append}
 use Rattle.schedule_trie.proofs.Whole.{once_front}
 use Rattle.schedule_trie.proofs.Division.{Divides, keys_in-divided, branches-divided, lacked-divided, sound-divided}
-use Rattle.schedule_trie.proofs.PathsDivided.{divided-absent}
+use Rattle.lineage.proofs.ForksAbove.{divided-other}
 use Rattle.schedule_trie.proofs.Forks.{linked_front, has_front}
 
 -- a path that is divided at a key
@@ -22,7 +22,7 @@ module _ (key new : ℕ) where
       ap (λ b. cond b (new ∷ key ∷ []) (key ∷ []) ++ divided_keys key new back) (eq-eqb key key refl) in
       let there : front ++ new ∷ key ∷ divided_keys key new back ≡ (front ++ new ∷ []) ++ key ∷ divided_keys key new back =
       sym (append_assoc front (new ∷ []) (key ∷ divided_keys key new back)) in
-      flat_map-append (above_key key new) front (key ∷ back) ∙ (λ i. divided-absent key new front h i ++ here i) ∙ there
+      flat_map-append (above_key key new) front (key ∷ back) ∙ (λ i. divided-other key new front h i ++ here i) ∙ there
 
   -- up to the new key
   divided-front : (ks : List ℕ) (n : ℕ) → n < length ks → key ≡ get_or ks n 0 → has key (take n ks) ≡ false

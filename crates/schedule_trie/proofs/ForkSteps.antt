@@ -1,40 +1,114 @@
 -- A fork, by what the fields become.
-use Rattle.std.proofs.Common.{◌≡◌, ℕ, ◌<◌, nat_eq, List, [], ◌∷◌, ◌++◌, length, map, take, position, None, sym, ap, subst, ◌∙◌}
+use Rattle.std.proofs.Common.{◌≡◌, ℕ, suc, ◌+◌, ◌<◌, nat_eq, true, List, [], ◌∷◌, ◌++◌, length, map, take, position, Option, Some, None, IsSome, refl, sym, ap, subst, ◌∙◌, append_assoc}
 use Rattle.std.specs.Cmp.Lexicographic.{pointwise}
-use Rattle.std.specs.Global.{Vec}
 use Rattle.std.specs.Map.{keys_of}
-use Rattle.std.proofs.lemmas.List.{map-append}
+use Rattle.std.proofs.lemmas.List.{map-append, length_push}
+use Rattle.std.proofs.Math.Seq.{take-append_seam}
 use Rattle.indexmap.specs.IndexMap.{insert_entry}
 use Rattle.indexmap.proofs.MapLemmas.{Missing-position, insert_entry-absent}
+use Rattle.std.specs.Option.{IfSome}
+use Rattle.lineage.specs.Family.{Family, item_at, last_of, last_from, path_in, IsForked as IsForkedIn}
+use Rattle.schedule_trie.specs.declared.segment.Segment.{Segment}
 use Rattle.schedule_trie.specs.declared.trie.Trie.TheInside.{Inside}
 use Rattle.schedule_trie.specs.Forest.{index_of, name_of}
-use Rattle.schedule_trie.specs.Cut.{Cut, strand, forest, piece_at, line, branches_on, keys_in, IsWhole}
-use Rattle.schedule_trie.specs.Held.{pieces_of, strand_of, cut_of, IsHeld}
+use Rattle.schedule_trie.specs.Cut.{Cut, strand, forest, piece_at, line, branches_on, keys_in, has, IsWhole}
+use Rattle.schedule_trie.specs.Climbs.{keys_to, IsReached}
+use Rattle.schedule_trie.specs.Held.{piece_of, pieces_of, strands_of, names_of, cut_of, IsHeld}
 use Rattle.schedule_trie.specs.Forks.{IsForked}
+use Rattle.schedule_trie.proofs.Partings.{parting}
 use Rattle.schedule_trie.proofs.Forks.{with_front, front_whole, front_forked}
-use Rattle.schedule_trie.proofs.Lines.{names_on}
+use Rattle.schedule_trie.proofs.StepSet.{item_there}
+use Rattle.schedule_trie.proofs.Strands.{names_on, keys_in-of, strands-last}
 
--- the path of a name that no branch has goes into the map
-module _ {T : Type 0} (c : Cut T) (u : Inside T) (name : List ℕ) (index count : ℕ) (v : Vec ℕ) (es : List (List ℕ × Vec ℕ))
-    (strands : map strand_of es ≡ c.strands) (pieces : pieces_of u.segments.slots ≡ c.pieces) (made : u.made ≡ c.made) (limits : u.limits ≡ c.limits)
-    (free : index_of (forest c).branches name ≡ None) (path : v.items ≡ take count (keys_in c.strands index))
-    (entries : u.branches.entries ≡ insert_entry (pointwise nat_eq) es name v) where
+-- a path of a name that no branch has goes last
+module _ {T : Type 0} (c : Cut T) (u : Inside T) (name : List ℕ) (index count : ℕ) (es : List (List ℕ × Option ℕ)) (paths : List (List ℕ)) (path : List ℕ) (v : Option ℕ)
+    (strands : strands_of (keys_of es) paths ≡ c.strands) (as_many : length paths ≡ length (keys_of es))
+    (pieces : pieces_of u.segments.items ≡ c.pieces) (made : u.made ≡ c.made) (limits : u.limits ≡ c.limits)
+    (free : index_of (forest c).branches name ≡ None) (path_is : path ≡ take count (keys_in c.strands index))
+    (all : u.segments.paths ≡ paths ++ path ∷ []) (entries : u.branches.entries ≡ insert_entry (pointwise nat_eq) es name v) where
   absent : position (pointwise nat_eq name) (keys_of es) ≡ None
   absent =
-      ap (position (pointwise nat_eq name)) (sym (names_on (piece_at c.pieces) es))
+      ap (position (pointwise nat_eq name)) (sym (names_on (piece_at c.pieces) (keys_of es) paths))
       ∙ ap (λ l. position (pointwise nat_eq name) (map name_of (branches_on (piece_at c.pieces) l))) strands ∙ free
 
-  last : map strand_of u.branches.entries ≡ c.strands ++ strand name (take count (keys_in c.strands index)) ∷ []
+  names : names_of u ≡ keys_of es ++ name ∷ []
+  names =
+      ap keys_of (entries ∙ insert_entry-absent (pointwise nat_eq) name v es (Missing-position (pointwise nat_eq name) es absent).absent)
+      ∙ map-append (λ e. e.0) es ((name, v) ∷ [])
+
+  last : (cut_of u).strands ≡ c.strands ++ strand name (take count (keys_in c.strands index)) ∷ []
   last =
-      ap (map strand_of) (entries ∙ insert_entry-absent (pointwise nat_eq) name v es (Missing-position (pointwise nat_eq name) es absent).absent)
-      ∙ map-append strand_of es ((name, v) ∷ []) ∙ (λ i. strands i ++ strand name (path i) ∷ [])
+      (λ i. strands_of (names i) (all i)) ∙ strands-last (keys_of es) paths name path as_many
+      ∙ (λ i. strands i ++ strand name (path_is i) ∷ [])
 
   fork_seen : cut_of u ≡ with_front c name index count
   fork_seen = λ i. record { strands = last i; pieces = pieces i; made = made i; limits = limits i }
 
+  many : length u.segments.paths ≡ length (names_of u)
+  many = ap length all ∙ length_push paths path ∙ ap (λ n. n + 1) as_many ∙ sym (ap length names ∙ length_push (keys_of es) name)
+
   module _ (whole : IsWhole c) (room : length c.strands < c.limits.branches) where
     pub fork_held : IsHeld u
-    fork_held = subst IsWhole (sym fork_seen) (front_whole c name index count whole room)
+    fork_held = record { whole = subst IsWhole (sym fork_seen) (front_whole c name index count whole room); paths = many }
 
     pub fork_told : (place : ℕ) → length (line (piece_at c.pieces) (take count (keys_in c.strands index))) ≡ place → IsForked c (cut_of u) index place name
     fork_told place e = subst (λ d. IsForked c d index place name) (sym fork_seen) (front_forked c name index count whole room place e)
+
+-- keys down to one of them are the first so many
+pub taken_to : (keys : List ℕ) (last : Option ℕ) → IsReached keys last → keys_to keys last ≡ take (length (keys_to keys last)) keys
+taken_to keys None h = refl
+taken_to keys (Some key) h =
+    let p = parting keys key h in
+    let parts : keys ≡ (p.front ++ key ∷ []) ++ p.back = p.is ∙ sym (append_assoc p.front (key ∷ []) p.back) in
+    p.to ∙ sym (take-append_seam (p.front ++ key ∷ []) p.back) ∙ ap (take (length (p.front ++ key ∷ []))) (sym parts) ∙ ap (λ l. take (length l) keys) (sym p.to)
+
+some_last : (ks : List ℕ) (k : ℕ) → last_from (Some k) ks ≡ None → ⊥
+some_last [] k e = cc
+some_last (j ∷ js) k e = some_last js j e
+
+-- the path of a fork
+pub no_last : (path : List ℕ) → last_of path ≡ None → path ≡ []
+no_last [] e = refl
+no_last (k ∷ ks) e = absurd (some_last ks k e)
+
+module _ {X : Type 0} (old new : Family X) (index : ℕ) (key : Option ℕ) (forked : IsForkedIn old new key) where
+  pub path_forked : IsReached (path_in old index) key → forked.path ≡ take (length (keys_to (path_in old index) key)) (path_in old index)
+  path_forked h = by key forked h
+    where
+      by : (key : Option ℕ) (forked : IsForkedIn old new key) → IsReached (path_in old index) key → forked.path ≡ take (length (keys_to (path_in old index) key)) (path_in old index)
+      by None forked h = no_last forked.path forked.last
+      by (Some k) forked h =
+          let p = parting (path_in old index) k h in
+          forked.shared k index p.front p.back refl p.is ∙ sym p.to ∙ taken_to (path_in old index) (Some k) h
+
+pub reached_there : {T : Type 0} (t : Inside T) (index : ℕ) (last : Option ℕ) → IsHeld t → IsReached (keys_in (cut_of t).strands index) last
+    → IfSome last (λ k. IsSome (item_at t.segments k))
+reached_there t index None held h = tt
+reached_there t index (Some k) held h = item_there t k (held.whole.sound.held index k h)
+
+-- a fork behind a segment of a branch, or of none
+module _ {T : Type 0} (t u : Inside T) (name : List ℕ) (index : ℕ) (last : Option ℕ) (more : Option ℕ) (held : IsHeld t)
+    (room : length (cut_of t).strands < (cut_of t).limits.branches) (free : index_of (forest (cut_of t)).branches name ≡ None)
+    (reached : IsReached (keys_in (cut_of t).strands index) last) (forked : IsForkedIn t.segments u.segments last)
+    (entries : u.branches.entries ≡ insert_entry (pointwise nat_eq) t.branches.entries name more) (made : u.made ≡ t.made) (limits : u.limits ≡ t.limits) where
+  abbrev keys : List ℕ
+  keys = keys_in (cut_of t).strands index
+
+  same : keys ≡ path_in t.segments index
+  same = keys_in-of (names_of t) t.segments.paths index held.paths
+
+  abbrev count : ℕ
+  count = length (keys_to keys last)
+
+  path : forked.path ≡ take count keys
+  path =
+      path_forked t.segments u.segments index last forked (subst (λ l. IsReached l last) same reached)
+      ∙ ap (λ l. take (length (keys_to l last)) l) (sym same)
+
+  pub behind_held : IsHeld u
+  behind_held = fork_held (cut_of t) u name index count t.branches.entries t.segments.paths forked.path more refl held.paths (ap pieces_of forked.items) made limits free path forked.paths entries
+      held.whole room
+
+  pub behind_told : IsForked (cut_of t) (cut_of u) index (length (line (piece_at (cut_of t).pieces) (keys_to keys last))) name
+  behind_told = fork_told (cut_of t) u name index count t.branches.entries t.segments.paths forked.path more refl held.paths (ap pieces_of forked.items) made limits free path forked.paths entries
+      held.whole room (length (line (piece_at (cut_of t).pieces) (keys_to keys last))) (ap (λ l. length (line (piece_at (cut_of t).pieces) l)) (sym (taken_to keys last reached)))

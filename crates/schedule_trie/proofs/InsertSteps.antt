@@ -1,5 +1,5 @@
 -- An insert, by what the fields become.
-use Rattle.std.proofs.Common.{◌≡◌, ℕ, ◌+◌, ◌<◌, ◌≤◌, Bool, true, false, nat_eq, cond, List, ◌++◌, length, map, slice_get, Option, Some, None, IsSome, ◌⊎◌, inl, inr, refl, sym, ap, subst, ◌∙◌, arith, eq-eqb}
+use Rattle.std.proofs.Common.{◌≡◌, ℕ, ◌+◌, ◌<◌, ◌≤◌, Bool, true, false, nat_eq, cond, List, ◌++◌, length, map, set, slice_get, Option, Some, None, IsSome, ◌⊎◌, inl, inr, refl, sym, ap, subst, ◌∙◌, arith, eq-eqb}
 use Rattle.std.specs.List.{insert}
 use Rattle.std.proofs.lemmas.Bool.{eqb-true}
 use Rattle.std.proofs.lemmas.Option.{slice_get_within}
@@ -7,7 +7,7 @@ use Rattle.std.specs.Option.{IfSome, option_map}
 use Rattle.std.proofs.lemmas.List.{length-append, length-map}
 use Rattle.std.proofs.lemmas.List.Edits.{length-insert}
 use Rattle.std.specs.Global.{Vec}
-use Rattle.slab.specs.Slab.{Slab, get, with_value}
+use Rattle.lineage.specs.Family.{Family, item_at, with_item, divided_keys, IsAdded}
 use Rattle.frames.specs.declared.types.Step.{Step}
 use Rattle.schedule_trie.specs.declared.slot.Slot.{Slot}
 use Rattle.schedule_trie.specs.declared.segment.Segment.{Segment}
@@ -15,7 +15,8 @@ use Rattle.schedule_trie.specs.declared.trie.Trie.TheInside.{Inside}
 use Rattle.schedule_trie.specs.Forest.{slot, cell_of, slots_in, cell_in, only_in, put_last, put_before, everywhere, inserted}
 use Rattle.schedule_trie.specs.Cut.{Cut, Piece, piece, piece_at, slots_of, note_of, forest, branches_on, keys_in, has, has_cell, Once, StandsAt, IsSegment, IsSound, IsWithin, IsWhole, CanGrowAt, IsPushed, IsPutBefore, IsInserted, divided_strand, HasChanged}
 use Rattle.schedule_trie.specs.declared.limits.Limits.{Limits}
-use Rattle.schedule_trie.specs.Held.{piece_of, strand_of, cut_of, IsHeld}
+use Rattle.schedule_trie.specs.Held.{piece_of, strands_of, names_of, cut_of, IsHeld}
+use Rattle.schedule_trie.proofs.Strands.{strands-divided}
 use Rattle.schedule_trie.proofs.Lines.{slots_in_on}
 use Rattle.schedule_trie.proofs.Changes.{Changes, piece_at_set}
 use Rattle.schedule_trie.proofs.StepSet.{slice_get_some, cell_in_at, piece_seen, key_within, cut_from_sound, holds_cell}
@@ -34,15 +35,15 @@ within_more l made branches h room = record {
   most_branches = h.most_branches;
 }
 
-pub slots_seen : {T : Type 0} (t : Inside T) (key : ℕ) (v : Segment T) (c : Cut T) → cut_of t ≡ c → get t.segments key ≡ Some v → slots_of (piece_at c.pieces key) ≡ v.slots.items
+pub slots_seen : {T : Type 0} (t : Inside T) (key : ℕ) (v : Segment T) (c : Cut T) → cut_of t ≡ c → item_at t.segments key ≡ Some v → slots_of (piece_at c.pieces key) ≡ v.slots.items
 slots_seen t key v c seen there = ap (λ b. slots_of (piece_at b.pieces key)) (sym seen) ∙ ap slots_of (piece_seen t key ∙ ap piece_of there)
 
 -- in a segment with room
-module _ {T : Type 0} (t : Inside T) (key offset : ℕ) (step : Step) (v w : Segment T) (held : IsHeld t) (there : get t.segments key ≡ Some v)
+module _ {T : Type 0} (t : Inside T) (key offset : ℕ) (step : Step) (v w : Segment T) (held : IsHeld t) (there : item_at t.segments key ≡ Some v)
     (inside : offset < length v.slots.items) (few : length v.slots.items < 128) (room : t.made < t.limits.cells)
     (slots : w.slots.items ≡ insert v.slots.items offset (slot t.made step)) (note : w.note ≡ None) where
   abbrev after : Inside T
-  after = record t { segments = with_value t.segments key w; made = t.made + 1 }
+  after = record t { segments = with_item t.segments key w; made = t.made + 1 }
 
   abbrev old : ℕ → Option (Piece T)
   old = piece_at (cut_of t).pieces
@@ -54,7 +55,7 @@ module _ {T : Type 0} (t : Inside T) (key offset : ℕ) (step : Step) (v w : Seg
   now = piece w.slots.items w.note
 
   change : Changes old new key now
-  change = piece_at_set t.segments.slots key w (key_within t.segments.slots key v there)
+  change = piece_at_set t.segments.items key w (key_within t.segments.items key v there)
 
   was : old key ≡ Some (piece v.slots.items v.note)
   was = piece_seen t key ∙ ap piece_of there
@@ -69,19 +70,19 @@ module _ {T : Type 0} (t : Inside T) (key offset : ℕ) (step : Step) (v w : Seg
   len = ap length slots ∙ length-insert v.slots.items offset (slot t.made step) (omega arith)
 
   sound : IsSound new (cut_of t).strands (t.made + 1)
-  sound = sound_grown old new key now change (cut_of t).strands t.made held.sound (subst IsSome (sym was) refl) (omega (arith, len)) (omega (arith, len))
-      (subst (λ l. Once (map cell_of l)) (sym grows) (grown_once old (cut_of t).strands t.made key offset step first.0 held.sound first.1))
-      (λ x h. grown_cells old (cut_of t).strands t.made key offset step first.0 held.sound first.1 x (subst (λ l. has_cell x l ≡ true) grows h))
+  sound = sound_grown old new key now change (cut_of t).strands t.made held.whole.sound (subst IsSome (sym was) refl) (omega (arith, len)) (omega (arith, len))
+      (subst (λ l. Once (map cell_of l)) (sym grows) (grown_once old (cut_of t).strands t.made key offset step first.0 held.whole.sound first.1))
+      (λ x h. grown_cells old (cut_of t).strands t.made key offset step first.0 held.whole.sound first.1 x (subst (λ l. has_cell x l ≡ true) grows h))
 
   pub put_held : IsHeld after
-  put_held = record { sound = sound; within = within_more t.limits t.made (length (cut_of t).strands) held.within room }
+  put_held = record { whole = record { sound = sound; within = within_more t.limits t.made (length (cut_of t).strands) held.whole.within room }; paths = held.paths }
 
   pub put_told : IsPutBefore (cut_of t) (cut_of after) key offset step
   put_told = record {
-    everywhere_put = λ s at_cell. branches_changed old new key now change (put old (cut_of t).strands t.made key offset step s held.sound at_cell) refl
-        (put_through old (cut_of t).strands t.made key offset step s held.sound at_cell)
-        (grows ∙ grown_put old (cut_of t).strands t.made key offset step s held.sound at_cell)
-        (put_elsewhere old (cut_of t).strands t.made key offset step s held.sound at_cell) (cut_of t).strands;
+    everywhere_put = λ s at_cell. branches_changed old new key now change (put old (cut_of t).strands t.made key offset step s held.whole.sound at_cell) refl
+        (put_through old (cut_of t).strands t.made key offset step s held.whole.sound at_cell)
+        (grows ∙ grown_put old (cut_of t).strands t.made key offset step s held.whole.sound at_cell)
+        (put_elsewhere old (cut_of t).strands t.made key offset step s held.whole.sound at_cell) (cut_of t).strands;
     made = refl;
     limits = refl;
     notes = notes_at (cut_of t) (cut_of after) key change.others (ap note_of change.here ∙ note);
@@ -221,15 +222,15 @@ module _ {T : Type 0} (c d : Cut T) (key fresh offset : ℕ) (step : Step) (abov
     cut = cut_from_sound d d.made sound_after;
   }
 
-abbrev unnoted : {T : Type 0} → Vec Slot → Segment T
+abbrev pub unnoted : {T : Type 0} → Vec Slot → Segment T
 unnoted slots = record { slots = slots; note = None }
 
 -- by what the fields become
-module _ {T : Type 0} (t d : Inside T) (view : Cut T) (view_is : cut_of t ≡ view) (slab : Slab (Segment T)) (key fresh offset : ℕ) (step : Step)
-    (above below : Vec Slot) (cells : List Slot) (held : IsHeld t) (same : slab.slots ≡ t.segments.slots) (cells_are : cells ≡ slots_of (piece_at view.pieces key))
-    (vacant : get slab fresh ≡ None) (lower : piece_of (get d.segments key) ≡ Some (piece below.items None)) (upper : get d.segments fresh ≡ Some (unnoted above))
-    (others : (j : ℕ) → (j ≡ key → ⊥) → (j ≡ fresh → ⊥) → get d.segments j ≡ get slab j)
-    (strands : map strand_of d.branches.entries ≡ map (divided_strand key fresh) (map strand_of t.branches.entries)) (made : d.made ≡ t.made + 1) (limits : d.limits ≡ t.limits)
+module _ {T : Type 0} (t d : Inside T) (view : Cut T) (view_is : cut_of t ≡ view) (mid : Family (Segment T)) (key fresh offset : ℕ) (step : Step)
+    (above below : Vec Slot) (v w : Segment T) (cells : List Slot) (held : IsHeld t) (cells_are : cells ≡ slots_of (piece_at view.pieces key))
+    (added : IsAdded t.segments mid fresh (unnoted above)) (there : item_at mid key ≡ Some v) (after : d.segments.items ≡ set mid.items key (Some w))
+    (items : w.slots ≡ below) (note : w.note ≡ None) (paths : d.segments.paths ≡ map (divided_keys key fresh) t.segments.paths)
+    (names : names_of d ≡ names_of t) (made : d.made ≡ t.made + 1) (limits : d.limits ≡ t.limits)
     (room : view.made < view.limits.cells) (inside : offset < length (slots_of (piece_at view.pieces key))) (full : 128 ≤ length (slots_of (piece_at view.pieces key)))
     (parts : above.items ++ below.items ≡ insert cells offset (slot t.made step)) (least : 64 ≤ length above.items) (most : length above.items ≤ 65) where
   seen : slots_of (piece_at view.pieces key) ≡ slots_of (piece_at (cut_of t).pieces key)
@@ -239,7 +240,13 @@ module _ {T : Type 0} (t d : Inside T) (view : Cut T) (view_is : cut_of t ≡ vi
   full_before = subst (λ l. 128 ≤ length l) seen full
 
   divides : Divides (piece_at (cut_of t).pieces) (piece_at (cut_of d).pieces) key fresh (piece above.items None) (piece below.items None)
-  divides = divides_from t d slab key fresh (unnoted above) below.items same (some_full (piece_at (cut_of t).pieces key) full_before) vacant lower upper others
+  divides = divides_from t d mid key fresh (unnoted above) v w below.items (some_full (piece_at (cut_of t).pieces key) full_before) added there after (ap (λ z. z.items) items) note
+
+  strands : (cut_of d).strands ≡ map (divided_strand key fresh) (cut_of t).strands
+  strands = (λ i. strands_of (names i) (paths i)) ∙ strands-divided key fresh (names_of t) t.segments.paths
+
+  many : length d.segments.paths ≡ length (names_of d)
+  many = ap length paths ∙ length-map t.segments.paths (divided_keys key fresh) ∙ held.paths ∙ sym (ap length names)
 
   room_before : (cut_of t).made < (cut_of t).limits.cells
   room_before = subst (λ z. z.made < z.limits.cells) (sym view_is) room
@@ -251,9 +258,12 @@ module _ {T : Type 0} (t d : Inside T) (view : Cut T) (view_is : cut_of t ≡ vi
   parts_before = parts ∙ ap (λ l. insert l offset (slot t.made step)) (cells_are ∙ seen)
 
   pub divided_held : IsHeld d
-  divided_held = cut_held (cut_of t) (cut_of d) key fresh offset step (piece above.items None) (piece below.items None) held divides strands made limits
-      room_before inside_before full_before parts_before least most refl refl
+  divided_held = record {
+    whole = cut_held (cut_of t) (cut_of d) key fresh offset step (piece above.items None) (piece below.items None) held.whole divides strands made limits
+        room_before inside_before full_before parts_before least most refl refl;
+    paths = many;
+  }
 
   pub divided_told : IsPutBefore (cut_of t) (cut_of d) key offset step
-  divided_told = cut_told (cut_of t) (cut_of d) key fresh offset step (piece above.items None) (piece below.items None) held divides strands made limits
+  divided_told = cut_told (cut_of t) (cut_of d) key fresh offset step (piece above.items None) (piece below.items None) held.whole divides strands made limits
       room_before inside_before full_before parts_before least most refl refl

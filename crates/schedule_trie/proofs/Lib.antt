@@ -1,6 +1,10 @@
 pub mod Once
+pub mod Strands
+pub mod Partings
+pub mod Climbs
 pub mod Lines
 pub mod Changes
+pub mod ClimbSteps
 pub mod StepSet
 pub mod Pushes
 pub mod Whole
@@ -9,14 +13,12 @@ pub mod PushFresh
 pub mod Openings
 pub mod Insertion
 pub mod Division
-pub mod PathsDivided
 pub mod DivisionSteps
 pub mod InsertSteps
 pub mod PathsWithout
 pub mod Readings
 pub mod Removals
 pub mod RemoveSteps
-pub mod Places
 pub mod Forks
 pub mod ForkSteps
 pub mod ForkCuts
@@ -24,10 +26,8 @@ pub mod ForkCutSteps
 pub mod ForkAnswers
 pub mod InsertAnswers
 pub mod Positions
-pub mod Upwards
 pub mod Released
 pub mod Drops
-pub mod Copies
 pub mod Renumbered
 pub mod Beside
 pub mod Detaches

@@ -1,9 +1,8 @@
 -- The lines of a cut.
 use Rattle.frames.specs.declared.types.Step.{Step}
-use Rattle.std.proofs.Common.{append_assoc, append-nil, ◌≡◌, ℕ, zero, suc, ◌+◌, ◌<◌, ◌≤◌, nat_eq, Bool, true, false, ◌||◌, List, [], ◌∷◌, ◌++◌, length, map, drop, get_or, slice_get, Option, Some, None, refl, sym, ap, subst, ◌∙◌, true≢false, arith}
-use Rattle.std.specs.Option.{option_map_or, option_map, IfSome}
-use Rattle.std.specs.Global.{Vec}
-use Rattle.std.specs.Map.{keys_of}
+use Rattle.std.proofs.Common.{append_assoc, append-nil, ◌≡◌, ℕ, zero, suc, ◌+◌, ◌<◌, ◌≤◌, nat_eq, Bool, true, false, ◌||◌, List, [], ◌∷◌, ◌++◌, length, map, drop, get_or, slice_get, Option, Some, None, Result, Ok, Err, refl, sym, ap, subst, ◌∙◌, true≢false, arith}
+use Rattle.std.specs.Option.{option_map, IfSome}
+use Rattle.std.specs.Result.{IfOk}
 use Rattle.std.proofs.lemmas.List.{map-append, length-map, length-append}
 use Rattle.std.proofs.Math.Seq.{drop-cons}
 use Rattle.std.specs.List.{position}
@@ -12,14 +11,12 @@ use Rattle.schedule_trie.specs.Forest.{step_of, cell_of, name_of, slots_in, inde
 use Rattle.std.specs.Cmp.Lexicographic.{pointwise}
 use Rattle.std.proofs.lemmas.Option.{slice_get-map}
 use Rattle.schedule_trie.specs.Cut.{forest, piece_at, Piece, Strand, line, slots_of, branches_on, keys_in, has, has_cell, Once, IsSegment, IsSound, StandsAt}
-use Rattle.schedule_trie.specs.Held.{strand_of, cut_of, IsHeld}
+use Rattle.lineage.specs.Family.{path_in}
+use Rattle.schedule_trie.specs.Held.{names_of, cut_of, IsHeld}
+use Rattle.schedule_trie.proofs.Strands.{names_on, length-strands, keys_in-of}
 use Rattle.schedule_trie.proofs.Once.{has-append, has-head, has-tail, Once-append, Once-bounded, has_not_from, Once-from_linked}
 
 module _ {T : Type 0} (at : ℕ → Option (Piece T)) where
-  pub names_on : (es : List (List ℕ × Vec ℕ)) → map name_of (branches_on at (map strand_of es)) ≡ keys_of es
-  names_on [] = refl
-  names_on (e ∷ es) = ap (λ l. e.0 ∷ l) (names_on es)
-
   pub slots_in_on : (strands : List Strand) (i : ℕ) → slots_in (branches_on at strands) i ≡ line at (keys_in strands i)
   slots_in_on [] i = refl
   slots_in_on (s ∷ ss) zero = refl
@@ -72,11 +69,6 @@ module _ {T : Type 0} (at : ℕ → Option (Piece T)) where
         let b : length (map cell_of (line at ks)) ≤ made = Once-bounded (map cell_of (line at ks)) made (line_once ks h) (λ x e. let p = in_line x ks e in given_at p.0 x p.2) in
         subst (λ n. n ≤ made) (length-map (line at ks) cell_of) b
 
-pub keys_in_entries : (es : List (List ℕ × Vec ℕ)) (i : ℕ) → keys_in (map strand_of es) i ≡ option_map_or (λ e. e.1.items) (slice_get es i) []
-keys_in_entries [] i = refl
-keys_in_entries (e ∷ es) zero = refl
-keys_in_entries (e ∷ es) (suc i) = keys_in_entries es i
-
 pub sound_short : {T : Type 0} (at : ℕ → Option (Piece T)) (strands : List Strand) (made : ℕ) → IsSound at strands made → (i : ℕ) → length (line at (keys_in strands i)) ≤ made
 sound_short at strands made s i =
     line_short at made s.segments s.apart (keys_in strands i)
@@ -84,24 +76,32 @@ sound_short at strands made s i =
 
 -- what the fields tell of the forest
 module _ {T : Type 0} (t : Inside T) where
-  pub index_is : (name : List ℕ) → index_of (forest (cut_of t)).branches name ≡ position (pointwise nat_eq name) (keys_of t.branches.entries)
-  index_is name = ap (position (pointwise nat_eq name)) (names_on (piece_at (cut_of t).pieces) t.branches.entries)
+  pub index_is : (name : List ℕ) → index_of (forest (cut_of t)).branches name ≡ position (pointwise nat_eq name) (names_of t)
+  index_is name = ap (position (pointwise nat_eq name)) (names_on (piece_at (cut_of t).pieces) (names_of t) t.segments.paths)
 
   pub name_is : (i : ℕ) → name_in (forest (cut_of t)).branches i ≡ option_map (λ e. e.0) (slice_get t.branches.entries i)
-  name_is i = ap (λ l. slice_get l i) (names_on (piece_at (cut_of t).pieces) t.branches.entries) ∙ slice_get-map (λ e. e.0) t.branches.entries i
+  name_is i = ap (λ l. slice_get l i) (names_on (piece_at (cut_of t).pieces) (names_of t) t.segments.paths) ∙ slice_get-map (λ e. e.0) t.branches.entries i
 
-  pub keys_are : (i : ℕ) → keys_in (cut_of t).strands i ≡ option_map_or (λ e. e.1.items) (slice_get t.branches.entries i) []
-  keys_are i = keys_in_entries t.branches.entries i
+  pub keys_are : IsHeld t → (i : ℕ) → keys_in (cut_of t).strands i ≡ path_in t.segments i
+  keys_are h i = keys_in-of (names_of t) t.segments.paths i h.paths
+
+  pub path_within : IsHeld t → (i : ℕ) → i < length (cut_of t).strands → i < length t.segments.paths
+  path_within h i inside = subst (λ n. i < n) (length-strands (names_of t) t.segments.paths ∙ sym h.paths) inside
 
   pub line_fits : IsHeld t → (i : ℕ) → length (line (piece_at (cut_of t).pieces) (keys_in (cut_of t).strands i)) ≤ t.made
-  line_fits h i = sound_short (piece_at (cut_of t).pieces) (cut_of t).strands t.made h.sound i
+  line_fits h i = sound_short (piece_at (cut_of t).pieces) (cut_of t).strands t.made h.whole.sound i
 
   -- what the keys of a branch promise
-  pub keys_told : IsHeld t → (i : ℕ) (keys : List ℕ) → option_map_or (λ e. e.1.items) (slice_get t.branches.entries i) [] ≡ keys
+  pub keys_told : IsHeld t → (i : ℕ) (keys : List ℕ) → keys ≡ path_in t.segments i
       → (keys ≡ keys_in (cut_of t).strands i) × (length (line (piece_at (cut_of t).pieces) keys) ≤ (cut_of t).made) × ((cut_of t).made ≤ 16777216)
   keys_told h i keys e =
-      let same : keys_in (cut_of t).strands i ≡ keys = keys_are i ∙ e in
-      (sym same, subst (λ l. length (line (piece_at (cut_of t).pieces) l) ≤ t.made) same (line_fits h i), omega (arith, h.within.cells, h.within.most_cells))
+      let same : keys_in (cut_of t).strands i ≡ keys = keys_are h i ∙ sym e in
+      (sym same, subst (λ l. length (line (piece_at (cut_of t).pieces) l) ≤ t.made) same (line_fits h i), omega (arith, h.whole.within.cells, h.whole.within.most_cells))
+
+-- what follows of an answer, where there is one
+pub if_ok : {A E : Type 0} (r : Result A E) (P Q : A → Type 0) → ((a : A) → P a → Q a) → IfOk r P → IfOk r Q
+if_ok (Ok a) P Q f h = f a h
+if_ok (Err e) P Q f h = tt
 
 pub drop_past : (n : ℕ) (xs : List ℕ) → length xs ≤ n → drop n xs ≡ []
 drop_past zero [] h = refl

@@ -1,21 +1,26 @@
 -- The first forest.
-use Rattle.std.proofs.Common.{◌≡◌, ℕ, zero, suc, ◌+◌, ◌<◌, Bool, List, [], ◌∷◌, ◌++◌, length, map, take, get_or, None, refl, sym, ap, subst, ◌∙◌, true≢false, arith}
+use Rattle.std.proofs.Common.{◌≡◌, ℕ, zero, suc, ◌+◌, ◌<◌, Bool, List, [], ◌∷◌, ◌++◌, length, map, take, get_or, Option, None, refl, sym, ap, subst, ◌∙◌, true≢false, arith}
 use Rattle.std.specs.Prelude.{codes}
-use Rattle.std.specs.Global.{Vec}
 use Rattle.std.proofs.lemmas.List.{length-append, take_more}
+use Rattle.std.specs.Map.{keys_of}
 use Rattle.indexmap.specs.IndexMap.{insert_entry}
+use Rattle.lineage.specs.Family.{Family, IsForked}
 use Rattle.frames.specs.declared.types.Step.{Step}
 use Rattle.schedule_trie.specs.declared.limits.Limits.{Limits}
 use Rattle.schedule_trie.specs.declared.trie.Trie.TheInside.{Inside}
 use Rattle.schedule_trie.specs.Forest.{Forest, branch, slot, numbered, opening, only_in, put_last}
 use Rattle.schedule_trie.specs.Cut.{Cut, strand, keys_in, has, Linked, IsWhole, IsCut, AreLimits, IsPushed, forest}
-use Rattle.schedule_trie.specs.Held.{piece_of, strand_of, cut_of, IsHeld}
+use Rattle.schedule_trie.specs.Held.{piece_of, strands_of, names_of, cut_of, IsHeld}
+use Rattle.schedule_trie.proofs.ForkSteps.{no_last}
 use Rattle.schedule_trie.proofs.StepSet.{cut_from_sound}
 
-pub one_entry : (eq : List ℕ → List ℕ → Bool) (es more : List (List ℕ × Vec ℕ)) (name : List ℕ) (v : Vec ℕ) → es ≡ [] → more ≡ insert_entry eq es name v
-    → name ≡ codes "main" → v.items ≡ [] → map strand_of more ≡ strand (codes "main") [] ∷ []
-one_entry eq es more name v empty entries named items =
-    ap (map strand_of) entries ∙ ap (λ l. map strand_of (insert_entry eq l name v)) empty ∙ (λ i. strand (named i) (items i) ∷ [])
+pub one_name : (eq : List ℕ → List ℕ → Bool) (es more : List (List ℕ × Option ℕ)) (name : List ℕ) (v : Option ℕ) → es ≡ [] → more ≡ insert_entry eq es name v
+    → name ≡ codes "main" → keys_of more ≡ codes "main" ∷ []
+one_name eq es more name v empty entries named =
+    ap keys_of entries ∙ ap (λ l. keys_of (insert_entry eq l name v)) empty ∙ (λ i. named i ∷ [])
+
+pub one_path : {X : Type 0} (old new : Family X) → old.paths ≡ [] → IsForked old new None → new.paths ≡ [] ∷ []
+one_path old new none forked = forked.paths ∙ ap (λ l. l ++ forked.path ∷ []) none ∙ ap (λ p. p ∷ []) (no_last forked.path forked.last)
 
 no_keys : (name : List ℕ) (i : ℕ) → keys_in (strand name [] ∷ []) i ≡ []
 no_keys name zero = refl
@@ -43,13 +48,17 @@ module _ {T : Type 0} (limits : Limits) (are : AreLimits limits) where
     };
   }
 
-  pub first_held : (t : Inside T) → map strand_of t.branches.entries ≡ strand (codes "main") [] ∷ [] → t.segments.slots ≡ [] → t.made ≡ 0 → t.limits ≡ limits → IsHeld t
-  first_held t strands slots made same =
-      let e : cut_of t ≡ first = λ i. record { strands = strands i; pieces = map piece_of (slots i); made = made i; limits = same i } in
-      subst IsWhole (sym e) first_whole
+  pub first_held : (t : Inside T) → names_of t ≡ codes "main" ∷ [] → t.segments.paths ≡ [] ∷ [] → t.segments.items ≡ [] → t.made ≡ 0 → t.limits ≡ limits → IsHeld t
+  first_held t names paths items made same =
+      let e : cut_of t ≡ first = λ i. record { strands = strands_of (names i) (paths i); pieces = map piece_of (items i); made = made i; limits = same i } in
+      let many : length t.segments.paths ≡ length (names_of t) = ap length paths ∙ sym (ap length names) in
+      record { whole = subst IsWhole (sym e) first_whole; paths = many }
 
-  pub first_cut : (t : Inside T) → map strand_of t.branches.entries ≡ strand (codes "main") [] ∷ [] → t.segments.slots ≡ [] → t.made ≡ 0 → t.limits ≡ limits → IsCut (cut_of t)
-  first_cut t strands slots made same = cut_from_sound (cut_of t) t.made (first_held t strands slots made same).sound
+  pub first_forest : (t : Inside T) → names_of t ≡ codes "main" ∷ [] → t.segments.paths ≡ [] ∷ [] → t.segments.items ≡ [] → t.made ≡ 0 → forest (cut_of t) ≡ opening []
+  first_forest t names paths items made = λ i. forest (record { strands = strands_of (names i) (paths i); pieces = map piece_of (items i); made = made i; limits = t.limits })
+
+  pub first_cut : (t : Inside T) → names_of t ≡ codes "main" ∷ [] → t.segments.paths ≡ [] ∷ [] → t.segments.items ≡ [] → t.made ≡ 0 → t.limits ≡ limits → IsCut (cut_of t)
+  first_cut t names paths items made same = cut_from_sound (cut_of t) t.made (first_held t names paths items made same).whole.sound
 
 numbered-push : (n : ℕ) (xs : List Step) (s : Step) → numbered n (xs ++ s ∷ []) ≡ numbered n xs ++ slot (n + length xs) s ∷ []
 numbered-push n [] s = ap (λ k. slot k s ∷ []) (omega arith)

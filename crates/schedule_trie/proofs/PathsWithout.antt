@@ -1,54 +1,9 @@
 -- A key goes from paths.
 use Rattle.std.proofs.Common.{◌≡◌, ℕ, zero, suc, ◌+◌, ◌<◌, ◌≤◌, Bool, true, false, not, ◌||◌, nat_eq, cond, List, [], ◌∷◌, length, map, slice_get, Option, Some, None, refl, sym, ap, subst, ◌∙◌, arith}
-use Rattle.std.specs.Global.{Vec}
 use Rattle.std.proofs.lemmas.Bool.{eqb-true}
 use Rattle.std.proofs.lemmas.List.{length-map}
-use Rattle.indexmap.specs.IndexMap.{set_value_at}
 use Rattle.schedule_trie.specs.Cut.{Strand, keys_in, set_keys, has, Linked, keys_without, strand_without}
-use Rattle.schedule_trie.specs.Held.{strand_of}
-use Rattle.schedule_trie.proofs.PushFresh.{strands_set, keys_value}
 use Rattle.schedule_trie.proofs.Once.{has-head, has-tail, has_cases}
-
--- the key goes from the first so many branches
-abbrev pub without_in_first : ℕ → ℕ → List Strand → List Strand
-without_in_first key zero ss = ss
-without_in_first key (suc n) [] = []
-without_in_first key (suc n) (s ∷ ss) = strand_without key s ∷ without_in_first key n ss
-
-length-without_in_first : (key n : ℕ) (ss : List Strand) → length (without_in_first key n ss) ≡ length ss
-length-without_in_first key zero ss = refl
-length-without_in_first key (suc n) [] = refl
-length-without_in_first key (suc n) (s ∷ ss) = ap suc (length-without_in_first key n ss)
-
-pub without_in_all : (key n : ℕ) (ss : List Strand) → length ss ≤ n → without_in_first key n ss ≡ map (strand_without key) ss
-without_in_all key zero [] h = refl
-without_in_all key zero (s ∷ ss) h = absurd (omega arith)
-without_in_all key (suc n) [] h = refl
-without_in_all key (suc n) (s ∷ ss) h = ap (λ l. strand_without key s ∷ l) (without_in_all key n ss (omega arith))
-
-without_next : (key n : ℕ) (ss : List Strand) → n < length ss
-    → set_keys (without_in_first key n ss) n (keys_without key (keys_in (without_in_first key n ss) n)) ≡ without_in_first key (suc n) ss
-without_next key n [] h = absurd (omega arith)
-without_next key zero (s ∷ ss) h = refl
-without_next key (suc n) (s ∷ ss) h = ap (λ l. strand_without key s ∷ l) (without_next key n ss (omega arith))
-
--- the branches so far, and one more
-module _ (key n : ℕ) (first es : List (List ℕ × Vec ℕ)) (so_far : map strand_of es ≡ without_in_first key n (map strand_of first)) where
-  pub as_many : length es ≡ length first
-  as_many = sym (length-map es strand_of) ∙ ap length so_far ∙ length-without_in_first key n (map strand_of first) ∙ length-map first strand_of
-
-  pub one_more : (v w : Vec ℕ) → n < length first → slice_get (map (λ e. e.1) es) n ≡ Some v → w.items ≡ keys_without key v.items
-      → map strand_of (set_value_at es n w) ≡ without_in_first key (n + 1) (map strand_of first)
-  one_more v w h value items =
-      let inside : n < length (map strand_of first) = subst (λ k. n < k) (sym (length-map first strand_of)) h in
-      let step : suc n ≡ n + 1 = omega arith in
-      let keys : w.items ≡ keys_without key (keys_in (map strand_of es) n) = items ∙ ap (keys_without key) (sym (keys_value es n v value)) in
-      strands_set es n w ∙ ap (set_keys (map strand_of es) n) keys
-      ∙ ap (λ ss. set_keys ss n (keys_without key (keys_in ss n))) so_far
-      ∙ without_next key n (map strand_of first) inside ∙ ap (λ k. without_in_first key k (map strand_of first)) step
-
-  pub all_done : length first ≤ n → map strand_of es ≡ map (strand_without key) (map strand_of first)
-  all_done h = so_far ∙ without_in_all key n (map strand_of first) (subst (λ k. k ≤ n) (sym (length-map first strand_of)) h)
 
 -- the keys of a branch
 pub keys_in-without : (key : ℕ) (ss : List Strand) (i : ℕ) → keys_in (map (strand_without key) ss) i ≡ keys_without key (keys_in ss i)

@@ -1,13 +1,9 @@
 -- Where a key stands in the paths that have it.
 use Rattle.std.proofs.Common.{◌≡◌, ℕ, zero, suc, ◌+◌, ◌<◌, ◌≤◌, Bool, true, false, ◌||◌, nat_eq, nat_lt, List, [], ◌∷◌, length, map, slice_get, Option, Some, None, refl, sym, ap, subst, ◌∙◌, true≢false, arith, eq-eqb}
-use Rattle.std.specs.Global.{Vec}
 use Rattle.std.proofs.lemmas.Bool.Decides.{nat_tests}
 use Rattle.std.proofs.lemmas.List.{length-map}
 use Rattle.schedule_trie.specs.Cut.{Strand, keys_in, has, Linked, SharesAbove, LackedByOthers}
-use Rattle.schedule_trie.specs.Held.{strand_of}
-use Rattle.schedule_trie.specs.Releases.{HasAt}
 use Rattle.schedule_trie.proofs.Once.{Ups, Ups-one, has_cases, has-head, has-tail, has_not_from}
-use Rattle.schedule_trie.proofs.Lines.{keys_in_past}
 
 -- the way up from a place of a path
 ups_at : (above : ℕ → Option ℕ) (up : Option ℕ) (seen ks : List ℕ) (place k : ℕ) → Ups above up seen → Linked above up ks → slice_get ks place ≡ Some k
@@ -88,47 +84,3 @@ shared_before above xs ys (suc place) k q j a b e h few f =
         let same : k ≡ j = cc in
         subst (λ z. has z ys ≡ true) same h
     by rest false g = rest (grind (arith, nat_tests))
-
--- the branches so far
-keys_at : (es : List (List ℕ × Vec ℕ)) (i place key : ℕ) (v : Vec ℕ) (keys : List ℕ) → slice_get (map (λ e. e.1) es) i ≡ Some v → keys ≡ v.items
-    → slice_get (keys_in (map strand_of es) i) place ≡ slice_get keys place
-keys_at [] i place key v keys h same = absurd (cc)
-keys_at (e ∷ es) zero place key v keys h same = let here : e.1 ≡ v = cc in ap (λ l. slice_get l place) (ap (λ z. z.items) here ∙ sym same)
-keys_at (e ∷ es) (suc i) place key v keys h same = keys_at es i place key v keys h same
-
-module _ (es : List (List ℕ × Vec ℕ)) (i place key : ℕ) (v : Vec ℕ) (keys : List ℕ) (value : slice_get (map (λ e. e.1) es) i ≡ Some v) (same : keys ≡ v.items) where
-  pub at_value : slice_get keys place ≡ Some key → HasAt (map strand_of es) place key
-  at_value h = (i, keys_at es i place key v keys value same ∙ h)
-
-  pub none_more : (slice_get keys place ≡ Some key → ⊥) → ((j : ℕ) → j < i → slice_get (keys_in (map strand_of es) j) place ≡ Some key → ⊥)
-      → (j : ℕ) → j < i + 1 → slice_get (keys_in (map strand_of es) j) place ≡ Some key → ⊥
-  none_more none each j h e = by (nat_lt j i) refl
-    where
-      by : (b : Bool) → nat_lt j i ≡ b → ⊥
-      by true f = each j (grind (arith, nat_tests)) e
-      by false f =
-          let last : j ≡ i = grind (arith, nat_tests) in
-          none (sym (keys_at es i place key v keys value same) ∙ subst (λ n. slice_get (keys_in (map strand_of es) n) place ≡ Some key) last e)
-
-pub none_at : (es : List (List ℕ × Vec ℕ)) (n place key : ℕ) → length es ≤ n
-    → ((j : ℕ) → j < n → slice_get (keys_in (map strand_of es) j) place ≡ Some key → ⊥) → HasAt (map strand_of es) place key → ⊥
-none_at es n place key few each p = by (nat_lt p.0 n) refl
-  where
-    by : (b : Bool) → nat_lt p.0 n ≡ b → ⊥
-    by true e = each p.0 (grind (arith, nat_tests)) p.1
-    by false e =
-        let past : n ≤ p.0 = grind (arith, nat_tests) in
-        let len : length (map strand_of es) ≡ length es = length-map es strand_of in
-        let none : keys_in (map strand_of es) p.0 ≡ [] = keys_in_past (map strand_of es) p.0 (omega arith) in
-        let none_there : None ≡ Some key = sym (ap (λ l. slice_get l place) none) ∙ p.1 in
-        absurd (cc)
-
--- a segment that no branch but one has at that place
-pub lacked_by_others : (strands : List Strand) (index place key n : ℕ) → SharesAbove strands → slice_get (keys_in strands index) place ≡ Some key → length strands ≤ n
-    → ((j : ℕ) → j < n → (j ≡ index → ⊥) → slice_get (keys_in strands j) place ≡ Some key → ⊥) → LackedByOthers strands index key
-lacked_by_others strands index place key n shares here few each j ne = by (nat_lt j n) refl
-  where
-    by : (b : Bool) → nat_lt j n ≡ b → has key (keys_in strands j) ≡ false
-    by true e = has_not_from key (keys_in strands j) (λ h.
-        each j (grind (arith, nat_tests)) ne (same_place shares.above (keys_in strands index) (keys_in strands j) place key (shares.linked index) (shares.linked j) here h))
-    by false e = ap (has key) (keys_in_past strands j (let past : n ≤ j = grind (arith, nat_tests) in omega arith))

@@ -3,15 +3,17 @@ use Rattle.std.proofs.Common.{◌≡◌, ℕ, ◌+◌, ◌<◌, true, false, ◌
 use Rattle.std.specs.Result.{OnErr}
 use Rattle.std.proofs.Math.Seq.{map-set_same}
 use Rattle.std.proofs.lemmas.List.{length_push}
-use Rattle.slab.specs.Slab.{get, with_value}
+use Rattle.lineage.specs.Family.{item_at, with_item, path_in, last_of, EndsAlone}
 use Rattle.frames.specs.declared.types.Step.{Step}
 use Rattle.schedule_trie.specs.declared.segment.Segment.{Segment}
 use Rattle.schedule_trie.specs.declared.trie.Trie.TheInside.{Inside}
 use Rattle.schedule_trie.specs.Forest.{slot}
-use Rattle.schedule_trie.specs.Cut.{piece, piece_at, slots_of, note_of, line, keys_in, set_keys, has, Once, IsOwnEnd, IsChangedEnd, HasChanged, IsPushed}
+use Rattle.schedule_trie.specs.Cut.{piece, piece_at, slots_of, note_of, line, keys_in, set_keys, has, Once, IsOwnEnd, IsChangedEnd, HasChanged, IsPushed, IsWhole}
 use Rattle.schedule_trie.specs.Held.{piece_of, cut_of, IsHeld}
 use Rattle.schedule_trie.proofs.Once.{has-append, Once-from_linked}
 use Rattle.schedule_trie.proofs.Changes.{Changes, piece_at_set}
+use Rattle.schedule_trie.proofs.Climbs.{last_parts}
+use Rattle.schedule_trie.proofs.Lines.{keys_are}
 use Rattle.schedule_trie.proofs.StepSet.{piece_seen, key_within}
 use Rattle.schedule_trie.proofs.Notes.{notes_at, notes_but}
 use Rattle.schedule_trie.proofs.Pushes.{line-append}
@@ -26,11 +28,15 @@ pub has_front : (k key : ℕ) (front : List ℕ) → has k front ≡ true → ha
 has_front k key front h = has-append k front (key ∷ []) ∙ ap (λ b. b || has k (key ∷ [])) h
 
 -- a segment that is written as it was
-pub cut_written : {T : Type 0} (t : Inside T) (key : ℕ) (v w : Segment T) → get t.segments key ≡ Some v → w.slots.items ≡ v.slots.items → w.note ≡ v.note
-    → cut_of (record t { segments = with_value t.segments key w }) ≡ cut_of t
+pub cut_written : {T : Type 0} (t : Inside T) (key : ℕ) (v w : Segment T) → item_at t.segments key ≡ Some v → w.slots.items ≡ v.slots.items → w.note ≡ v.note
+    → cut_of (record t { segments = with_item t.segments key w }) ≡ cut_of t
 cut_written t key v w there items note =
-    let same : piece_of (Some w) ≡ piece_of (get t.segments key) = (λ i. Some (piece (items i) (note i))) ∙ ap piece_of (sym there) in
-    ap (λ p. record (cut_of t) { pieces = p }) (map-set_same piece_of t.segments.slots key (Some w) None same)
+    let same : piece_of (Some w) ≡ piece_of (item_at t.segments key) = (λ i. Some (piece (items i) (note i))) ∙ ap piece_of (sym there) in
+    ap (λ p. record (cut_of t) { pieces = p }) (map-set_same piece_of t.segments.items key (Some w) None same)
+
+pub kept_held : {T : Type 0} (t : Inside T) (key : ℕ) (w : Segment T) → IsHeld t → cut_of (record t { segments = with_item t.segments key w }) ≡ cut_of t
+    → IsHeld (record t { segments = with_item t.segments key w })
+kept_held t key w held same = record { whole = subst IsWhole (sym same) held.whole; paths = held.paths }
 
 -- in the last segment of a branch
 module _ {T : Type 0} (t : Inside T) (index key : ℕ) (held : IsHeld t) (end : IsOwnEnd (cut_of t) index key) where
@@ -38,26 +44,26 @@ module _ {T : Type 0} (t : Inside T) (index key : ℕ) (held : IsHeld t) (end : 
   some_slab None h = h
   some_slab (Some v) h = refl
 
-  pub own_there : IsSome (get t.segments key)
+  pub own_there : IsSome (item_at t.segments key)
   own_there =
-      some_slab (get t.segments key) (subst IsSome (piece_seen t key)
-      (held.sound.held index key (subst (λ l. has key l ≡ true) (sym end.last) (has-last key end.front))))
+      some_slab (item_at t.segments key) (subst IsSome (piece_seen t key)
+      (held.whole.sound.held index key (subst (λ l. has key l ≡ true) (sym end.last) (has-last key end.front))))
 
-  module _ (v w : Segment T) (there : get t.segments key ≡ Some v) where
+  module _ (v w : Segment T) (there : item_at t.segments key ≡ Some v) where
     seen : piece_at (cut_of t).pieces key ≡ Some (piece v.slots.items v.note)
     seen = piece_seen t key ∙ ap piece_of there
 
     -- refused
-    pub cut_kept : w.slots.items ≡ v.slots.items → w.note ≡ v.note → cut_of (record t { segments = with_value t.segments key w }) ≡ cut_of t
+    pub cut_kept : w.slots.items ≡ v.slots.items → w.note ≡ v.note → cut_of (record t { segments = with_item t.segments key w }) ≡ cut_of t
     cut_kept items note = cut_written t key v w there items note
 
     module _ (step : Step) (index_in : index < length (cut_of t).strands) (room : t.made < t.limits.cells)
         (items : w.slots.items ≡ v.slots.items ++ slot t.made step ∷ []) (note : w.note ≡ None) where
       abbrev after : Inside T
-      after = record t { segments = with_value t.segments key w; made = t.made + 1 }
+      after = record t { segments = with_item t.segments key w; made = t.made + 1 }
 
       change : Changes (piece_at (cut_of t).pieces) (piece_at (cut_of after).pieces) key (piece w.slots.items w.note)
-      change = piece_at_set t.segments.slots key w (key_within t.segments.slots key v there)
+      change = piece_at_set t.segments.items key w (key_within t.segments.items key v there)
 
       slots : w.slots.items ≡ slots_of (piece_at (cut_of t).pieces key) ++ slot t.made step ∷ []
       slots = items ∙ sym (ap (λ o. slots_of o ++ slot t.made step ∷ []) seen)
@@ -70,7 +76,7 @@ module _ {T : Type 0} (t : Inside T) (index key : ℕ) (held : IsHeld t) (end : 
           ∙ ap (λ l. line (piece_at (cut_of t).pieces) end.front ++ l) (append-nil (slots_of (piece_at (cut_of t).pieces key)))
 
       fresh : has key end.front ≡ false
-      fresh = once_front end.front key (subst Once end.last (Once-from_linked held.sound.shares.above (keys_in (cut_of t).strands index) (held.sound.shares.linked index)))
+      fresh = once_front end.front key (subst Once end.last (Once-from_linked held.whole.sound.shares.above (keys_in (cut_of t).strands index) (held.whole.sound.shares.linked index)))
 
       kept : (k : ℕ) → has k (keys_in (cut_of t).strands index) ≡ true → has k (end.front ++ key ∷ []) ≡ true
       kept k h = subst (λ l. has k l ≡ true) end.last h
@@ -85,9 +91,26 @@ module _ {T : Type 0} (t : Inside T) (index key : ℕ) (held : IsHeld t) (end : 
           omega arith
 
       pub in_held : IsHeld after
-      in_held = whole_pushed (cut_of t) (cut_of after) index key step end.front (piece w.slots.items w.note) held room change note slots end.room refl refl strands index_in was kept in_front fresh end.own held.sound.shares
+      in_held = record {
+        whole = whole_pushed (cut_of t) (cut_of after) index key step end.front (piece w.slots.items w.note) held.whole room change note slots end.room refl refl strands index_in was kept in_front fresh end.own held.whole.sound.shares;
+        paths = held.paths;
+      }
 
       pub in_pushed : IsPushed (cut_of t) (cut_of after) index step
-      in_pushed = is_pushed (cut_of t) (cut_of after) index key step end.front (piece w.slots.items w.note) held room change note slots end.room refl refl strands index_in was kept in_front fresh end.own held.sound.shares
+      in_pushed = is_pushed (cut_of t) (cut_of after) index key step end.front (piece w.slots.items w.note) held.whole room change note slots end.room refl refl strands index_in was kept in_front fresh end.own held.whole.sound.shares
           (notes_but (cut_of t) (cut_of after) key (IsChangedEnd (cut_of t) (cut_of after) index) (notes_at (cut_of t) (cut_of after) key change.others (ap note_of change.here ∙ note))
-          (record { front = end.front; last = end.last; some = some_slots t.made (piece_at (cut_of t).pieces key) (subst IsSome (sym seen) refl) (held.sound.segments key) }, changed))
+          (record { front = end.front; last = end.last; some = some_slots t.made (piece_at (cut_of t).pieces key) (subst IsSome (sym seen) refl) (held.whole.sound.segments key) }, changed))
+
+-- the last segment of a branch, which no other has
+pub own_told : {T : Type 0} (t : Inside T) (index key : ℕ) → IsHeld t → last_of (path_in t.segments index) ≡ Some key → EndsAlone t.segments index
+    → length (slots_of (piece_at (cut_of t).pieces key)) < 128 → IsOwnEnd (cut_of t) index key
+own_told t index key held last alone few =
+    let p = last_parts (path_in t.segments index) key last in
+    let one : Some alone.key ≡ Some key = sym alone.last ∙ last in
+    let same : alone.key ≡ key = cc in
+    record {
+      front = p.0;
+      last = keys_are t held index ∙ p.1;
+      own = λ j ne. ap (has key) (keys_are t held j) ∙ subst (λ k. has k (path_in t.segments j) ≡ false) same (alone.own j ne);
+      room = few;
+    }

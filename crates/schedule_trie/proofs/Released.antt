@@ -1,22 +1,25 @@
 -- What a release leaves of a cut.
 use Rattle.std.proofs.Common.{◌≡◌, ℕ, zero, suc, Bool, true, false, List, [], ◌∷◌, ◌++◌, map, Option, None, IsSome, ◌⊎◌, refl, sym, ap, subst, ◌∙◌, true≢false, inl, inr}
 use Rattle.std.specs.Option.{IfSome}
-use Rattle.std.proofs.Math.ListN.{get_or-map}
-use Rattle.slab.specs.Slab.{Slab, get}
-use Rattle.schedule_trie.specs.declared.segment.Segment.{Segment}
 use Rattle.schedule_trie.specs.Forest.{branch, slots_in}
 use Rattle.schedule_trie.specs.Cut.{Cut, Piece, Strand, piece_at, slots_of, note_of, line, forest, branches_on, keys_in, has, has_cell, SharesAbove, IsSegment, IsSound, AreGone, KeepsAllNotes}
-use Rattle.schedule_trie.specs.Held.{piece_of, pieces_of}
-use Rattle.schedule_trie.specs.Releases.{LackedByAll, IsReleased}
 use Rattle.schedule_trie.proofs.Once.{has-head, has-tail, has_not_from}
 use Rattle.schedule_trie.proofs.Lines.{in_line, slots_in_on}
 
--- a cut that is sound, but that segments of a path may be in no branch
-pub record IsSoundBut {T : Type 0} (at : ℕ → Option (Piece T)) (strands : List Strand) (path : List ℕ) (made : ℕ) : Type 0 where
+-- no branch has a segment
+abbrev LackedByAll : List Strand → ℕ → Type 0
+LackedByAll strands key = (i : ℕ) → has key (keys_in strands i) ≡ false
+
+-- the segments of branches are as before, and those that no branch has are gone
+pub record IsReleased {X : Type 0} (old new : ℕ → Option X) (strands : List Strand) : Type 0 where
+  pub kept : (i k : ℕ) → has k (keys_in strands i) ≡ true → new k ≡ old k
+  pub gone : (k : ℕ) → LackedByAll strands k → new k ≡ None
+
+-- a cut that is sound, but that segments may be in no branch
+pub record IsSoundBut {T : Type 0} (at : ℕ → Option (Piece T)) (strands : List Strand) (made : ℕ) : Type 0 where
   pub held : (i k : ℕ) → has k (keys_in strands i) ≡ true → IsSome (at k)
   pub segments : (k : ℕ) → IfSome (at k) (IsSegment made)
   pub apart : (j k x : ℕ) → has_cell x (slots_of (at j)) ≡ true → has_cell x (slots_of (at k)) ≡ true → j ≡ k
-  pub live : (k : ℕ) → IsSome (at k) → (has k path ≡ true) ⊎ ((i : ℕ) × (has k (keys_in strands i) ≡ true))
   pub shares : SharesAbove strands
 
 held_or_lacked : (strands : List Strand) (k : ℕ) → ((i : ℕ) × (has k (keys_in strands i) ≡ true)) ⊎ LackedByAll strands k
@@ -43,28 +46,9 @@ branches_alike old new [] h = refl
 branches_alike old new (s ∷ ss) h =
     λ i. branch s.name (line_alike old new s.keys (h 0) i) ∷ branches_alike old new ss (λ j. h (suc j)) i
 
-pub pieces_released : {T : Type 0} (old new : Slab (Segment T)) (strands : List Strand) (path : List ℕ) → IsReleased (get old) (get new) strands path
-    → IsReleased (piece_at (pieces_of old.slots)) (piece_at (pieces_of new.slots)) strands path
-pieces_released old new strands path r =
-    let both : (k : ℕ) → get new k ≡ get old k → piece_at (pieces_of new.slots) k ≡ piece_at (pieces_of old.slots) k =
-    λ k e. get_or-map piece_of new.slots k None ∙ ap piece_of e ∙ sym (get_or-map piece_of old.slots k None) in
-    record {
-      others = λ k h. both k (r.others k h);
-      shared = λ i k h. both k (r.shared i k h);
-      gone = λ k h lacked. get_or-map piece_of new.slots k None ∙ ap piece_of (r.gone k h lacked);
-    }
-
-module _ {T : Type 0} (old new : ℕ → Option (Piece T)) (strands : List Strand) (path : List ℕ) (released : IsReleased old new strands path) where
+module _ {T : Type 0} (old new : ℕ → Option (Piece T)) (strands : List Strand) (released : IsReleased old new strands) where
   stays_or_goes : (k : ℕ) → (new k ≡ old k) ⊎ (new k ≡ None)
-  stays_or_goes k = by (has k path) refl (held_or_lacked strands k)
-    where
-      by : (b : Bool) → has k path ≡ b → ((i : ℕ) × (has k (keys_in strands i) ≡ true)) ⊎ LackedByAll strands k → (new k ≡ old k) ⊎ (new k ≡ None)
-      by false e h = inl (released.others k e)
-      by true e (inl p) = inl (released.shared p.0 k p.1)
-      by true e (inr lacked) = inr (released.gone k e lacked)
-
-  was_there : (k : ℕ) → IsSome (new k) → IsSome (old k)
-  was_there k h = elim (stays_or_goes k) [ inl e ↦ subst IsSome e h | inr e ↦ absurd (true≢false (sym (subst IsSome e h))) ]
+  stays_or_goes k = elim (held_or_lacked strands k) [ inl p ↦ inl (released.kept p.0 k p.1) | inr lacked ↦ inr (released.gone k lacked) ]
 
   was_in : (k x : ℕ) → has_cell x (slots_of (new k)) ≡ true → has_cell x (slots_of (old k)) ≡ true
   was_in k x h = elim (stays_or_goes k) [
@@ -72,15 +56,9 @@ module _ {T : Type 0} (old new : ℕ → Option (Piece T)) (strands : List Stran
     | inr e ↦ absurd (true≢false (sym (subst (λ o. has_cell x (slots_of o) ≡ true) e h)))
   ]
 
-  module _ (made : ℕ) (sound : IsSoundBut old strands path made) where
+  module _ (made : ℕ) (sound : IsSoundBut old strands made) where
     live : (k : ℕ) → IsSome (new k) → (i : ℕ) × (has k (keys_in strands i) ≡ true)
-    live k h = by (held_or_lacked strands k) (sound.live k (was_there k h))
-      where
-        by : ((i : ℕ) × (has k (keys_in strands i) ≡ true)) ⊎ LackedByAll strands k → (has k path ≡ true) ⊎ ((i : ℕ) × (has k (keys_in strands i) ≡ true))
-            → (i : ℕ) × (has k (keys_in strands i) ≡ true)
-        by (inl p) o = p
-        by (inr lacked) (inr p) = p
-        by (inr lacked) (inl e) = absurd (true≢false (sym (subst IsSome (released.gone k e lacked) h)))
+    live k h = elim (held_or_lacked strands k) [ inl p ↦ p | inr lacked ↦ absurd (true≢false (sym (subst IsSome (released.gone k lacked) h))) ]
 
     segments : (k : ℕ) → IfSome (new k) (IsSegment made)
     segments k = elim (stays_or_goes k) [
@@ -90,7 +68,7 @@ module _ {T : Type 0} (old new : ℕ → Option (Piece T)) (strands : List Stran
 
     pub released_sound : IsSound new strands made
     released_sound = record {
-      held = λ i k h. subst IsSome (sym (released.shared i k h)) (sound.held i k h);
+      held = λ i k h. subst IsSome (sym (released.kept i k h)) (sound.held i k h);
       segments = segments;
       apart = λ j k x a b. sound.apart j k x (was_in j x a) (was_in k x b);
       live = live;
@@ -98,29 +76,29 @@ module _ {T : Type 0} (old new : ℕ → Option (Piece T)) (strands : List Stran
     }
 
   pub released_branches : branches_on new strands ≡ branches_on old strands
-  released_branches = branches_alike old new strands released.shared
+  released_branches = branches_alike old new strands released.kept
 
 -- what was noted, where segments may be new before the release
-module _ {T : Type 0} (c d : Cut T) (mid : ℕ → Option (Piece T)) (path : List ℕ)
+module _ {T : Type 0} (c d : Cut T) (mid : ℕ → Option (Piece T))
     (apart : (j k x : ℕ) → has_cell x (slots_of (mid j)) ≡ true → has_cell x (slots_of (mid k)) ≡ true → j ≡ k)
-    (released : IsReleased mid (piece_at d.pieces) d.strands path) (kept : (k : ℕ) → IsSome (piece_at c.pieces k) → mid k ≡ piece_at c.pieces k)
+    (released : IsReleased mid (piece_at d.pieces) d.strands) (kept : (k : ℕ) → IsSome (piece_at c.pieces k) → mid k ≡ piece_at c.pieces k)
     (fresh : (k : ℕ) → piece_at c.pieces k ≡ None → note_of (mid k) ≡ None) where
   gone : (k : ℕ) → mid k ≡ piece_at c.pieces k → piece_at d.pieces k ≡ None → AreGone d (slots_of (piece_at c.pieces k))
   gone k same none i x h = has_not_from x (map (λ s. s.cell) (slots_in (forest d).branches i)) (λ g.
       let p = in_line (piece_at d.pieces) x (keys_in d.strands i) (subst (λ l. has_cell x l ≡ true) (slots_in_on (piece_at d.pieces) d.strands i) g) in
-      let one : p.0 ≡ k = apart p.0 k x (was_in mid (piece_at d.pieces) d.strands path released p.0 x p.2) (subst (λ o. has_cell x (slots_of o) ≡ true) (sym same) h) in
+      let one : p.0 ≡ k = apart p.0 k x (was_in mid (piece_at d.pieces) d.strands released p.0 x p.2) (subst (λ o. has_cell x (slots_of o) ≡ true) (sym same) h) in
       true≢false (sym (subst (λ o. has_cell x (slots_of o) ≡ true) (ap (piece_at d.pieces) one ∙ none) p.2)))
 
   pub released_notes : KeepsAllNotes c d
   released_notes = (
     record {
       touched = None;
-      kept = λ k ne h. elim (stays_or_goes mid (piece_at d.pieces) d.strands path released k) [
+      kept = λ k ne h. elim (stays_or_goes mid (piece_at d.pieces) d.strands released k) [
         | inl e ↦ inl (e ∙ kept k h)
         | inr e ↦ inr (e, gone k (kept k h) e)
       ];
       cleared = λ k e. absurd (cc);
-      fresh = λ k h. elim (stays_or_goes mid (piece_at d.pieces) d.strands path released k) [
+      fresh = λ k h. elim (stays_or_goes mid (piece_at d.pieces) d.strands released k) [
         | inl e ↦ ap note_of e ∙ fresh k h
         | inr e ↦ ap note_of e
       ];

@@ -2,27 +2,28 @@
 use Rattle.std.proofs.Common.{◌≡◌, ℕ, ◌<◌, ◌≤◌, List, [], ◌∷◌, length, map, slice_get, Some, None, Ok, refl, sym, ap, subst, ◌∙◌, arith}
 use Rattle.std.specs.List.{remove}
 use Rattle.std.proofs.lemmas.List.{length-map}
-use Rattle.slab.specs.Slab.{get, with_value, Updates}
+use Rattle.lineage.specs.Family.{item_at, with_item}
 use Rattle.schedule_trie.specs.declared.slot.Slot.{Slot}
 use Rattle.schedule_trie.specs.declared.segment.Segment.{Segment}
 use Rattle.schedule_trie.specs.declared.trie.Trie.TheInside.{Inside}
 use Rattle.schedule_trie.specs.Forest.{without, remove_cell, index_of}
-use Rattle.schedule_trie.specs.Cut.{Cut, piece, piece_at, slots_of, note_of, forest, branches_on, keys_in, strand_without, StandsAt, IsSound, IsRemoved}
-use Rattle.schedule_trie.specs.Held.{piece_of, cut_of, IsHeld}
+use Rattle.schedule_trie.specs.Cut.{Cut, piece, piece_at, slots_of, note_of, forest, branches_on, keys_in, keys_without, strand_without, StandsAt, IsSound, IsRemoved}
+use Rattle.schedule_trie.specs.Held.{piece_of, strands_of, names_of, cut_of, IsHeld}
+use Rattle.schedule_trie.proofs.Strands.{strands-without}
 use Rattle.schedule_trie.proofs.Changes.{Changes, piece_at_set}
 use Rattle.schedule_trie.proofs.Notes.{notes_at}
 use Rattle.schedule_trie.proofs.StepSet.{slice_get_some, piece_seen, key_within, cut_from_sound, command_at, the_cell}
 use Rattle.schedule_trie.proofs.Removals.{gone_everywhere, sound_within, gone_with_segment, sound_gone}
 
 -- a cell of a segment that has another one
-module _ {T : Type 0} (t : Inside T) (key offset : ℕ) (v w : Segment T) (held : IsHeld t) (there : get t.segments key ≡ Some v)
+module _ {T : Type 0} (t : Inside T) (key offset : ℕ) (v w : Segment T) (held : IsHeld t) (there : item_at t.segments key ≡ Some v)
     (inside : offset < length (slots_of (piece_at (cut_of t).pieces key))) (more : 1 < length (slots_of (piece_at (cut_of t).pieces key)))
     (slots : w.slots.items ≡ remove v.slots.items offset) (note : w.note ≡ None) where
   abbrev after : Inside T
-  after = record t { segments = with_value t.segments key w }
+  after = record t { segments = with_item t.segments key w }
 
   change : Changes (piece_at (cut_of t).pieces) (piece_at (cut_of after).pieces) key (piece w.slots.items w.note)
-  change = piece_at_set t.segments.slots key w (key_within t.segments.slots key v there)
+  change = piece_at_set t.segments.items key w (key_within t.segments.items key v there)
 
   was : piece_at (cut_of t).pieces key ≡ Some (piece v.slots.items v.note)
   was = piece_seen t key ∙ ap piece_of there
@@ -34,15 +35,15 @@ module _ {T : Type 0} (t : Inside T) (key offset : ℕ) (v w : Segment T) (held 
   first = slice_get_some (slots_of (piece_at (cut_of t).pieces key)) offset inside
 
   sound : IsSound (piece_at (cut_of after).pieces) (cut_of t).strands t.made
-  sound = sound_within (piece_at (cut_of t).pieces) (piece_at (cut_of after).pieces) key offset first.0 (cut_of t).strands t.made held.sound here change.others first.1
+  sound = sound_within (piece_at (cut_of t).pieces) (piece_at (cut_of after).pieces) key offset first.0 (cut_of t).strands t.made held.whole.sound here change.others first.1
       (piece v.slots.items v.note) (piece w.slots.items w.note) was change.here more
 
   pub within_held : IsHeld after
-  within_held = record { sound = sound; within = held.within }
+  within_held = record { whole = record { sound = sound; within = held.whole.within }; paths = held.paths }
 
   pub within_told : IsRemoved (cut_of t) (cut_of after) key offset
   within_told = record {
-    everywhere_gone = λ s at_cell. gone_everywhere (piece_at (cut_of t).pieces) (piece_at (cut_of after).pieces) key offset s (cut_of t).strands t.made held.sound here change.others at_cell;
+    everywhere_gone = λ s at_cell. gone_everywhere (piece_at (cut_of t).pieces) (piece_at (cut_of after).pieces) key offset s (cut_of t).strands t.made held.whole.sound here change.others at_cell;
     made = refl;
     limits = refl;
     notes = notes_at (cut_of t) (cut_of after) key change.others (ap note_of change.here ∙ note);
@@ -56,13 +57,20 @@ removed_all (s ∷ z ∷ zs) h = absurd (omega arith)
 
 -- a segment with its only cell
 module _ {T : Type 0} (t u : Inside T) (key : ℕ) (held : IsHeld t) (one : length (slots_of (piece_at (cut_of t).pieces key)) ≡ 1)
-    (updates : Updates t.segments u.segments key None) (strands : (cut_of u).strands ≡ map (strand_without key) (cut_of t).strands)
+    (none : item_at u.segments key ≡ None) (kept : (j : ℕ) → (j ≡ key → ⊥) → item_at u.segments j ≡ item_at t.segments j)
+    (paths : u.segments.paths ≡ map (keys_without key) t.segments.paths) (names : names_of u ≡ names_of t)
     (made : u.made ≡ t.made) (limits : u.limits ≡ t.limits) where
+  strands : (cut_of u).strands ≡ map (strand_without key) (cut_of t).strands
+  strands = (λ i. strands_of (names i) (paths i)) ∙ strands-without key (names_of t) t.segments.paths
+
+  many : length u.segments.paths ≡ length (names_of u)
+  many = ap length paths ∙ length-map t.segments.paths (keys_without key) ∙ held.paths ∙ sym (ap length names)
+
   gone : piece_at (cut_of u).pieces key ≡ None
-  gone = piece_seen u key ∙ ap piece_of updates.changed
+  gone = piece_seen u key ∙ ap piece_of none
 
   others : (j : ℕ) → (j ≡ key → ⊥) → piece_at (cut_of u).pieces j ≡ piece_at (cut_of t).pieces j
-  others j ne = piece_seen u j ∙ ap piece_of (updates.others j ne) ∙ sym (piece_seen t j)
+  others j ne = piece_seen u j ∙ ap piece_of (kept j ne) ∙ sym (piece_seen t j)
 
   all_gone : slots_of (piece_at (cut_of u).pieces key) ≡ remove (slots_of (piece_at (cut_of t).pieces key)) 0
   all_gone = ap slots_of gone ∙ removed_all (slots_of (piece_at (cut_of t).pieces key)) one
@@ -74,27 +82,30 @@ module _ {T : Type 0} (t u : Inside T) (key : ℕ) (held : IsHeld t) (one : leng
   sound_rest =
       subst (λ n. IsSound (piece_at (cut_of u).pieces) (cut_of u).strands n) (sym made)
       (subst (λ ss. IsSound (piece_at (cut_of u).pieces) ss t.made) (sym strands)
-      (sound_gone (piece_at (cut_of t).pieces) (piece_at (cut_of u).pieces) key 0 only.0 (cut_of t).strands t.made held.sound all_gone others only.1 gone))
+      (sound_gone (piece_at (cut_of t).pieces) (piece_at (cut_of u).pieces) key 0 only.0 (cut_of t).strands t.made held.whole.sound all_gone others only.1 gone))
 
   count : length (cut_of u).strands ≡ length (cut_of t).strands
   count = ap length strands ∙ length-map (cut_of t).strands (strand_without key)
 
   pub gone_held : IsHeld u
   gone_held = record {
-    sound = sound_rest;
-    within = record {
-      cells = subst (λ l. u.made ≤ l.cells) (sym limits) (subst (λ n. n ≤ t.limits.cells) (sym made) held.within.cells);
-      branches_fit = subst (λ l. length (cut_of u).strands ≤ l.branches) (sym limits) (subst (λ n. n ≤ t.limits.branches) (sym count) held.within.branches_fit);
-      some = subst (λ n. 0 < n) (sym count) held.within.some;
-      most_cells = subst (λ l. l.cells ≤ 16777216) (sym limits) held.within.most_cells;
-      most_branches = subst (λ l. l.branches ≤ 1024) (sym limits) held.within.most_branches;
+    whole = record {
+      sound = sound_rest;
+      within = record {
+        cells = subst (λ l. u.made ≤ l.cells) (sym limits) (subst (λ n. n ≤ t.limits.cells) (sym made) held.whole.within.cells);
+        branches_fit = subst (λ l. length (cut_of u).strands ≤ l.branches) (sym limits) (subst (λ n. n ≤ t.limits.branches) (sym count) held.whole.within.branches_fit);
+        some = subst (λ n. 0 < n) (sym count) held.whole.within.some;
+        most_cells = subst (λ l. l.cells ≤ 16777216) (sym limits) held.whole.within.most_cells;
+        most_branches = subst (λ l. l.branches ≤ 1024) (sym limits) held.whole.within.most_branches;
+      };
     };
+    paths = many;
   }
 
   pub gone_told : IsRemoved (cut_of t) (cut_of u) key 0
   gone_told = record {
     everywhere_gone = λ s at_cell. ap (branches_on (piece_at (cut_of u).pieces)) strands
-        ∙ gone_with_segment (piece_at (cut_of t).pieces) (piece_at (cut_of u).pieces) key 0 s (cut_of t).strands t.made held.sound all_gone others at_cell gone;
+        ∙ gone_with_segment (piece_at (cut_of t).pieces) (piece_at (cut_of u).pieces) key 0 s (cut_of t).strands t.made held.whole.sound all_gone others at_cell gone;
     made = made;
     limits = limits;
     notes = notes_at (cut_of t) (cut_of u) key others (ap note_of gone);

@@ -8,7 +8,7 @@ use Rattle.schedule_trie.specs.declared.segment.Segment.{Segment}
 use Rattle.schedule_trie.specs.Forest.{slot, step_of, cell_of, numbered, renumbered}
 use Rattle.schedule_trie.specs.Cut.{Piece, piece, slots_of, note_of, line, has, has_cell, Once, IsSegment}
 use Rattle.schedule_trie.specs.Held.{piece_of}
-use Rattle.schedule_trie.specs.Copies.{AreCopies, HaveValues}
+use Rattle.schedule_trie.specs.Copies.{AreCopies}
 use Rattle.schedule_trie.proofs.Once.{has_cases, has_not_from, has-head, has-tail}
 use Rattle.schedule_trie.proofs.Lines.{line-drop}
 use Rattle.schedule_trie.proofs.Pushes.{line-append}
@@ -45,6 +45,13 @@ numbered_once n (s ∷ ss) =
 
 renumbered_cell : (n : ℕ) (slots : List Slot) (x : ℕ) → has_cell x (renumbered n slots) ≡ true → (n ≤ x) × (x < n + length slots)
 renumbered_cell n slots x h = let p = numbered_cell n (map step_of slots) x h in (p.0, omega (arith, p.1, length-map slots step_of))
+
+-- each key has the value that stands at its place
+abbrev pub HaveValues : {X : Type 0} → (ℕ → Option X) → List ℕ → List X → Type 0
+HaveValues at [] [] = Unit {0}
+HaveValues at [] (x ∷ xs) = ⊥
+HaveValues at (k ∷ ks) [] = ⊥
+HaveValues at (k ∷ ks) (x ∷ xs) = (at k ≡ Some x) × HaveValues at ks xs
 
 module _ {T : Type 0} where
   -- under each new key there are new cells with the steps of the segment that stood at its place

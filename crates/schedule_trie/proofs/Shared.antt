@@ -130,6 +130,6 @@ module _ {T : Type 0} (at : ℕ → Option (Piece T)) where
 pub is_forest : {T : Type 0} (t : Inside T) → IsHeld t → IsUnique (pointwise nat_eq) t.branches → IsForest (forest (cut_of t))
 is_forest t held unique = record {
   apart = branches_apart t unique;
-  shared = shared_up_to (piece_at (cut_of t).pieces) (cut_of t).strands t.made held.sound;
-  given = all_given (piece_at (cut_of t).pieces) (cut_of t).strands t.made held.sound;
+  shared = shared_up_to (piece_at (cut_of t).pieces) (cut_of t).strands t.made held.whole.sound;
+  given = all_given (piece_at (cut_of t).pieces) (cut_of t).strands t.made held.whole.sound;
 }

@@ -5,7 +5,7 @@ use Rattle.std.proofs.lemmas.Bool.Decides.{nat_tests}
 use Rattle.std.proofs.lemmas.Option.{slice_get_within}
 use Rattle.std.specs.Option.{IfSome, option_map}
 use Rattle.std.proofs.Math.ListN.{get_or-map}
-use Rattle.slab.specs.Slab.{get, with_value}
+use Rattle.lineage.specs.Family.{item_at, with_item}
 use Rattle.frames.specs.declared.types.Step.{Step}
 use Rattle.schedule_trie.specs.declared.slot.Slot.{Slot}
 use Rattle.schedule_trie.specs.declared.segment.Segment.{Segment}
@@ -38,21 +38,35 @@ nat_le_false : (a b : ℕ) → b < a → nat_le a b ≡ false
 nat_le_false a b h = grind (arith, nat_tests)
 
 module _ {T : Type 0} where
-  pub piece_seen : (t : Inside T) (key : ℕ) → piece_at (cut_of t).pieces key ≡ piece_of (get t.segments key)
-  piece_seen t key = get_or-map piece_of t.segments.slots key None
+  pub piece_seen : (t : Inside T) (key : ℕ) → piece_at (cut_of t).pieces key ≡ piece_of (item_at t.segments key)
+  piece_seen t key = get_or-map piece_of t.segments.items key None
 
-  pub inside_from : (t : Inside T) (key offset : ℕ) (v : Segment T) (c : Cut T) → cut_of t ≡ c → get t.segments key ≡ Some v
+  pub inside_from : (t : Inside T) (key offset : ℕ) (v : Segment T) (c : Cut T) → cut_of t ≡ c → item_at t.segments key ≡ Some v
       → offset < length (slots_of (piece_at c.pieces key)) → offset < length v.slots.items
   inside_from t key offset v c seen there h =
       subst (λ o. offset < length (slots_of o)) (ap (λ b. piece_at b.pieces key) (sym seen) ∙ piece_seen t key ∙ ap piece_of there) h
 
-  -- a segment that is seen is in the slab
+  -- a segment that is seen is there
   pub there_from_slots : (o : Option (Segment T)) (offset : ℕ) → offset < length (slots_of (piece_of o)) → IsSome o
   there_from_slots None offset h = absurd (omega arith)
   there_from_slots (Some v) offset h = refl
 
-  pub held_there : (t : Inside T) (key offset : ℕ) → offset < length (slots_of (piece_at (cut_of t).pieces key)) → IsSome (get t.segments key)
-  held_there t key offset h = there_from_slots (get t.segments key) offset (subst (λ o. offset < length (slots_of o)) (piece_seen t key) h)
+  pub held_there : (t : Inside T) (key offset : ℕ) → offset < length (slots_of (piece_at (cut_of t).pieces key)) → IsSome (item_at t.segments key)
+  held_there t key offset h = there_from_slots (item_at t.segments key) offset (subst (λ o. offset < length (slots_of o)) (piece_seen t key) h)
+
+  pub item_there : (t : Inside T) (key : ℕ) → IsSome (piece_at (cut_of t).pieces key) → IsSome (item_at t.segments key)
+  item_there t key h = by (item_at t.segments key) (subst IsSome (piece_seen t key) h)
+    where
+      by : (o : Option (Segment T)) → IsSome (piece_of o) → IsSome o
+      by None e = e
+      by (Some v) e = refl
+
+  pub none_there : (t : Inside T) (key : ℕ) → piece_at (cut_of t).pieces key ≡ None → item_at t.segments key ≡ None
+  none_there t key e = by (item_at t.segments key) (sym (piece_seen t key) ∙ e)
+    where
+      by : (o : Option (Segment T)) → piece_of o ≡ None → o ≡ None
+      by None h = refl
+      by (Some v) h = absurd (cc)
 
   sizes_from : (made : ℕ) (o : Option (Piece T)) → IfSome o (IsSegment made) → IfSome o (λ p. (0 < length p.slots) × (length p.slots ≤ 128))
   sizes_from made None h = tt
@@ -65,13 +79,13 @@ module _ {T : Type 0} where
   pub key_within : (xs : List (Option (Segment T))) (key : ℕ) (v : Segment T) → slice_index_or xs key None ≡ Some v → key < length xs
   key_within xs key v e = get_or_within xs key v e
 
-module _ {T : Type 0} (t : Inside T) (key offset : ℕ) (step : Step) (v w : Segment T) (held : IsHeld t) (there : get t.segments key ≡ Some v)
+module _ {T : Type 0} (t : Inside T) (key offset : ℕ) (step : Step) (v w : Segment T) (held : IsHeld t) (there : item_at t.segments key ≡ Some v)
     (inside : offset < length v.slots.items) (slots : w.slots.items ≡ set_step v.slots.items offset step) (note : w.note ≡ None) where
   abbrev after : Inside T
-  after = record t { segments = with_value t.segments key w }
+  after = record t { segments = with_item t.segments key w }
 
   change : Changes (piece_at (cut_of t).pieces) (piece_at (cut_of after).pieces) key (piece w.slots.items w.note)
-  change = piece_at_set t.segments.slots key w (key_within t.segments.slots key v there)
+  change = piece_at_set t.segments.items key w (key_within t.segments.items key v there)
 
   was : piece_at (cut_of t).pieces key ≡ Some (piece v.slots.items v.note)
   was = piece_seen t key ∙ ap piece_of there
@@ -82,21 +96,21 @@ module _ {T : Type 0} (t : Inside T) (key offset : ℕ) (step : Step) (v w : Seg
   first : (s : Slot) × (slice_get (slots_of (piece_at (cut_of t).pieces key)) offset ≡ Some s)
   first = let p = slice_get_some v.slots.items offset inside in (p.0, ap (λ o. slice_get (slots_of o) offset) was ∙ p.1)
 
+  set_sound : IsSound (piece_at (cut_of after).pieces) (cut_of t).strands t.made
+  set_sound = sound_same (piece_at (cut_of t).pieces) (piece_at (cut_of after).pieces)
+      (replaced_same (piece_at (cut_of t).pieces) (piece_at (cut_of after).pieces) (cut_of t).strands t.made key offset step first.0 held.whole.sound here change.others first.1)
+      (cut_of t).strands t.made held.whole.sound
+
   pub set_held : IsHeld after
-  set_held = record {
-    sound = sound_same (piece_at (cut_of t).pieces) (piece_at (cut_of after).pieces)
-        (replaced_same (piece_at (cut_of t).pieces) (piece_at (cut_of after).pieces) (cut_of t).strands t.made key offset step first.0 held.sound here change.others first.1)
-        (cut_of t).strands t.made held.sound;
-    within = held.within;
-  }
+  set_held = record { whole = record { sound = set_sound; within = held.whole.within }; paths = held.paths }
 
   pub set_told : IsStepSet (cut_of t) (cut_of after) key offset step
   set_told = record {
-    everywhere_set = λ s at_cell. replaced_everywhere (piece_at (cut_of t).pieces) (piece_at (cut_of after).pieces) (cut_of t).strands t.made key offset step s held.sound here change.others at_cell;
+    everywhere_set = λ s at_cell. replaced_everywhere (piece_at (cut_of t).pieces) (piece_at (cut_of after).pieces) (cut_of t).strands t.made key offset step s held.whole.sound here change.others at_cell;
     made = refl;
     limits = refl;
     notes = notes_at (cut_of t) (cut_of after) key change.others (ap note_of here);
-    cut = cut_from_sound (cut_of after) t.made set_held.sound;
+    cut = cut_from_sound (cut_of after) t.made set_sound;
   }
 
 -- what a command at a cell gives
@@ -148,12 +162,12 @@ notes_here old new name place index key offset found stands notes =
     notes_but old new key (HoldsCellAt old name place) notes (holds_cell old name place index key offset found stands)
 
 -- a note is set
-module _ {T : Type 0} (t : Inside T) (key : ℕ) (v w : Segment T) (held : IsHeld t) (there : get t.segments key ≡ Some v) (same : w.slots ≡ v.slots) where
+module _ {T : Type 0} (t : Inside T) (key : ℕ) (v w : Segment T) (held : IsHeld t) (there : item_at t.segments key ≡ Some v) (same : w.slots ≡ v.slots) where
   abbrev noted : Inside T
-  noted = record t { segments = with_value t.segments key w }
+  noted = record t { segments = with_item t.segments key w }
 
   note_change : Changes (piece_at (cut_of t).pieces) (piece_at (cut_of noted).pieces) key (piece w.slots.items w.note)
-  note_change = piece_at_set t.segments.slots key w (key_within t.segments.slots key v there)
+  note_change = piece_at_set t.segments.items key w (key_within t.segments.items key v there)
 
   note_was : piece_at (cut_of t).pieces key ≡ Some (piece v.slots.items v.note)
   note_was = piece_seen t key ∙ ap piece_of there
@@ -179,8 +193,11 @@ module _ {T : Type 0} (t : Inside T) (key : ℕ) (v w : Segment T) (held : IsHel
 
   pub note_held : IsHeld noted
   note_held = record {
-    sound = sound_same (piece_at (cut_of t).pieces) (piece_at (cut_of noted).pieces) note_same (cut_of t).strands t.made held.sound;
-    within = held.within;
+    whole = record {
+      sound = sound_same (piece_at (cut_of t).pieces) (piece_at (cut_of noted).pieces) note_same (cut_of t).strands t.made held.whole.sound;
+      within = held.whole.within;
+    };
+    paths = held.paths;
   }
 
   line_same : (ks : List ℕ) → line (piece_at (cut_of noted).pieces) ks ≡ line (piece_at (cut_of t).pieces) ks
@@ -203,9 +220,9 @@ module _ {T : Type 0} (t : Inside T) (key : ℕ) (v w : Segment T) (held : IsHel
   pub note_told_as : (note : Option T) → w.note ≡ note → IsNoted (cut_of t) (cut_of noted) key note
   note_told_as other e = subst (IsNoted (cut_of t) (cut_of noted) key) e note_told
 
-pub not_there : {T : Type 0} (t : Inside T) (key : ℕ) (note : Option T) → (IsSome (get t.segments key) → ⊥) → IsNoted (cut_of t) (cut_of t) key note
+pub not_there : {T : Type 0} (t : Inside T) (key : ℕ) (note : Option T) → (IsSome (item_at t.segments key) → ⊥) → IsNoted (cut_of t) (cut_of t) key note
 not_there {T} t key note none =
-    let absent : piece_at (cut_of t).pieces key ≡ None = piece_seen t key ∙ gone (get t.segments key) none in
+    let absent : piece_at (cut_of t).pieces key ≡ None = piece_seen t key ∙ gone (item_at t.segments key) none in
     record { here = absent ∙ sym (ap (option_map (with_note note)) absent); others = λ j ne. refl; strands = refl; limits = refl; unchanged = refl }
   where
     gone : (o : Option (Segment T)) → (IsSome o → ⊥) → piece_of o ≡ None

@@ -12,20 +12,6 @@ AreCopies at n (k ∷ ks) [] = ⊥
 AreCopies at n (k ∷ ks) (s ∷ ss) =
     (s.slots.items ≡ renumbered n (slots_of (at k))) × (s.note ≡ None) × AreCopies at (n + length (slots_of (at k))) ks ss
 
--- each key has the value that stands at its place
-abbrev pub HaveValues : {X : Type 0} → (ℕ → Option X) → List ℕ → List X → Type 0
-HaveValues at [] [] = Unit {0}
-HaveValues at [] (x ∷ xs) = ⊥
-HaveValues at (k ∷ ks) [] = ⊥
-HaveValues at (k ∷ ks) (x ∷ xs) = (at k ≡ Some x) × HaveValues at ks xs
-
--- values are put under new keys, and every other key keeps what it had
-pub record ArePut {X : Type 0} (old new : ℕ → Option X) (values : List X) (keys : List ℕ) : Type 0 where
-  pub values_there : HaveValues new keys values
-  pub vacant : (k : ℕ) → has k keys ≡ true → old k ≡ None
-  pub once : Once keys
-  pub others : (k : ℕ) → has k keys ≡ false → new k ≡ old k
-
 -- the branch at an index has as many new cells, with the same steps
 pub record IsDetached {T : Type 0} (old new : Cut T) (index : ℕ) : Type 0 where
   pub branches : (forest new).branches ≡ only_in index (renumbered old.made) (forest old).branches

@@ -1,4 +1,5 @@
 -- A forest cut into segments that branches share.
+pub use Rattle.lineage.specs.Family.{has, above_key, divided_keys, other_key, keys_without}
 use Rattle.std.specs.Prelude.{ℕ, zero, suc, ◌≡◌, ◌<◌, ◌≤◌, ◌+◌, ◌⊎◌, Bool, true, false, not, ◌||◌, nat_eq, List, [], ◌∷◌, ◌++◌, Option, Some, None, IsSome, IfSome, length, map, filter, slice_get, slice_index_or, if◌then◌else◌}
 use Rattle.std.specs.List.{flat_map}
 use Rattle.std.specs.Option.{option_map}
@@ -68,11 +69,6 @@ module _ {T : Type 0} where
   abbrev pub forest : Cut T → Forest
   forest c = record { branches = branches_on (piece_at c.pieces) c.strands; made = c.made }
 
--- whether a number is among others
-abbrev pub has : ℕ → List ℕ → Bool
-has x [] = false
-has x (y ∷ ys) = nat_eq x y || has x ys
-
 -- no number stands twice
 abbrev pub Once : List ℕ → Type 0
 Once [] = Unit {0}
@@ -133,6 +129,15 @@ pub record StandsAt {T : Type 0} (at : ℕ → Option (Piece T)) (keys : List �
   pub member : has spot.0 keys ≡ true
   pub within : spot.1 < length (slots_of (at spot.0))
   pub same : slice_get (slots_of (at spot.0)) spot.1 ≡ slice_get (line at keys) place
+
+-- the same, with what comes before it in the path
+pub record LiesIn {T : Type 0} (at : ℕ → Option (Piece T)) (keys : List ℕ) (place : ℕ) (spot : ℕ × ℕ) : Type 0 where
+  pub front : List ℕ
+  pub back : List ℕ
+  pub is : keys ≡ front ++ spot.0 ∷ back
+  pub first : has spot.0 front ≡ false
+  pub before : length (line at front) + spot.1 ≡ place
+  pub within : spot.1 < length (slots_of (at spot.0))
 
 -- how segments are cut: each has 1 to 128 cells, is in a branch, and branches that share one share all above it
 pub record IsCut {T : Type 0} (c : Cut T) : Type 0 where
@@ -302,22 +307,8 @@ abbrev pub above_of : List Strand → ℕ → Option ℕ
 above_of [] key = None
 above_of (s ∷ ss) key = if has key s.keys then before_key key None s.keys else above_of ss key
 
--- a path in which a new key comes right above a key
-abbrev pub above_key : ℕ → ℕ → ℕ → List ℕ
-above_key key new k = if nat_eq key k then new ∷ k ∷ [] else k ∷ []
-
-abbrev pub divided_keys : ℕ → ℕ → List ℕ → List ℕ
-divided_keys key new keys = flat_map (above_key key new) keys
-
 abbrev pub divided_strand : ℕ → ℕ → Strand → Strand
 divided_strand key new s = strand s.name (divided_keys key new s.keys)
-
--- a path without a key
-abbrev pub other_key : ℕ → ℕ → Bool
-other_key key k = not (nat_eq key k)
-
-abbrev pub keys_without : ℕ → List ℕ → List ℕ
-keys_without key keys = filter (other_key key) keys
 
 abbrev pub strand_without : ℕ → Strand → Strand
 strand_without key s = strand s.name (keys_without key s.keys)

@@ -4,6 +4,7 @@ pub mod Forest
 pub mod Rows
 pub mod Slots
 pub mod Cut
+pub mod Climbs
 pub mod Edits
 pub mod Held
 pub mod Forks

@@ -7,32 +7,31 @@ ghost use Rattle.schedule_trie.specs.Forest.{path_of, step_of, cell_at, place_of
 ghost use Rattle.schedule_trie.specs.Edits.{Replace, IsEdited, IsUnedited};
 ghost use Rattle.schedule_trie.specs.Cut.{IsBlank, IsNoted, above_of, before_key, keys_by, if_lacks, note_of, AreLimits, has, IsOwnEnd, IsPushed, LackedByOthers, forest, IsCut, IsStepSet, piece_at, slots_of, keys_in, line, StandsAt};
 
+mod climb;
 mod detach;
-mod division;
 mod drops;
 mod fork;
 mod insert;
-mod release;
+mod push;
 mod remove;
 
 use crate::limits::Limits;
 use crate::name::Name;
 use crate::refusal::Refusal;
 pub use crate::segment::SegKey;
-use crate::segment::{MOST_SLOTS, Segment};
+use crate::segment::Segment;
 use crate::slot::Slot;
-use crate::trie::release::has_at;
 use frames::types::Step;
 use indexmap::IndexMap;
-use slab::Slab;
+use lineage::lineage::Lineage;
 use std::alloc::{AllocError, Global};
 use std::marker::Model;
 
 /// Branches of a schedule that share their steps, with a note of type T or none for each segment.
 #[derive(Drop)]
 pub struct Trie<T> {
-    segments: Slab<Segment<T>>,
-    branches: IndexMap<Name, Vec<SegKey>>,
+    segments: Lineage<Segment<T>>,
+    branches: IndexMap<Name, Option<u32>>,
     made: u32,
     limits: Limits,
 }
@@ -95,9 +94,11 @@ impl<T: Drop> Trie<T> {
         ensures blank { IfOk result IsBlank }
     {
         let mut branches = IndexMap::new(alloc);
-        branches.insert(Name::main(), Vec::new(alloc))?;
+        branches.insert(Name::main(), None)?;
+        let mut segments = Lineage::new(alloc);
+        segments.fork(None)?;
         Ok(Trie {
-            segments: Slab::new(alloc),
+            segments,
             branches,
             made: 0,
             limits,
@@ -160,21 +161,6 @@ impl<T: Drop> Trie<T> {
         self.place_at(index, cell)
     }
 
-    /// The place of a cell on the branch at an index; none where the branch hasn't the cell.
-    fn place_at(&self, index: usize, cell: u32) -> Option<u32>
-        ensures { result ≡ position (is_cell cell) (slots_in (forest self.now).branches index) }
-    {
-        let mut before = 0;
-        for key in self.keys_at(index) {
-            let slots = self.slots_at(*key);
-            if let Some(offset) = offset_of(slots, cell) {
-                return Some(before + offset as u32);
-            }
-            before += slots.len() as u32;
-        }
-        None
-    }
-
     /// The steps of a branch, in order.
     ///
     /// # Errors
@@ -196,8 +182,9 @@ impl<T: Drop> Trie<T> {
         ensures { IfOk result
             (λ steps. steps.items ≡ map step_of (slots_in (forest self.now).branches index)) }
     {
+        let keys = self.keys_at(alloc, index)?;
         let mut steps = Vec::new(alloc);
-        for key in self.keys_at(index) {
+        for key in &keys {
             push_steps(&mut steps, self.slots_at(*key))?;
         }
         Ok(steps)
@@ -219,7 +206,7 @@ impl<T: Drop> Trie<T> {
         let Some(index) = self.index(branch) else {
             return Err(Refusal::NoBranch);
         };
-        Ok(Vec::from_slice(alloc, self.keys_at(index))?)
+        Ok(self.keys_at(alloc, index)?)
     }
 
     /// The key of the segment right above a segment, the same on each branch that has it; none for a branch's first segment,
@@ -227,13 +214,7 @@ impl<T: Drop> Trie<T> {
     pub fn above(&self, key: SegKey) -> Option<SegKey>
         ensures { result ≡ above_of self.now.strands key }
     {
-        for index in 0..self.branches.len() {
-            let keys = self.keys_at(index);
-            if has_key(keys, key) {
-                return before_key(keys, key);
-            }
-        }
-        None
+        self.segments.above(key)
     }
 
     /// The cells of a segment, in order; none where no segment has the key.
@@ -241,7 +222,7 @@ impl<T: Drop> Trie<T> {
         ensures { option_map (λ slots. slots.now) result
             ≡ option_map (λ p. p.slots) (piece_at self.now.pieces key) }
     {
-        let segment = self.segments.get(key)?;
+        let segment = self.segments.item(key)?;
         Some(segment.slots.as_slice())
     }
 
@@ -249,17 +230,17 @@ impl<T: Drop> Trie<T> {
     pub fn note(&self, key: SegKey) -> Option<&T>
         ensures { option_copied result ≡ note_of (piece_at self.now.pieces key) }
     {
-        self.segments.get(key)?.note.as_ref()
+        self.segments.item(key)?.note.as_ref()
     }
 
     /// Notes something else at a segment, or nothing. Where no segment has the key nothing is changed. It takes no memory.
     pub fn set_note(&mut self, key: SegKey, note: Option<T>)
         ensures { IsNoted self.old self.new key note }
     {
-        if !self.segments.contains(key) {
+        if self.segments.item(key).is_none() {
             return;
         }
-        self.segments[key].set_note(note);
+        self.segments.item_mut(key).set_note(note);
     }
 
     /// Gives the cell at a place of a branch another step, in each branch that holds it; it stays the same cell. It takes no
@@ -291,54 +272,23 @@ impl<T: Drop> Trie<T> {
     }
 
     /// The keys of the segments of the branch at an index, in order; none where there is no such branch.
-    pub fn keys_at(&self, index: usize) -> &[SegKey]
-        ensures keys { result.now ≡ keys_in self.now.strands index }
-        ensures short { length (line (piece_at self.now.pieces) result.now) ≤ self.now.made }
+    pub fn keys_at(&self, alloc: Global, index: usize) -> Result<Vec<SegKey>, AllocError>
+        ensures keys { IfOk result (λ keys. keys.items ≡ keys_in self.now.strands index) }
+        ensures short { IfOk result
+            (λ keys. length (line (piece_at self.now.pieces) keys.items) ≤ self.now.made) }
         ensures made { self.now.made ≤ 16777216 }
     {
-        match self.branches.get_index(index) {
-            Some((_, keys)) => keys.as_slice(),
-            None => &[],
-        }
+        self.segments.keys(alloc, index)
     }
 
     /// The cells of a segment.
     fn slots_at(&self, key: SegKey) -> &[Slot]
         ensures { result.now ≡ slots_of (piece_at self.now.pieces key) }
     {
-        match self.segments.get(key) {
+        match self.segments.item(key) {
             Some(segment) => segment.slots.as_slice(),
             None => &[],
         }
-    }
-
-    /// How many cells the branch at an index has.
-    fn len_at(&self, index: usize) -> u32
-        ensures { result ≡ length (slots_in (forest self.now).branches index) }
-    {
-        let mut len = 0;
-        for key in self.keys_at(index) {
-            len += self.slots_at(*key).len() as u32;
-        }
-        len
-    }
-
-    /// The segment with the cell at a place of a branch, and where in it the cell lies; none where the branch has no cell
-    /// there.
-    fn find_cell(&self, index: usize, place: u32) -> Option<(SegKey, usize)>
-        ensures found { IfSome result (StandsAt (piece_at self.now.pieces)
-            (keys_in self.now.strands index) place) }
-        ensures none { IfNone result (length (slots_in (forest self.now).branches index) ≤ place) }
-    {
-        let mut rest = place as usize;
-        for key in self.keys_at(index) {
-            let len = self.slots_at(*key).len();
-            if rest < len {
-                return Some((*key, rest));
-            }
-            rest -= len;
-        }
-        None
     }
 
     /// Gives a cell of a segment another step, and clears the segment's note.
@@ -346,115 +296,8 @@ impl<T: Drop> Trie<T> {
         requires { offset < length (slots_of (piece_at self.old.pieces key)) }
         ensures { IsStepSet self.old self.new key offset step }
     {
-        self.segments[key].set_step(offset, step);
+        self.segments.item_mut(key).set_step(offset, step);
     }
-
-    /// Puts a new cell last in the branch at an index, and in that branch alone.
-    fn push_last(&mut self, alloc: Global, index: usize, step: Step) -> Result<(), AllocError>
-        requires index { index < length self.old.strands }
-        requires room { self.old.made < self.old.limits.cells }
-        ensures ok { OnOk result (IsPushed self.old self.new index step) }
-        ensures err { OnErr result (self.new ≡ self.old) }
-    {
-        match self.own_end(index) {
-            Some(key) => self.push_in(index, key, step),
-            None => self.push_segment(alloc, index, step),
-        }
-    }
-
-    /// Puts a new cell last in the last segment of a branch, which no other branch has.
-    fn push_in(&mut self, index: usize, key: SegKey, step: Step) -> Result<(), AllocError>
-        requires index { index < length self.old.strands }
-        requires end { IsOwnEnd self.old index key }
-        requires room { self.old.made < self.old.limits.cells }
-        ensures ok { OnOk result (IsPushed self.old self.new index step) }
-        ensures err { OnErr result (self.new ≡ self.old) }
-    {
-        let slot = Slot {
-            cell: self.made,
-            step,
-        };
-        self.segments[key].push(slot)?;
-        self.made += 1;
-        Ok(())
-    }
-
-    /// Puts a new cell last in a branch, as a segment of its own.
-    fn push_segment(&mut self, alloc: Global, index: usize, step: Step) -> Result<(), AllocError>
-        requires index { index < length self.old.strands }
-        requires room { self.old.made < self.old.limits.cells }
-        ensures ok { OnOk result (IsPushed self.old self.new index step) }
-        ensures err { OnErr result (self.new ≡ self.old) }
-    {
-        let slot = Slot {
-            cell: self.made,
-            step,
-        };
-        let segment = Segment::new(alloc, slot)?;
-        self.segments.reserve(1)?;
-        self.branches[index].push(self.segments.vacant_key())?;
-        self.segments.insert_reserved(segment);
-        self.made += 1;
-        Ok(())
-    }
-
-    /// The last segment of a branch, where no other branch has it and it has room for another cell.
-    fn own_end(&self, index: usize) -> Option<SegKey>
-        ensures { IfSome result (IsOwnEnd self.now index) }
-    {
-        let keys = self.keys_at(index);
-        let key = *keys.last()?;
-        if self.slots_at(key).len() >= MOST_SLOTS || self.is_in_others(index, keys.len() - 1, key) {
-            return None;
-        }
-        Some(key)
-    }
-
-    /// Whether a branch other than that at an index has the segment at a place of its path.
-    fn is_in_others(&self, index: usize, place: usize, key: SegKey) -> bool
-        requires { slice_get (keys_in self.now.strands index) place ≡ Some key }
-        ensures { result ≡ false → LackedByOthers self.now.strands index key }
-    {
-        for other in 0..self.branches.len() {
-            if other != index && has_at(self.keys_at(other), place, key) {
-                return true;
-            }
-        }
-        false
-    }
-}
-
-/// Whether a key is among others.
-fn has_key(keys: &[SegKey], key: SegKey) -> bool
-    ensures { result ≡ has key keys.now }
-{
-    for other in keys {
-        if key == *other {
-            return true;
-        }
-    }
-    false
-}
-
-/// The key right before a key; none where that is the first, or isn't among them.
-fn before_key(keys: &[SegKey], key: SegKey) -> Option<SegKey>
-    ensures { result ≡ before_key key None keys.now }
-{
-    let mut up = None;
-    for other in keys {
-        if key == *other {
-            return up;
-        }
-        up = Some(*other);
-    }
-    None
-}
-
-/// Where a cell lies among others.
-fn offset_of(slots: &[Slot], cell: u32) -> Option<usize>
-    ensures { result ≡ position (is_cell cell) slots.now }
-{
-    slots.iter().position(|slot| slot.cell == cell)
 }
 
 /// Puts the steps of cells behind others.

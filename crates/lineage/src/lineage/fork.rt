@@ -69,6 +69,7 @@ fn hold<X>(nodes: &mut Slab<Node<X>>, key: Option<Key>)
         → n.holders + 1 < 2 ^ 64 }
     ensures nodes { (k : ℕ) → get nodes.new k ≡ with_holder (is_key k key) (get nodes.old k) }
     ensures len { slab_len nodes.new ≡ slab_len nodes.old }
+    ensures slots { length nodes.new.slots ≡ length nodes.old.slots }
 {
     if let Some(key) = key {
         nodes[key].holders += 1;

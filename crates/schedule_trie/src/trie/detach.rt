@@ -1,20 +1,16 @@
 //! Branches that are given cells of their own.
 
 ghost use Rattle.std.specs.Prelude.{◌≡◌, ◌<◌, ◌≤◌, ◌+◌, length, Ok, OnOk, IfOk, IfErr, OnErr};
-ghost use Rattle.slab.specs.Slab.{get};
 ghost use Rattle.schedule_trie.specs.Edits.{Detach, IsEdited, IsUnedited};
 ghost use Rattle.schedule_trie.specs.Forest.{slots_in};
 ghost use Rattle.schedule_trie.specs.Cut.{forest, piece_at, keys_in};
-ghost use Rattle.schedule_trie.specs.Copies.{AreCopies, ArePut, IsDetached};
+ghost use Rattle.schedule_trie.specs.Copies.{AreCopies, IsDetached};
 
 use super::Trie;
-use super::release::release;
 use crate::name::Name;
 use crate::refusal::Refusal;
-use crate::segment::{SegKey, Segment};
-use slab::Slab;
+use crate::segment::Segment;
 use std::alloc::{AllocError, Global};
-use std::mem;
 
 impl<T: Drop> Trie<T> {
     /// Gives a branch cells of its own: as many new cells, with the same steps.
@@ -46,10 +42,9 @@ impl<T: Drop> Trie<T> {
     {
         let len = self.len_at(index);
         let copies = self.copies(alloc, index)?;
-        let path = put_all(alloc, &mut self.segments, copies)?;
-        let old = mem::replace(&mut self.branches[index], path);
+        self.segments.replace_path(index, copies)?;
+        self.segments.held();
         self.made += len;
-        release(&mut self.segments, &self.branches, old.as_slice());
         Ok(())
     }
 
@@ -61,31 +56,14 @@ impl<T: Drop> Trie<T> {
             (λ copies. AreCopies (piece_at self.now.pieces) self.now.made
             (keys_in self.now.strands index) copies.items) }
     {
-        let mut copies = Vec::new(alloc);
+        let keys = self.keys_at(alloc, index)?;
+        let mut copies = Vec::with_capacity(alloc, keys.len())?;
         let mut cell = self.made;
-        for key in self.keys_at(index) {
+        for key in &keys {
             let slots = self.slots_at(*key);
             copies.push(Segment::renumbered(alloc, slots, cell)?)?;
             cell += slots.len() as u32;
         }
         Ok(copies)
     }
-}
-
-/// Puts segments into a slab; their keys, in order. Where memory is refused nothing is put.
-fn put_all<T: Drop>(
-    alloc: Global,
-    segments: &mut Slab<Segment<T>>,
-    copies: Vec<Segment<T>>,
-) -> Result<Vec<SegKey>, AllocError>
-    ensures ok { IfOk result
-        (λ path. ArePut (get segments.old) (get segments.new) copies.items path.items) }
-    ensures err { OnErr result (segments.new.slots ≡ segments.old.slots) }
-{
-    segments.reserve(copies.len())?;
-    let mut path = Vec::with_capacity(alloc, copies.len())?;
-    for copy in copies {
-        path.push_reserved(segments.insert_reserved(copy));
-    }
-    Ok(path)
 }

@@ -5,7 +5,6 @@ ghost use Rattle.schedule_trie.specs.Edits.{Drop, IsEdited, IsUnedited};
 ghost use Rattle.schedule_trie.specs.Releases.{IsDropped};
 
 use super::Trie;
-use super::release::release;
 use crate::name::Name;
 use crate::refusal::Refusal;
 
@@ -22,7 +21,7 @@ impl<T: Drop> Trie<T> {
         let Some(index) = self.index(branch) else {
             return Err(Refusal::NoBranch);
         };
-        if self.branches.len() < 2 {
+        if self.branches() < 2 {
             return Err(Refusal::LastBranch);
         }
         self.drop_at(index);
@@ -35,8 +34,7 @@ impl<T: Drop> Trie<T> {
         requires several { 1 < length self.old.strands }
         ensures { IsDropped self.old self.new index }
     {
-        if let Some((_, path)) = self.branches.shift_remove_index(index) {
-            release(&mut self.segments, &self.branches, path.as_slice());
-        }
+        self.branches.shift_remove_index(index);
+        self.segments.drop_path(index);
     }
 }

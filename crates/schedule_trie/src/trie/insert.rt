@@ -7,7 +7,6 @@ ghost use Rattle.schedule_trie.specs.Forest.{slots_in};
 ghost use Rattle.schedule_trie.specs.Cut.{forest, piece_at, slots_of, IsPutBefore, IsInserted};
 
 use super::Trie;
-use super::division::{divide, reserve_division};
 use crate::name::Name;
 use crate::refusal::Refusal;
 use crate::segment::{MOST_SLOTS, SegKey, Segment};
@@ -100,7 +99,7 @@ impl<T: Drop> Trie<T> {
             cell: self.made,
             step,
         };
-        self.segments[key].insert(offset, slot)?;
+        self.segments.item_mut(key).insert(offset, slot)?;
         self.made += 1;
         Ok(())
     }
@@ -128,8 +127,8 @@ impl<T: Drop> Trie<T> {
             slots: above,
             note: None,
         };
-        reserve_division(&mut self.segments, &mut self.branches)?;
-        divide(&mut self.segments, &mut self.branches, key, above, below);
+        self.segments.divide(key, above)?;
+        self.segments.item_mut(key).set_slots(below);
         self.made += 1;
         Ok(())
     }

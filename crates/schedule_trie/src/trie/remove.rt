@@ -1,15 +1,13 @@
 //! Cells that go.
 
-ghost use Rattle.std.specs.Prelude.{◌≡◌, ◌<◌, length, map, Ok, Err, OnOk, IfErr};
+ghost use Rattle.std.specs.Prelude.{◌≡◌, ◌<◌, length, Ok, Err, OnOk, IfErr};
 ghost use Rattle.schedule_trie.specs.Edits.{Remove, IsEdited, IsUnedited};
-ghost use Rattle.schedule_trie.specs.Cut.{piece_at, slots_of, keys_without, strand_without, IsRemoved};
-ghost use Rattle.schedule_trie.specs.Held.{strand_of};
+ghost use Rattle.schedule_trie.specs.Cut.{piece_at, slots_of, IsRemoved};
 
 use crate::name::Name;
 use crate::refusal::Refusal;
 use crate::segment::SegKey;
 use crate::trie::Trie;
-use indexmap::IndexMap;
 
 impl<T: Drop> Trie<T> {
     /// Takes the cell at a place of a branch out of each branch that holds it. It takes no memory.
@@ -49,7 +47,7 @@ impl<T: Drop> Trie<T> {
         requires more { 1 < length (slots_of (piece_at self.old.pieces key)) }
         ensures { IsRemoved self.old self.new key offset }
     {
-        self.segments[key].remove(offset);
+        self.segments.item_mut(key).remove(offset);
     }
 
     /// Takes a segment of one cell out of each branch.
@@ -57,24 +55,6 @@ impl<T: Drop> Trie<T> {
         requires { length (slots_of (piece_at self.old.pieces key)) ≡ 1 }
         ensures { IsRemoved self.old self.new key 0 }
     {
-        self.segments.remove(key);
-        remove_key(&mut self.branches, key);
+        self.segments.take_out(key);
     }
-}
-
-/// Takes a key out of each branch's path.
-fn remove_key(branches: &mut IndexMap<Name, Vec<SegKey>>, key: SegKey)
-    ensures strands { map strand_of branches.new.entries
-        ≡ map (strand_without key) (map strand_of branches.old.entries) }
-{
-    for index in 0..branches.len() {
-        remove_from(&mut branches[index], key);
-    }
-}
-
-/// Takes a key out of a path.
-fn remove_from(path: &mut Vec<SegKey>, key: SegKey)
-    ensures { path.new.items ≡ keys_without key path.old.items }
-{
-    path.retain(|other| key != *other);
 }

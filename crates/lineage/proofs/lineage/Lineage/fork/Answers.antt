@@ -30,4 +30,4 @@ returns-clause-ok g c =
     let a = c.self.inside in
     rw (← c.self.view_is) (forked a.nodes.slots c.hold.new.nodes.slots a.tips.items c.push_reserved.new.self.items c.args.key c.self.invariant
     (subst (λ f. IfSome c.args.key (λ k. IsSome (item_at f k))) (sym c.self.view_is) c.requires) c.hold.ensures.nodes
-    (c.push_reserved.ensures.items ∙ ap (λ xs. xs ++ c.args.key ∷ []) c.in_ok-reserve_tip.ensures.items))
+    (c.push_reserved.ensures.items ∙ ap (λ xs. xs ++ c.args.key ∷ []) c.in_ok-reserve_tip.ensures.items) c.hold.ensures.slots)

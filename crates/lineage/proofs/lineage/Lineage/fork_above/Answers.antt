@@ -41,4 +41,4 @@ returns-clause-ok g c =
     c.self.invariant n.1 (ap (λ s. node_at s c.put_above-fresh.result) (sym same) ∙ here.vacant) (here.fresh ∙ ap (λ s. over c.args.item (node_at s c.args.key)) same)
     (here.below ∙ ap (λ s. under c.put_above-fresh.result (node_at s c.args.key)) same) (λ k ne nf. here.others k ne nf ∙ ap (λ s. node_at s k) same)
     (here.len ∙ ap (λ s. count_by is_some s + 1) same) (room g c) c.hold.ensures.nodes
-    (c.push_reserved.ensures.items ∙ ap (λ xs. xs ++ Some c.put_above-fresh.result ∷ []) c.in_ok-reserve_path.ensures.items))
+    (c.push_reserved.ensures.items ∙ ap (λ xs. xs ++ Some c.put_above-fresh.result ∷ []) c.in_ok-reserve_path.ensures.items) c.hold.ensures.slots)

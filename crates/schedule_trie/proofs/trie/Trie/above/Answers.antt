@@ -1,15 +1,15 @@
-use Rattle.std.proofs.Common.{sym, ◌∙◌, ◌<◌, length, arith}
-use Rattle.schedule_trie.proofs.Readings.{above_here, above_below, strands_within}
+use Rattle.std.proofs.Common.{sym, ◌∙◌}
+use Rattle.schedule_trie.specs.Cut.{piece_at}
+use Rattle.schedule_trie.specs.Held.{cut_of}
+use Rattle.schedule_trie.proofs.Lines.{keys_are}
+use Rattle.schedule_trie.proofs.Readings.{above_told, lacked_none}
+use Rattle.schedule_trie.proofs.StepSet.{none_there}
 use Rattle.schedule_trie.proofs.trie.Trie.above.Goals as goal
 
-pub returns-then-has_key : goal.returns-then-has_key
-returns-then-has_key g c =
-    let inside : c.loop-index.index < length c.args.self.now.strands = strands_within c.self.inside c.args.self.now c.self.view_is c.loop-index.index (omega arith) in
-    above_here c.args.self.now.strands c.loop-index.index c.args.key inside c.keys_at-keys.result.now c.before_key.result c.keys_at-keys.ensures.keys
-    (sym c.has_key.ensures ∙ c.if-has_key.true) c.before_key.ensures c.loop-index.invariant
-
-pub loop-index-preserved : goal.loop-index-preserved
-loop-index-preserved g c =
-    let inside : c.loop-index.index < length c.args.self.now.strands = strands_within c.self.inside c.args.self.now c.self.view_is c.loop-index.index (omega arith) in
-    above_below c.args.self.now.strands c.loop-index.index c.args.key inside c.keys_at-keys.result.now c.keys_at-keys.ensures.keys
-    (sym c.has_key.ensures ∙ c.if-has_key.false) ∙ c.loop-index.invariant
+pub returns : goal.returns
+returns g c =
+    let t = c.self.inside in
+    let held = c.self.invariant in
+    rw (← c.self.view_is) (above_told (cut_of t).strands c.args.key c.above.result
+    (λ i front back e. c.above.ensures.each i front back (sym (keys_are t held i) ∙ e))
+    (λ lacks. c.above.ensures.none (none_there t c.args.key (lacked_none (piece_at (cut_of t).pieces c.args.key) (cut_of t).strands c.args.key (held.whole.sound.live c.args.key) lacks))))

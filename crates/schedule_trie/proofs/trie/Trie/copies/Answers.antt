@@ -11,20 +11,20 @@ loop-key-init g c =
     let now = c.args.self.now in
     let at = piece_at now.pieces in
     let made : c.self.inside.made ≡ now.made = ap (λ z. z.made) c.self.view_is in
-    let most : now.limits.cells ≤ 16777216 = subst (λ z. z.limits.cells ≤ 16777216) c.self.view_is c.self.invariant.within.most_cells in
-    let len = ap length (slots_in_on at now.strands c.args.index ∙ ap (line at) (sym c.keys_at-key-items.ensures.keys)) in
+    let most : now.limits.cells ≤ 16777216 = subst (λ z. z.limits.cells ≤ 16777216) c.self.view_is c.self.invariant.whole.within.most_cells in
+    let len = ap length (slots_in_on at now.strands c.args.index ∙ ap (line at) (sym (c.deref-key-items.ensures.value ∙ c.in_ok-keys.ensures.keys))) in
     record {
-      copies = subst (AreCopies at now.made []) (sym c.new-copies.ensures.items) tt;
+      copies = subst (AreCopies at now.made []) (sym c.in_ok-copies.ensures.items) tt;
       cell = omega arith;
-      rest = ap (λ n. n + length (line at c.keys_at-key-items.result.now)) made;
+      rest = ap (λ n. n + length (line at c.deref-key-items.result.now)) made;
       fits = omega (arith, c.requires);
-      keys = c.keys_at-key-items.ensures.keys;
+      keys = (c.deref-key-items.ensures.value ∙ c.in_ok-keys.ensures.keys);
     }
 
 pub renumbered-requires : goal.renumbered-requires
 renumbered-requires g c =
     let at = piece_at c.args.self.now.pieces in
-    let keys = c.keys_at-key-items.result.now in
+    let keys = c.deref-key-items.result.now in
     let i = c.loop-key.key-index in
     let was = c.loop-key.invariant in
     let len : length (slots_of (at (slice_index_or keys i 0))) ≡ length c.slots_at-slots.result.now = sym (ap length c.slots_at-slots.ensures) in
@@ -35,7 +35,7 @@ pub loop-key-preserved : goal.loop-key-preserved
 loop-key-preserved g c =
     let now = c.args.self.now in
     let at = piece_at now.pieces in
-    let keys = c.keys_at-key-items.result.now in
+    let keys = c.deref-key-items.result.now in
     let i = c.loop-key.key-index in
     let was = c.loop-key.invariant in
     let len : length (slots_of (at (slice_index_or keys i 0))) ≡ length c.slots_at-slots.result.now = sym (ap length c.slots_at-slots.ensures) in

@@ -1,28 +1,52 @@
-use Rattle.std.proofs.Common.{ap, sym, length, arith, ◌<◌, ◌≡◌, subst, slice_index_or}
-use Rattle.schedule_trie.specs.Cut.{piece_at, slots_of, StandsAt}
-use Rattle.schedule_trie.proofs.Lines.{found_here, found_below, none_found}
+use Rattle.std.proofs.Common.{◌-◌, ◌<◌, length, sym, ap, subst, ◌∙◌, arith}
+use Rattle.schedule_trie.specs.Cut.{piece_at, keys_in, line}
+use Rattle.schedule_trie.specs.Climbs.{keys_to, IsReached}
+use Rattle.schedule_trie.proofs.Climbs.{IsStepUp, cells_up, lies_here, stands_here, shorter_up}
+use Rattle.schedule_trie.proofs.ClimbSteps.{path_last, path_up}
+use Rattle.schedule_trie.proofs.Lines.{slots_in_on}
 use Rattle.schedule_trie.proofs.trie.Trie.find_cell.Goals as goal
+use Rattle.schedule_trie.proofs.trie.Trie.find_cell.Given.{Over}
+
+pub loop-at-init : goal.loop-at-init
+loop-at-init g c =
+    let now = c.args.self.now in
+    let l = path_last c.self.inside now c.self.view_is c.self.invariant c.args.index c.last-at.result c.last-at.ensures in
+    let all = ap (λ ks. length (line (piece_at now.pieces) ks)) l.all in
+    let len = c.len_at-len.ensures ∙ ap length (slots_in_on (piece_at now.pieces) now.strands c.args.index) in
+    record { reached = l.reached; behind = omega (arith, all, len); some = omega arith }
+
+pub returns-then-rest-len-clause-lies : goal.returns-then-rest-len-clause-lies
+returns-then-rest-len-clause-lies g c =
+    let now = c.args.self.now in
+    let was = c.loop-at.invariant in
+    lies_here (piece_at now.pieces) (keys_in now.strands c.args.index) c.loop-at.at c.in-Some.key c.args.place c.loop-at.rest (length c.slots_at-len.result.now) was.reached c.in-Some.is
+    was.behind was.some c.if-rest-len.true (ap length c.slots_at-len.ensures)
 
 pub returns-then-rest-len-clause-found : goal.returns-then-rest-len-clause-found
 returns-then-rest-len-clause-found g c =
-    let at = piece_at c.args.self.now.pieces in
-    let keys = c.keys_at-key-items.result.now in
-    let i = c.loop-key.key-index in
-    let here : c.loop-key.rest < length (slots_of (at (slice_index_or keys i 0))) =
-    subst (λ l. c.loop-key.rest < length l) c.slots_at-len.ensures (omega arith) in
-    subst (λ l. StandsAt at l c.args.place (slice_index_or keys i 0, c.loop-key.rest)) c.loop-key.invariant.2
-    (found_here at keys c.args.place i c.loop-key.rest (omega arith) c.loop-key.invariant.0 c.loop-key.invariant.1 here)
+    let now = c.args.self.now in
+    let was = c.loop-at.invariant in
+    stands_here (piece_at now.pieces) (keys_in now.strands c.args.index) c.args.place (c.in-Some.key, length c.slots_at-len.result.now - c.loop-at.rest)
+    (lies_here (piece_at now.pieces) (keys_in now.strands c.args.index) c.loop-at.at c.in-Some.key c.args.place c.loop-at.rest (length c.slots_at-len.result.now) was.reached c.in-Some.is
+    was.behind was.some c.if-rest-len.true (ap length c.slots_at-len.ensures))
 
-pub loop-key-preserved : goal.loop-key-preserved
-loop-key-preserved g c =
-    let at = piece_at c.args.self.now.pieces in
-    let keys = c.keys_at-key-items.result.now in
-    let i = c.loop-key.key-index in
-    let len : length (slots_of (at (slice_index_or keys i 0))) ≡ length c.slots_at-len.result.now = sym (ap length c.slots_at-len.ensures) in
-    let below = found_below at keys c.args.place i c.loop-key.rest (omega arith) c.loop-key.invariant.0 c.loop-key.invariant.1 _ (omega arith) in
-    (below.0, below.1, c.loop-key.invariant.2)
+step : (g : Over) (c : goal.After-above-at g) → IsStepUp (keys_in c.args.self.now.strands c.args.index) c.in-Some.key c.above-at.result
+step g c =
+    path_up c.self.inside c.args.self.now c.self.view_is c.self.invariant c.args.index c.in-Some.key c.above-at.result
+    (subst (IsReached (keys_in c.args.self.now.strands c.args.index)) c.in-Some.is c.loop-at.invariant.reached) c.above-at.ensures.each
 
-pub returns-clause-none : goal.returns-clause-none
-returns-clause-none g c =
-    none_found (piece_at c.args.self.now.pieces) c.args.self.now.strands c.args.index c.args.place c.loop-key.key-index c.loop-key.rest c.keys_at-key-items.result.now
-    (omega arith) c.loop-key.invariant.1 c.loop-key.invariant.2
+pub loop-at-smaller : goal.loop-at-smaller
+loop-at-smaller g c =
+    let keys = keys_in c.args.self.now.strands c.args.index in
+    subst (λ o. length (keys_to keys c.above-at.result) < length (keys_to keys o)) (sym c.in-Some.is)
+    (shorter_up (piece_at c.args.self.now.pieces) keys c.in-Some.key c.above-at.result (step g c))
+
+pub loop-at-preserved : goal.loop-at-preserved
+loop-at-preserved g c =
+    let now = c.args.self.now in
+    let keys = keys_in now.strands c.args.index in
+    let s = step g c in
+    let up = cells_up (piece_at now.pieces) keys c.in-Some.key c.above-at.result s in
+    let len = ap length c.slots_at-len.ensures in
+    let at = ap (λ o. length (line (piece_at now.pieces) (keys_to keys o))) c.in-Some.is in
+    record { reached = s.reached; behind = omega (arith, up, len, at, c.loop-at.invariant.behind); some = omega arith }

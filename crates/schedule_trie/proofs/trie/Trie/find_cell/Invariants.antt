@@ -1,9 +1,14 @@
-use Rattle.std.proofs.Common.{◌≡◌, ◌+◌, length, drop, slice_get}
+use Rattle.std.proofs.Common.{◌≡◌, ◌+◌, ◌<◌, length}
 use Rattle.schedule_trie.specs.Cut.{line, piece_at, keys_in}
+use Rattle.schedule_trie.specs.Climbs.{keys_to, IsReached}
 use Rattle.schedule_trie.proofs.trie.Trie.find_cell.Given as goal
 
-abbrev pub invariant-loop-key : goal.invariant-loop-key
-invariant-loop-key g l =
-    (slice_get (line (piece_at l.self.pieces) (drop l.key-index l.key-items)) l.rest ≡ slice_get (line (piece_at l.self.pieces) l.key-items) l.place)
-    × (length (line (piece_at l.self.pieces) (drop l.key-index l.key-items)) + l.place ≡ length (line (piece_at l.self.pieces) l.key-items) + l.rest)
-    × (l.key-items ≡ keys_in l.self.strands l.index)
+abbrev pub invariant-loop-at : goal.invariant-loop-at
+invariant-loop-at g l = record {
+  reached : IsReached (keys_in l.self.strands l.index) l.at;
+  behind : length (line (piece_at l.self.pieces) (keys_to (keys_in l.self.strands l.index) l.at)) ≡ l.place + l.rest;
+  some : 0 < l.rest;
+}
+
+abbrev pub decreases-loop-at : goal.decreases-loop-at
+decreases-loop-at g l = length (keys_to (keys_in l.self.strands l.index) l.at)

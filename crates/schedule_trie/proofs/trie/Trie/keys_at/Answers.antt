@@ -1,16 +1,20 @@
-use Rattle.std.proofs.Common.{ap, sym, ◌∙◌, []}
-use Rattle.std.specs.Option.{option_map_or}
-use Rattle.schedule_trie.proofs.Lines.{keys_told}
+use Rattle.std.proofs.Common.{◌≡◌, ◌≤◌, length, subst, arith}
+use Rattle.lineage.specs.Family.{path_in}
+use Rattle.schedule_trie.specs.Cut.{line, piece_at, keys_in}
+use Rattle.schedule_trie.proofs.Lines.{if_ok, keys_told}
 use Rattle.schedule_trie.proofs.trie.Trie.keys_at.Goals as goal
 
-pub returns-in-Some : goal.returns-in-Some
-returns-in-Some g c =
-    let told = keys_told c.self.inside c.self.invariant c.args.index c.as_slice.result.now
-    (sym (ap (λ o. option_map_or (λ e. e.1.items) o []) c.in-Some.ensures.entry) ∙ sym c.as_slice.ensures.value) in
-    rw (← c.self.view_is) (record { keys = told.0; short = told.1; made = told.2 })
+pub returns-clause-keys : goal.returns-clause-keys
+returns-clause-keys g c =
+    if_ok c.keys.result (λ keys. keys.items ≡ path_in c.self.inside.segments c.args.index) (λ keys. keys.items ≡ keys_in c.args.self.now.strands c.args.index)
+    (λ keys e. subst (λ z. keys.items ≡ keys_in z.strands c.args.index) c.self.view_is (keys_told c.self.inside c.self.invariant c.args.index keys.items e).0) c.keys.ensures
 
-pub returns-in-None : goal.returns-in-None
-returns-in-None g c =
-    let told = keys_told c.self.inside c.self.invariant c.args.index []
-    (sym (ap (λ o. option_map_or (λ e. e.1.items) o []) c.in-None.ensures.entry)) in
-    rw (← c.self.view_is) (record { keys = told.0; short = told.1; made = told.2 })
+pub returns-clause-short : goal.returns-clause-short
+returns-clause-short g c =
+    if_ok c.keys.result (λ keys. keys.items ≡ path_in c.self.inside.segments c.args.index) (λ keys. length (line (piece_at c.args.self.now.pieces) keys.items) ≤ c.args.self.now.made)
+    (λ keys e. subst (λ z. length (line (piece_at z.pieces) keys.items) ≤ z.made) c.self.view_is (keys_told c.self.inside c.self.invariant c.args.index keys.items e).1) c.keys.ensures
+
+pub returns-clause-made : goal.returns-clause-made
+returns-clause-made g c =
+    let w = c.self.invariant.whole.within in
+    subst (λ z. z.made ≤ 16777216) c.self.view_is (omega (arith, w.cells, w.most_cells))

@@ -1,9 +1,15 @@
-use Rattle.std.proofs.Common.{arith}
-use Rattle.schedule_trie.specs.Cut.{piece_at}
-use Rattle.schedule_trie.proofs.Lines.{len_told}
+use Rattle.std.proofs.Common.{length, ap, ◌∙◌, sym}
+use Rattle.schedule_trie.specs.Cut.{piece_at, line}
+use Rattle.schedule_trie.proofs.ClimbSteps.{path_last}
+use Rattle.schedule_trie.proofs.Lines.{slots_in_on}
 use Rattle.schedule_trie.proofs.trie.Trie.len_at.Goals as goal
+
+pub len_to-requires : goal.len_to-requires
+len_to-requires g c = (path_last c.self.inside c.args.self.now c.self.view_is c.self.invariant c.args.index c.last.result c.last.ensures).reached
 
 pub returns : goal.returns
 returns g c =
-    len_told (piece_at c.args.self.now.pieces) c.args.self.now.strands c.args.index c.loop-key.key-index c.keys_at-key-items.result.now c.loop-key.len
-    (omega arith) c.loop-key.invariant.0 c.loop-key.invariant.2
+    let now = c.args.self.now in
+    c.len_to.ensures
+    ∙ ap (λ l. length (line (piece_at now.pieces) l)) (path_last c.self.inside now c.self.view_is c.self.invariant c.args.index c.last.result c.last.ensures).all
+    ∙ ap length (sym (slots_in_on (piece_at now.pieces) now.strands c.args.index))

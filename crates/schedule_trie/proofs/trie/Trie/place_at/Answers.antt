@@ -1,53 +1,80 @@
-use Rattle.std.proofs.Common.{refl, ap, ◌+◌, length, arith}
+use Rattle.std.proofs.Common.{◌+◌, ◌<◌, Some, length, sym, ap, subst, ◌∙◌, arith}
+use Rattle.std.specs.List.{position}
 use Rattle.schedule_trie.specs.Forest.{is_cell}
-use Rattle.schedule_trie.specs.Cut.{piece_at}
-use Rattle.schedule_trie.proofs.Readings.{first_within, room_left, place_here, place_below, no_place}
+use Rattle.schedule_trie.specs.Cut.{piece_at, keys_in, line, IsWhole}
+use Rattle.schedule_trie.specs.Climbs.{keys_to, IsReached}
+use Rattle.schedule_trie.proofs.Climbs.{cells_up, cells_within, place_up, place_above, shorter_up}
+use Rattle.schedule_trie.proofs.ClimbSteps.{path_last, path_once, path_short, path_up}
+use Rattle.schedule_trie.proofs.Lines.{slots_in_on}
+use Rattle.schedule_trie.proofs.Readings.{first_within}
 use Rattle.schedule_trie.proofs.trie.Trie.place_at.Goals as goal
 
-pub overflow_cast-result : goal.overflow_cast-result
-overflow_cast-result g c =
-    let seen = ap length c.slots_at-slots.ensures in
-    let inside = first_within (is_cell c.args.cell) c.slots_at-slots.result.now c.in-Some.offset c.in-Some.ensures in
-    let room = room_left (piece_at c.args.self.now.pieces) (is_cell c.args.cell) c.keys_at-key-items.result.now c.loop-key.key-index c.loop-key.before
-    (omega arith) c.loop-key.invariant.0 c.loop-key.invariant.1 in
-    omega (arith, seen, inside, room, c.loop-key.invariant.2)
+pub loop-at-init : goal.loop-at-init
+loop-at-init g c =
+    let now = c.args.self.now in
+    let l = path_last c.self.inside now c.self.view_is c.self.invariant c.args.index c.last-at.result c.last-at.ensures in
+    record { reached = l.reached; same = ap (λ ks. position (is_cell c.args.cell) (line (piece_at now.pieces) ks)) l.all }
+
+pub len_to-requires : goal.len_to-requires
+len_to-requires g c =
+    let s = path_up c.self.inside c.args.self.now c.self.view_is c.self.invariant c.args.index c.in-Some.key c.above-above.result
+    (subst (IsReached (keys_in c.args.self.now.strands c.args.index)) c.in-Some.is c.loop-at.invariant.reached) c.above-above.ensures.each in
+    s.reached
 
 pub overflow_add-result : goal.overflow_add-result
 overflow_add-result g c =
-    let seen = ap length c.slots_at-slots.ensures in
-    let inside = first_within (is_cell c.args.cell) c.slots_at-slots.result.now c.in-Some.offset c.in-Some.ensures in
-    let room = room_left (piece_at c.args.self.now.pieces) (is_cell c.args.cell) c.keys_at-key-items.result.now c.loop-key.key-index c.loop-key.before
-    (omega arith) c.loop-key.invariant.0 c.loop-key.invariant.1 in
-    omega (arith, seen, inside, room, c.loop-key.invariant.2)
+    let now = c.args.self.now in
+    let keys = keys_in now.strands c.args.index in
+    let s = path_up c.self.inside c.args.self.now c.self.view_is c.self.invariant c.args.index c.in-Some.key c.above-above.result
+    (subst (IsReached (keys_in c.args.self.now.strands c.args.index)) c.in-Some.is c.loop-at.invariant.reached) c.above-above.ensures.each in
+    let up = cells_up (piece_at now.pieces) keys c.in-Some.key c.above-above.result s in
+    let inside = first_within (is_cell c.args.cell) c.slots_at.result.now c.in-Some-offset_of.offset c.in-Some-offset_of.ensures in
+    let len = ap length c.slots_at.ensures in
+    let at = ap (λ o. length (line (piece_at now.pieces) (keys_to keys o))) c.in-Some.is in
+    let within = cells_within (piece_at now.pieces) keys c.loop-at.at c.loop-at.invariant.reached in
+    let short = path_short c.self.inside now c.self.view_is c.self.invariant c.args.index in
+    omega (arith, up, inside, len, at, within, short, c.len_to.ensures)
 
-pub overflow_cast-before : goal.overflow_cast-before
-overflow_cast-before g c =
-    let seen = ap length c.slots_at-slots.ensures in
-    let room = room_left (piece_at c.args.self.now.pieces) (is_cell c.args.cell) c.keys_at-key-items.result.now c.loop-key.key-index c.loop-key.before
-    (omega arith) c.loop-key.invariant.0 c.loop-key.invariant.1 in
-    omega (arith, seen, room, c.loop-key.invariant.2)
+pub returns-in-Some-offset_of : goal.returns-in-Some-offset_of
+returns-in-Some-offset_of g c =
+    let now = c.args.self.now in
+    let keys = keys_in now.strands c.args.index in
+    let sound = (subst IsWhole c.self.view_is c.self.invariant.whole).sound in
+    let s = path_up c.self.inside c.args.self.now c.self.view_is c.self.invariant c.args.index c.in-Some.key c.above-above.result
+    (subst (IsReached (keys_in c.args.self.now.strands c.args.index)) c.in-Some.is c.loop-at.invariant.reached) c.above-above.ensures.each in
+    let here = place_up (piece_at now.pieces) c.args.cell keys c.in-Some.key c.above-above.result s sound.apart
+    (path_once c.self.inside now c.self.view_is c.self.invariant c.args.index) c.in-Some-offset_of.offset
+    (c.in-Some-offset_of.ensures ∙ ap (position (is_cell c.args.cell)) c.slots_at.ensures) in
+    ap (λ n. Some (n + c.in-Some-offset_of.offset)) c.len_to.ensures ∙ sym here
+    ∙ ap (λ o. position (is_cell c.args.cell) (line (piece_at now.pieces) (keys_to keys o))) (sym c.in-Some.is) ∙ c.loop-at.invariant.same
+    ∙ ap (position (is_cell c.args.cell)) (sym (slots_in_on (piece_at now.pieces) now.strands c.args.index))
 
-pub overflow_add-before : goal.overflow_add-before
-overflow_add-before g c =
-    let seen = ap length c.slots_at-slots.ensures in
-    let room = room_left (piece_at c.args.self.now.pieces) (is_cell c.args.cell) c.keys_at-key-items.result.now c.loop-key.key-index c.loop-key.before
-    (omega arith) c.loop-key.invariant.0 c.loop-key.invariant.1 in
-    omega (arith, seen, room, c.loop-key.invariant.2)
+pub loop-at-smaller : goal.loop-at-smaller
+loop-at-smaller g c =
+    let keys = keys_in c.args.self.now.strands c.args.index in
+    let s = path_up c.self.inside c.args.self.now c.self.view_is c.self.invariant c.args.index c.in-Some.key c.above-above.result
+    (subst (IsReached (keys_in c.args.self.now.strands c.args.index)) c.in-Some.is c.loop-at.invariant.reached) c.above-above.ensures.each in
+    subst (λ o. length (keys_to keys c.above-above.result) < length (keys_to keys o)) (sym c.in-Some.is)
+    (shorter_up (piece_at c.args.self.now.pieces) keys c.in-Some.key c.above-above.result s)
 
-pub returns-in-Some : goal.returns-in-Some
-returns-in-Some g c =
-    place_here (piece_at c.args.self.now.pieces) (is_cell c.args.cell) c.keys_at-key-items.result.now c.loop-key.key-index c.loop-key.before
-    (omega arith) c.loop-key.invariant.0 c.loop-key.invariant.1 c.args.self.now.strands c.args.index c.in-Some.offset
-    c.slots_at-slots.result.now c.slots_at-slots.ensures c.in-Some.ensures c.loop-key.invariant.3
-
-pub loop-key-preserved : goal.loop-key-preserved
-loop-key-preserved g c =
-    let more = place_below (piece_at c.args.self.now.pieces) (is_cell c.args.cell) c.keys_at-key-items.result.now c.loop-key.key-index c.loop-key.before
-    (omega arith) c.loop-key.invariant.0 c.loop-key.invariant.1 (c.loop-key.before + length c.slots_at-slots.result.now)
-    c.slots_at-slots.result.now c.slots_at-slots.ensures c.in_default.ensures refl in
-    (more.0, more.1, c.loop-key.invariant.2, c.loop-key.invariant.3)
+pub loop-at-preserved : goal.loop-at-preserved
+loop-at-preserved g c =
+    let now = c.args.self.now in
+    let keys = keys_in now.strands c.args.index in
+    let s = path_up c.self.inside c.args.self.now c.self.view_is c.self.invariant c.args.index c.in-Some.key c.above-above.result
+    (subst (IsReached (keys_in c.args.self.now.strands c.args.index)) c.in-Some.is c.loop-at.invariant.reached) c.above-above.ensures.each in
+    let sound = (subst IsWhole c.self.view_is c.self.invariant.whole).sound in
+    record {
+      reached = s.reached;
+      same = sym (place_above (piece_at now.pieces) c.args.cell keys c.in-Some.key c.above-above.result s sound.apart
+          (path_once c.self.inside now c.self.view_is c.self.invariant c.args.index)
+          (c.in_default-offset_of.ensures ∙ ap (position (is_cell c.args.cell)) c.slots_at.ensures))
+          ∙ ap (λ o. position (is_cell c.args.cell) (line (piece_at now.pieces) (keys_to keys o))) (sym c.in-Some.is) ∙ c.loop-at.invariant.same;
+    }
 
 pub returns : goal.returns
 returns g c =
-    no_place (piece_at c.args.self.now.pieces) (is_cell c.args.cell) c.args.self.now.strands c.args.index c.loop-key.key-index c.loop-key.before c.keys_at-key-items.result.now
-    (omega arith) c.loop-key.invariant.0 c.loop-key.invariant.1 c.loop-key.invariant.3
+    let now = c.args.self.now in
+    let keys = keys_in now.strands c.args.index in
+    ap (λ o. position (is_cell c.args.cell) (line (piece_at now.pieces) (keys_to keys o))) (sym c.in_default.is) ∙ c.loop-at.invariant.same
+    ∙ ap (position (is_cell c.args.cell)) (sym (slots_in_on (piece_at now.pieces) now.strands c.args.index))

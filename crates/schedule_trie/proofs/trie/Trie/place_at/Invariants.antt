@@ -1,12 +1,16 @@
-use Rattle.std.proofs.Common.{◌≡◌, ◌≤◌, ◌+◌, length, drop}
-use Rattle.std.specs.List.{position_or_len}
+use Rattle.std.proofs.Common.{◌≡◌, length}
+use Rattle.std.specs.List.{position}
 use Rattle.schedule_trie.specs.Forest.{is_cell}
 use Rattle.schedule_trie.specs.Cut.{line, piece_at, keys_in}
+use Rattle.schedule_trie.specs.Climbs.{keys_to, IsReached}
 use Rattle.schedule_trie.proofs.trie.Trie.place_at.Given as goal
 
-abbrev pub invariant-loop-key : goal.invariant-loop-key
-invariant-loop-key g l =
-    (l.before + position_or_len (is_cell l.cell) (line (piece_at l.self.pieces) (drop l.key-index l.key-items)) ≡ position_or_len (is_cell l.cell) (line (piece_at l.self.pieces) l.key-items))
-    × (l.before + length (line (piece_at l.self.pieces) (drop l.key-index l.key-items)) ≡ length (line (piece_at l.self.pieces) l.key-items))
-    × (length (line (piece_at l.self.pieces) l.key-items) ≤ 16777216)
-    × (l.key-items ≡ keys_in l.self.strands l.index)
+abbrev pub invariant-loop-at : goal.invariant-loop-at
+invariant-loop-at g l = record {
+  reached : IsReached (keys_in l.self.strands l.index) l.at;
+  same : position (is_cell l.cell) (line (piece_at l.self.pieces) (keys_to (keys_in l.self.strands l.index) l.at))
+      ≡ position (is_cell l.cell) (line (piece_at l.self.pieces) (keys_in l.self.strands l.index));
+}
+
+abbrev pub decreases-loop-at : goal.decreases-loop-at
+decreases-loop-at g l = length (keys_to (keys_in l.self.strands l.index) l.at)

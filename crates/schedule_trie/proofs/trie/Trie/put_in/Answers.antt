@@ -1,32 +1,31 @@
 use Rattle.std.proofs.Common.{sym, subst, ◌∙◌, ◌<◌, length}
-use Rattle.schedule_trie.specs.Cut.{IsWhole}
-use Rattle.schedule_trie.proofs.PushSteps.{on_err, cut_written}
+use Rattle.schedule_trie.proofs.PushSteps.{on_err, kept_held, cut_written}
 use Rattle.schedule_trie.proofs.StepSet.{inside_from}
 use Rattle.schedule_trie.proofs.InsertSteps.{slots_seen, put_held, put_told}
 use Rattle.schedule_trie.proofs.trie.Trie.put_in.Goals as goal
 
 pub invariant_of-self : goal.invariant_of-self
 invariant_of-self g c =
-    subst IsWhole (sym (cut_written c.self.inside c.args.key c.index_mut.result.now c.insert.new.self c.index_mut.ensures.value
-    c.in_err-insert.ensures.err_slots c.in_err-insert.ensures.err_note)) c.self.invariant
+    kept_held c.self.inside c.args.key c.insert.new.self c.self.invariant (cut_written c.self.inside c.args.key c.item_mut.result.now c.insert.new.self c.item_mut.ensures.value
+    c.in_err-insert.ensures.err_slots c.in_err-insert.ensures.err_note)
 
 pub returns-in_err-insert-clause-err : goal.returns-in_err-insert-clause-err
 returns-in_err-insert-clause-err g c =
-    on_err c.from_residual.result _ (cut_written c.self.inside c.args.key c.index_mut.result.now c.insert.new.self c.index_mut.ensures.value
+    on_err c.from_residual.result _ (cut_written c.self.inside c.args.key c.item_mut.result.now c.insert.new.self c.item_mut.ensures.value
     c.in_err-insert.ensures.err_slots c.in_err-insert.ensures.err_note ∙ c.self.view_is)
 
 pub invariant_of-self-2 : goal.invariant_of-self-2
 invariant_of-self-2 g c =
-    put_held c.self.inside c.args.key c.args.offset c.args.step c.index_mut.result.now c.insert.new.self c.self.invariant c.index_mut.ensures.value
-    (inside_from c.self.inside c.args.key c.args.offset c.index_mut.result.now c.args.self.now c.self.view_is c.index_mut.ensures.value c.requires.offset)
-    (subst (λ l. length l < 128) (slots_seen c.self.inside c.args.key c.index_mut.result.now c.args.self.now c.self.view_is c.index_mut.ensures.value) c.requires.few)
+    put_held c.self.inside c.args.key c.args.offset c.args.step c.item_mut.result.now c.insert.new.self c.self.invariant c.item_mut.ensures.value
+    (inside_from c.self.inside c.args.key c.args.offset c.item_mut.result.now c.args.self.now c.self.view_is c.item_mut.ensures.value c.requires.offset)
+    (subst (λ l. length l < 128) (slots_seen c.self.inside c.args.key c.item_mut.result.now c.args.self.now c.self.view_is c.item_mut.ensures.value) c.requires.few)
     (subst (λ z. z.made < z.limits.cells) (sym c.self.view_is) c.requires.room)
     c.in_ok-insert.ensures.slots c.in_ok-insert.ensures.note
 
 pub returns-clause-ok : goal.returns-clause-ok
 returns-clause-ok g c =
-    rw (← c.self.view_is) (put_told c.self.inside c.args.key c.args.offset c.args.step c.index_mut.result.now c.insert.new.self c.self.invariant c.index_mut.ensures.value
-    (inside_from c.self.inside c.args.key c.args.offset c.index_mut.result.now c.args.self.now c.self.view_is c.index_mut.ensures.value c.requires.offset)
-    (subst (λ l. length l < 128) (slots_seen c.self.inside c.args.key c.index_mut.result.now c.args.self.now c.self.view_is c.index_mut.ensures.value) c.requires.few)
+    rw (← c.self.view_is) (put_told c.self.inside c.args.key c.args.offset c.args.step c.item_mut.result.now c.insert.new.self c.self.invariant c.item_mut.ensures.value
+    (inside_from c.self.inside c.args.key c.args.offset c.item_mut.result.now c.args.self.now c.self.view_is c.item_mut.ensures.value c.requires.offset)
+    (subst (λ l. length l < 128) (slots_seen c.self.inside c.args.key c.item_mut.result.now c.args.self.now c.self.view_is c.item_mut.ensures.value) c.requires.few)
     (subst (λ z. z.made < z.limits.cells) (sym c.self.view_is) c.requires.room)
     c.in_ok-insert.ensures.slots c.in_ok-insert.ensures.note)

@@ -6,12 +6,12 @@ use Rattle.schedule_trie.proofs.trie.Trie.steps_at.Goals as goal
 
 pub loop-key-preserved : goal.loop-key-preserved
 loop-key-preserved g c = (
-  steps_more (piece_at c.args.self.now.pieces) c.keys_at-key-items.result.now c.loop-key.key-index c.loop-key.steps.items c.push_steps.new.steps.items (omega arith)
+  steps_more (piece_at c.args.self.now.pieces) c.deref-key-items.result.now c.loop-key.key-index c.loop-key.steps.items c.push_steps.new.steps.items (omega arith)
       c.loop-key.invariant.0 (c.in_ok-push_steps.ensures ∙ ap (λ l. c.loop-key.steps.items ++ map step_of l) c.slots_at.ensures),
   c.loop-key.invariant.1,
 )
 
 pub returns : goal.returns
 returns g c =
-    steps_all (piece_at c.args.self.now.pieces) c.args.self.now.strands c.args.index c.loop-key.key-index c.keys_at-key-items.result.now c.loop-key.steps.items
+    steps_all (piece_at c.args.self.now.pieces) c.args.self.now.strands c.args.index c.loop-key.key-index c.deref-key-items.result.now c.loop-key.steps.items
     (omega arith) c.loop-key.invariant.0 c.loop-key.invariant.1

@@ -1,0 +1,35 @@
+-- A climb of a branch, by what the fields tell.
+use Rattle.std.proofs.Common.{◌≡◌, ℕ, ◌≤◌, true, List, ◌∷◌, ◌++◌, length, Option, sym, ap, subst, ◌∙◌, arith}
+use Rattle.lineage.specs.Family.{path_in, last_of}
+use Rattle.schedule_trie.specs.declared.trie.Trie.TheInside.{Inside}
+use Rattle.schedule_trie.specs.Cut.{Cut, piece_at, line, keys_in, has, Once}
+use Rattle.schedule_trie.specs.Held.{cut_of, IsHeld}
+use Rattle.schedule_trie.proofs.Once.{Once-from_linked}
+use Rattle.schedule_trie.proofs.Climbs.{IsLast, IsStepUp, last_is, step_up}
+use Rattle.schedule_trie.proofs.Lines.{keys_are, line_fits}
+
+module _ {T : Type 0} (t : Inside T) (c : Cut T) (seen : cut_of t ≡ c) (held : IsHeld t) (index : ℕ) where
+  -- a path has each key once
+  pub path_once : Once (keys_in c.strands index)
+  path_once =
+      subst (λ z. Once (keys_in z.strands index)) seen
+      (Once-from_linked held.whole.sound.shares.above (keys_in (cut_of t).strands index) (held.whole.sound.shares.linked index))
+
+  same : keys_in c.strands index ≡ path_in t.segments index
+  same = sym (ap (λ z. keys_in z.strands index) seen) ∙ keys_are t held index
+
+  -- where it begins
+  pub path_last : (last : Option ℕ) → last ≡ last_of (path_in t.segments index) → IsLast (keys_in c.strands index) last
+  path_last last e = subst (IsLast (keys_in c.strands index)) (ap last_of same ∙ sym e) (last_is (keys_in c.strands index) path_once)
+
+  -- and a step of it
+  pub path_up : (key : ℕ) (above : Option ℕ) → has key (keys_in c.strands index) ≡ true
+      → ((i : ℕ) (front back : List ℕ) → path_in t.segments i ≡ front ++ key ∷ back → above ≡ last_of front) → IsStepUp (keys_in c.strands index) key above
+  path_up key above h each = step_up (keys_in c.strands index) key above path_once h (λ front back e. each index front back (sym same ∙ e))
+
+  pub path_short : length (line (piece_at c.pieces) (keys_in c.strands index)) ≤ 16777216
+  path_short =
+      let fits = line_fits t held index in
+      let most : length (line (piece_at (cut_of t).pieces) (keys_in (cut_of t).strands index)) ≤ 16777216 =
+      omega (arith, fits, held.whole.within.cells, held.whole.within.most_cells) in
+      subst (λ z. length (line (piece_at z.pieces) (keys_in z.strands index)) ≤ 16777216) seen most

@@ -1,0 +1,84 @@
+//! Places of a branch, found from its end.
+
+ghost use Rattle.std.specs.Prelude.{ℕ, List, ◌≡◌, ◌≤◌, ◌<◌, ◌++◌, ◌∷◌, length, IfSome, IfNone};
+ghost use Rattle.std.specs.List.{position};
+ghost use Rattle.lineage.specs.Family.{last_of};
+ghost use Rattle.schedule_trie.specs.Forest.{is_cell, slots_in};
+ghost use Rattle.schedule_trie.specs.Cut.{forest, piece_at, slots_of, keys_in, line, StandsAt, LiesIn};
+ghost use Rattle.schedule_trie.specs.Climbs.{keys_to, IsReached};
+
+use super::Trie;
+use crate::segment::SegKey;
+use crate::slot::Slot;
+
+impl<T: Drop> Trie<T> {
+    /// How many cells the branch at an index has.
+    pub(super) fn len_at(&self, index: usize) -> u32
+        ensures { result ≡ length (slots_in (forest self.now).branches index) }
+    {
+        self.len_to(index, self.segments.last(index))
+    }
+
+    /// How many cells the branch at an index has down to the end of one of its segments, if one is named.
+    fn len_to(&self, index: usize, last: Option<SegKey>) -> u32
+        requires { IsReached (keys_in self.now.strands index) last }
+        ensures { result ≡ length (line (piece_at self.now.pieces)
+            (keys_to (keys_in self.now.strands index) last)) }
+    {
+        let mut len = 0;
+        let mut at = last;
+        while let Some(key) = at {
+            len += self.slots_at(key).len() as u32;
+            at = self.segments.above(key);
+        }
+        len
+    }
+
+    /// The segment with the cell at a place of a branch, and where in it the cell lies; none where the branch has no cell
+    /// there.
+    pub(super) fn find_cell(&self, index: usize, place: u32) -> Option<(SegKey, usize)>
+        ensures found { IfSome result (StandsAt (piece_at self.now.pieces)
+            (keys_in self.now.strands index) place) }
+        ensures lies { IfSome result (LiesIn (piece_at self.now.pieces)
+            (keys_in self.now.strands index) place) }
+        ensures none { IfNone result (length (slots_in (forest self.now).branches index) ≤ place) }
+    {
+        let len = self.len_at(index);
+        if len <= place {
+            return None;
+        }
+        let mut rest = (len - place) as usize;
+        let mut at = self.segments.last(index);
+        while let Some(key) = at {
+            let len = self.slots_at(key).len();
+            if rest <= len {
+                return Some((key, len - rest));
+            }
+            rest -= len;
+            at = self.segments.above(key);
+        }
+        None
+    }
+
+    /// The place of a cell on the branch at an index; none where the branch hasn't the cell.
+    pub(super) fn place_at(&self, index: usize, cell: u32) -> Option<u32>
+        ensures { result ≡ position (is_cell cell) (slots_in (forest self.now).branches index) }
+    {
+        let mut at = self.segments.last(index);
+        while let Some(key) = at {
+            let above = self.segments.above(key);
+            if let Some(offset) = offset_of(self.slots_at(key), cell) {
+                return Some(self.len_to(index, above) + offset as u32);
+            }
+            at = above;
+        }
+        None
+    }
+}
+
+/// Where a cell lies among others.
+fn offset_of(slots: &[Slot], cell: u32) -> Option<usize>
+    ensures { result ≡ position (is_cell cell) slots.now }
+{
+    slots.iter().position(|slot| slot.cell == cell)
+}

@@ -1,0 +1,75 @@
+//! A new cell behind a branch.
+
+ghost use Rattle.std.specs.Prelude.{◌≡◌, ◌<◌, length, IfSome, OnOk, OnErr};
+ghost use Rattle.schedule_trie.specs.Cut.{IsOwnEnd, IsPushed};
+
+use super::Trie;
+use crate::segment::{MOST_SLOTS, SegKey, Segment};
+use crate::slot::Slot;
+use frames::types::Step;
+use std::alloc::{AllocError, Global};
+
+impl<T: Drop> Trie<T> {
+    /// Puts a new cell last in the branch at an index, and in that branch alone.
+    pub(super) fn push_last(
+        &mut self,
+        alloc: Global,
+        index: usize,
+        step: Step,
+    ) -> Result<(), AllocError>
+        requires index { index < length self.old.strands }
+        requires room { self.old.made < self.old.limits.cells }
+        ensures ok { OnOk result (IsPushed self.old self.new index step) }
+        ensures err { OnErr result (self.new ≡ self.old) }
+    {
+        match self.own_end(index) {
+            Some(key) => self.push_in(index, key, step),
+            None => self.push_segment(alloc, index, step),
+        }
+    }
+
+    /// Puts a new cell last in the last segment of a branch, which no other branch has.
+    fn push_in(&mut self, index: usize, key: SegKey, step: Step) -> Result<(), AllocError>
+        requires index { index < length self.old.strands }
+        requires end { IsOwnEnd self.old index key }
+        requires room { self.old.made < self.old.limits.cells }
+        ensures ok { OnOk result (IsPushed self.old self.new index step) }
+        ensures err { OnErr result (self.new ≡ self.old) }
+    {
+        let slot = Slot {
+            cell: self.made,
+            step,
+        };
+        self.segments.item_mut(key).push(slot)?;
+        self.made += 1;
+        Ok(())
+    }
+
+    /// Puts a new cell last in a branch, as a segment of its own.
+    fn push_segment(&mut self, alloc: Global, index: usize, step: Step) -> Result<(), AllocError>
+        requires index { index < length self.old.strands }
+        requires room { self.old.made < self.old.limits.cells }
+        ensures ok { OnOk result (IsPushed self.old self.new index step) }
+        ensures err { OnErr result (self.new ≡ self.old) }
+    {
+        let slot = Slot {
+            cell: self.made,
+            step,
+        };
+        let segment = Segment::new(alloc, slot)?;
+        self.segments.push(index, segment)?;
+        self.made += 1;
+        Ok(())
+    }
+
+    /// The last segment of a branch, where no other branch has it and it has room for another cell.
+    fn own_end(&self, index: usize) -> Option<SegKey>
+        ensures { IfSome result (IsOwnEnd self.now index) }
+    {
+        let key = self.segments.last(index)?;
+        if self.slots_at(key).len() >= MOST_SLOTS || !self.segments.ends_alone(index) {
+            return None;
+        }
+        Some(key)
+    }
+}
