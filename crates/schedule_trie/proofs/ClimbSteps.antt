@@ -1,12 +1,14 @@
 -- A climb of a branch, by what the fields tell.
-use Rattle.std.proofs.Common.{◌≡◌, ℕ, ◌≤◌, true, List, ◌∷◌, ◌++◌, length, Option, sym, ap, subst, ◌∙◌, arith}
+use Rattle.std.proofs.Common.{◌≡◌, ℕ, ◌<◌, ◌≤◌, true, List, [], ◌∷◌, ◌++◌, length, Option, sym, ap, subst, ◌∙◌, arith}
+use Rattle.std.proofs.lemmas.List.{length-append}
 use Rattle.lineage.specs.Family.{path_in, last_of}
 use Rattle.schedule_trie.specs.declared.trie.Trie.TheInside.{Inside}
-use Rattle.schedule_trie.specs.Cut.{Cut, piece_at, line, keys_in, has, Once}
+use Rattle.schedule_trie.specs.Cut.{Cut, Piece, piece_at, slots_of, line, keys_in, has, Once}
 use Rattle.schedule_trie.specs.Held.{cut_of, IsHeld}
-use Rattle.schedule_trie.proofs.Once.{Once-from_linked}
+use Rattle.schedule_trie.proofs.Once.{Once-from_linked, has-head, has-tail}
 use Rattle.schedule_trie.proofs.Climbs.{IsLast, IsStepUp, last_is, step_up}
 use Rattle.schedule_trie.proofs.Lines.{keys_are, line_fits}
+use Rattle.schedule_trie.proofs.Touched.{some_slots}
 
 module _ {T : Type 0} (t : Inside T) (c : Cut T) (seen : cut_of t ≡ c) (held : IsHeld t) (index : ℕ) where
   -- a path has each key once
@@ -33,3 +35,21 @@ module _ {T : Type 0} (t : Inside T) (c : Cut T) (seen : cut_of t ≡ c) (held :
       let most : length (line (piece_at (cut_of t).pieces) (keys_in (cut_of t).strands index)) ≤ 16777216 =
       omega (arith, fits, held.whole.within.cells, held.whole.within.most_cells) in
       subst (λ z. length (line (piece_at z.pieces) (keys_in z.strands index)) ≤ 16777216) seen most
+
+-- each segment has a cell
+few_keys : {T : Type 0} (at : ℕ → Option (Piece T)) (keys : List ℕ) → ((k : ℕ) → has k keys ≡ true → 0 < length (slots_of (at k))) → length keys ≤ length (line at keys)
+few_keys at [] h = omega arith
+few_keys at (k ∷ ks) h =
+    let rest = few_keys at ks (λ j g. h j (has-tail j k ks g)) in
+    let one = h k (has-head k ks) in
+    let sum = length-append (slots_of (at k)) (line at ks) in
+    omega (arith, rest, one, sum)
+
+pub path_few : {T : Type 0} (t : Inside T) → IsHeld t → (i : ℕ) → length (keys_in (cut_of t).strands i) ≤ t.made
+path_few t held i =
+    let at = piece_at (cut_of t).pieces in
+    let keys = keys_in (cut_of t).strands i in
+    let sound = held.whole.sound in
+    let few = few_keys at keys (λ k h. some_slots t.made (at k) (sound.held i k h) (sound.segments k)) in
+    let short = line_fits t held i in
+    omega (arith, few, short)

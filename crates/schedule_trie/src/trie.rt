@@ -1,7 +1,8 @@
 //! The trie: segments that branches share.
 
-ghost use Rattle.std.specs.Prelude.{◌<◌, ◌≤◌, length, IfSome, IfNone, Ok, Err, OnOk, IfErr, OnErr, IfOk, false, [], Some, None, map, slice_get, ◌++◌, ◌≡◌};
+ghost use Rattle.std.specs.Prelude.{ℕ, List, ◌∷◌, ◌<◌, ◌≤◌, length, IfSome, IfNone, Ok, Err, OnOk, IfErr, OnErr, IfOk, false, [], Some, None, map, slice_get, ◌++◌, ◌≡◌};
 ghost use Rattle.std.specs.Option.{option_map, option_copied};
+ghost use Rattle.lineage.specs.Family.{last_of};
 ghost use Rattle.std.specs.List.{position};
 ghost use Rattle.schedule_trie.specs.Forest.{path_of, step_of, cell_at, place_of, is_cell, opened, opening, IsRefused, index_of, slots_in, name_in, len_of, AreNamedApart, IsForest};
 ghost use Rattle.schedule_trie.specs.Edits.{Replace, IsEdited, IsUnedited};
@@ -105,9 +106,10 @@ impl<T: Drop> Trie<T> {
         })
     }
 
-    /// How many cells were ever made.
+    /// How many cells were ever made. No branch has more segments.
     pub fn made(&self) -> u32
-        ensures { result ≡ (forest self.now).made }
+        ensures made { result ≡ (forest self.now).made }
+        ensures few { (i : ℕ) → length (keys_in self.now.strands i) ≤ result }
     {
         self.made
     }
@@ -212,7 +214,9 @@ impl<T: Drop> Trie<T> {
     /// The key of the segment right above a segment, the same on each branch that has it; none for a branch's first segment,
     /// and where no segment has the key.
     pub fn above(&self, key: SegKey) -> Option<SegKey>
-        ensures { result ≡ above_of self.now.strands key }
+        ensures first { result ≡ above_of self.now.strands key }
+        ensures each { (i : ℕ) (front back : List ℕ)
+            → keys_in self.now.strands i ≡ front ++ key ∷ back → result ≡ last_of front }
     {
         self.segments.above(key)
     }

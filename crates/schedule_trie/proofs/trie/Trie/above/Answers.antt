@@ -1,15 +1,20 @@
-use Rattle.std.proofs.Common.{sym, ◌∙◌}
-use Rattle.schedule_trie.specs.Cut.{piece_at}
+use Rattle.std.proofs.Common.{sym, ap, ◌∙◌}
+use Rattle.schedule_trie.specs.Cut.{piece_at, keys_in}
 use Rattle.schedule_trie.specs.Held.{cut_of}
 use Rattle.schedule_trie.proofs.Lines.{keys_are}
 use Rattle.schedule_trie.proofs.Readings.{above_told, lacked_none}
 use Rattle.schedule_trie.proofs.StepSet.{none_there}
 use Rattle.schedule_trie.proofs.trie.Trie.above.Goals as goal
 
-pub returns : goal.returns
-returns g c =
+pub returns-clause-first : goal.returns-clause-first
+returns-clause-first g c =
     let t = c.self.inside in
     let held = c.self.invariant in
     rw (← c.self.view_is) (above_told (cut_of t).strands c.args.key c.above.result
     (λ i front back e. c.above.ensures.each i front back (sym (keys_are t held i) ∙ e))
     (λ lacks. c.above.ensures.none (none_there t c.args.key (lacked_none (piece_at (cut_of t).pieces c.args.key) (cut_of t).strands c.args.key (held.whole.sound.live c.args.key) lacks))))
+
+pub returns-clause-each : goal.returns-clause-each
+returns-clause-each g c i front back e =
+    let t = c.self.inside in
+    c.above.ensures.each i front back (sym (keys_are t c.self.invariant i) ∙ ap (λ z. keys_in z.strands i) c.self.view_is ∙ e)
