@@ -1,23 +1,21 @@
 -- Walks down a branch that only look.
-use Rattle.std.proofs.Common.{◌≡◌, ℕ, zero, suc, ◌+◌, ◌<◌, ◌≤◌, Bool, true, false, nat_eq, cond, List, [], ◌∷◌, length, map, drop, get_or, Option, Some, None, inl, inr, refl, sym, ap, subst, ◌∙◌, arith, true≢false, eq-eqb}
+use Rattle.std.proofs.Common.{◌≡◌, ℕ, zero, suc, ◌+◌, ◌<◌, ◌≤◌, Bool, true, List, [], ◌∷◌, length, map, drop, get_or, Option, Some, None, inl, inr, refl, sym, ap, subst, ◌∙◌, arith}
 use Rattle.std.specs.Cmp.{IsPartialEquivalence, IsEquivalence}
-use Rattle.std.proofs.lemmas.Bool.{eqb-true}
 use Rattle.std.proofs.Math.Seq.{drop-cons}
 use Rattle.std.proofs.lemmas.List.{map-append}
 use Rattle.frames.specs.Behaviour.{Behaviour}
 use Rattle.frames.specs.Configuration.{Configuration, replayed, fits_step}
 use Rattle.frames.specs.Equality.{SameConfiguration}
-use Rattle.checkpoints.specs.Segment.{SegmentRun, IsRun}
+use Rattle.checkpoints.specs.Segment.{IsRun}
 use Rattle.frames.specs.Recorded.{AllFit}
 use Rattle.schedule_trie.specs.Forest.{step_of}
-use Rattle.schedule_trie.specs.Cut.{Cut, piece_at, slots_of, note_of, line, has}
-use Rattle.schedule_trie.proofs.Once.{has_cases}
+use Rattle.schedule_trie.specs.Cut.{Cut, piece_at, slots_of, note_of, line}
 use Rattle.cutoff.specs.Fitting.{StoredRun, RunFits, Fits, steps_at}
 use Rattle.cutoff.specs.Links.{alone, IsStored, IsLinked}
-use Rattle.cutoff.specs.Plans.{Descends, FitsDown, keys_before}
+use Rattle.cutoff.specs.Plans.{Descends}
 use Rattle.cutoff.proofs.Edits.{all_left, all_right}
 use Rattle.cutoff.proofs.Fits.{register_kept, same_symm, run_fits_alike, fits_alike, fits_to_note, exit_same, stored_at}
-use Rattle.cutoff.proofs.Walks.{linked_home, by_key}
+use Rattle.cutoff.proofs.Walks.{linked_home}
 
 -- a walk has come to a configuration, with the segments `left` still to go
 pub record IsDescending {R P : Type 0} (E : R → R → Bool) (b : Behaviour P) (cut : Cut (StoredRun R P)) (start : Configuration R P) (above : Option ℕ) (config : Configuration R P)
@@ -99,72 +97,6 @@ module _ {R P : Type 0} (E : R → R → Bool) (equal : IsEquivalence E) (per : 
           drop_past zero (x ∷ xs) h = absurd (omega arith)
           drop_past (suc n) [] h = refl
           drop_past (suc n) (x ∷ xs) h = drop_past n xs (omega arith)
-
--- what a walk down to a key tells of a run there
-module _ {R P : Type 0} (E : R → R → Bool) (per : IsPartialEquivalence E) (b : Behaviour P) (cut : Cut (StoredRun R P)) (key : ℕ) (run : SegmentRun R P) where
-  -- the first key is the one, or another
-  first_is : (k : ℕ) (ks : List ℕ) → key ≡ k → keys_before key (k ∷ ks) ≡ []
-  first_is k ks e = ap (λ x. cond x [] (k ∷ keys_before key ks)) (eq-eqb key k e)
-
-  first_other : (k : ℕ) (ks : List ℕ) → (key ≡ k → ⊥) → keys_before key (k ∷ ks) ≡ k ∷ keys_before key ks
-  first_other k ks ne = by (nat_eq key k) refl
-    where
-      by : (e : Bool) → nat_eq key k ≡ e → keys_before key (k ∷ ks) ≡ k ∷ keys_before key ks
-      by true e = absurd (ne (eqb-true key k e))
-      by false e = ap (λ x. cond x [] (k ∷ keys_before key ks)) e
-
-  from_cases : (c end : Configuration R P) (k : ℕ) (ks : List ℕ) → has key (k ∷ ks) ≡ true → Descends E b cut c (keys_before key (k ∷ ks)) None end → RunFits E end (steps_at cut key) run
-      → (has key ks ≡ true → Descends E b cut (replayed b c (steps_at cut k)) (keys_before key ks) None end → FitsDown E b cut key run (replayed b c (steps_at cut k)) ks)
-      → FitsDown E b cut key run c (k ∷ ks)
-  from_cases c end k ks h d f rest = by_key key k (FitsDown E b cut key run c (k ∷ ks)) same other
-    where
-      same : key ≡ k → FitsDown E b cut key run c (k ∷ ks)
-      same e =
-          let here : SameConfiguration E end c = (subst (λ l. Descends E b cut c l None end) (first_is k ks e) d).1 in
-          inl (e, run_fits_alike E per end c (steps_at cut k) run here (subst (λ j. RunFits E end (steps_at cut j) run) e f))
-
-      down : (key ≡ k → ⊥) → Descends E b cut c (k ∷ keys_before key ks) None end → has key ks ≡ true → FitsDown E b cut key run c (k ∷ ks)
-      down ne (inl p) more = inr (ne, p.0, rest more p.1)
-      down ne (inr p) more = absurd (let e : ◌≡◌ {A = Option ℕ} None (Some k) = p.1 in cc)
-
-      other : (key ≡ k → ⊥) → FitsDown E b cut key run c (k ∷ ks)
-      other ne = down ne (subst (λ l. Descends E b cut c l None end) (first_other k ks ne) d) (has_cases key k ks (has key ks ≡ true) h (λ e. absurd (ne e)) (λ r. r))
-
-  pub fits_down_from : (c end : Configuration R P) (keys : List ℕ) → has key keys ≡ true → Descends E b cut c (keys_before key keys) None end
-      → RunFits E end (steps_at cut key) run → FitsDown E b cut key run c keys
-  fits_down_from c end [] h d f = absurd (true≢false (sym h))
-  fits_down_from c end (k ∷ ks) h d f = from_cases c end k ks h d f (λ more down. fits_down_from (replayed b c (steps_at cut k)) end ks more down f)
-
-  end_cases : (c end : Configuration R P) (k : ℕ) (ks : List ℕ) → Descends E b cut c (keys_before key (k ∷ ks)) None end → FitsDown E b cut key run c (k ∷ ks)
-      → (Descends E b cut (replayed b c (steps_at cut k)) (keys_before key ks) None end → FitsDown E b cut key run (replayed b c (steps_at cut k)) ks → RunFits E end (steps_at cut key) run)
-      → RunFits E end (steps_at cut key) run
-  end_cases c end k ks d (inl p) rest =
-      let here : SameConfiguration E end c = (subst (λ l. Descends E b cut c l None end) (first_is k ks p.0) d).1 in
-      run_fits_alike E per c end (steps_at cut key) run (same_symm E per end c here) (subst (λ j. RunFits E c (steps_at cut j) run) (sym p.0) p.1)
-  end_cases c end k ks d (inr q) rest = down (subst (λ l. Descends E b cut c l None end) (first_other k ks q.0) d)
-    where
-      down : Descends E b cut c (k ∷ keys_before key ks) None end → RunFits E end (steps_at cut key) run
-      down (inl p) = rest p.1 q.2
-      down (inr p) = absurd (let e : ◌≡◌ {A = Option ℕ} None (Some k) = p.1 in cc)
-
-  pub fits_down_end : (c end : Configuration R P) (keys : List ℕ) → Descends E b cut c (keys_before key keys) None end → FitsDown E b cut key run c keys
-      → RunFits E end (steps_at cut key) run
-  fits_down_end c end [] d f = absurd f
-  fits_down_end c end (k ∷ ks) d f = end_cases c end k ks d f (λ down fits. fits_down_end (replayed b c (steps_at cut k)) end ks down fits)
-
-  stale_cases : (c end : Configuration R P) (j k : ℕ) (ks : List ℕ) → Descends E b cut c (keys_before key (k ∷ ks)) (Some j) end → FitsDown E b cut key run c (k ∷ ks)
-      → (Descends E b cut (replayed b c (steps_at cut k)) (keys_before key ks) (Some j) end → FitsDown E b cut key run (replayed b c (steps_at cut k)) ks → ⊥) → ⊥
-  stale_cases c end j k ks d (inl p) rest =
-      let e : ◌≡◌ {A = Option ℕ} (Some j) None = (subst (λ l. Descends E b cut c l (Some j) end) (first_is k ks p.0) d).0 in cc
-  stale_cases c end j k ks d (inr q) rest = down (subst (λ l. Descends E b cut c l (Some j) end) (first_other k ks q.0) d)
-    where
-      down : Descends E b cut c (k ∷ keys_before key ks) (Some j) end → ⊥
-      down (inl p) = rest p.1 q.2
-      down (inr p) = p.0 q.1
-
-  pub missed_is_stale : (c end : Configuration R P) (j : ℕ) (keys : List ℕ) → Descends E b cut c (keys_before key keys) (Some j) end → FitsDown E b cut key run c keys → ⊥
-  missed_is_stale c end j [] d f = f
-  missed_is_stale c end j (k ∷ ks) d f = stale_cases c end j k ks d f (λ down fits. missed_is_stale (replayed b c (steps_at cut k)) end j ks down fits)
 
 -- a missed key is one of the path's
 pub missed_there : {R P : Type 0} (E : R → R → Bool) (b : Behaviour P) (cut : Cut (StoredRun R P)) (c end : Configuration R P) (keys : List ℕ) (j : ℕ)

@@ -1,11 +1,11 @@
 -- Nothing is replayed of segments that stored runs fit.
-use Rattle.std.proofs.Common.{◌≡◌, ℕ, ◌+◌, ◌-◌, Bool, true, List, [], ◌∷◌, ◌++◌, length, map, take, refl, sym, ap, subst, ◌∙◌, arith, inl, inr}
+use Rattle.std.proofs.Common.{◌≡◌, ℕ, ◌+◌, ◌-◌, Bool, List, [], ◌∷◌, ◌++◌, length, map, take, refl, sym, ap, subst, arith, inl, inr}
 use Rattle.std.specs.Prelude.{MatchOption}
 use Rattle.std.specs.Option.{option_map}
 use Rattle.frames.specs.Behaviour.{Behaviour}
 use Rattle.frames.specs.Configuration.{Configuration, replayed}
 use Rattle.schedule_trie.specs.Forest.{step_of}
-use Rattle.schedule_trie.specs.Cut.{Cut, has, piece_at, slots_of, note_of}
+use Rattle.schedule_trie.specs.Cut.{Cut, piece_at, slots_of, note_of}
 use Rattle.schedule_trie.proofs.Once.{has-head, has-tail}
 use Rattle.checkpoints.specs.Segment.{SegmentRun}
 use Rattle.cutoff.specs.Fitting.{StoredRun, RunPart, RunFits, Fits, IsWork, Settles, run_of, steps_at}

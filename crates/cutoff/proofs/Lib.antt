@@ -5,6 +5,7 @@ pub mod Segments
 pub mod Walks
 pub mod Kept
 pub mod Descents
+pub mod Climbs
 pub mod Paths
 pub mod Installed
 pub mod Plannings

@@ -3,7 +3,7 @@ use Rattle.std.specs.Prelude.{ℕ, ◌≡◌, ⊤, Bool, true, List, Option, Som
 use Rattle.frames.specs.declared.types.Step.{Step}
 use Rattle.frames.specs.Configuration.{Configuration}
 use Rattle.schedule_trie.specs.Forest.{step_of}
-use Rattle.schedule_trie.specs.Cut.{Cut, Piece, piece_at}
+use Rattle.schedule_trie.specs.Cut.{Cut, Piece, piece_at, note_of}
 use Rattle.cutoff.specs.Fitting.{StoredRun}
 
 -- a configuration, but for its register
@@ -31,3 +31,12 @@ pub record IsLinked {R P : Type 0} (E : R → R → Bool) (h : R) (next : ℕ) (
   pub as_many : length exits ≡ next
   pub each : (k : ℕ) → IsTold E h exits (piece_at cut.pieces k)
   pub came : CameTo exits above c
+
+-- the number of the run that is stored at a key, if one is named and its run has one
+abbrev pub number_of : {R P : Type 0} → Option (StoredRun R P) → Option ℕ
+number_of None = None
+number_of (Some s) = s.id
+
+abbrev pub number_at : {R P : Type 0} → Cut (StoredRun R P) → Option ℕ → Option ℕ
+number_at cut None = None
+number_at cut (Some k) = number_of (note_of (piece_at cut.pieces k))

@@ -1,5 +1,5 @@
 -- What is planned, and what an installed run has to meet.
-use Rattle.std.specs.Prelude.{ℕ, ◌≡◌, ◌⊎◌, Bool, true, nat_eq, List, [], ◌∷◌, ◌++◌, Option, None, Some, map, if◌then◌else◌}
+use Rattle.std.specs.Prelude.{ℕ, ◌≡◌, ◌⊎◌, Bool, true, List, [], ◌∷◌, ◌++◌, Option, None, Some, map, if◌then◌else◌}
 use Rattle.frames.specs.declared.types.Step.{Step}
 use Rattle.frames.specs.Behaviour.{Behaviour}
 use Rattle.frames.specs.Configuration.{Configuration, replayed}
@@ -21,11 +21,6 @@ key_of job = job.key
 abbrev pub keys_of : Strand → List ℕ
 keys_of s = s.keys
 
--- the keys before a key
-abbrev pub keys_before : ℕ → List ℕ → List ℕ
-keys_before key [] = []
-keys_before key (k ∷ ks) = if nat_eq key k then [] else k ∷ keys_before key ks
-
 -- the job of a segment that was missed
 abbrev pub job_of : {R P : Type 0} → Cut (StoredRun R P) → Option ℕ → Configuration R P → Option (Planned R P)
 job_of cut None end = None
@@ -44,6 +39,11 @@ module _ {R P : Type 0} (E : R → R → Bool) (b : Behaviour P) (cut : Cut (Sto
   Descends c (k ∷ ks) missed end =
       (Fits E cut c k × Descends (replayed b c (steps_at cut k)) ks missed end)
       ⊎ ((Fits E cut c k → ⊥) × (missed ≡ Some k) × SameConfiguration E end c)
+
+  -- down all these segments stored runs fit, and come to this configuration
+  abbrev pub ComesDown : Configuration R P → List ℕ → Configuration R P → Type 0
+  ComesDown c [] entry = SameConfiguration E entry c
+  ComesDown c (k ∷ ks) entry = Fits E cut c k × ComesDown (replayed b c (steps_at cut k)) ks entry
 
   -- down these segments to that of a key stored runs fit, and there this run does
   abbrev pub FitsDown : ℕ → SegmentRun R P → Configuration R P → List ℕ → Type 0

@@ -13,7 +13,7 @@ ghost use Rattle.schedule_trie.specs.Cut.{AreLimits, IsCut, IsBlank, forest, if_
 
 mod edits;
 
-use crate::install::{Installation, branch_with, fits_down};
+use crate::install::{Installation, fits_down, has_segment};
 use crate::plan::{Job, plan_all};
 use crate::settle::{Spot, settle_along, take_number};
 use crate::stored::Stored;
@@ -235,10 +235,10 @@ impl<R: Register> Chart<R> {
         ensures { Installs R.PartialEq.eq (R.is self.old.start.register) self.old self.new key
             (arc_value run) result }
     {
-        let Some(index) = branch_with(&self.trie, key) else {
+        if !has_segment(&self.trie, key) {
             return Installation::Gone;
-        };
-        let (fits, above) = fits_down(&self.trie, &self.start, self.trie.keys_at(index), key, &run);
+        }
+        let (fits, above) = fits_down(&self.trie, &self.start, key, &run);
         if !fits {
             return Installation::Stale;
         }

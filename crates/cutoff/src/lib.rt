@@ -5,6 +5,7 @@
 #![tactic(auto)]
 
 pub mod chart;
+mod climb;
 mod descent;
 pub mod install;
 pub mod laws;

@@ -125,7 +125,8 @@ pub(crate) fn plan_all<R: Register>(
     let mut jobs = Vec::new(alloc);
     plan_branch(alloc, trie, start, keys, &mut jobs)?;
     for index in 0..trie.branches() as usize {
-        plan_branch(alloc, trie, start, trie.keys_at(index), &mut jobs)?;
+        let keys = trie.keys_at(alloc, index)?;
+        plan_branch(alloc, trie, start, &keys, &mut jobs)?;
     }
     Ok(jobs)
 }

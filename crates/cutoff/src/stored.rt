@@ -1,10 +1,11 @@
 //! Stored runs, and the test whether one begins from a configuration.
 
-ghost use Rattle.std.specs.Prelude.{◌≡◌, ◌⊎◌, ℕ, Some, IfOk};
+ghost use Rattle.std.specs.Prelude.{◌≡◌, ◌⊎◌, ℕ, Some, true, IfOk};
 ghost use Rattle.std.specs.Bool.{Decides};
 ghost use Rattle.std.specs.Arc.{arc_value};
 ghost use Rattle.checkpoints.specs.Segment.{IsRun};
 ghost use Rattle.frames.specs.Equality.{SameConfiguration};
+ghost use Rattle.cutoff.specs.Links.{alone};
 
 use checkpoints::run::Run;
 use frames::config::Config;
@@ -54,6 +55,14 @@ impl<R: Register> Stored<R> {
         self.run.exit()
     }
 
+    /// The configuration that it begins from.
+    pub(crate) fn entry(&self) -> &Config<R>
+        ensures entry { result.now ≡ self.now.run.entry }
+        ensures kept { IsRun (R.is self.now.run.entry.register) self.now.run }
+    {
+        self.run.entry()
+    }
+
     /// Its number.
     pub(crate) fn id(&self) -> Option<u64>
         ensures { result ≡ self.now.id }
@@ -90,6 +99,17 @@ impl<R: Register> Stored<R> {
         ensures { Decides result (SameConfiguration R.PartialEq.eq self.now.run.entry config.now) }
     {
         is_behind(self.link, above) || *self.run.entry() == *config
+    }
+
+    /// Whether it comes to a configuration. A run that was found behind the run with the number `link` begins from that.
+    pub(crate) fn ends(&self, config: &Config<R>, link: Option<u64>) -> bool
+        requires linked { (a : ℕ) → link ≡ Some a → self.now.id ≡ Some a
+            → (alone config.now ≡ alone self.now.run.exit)
+            × (R.PartialEq.eq config.now.register self.now.run.entry.register ≡ true) }
+        ensures { Decides result (SameConfiguration R.PartialEq.eq config.now self.now.run.exit) }
+    {
+        let exit = self.run.exit();
+        is_behind(link, self.id) || *config == *exit
     }
 }
 

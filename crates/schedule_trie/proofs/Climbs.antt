@@ -26,7 +26,7 @@ up_to-here key (k ∷ front) back h = by (nat_eq key k) refl (up_to-here key fro
     by true e rest = absurd (true≢false (sym (ap (λ c. c || has key front) e) ∙ h))
     by false e rest = ap (λ b. cond b (k ∷ []) (k ∷ keys_up_to key (front ++ key ∷ back))) e ∙ ap (λ l. k ∷ l) (rest (sym (ap (λ c. c || has key front) e) ∙ h))
 
-once_before : (front : List ℕ) (key : ℕ) (back : List ℕ) → Once (front ++ key ∷ back) → has key front ≡ false
+pub once_before : (front : List ℕ) (key : ℕ) (back : List ℕ) → Once (front ++ key ∷ back) → has key front ≡ false
 once_before [] key back h = refl
 once_before (k ∷ front) key back h = has_not_from key (k ∷ front) (λ g. has_cases key k front ⊥ g
     (λ e. true≢false (sym (subst (λ z. has z (front ++ key ∷ back) ≡ true) e (has-in key front back)) ∙ h.0))

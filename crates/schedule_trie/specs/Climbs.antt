@@ -1,4 +1,5 @@
 -- A path seen from one of its keys, upwards.
+pub use Rattle.lineage.specs.Family.{last_of}
 use Rattle.std.specs.Prelude.{ℕ, ◌≡◌, true, nat_eq, List, [], ◌∷◌, Option, Some, None, if◌then◌else◌}
 use Rattle.schedule_trie.specs.Cut.{has}
 

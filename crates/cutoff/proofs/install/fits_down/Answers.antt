@@ -1,38 +1,69 @@
-use Rattle.std.proofs.Common.{sym, subst, true≢false}
-use Rattle.cutoff.specs.Plans.{Descends, keys_before}
-use Rattle.cutoff.specs.Links.{IsLinked}
-use Rattle.cutoff.proofs.Installed.{alone_same}
-use Rattle.cutoff.proofs.Descents.{fits_down_from, fits_down_end, missed_is_stale}
+use Rattle.std.proofs.Common.{refl, sym, subst, ◌∙◌, true≢false}
+use Rattle.schedule_trie.specs.Cut.{keys_in}
+use Rattle.schedule_trie.specs.Climbs.{keys_to}
+use Rattle.cutoff.specs.Links.{alone, IsLinked}
+use Rattle.cutoff.specs.Plans.{ComesDown}
+use Rattle.cutoff.proofs.Climbs.{above_step, fits_whole, fits_parts, down_steps, number_came}
 use Rattle.cutoff.proofs.install.fits_down.Goals as goal
 
-pub returns-in-Some : goal.returns-in-Some
-returns-in-Some g c =
-    let E = g.R.PartialEq.eq in
-    let b = g.R.Behaves.is c.args.start.now.register in
-    let ends =
-    subst (λ m. Descends E b c.args.trie.now c.args.start.now (keys_before c.args.key c.args.keys.now) m c.descend-missed.result.1.now) c.in-Some.is
-    (subst (λ l. Descends E b c.args.trie.now c.args.start.now l c.descend-missed.result.0 c.descend-missed.result.1.now) c.keys_before.ensures c.descend-missed.ensures.ends) in
+pub comes_down-requires : goal.comes_down-requires
+comes_down-requires g c =
+    let live = c.requires.cut.live c.args.key c.requires.there in
     record {
-      fits = (
-        (λ e. absurd (true≢false (sym e))),
-        (λ f. absurd (missed_is_stale E g.met.R.PartialEq.laws b c.args.trie.now c.args.key c.args.run.now c.args.start.now c.descend-missed.result.1.now _ c.args.keys.now ends f)),
+      linked = c.requires.linked;
+      cut = c.requires.cut;
+      reached = (
+        live.0,
+        (above_step g.R.PartialEq.eq g.met.R.PartialEq.laws g.R.Behaves.is g.met.R.Register.alike c.args.trie.now c.requires.cut c.args.start.now c.args.key c.above-above.result
+            c.above-above.ensures.each live.0 live.1).reached,
       );
-      moved = λ e. absurd (true≢false (sym e));
     }
 
-pub returns-in-None : goal.returns-in-None
-returns-in-None g c =
+pub returns-then-not-has_steps-clause-fits : goal.returns-then-not-has_steps-clause-fits
+returns-then-not-has_steps-clause-fits g c = λ i h. (
+  (λ e. absurd (true≢false (sym e))),
+  (λ f.
+      let steps = down_steps g.R.PartialEq.eq (g.R.Behaves.is c.args.start.now.register) c.args.trie.now c.args.key c.args.run.now c.args.start.now (keys_in c.args.trie.now.strands i) f in
+      absurd (true≢false (sym (c.has_steps.ensures.1 (c.steps.ensures.steps ∙ steps)) ∙ c.if-not-has_steps.true))),
+)
+
+pub returns-then-not-comes_down-clause-fits : goal.returns-then-not-comes_down-clause-fits
+returns-then-not-comes_down-clause-fits g c = λ i h. (
+  (λ e. absurd (true≢false (sym e))),
+  (λ f.
+      let E = g.R.PartialEq.eq in
+      let trie = c.args.trie.now in
+      let parts = fits_parts E g.met.R.PartialEq.laws g.R.Behaves.is g.met.R.Register.alike trie c.requires.cut c.args.start.now c.args.key c.above-above.result
+      c.above-above.ensures.each c.args.run.now i h f in
+      let step = above_step E g.met.R.PartialEq.laws g.R.Behaves.is g.met.R.Register.alike trie c.requires.cut c.args.start.now c.args.key c.above-above.result
+      c.above-above.ensures.each i h in
+      let down = subst (ComesDown E (g.R.Behaves.is c.args.start.now.register) trie c.args.start.now (keys_to (keys_in trie.strands i) c.above-above.result)) (sym c.entry.ensures.entry) parts.1 in
+      absurd (true≢false (sym ((c.comes_down.ensures i step.reached).1 down) ∙ c.if-not-comes_down.true))),
+)
+
+pub returns-clause-fits : goal.returns-clause-fits
+returns-clause-fits g c = λ i h. (
+  (λ e.
+      let E = g.R.PartialEq.eq in
+      let trie = c.args.trie.now in
+      let step = above_step E g.met.R.PartialEq.laws g.R.Behaves.is g.met.R.Register.alike trie c.requires.cut c.args.start.now c.args.key c.above-above.result
+      c.above-above.ensures.each i h in
+      let down = subst (ComesDown E (g.R.Behaves.is c.args.start.now.register) trie c.args.start.now (keys_to (keys_in trie.strands i) c.above-above.result)) c.entry.ensures.entry
+      ((c.comes_down.ensures i step.reached).0 c.if-not-comes_down.false) in
+      fits_whole E g.met.R.PartialEq.laws g.R.Behaves.is g.met.R.Register.alike trie c.requires.cut c.args.start.now c.args.key c.above-above.result
+      c.above-above.ensures.each c.args.run.now i h (sym c.steps.ensures.steps ∙ c.has_steps.ensures.0 c.if-not-has_steps.false) down),
+  (λ f. refl),
+)
+
+pub returns-clause-moved : goal.returns-clause-moved
+returns-clause-moved g c = λ e next linked.
     let E = g.R.PartialEq.eq in
-    let b = g.R.Behaves.is c.args.start.now.register in
-    let ends =
-    subst (λ m. Descends E b c.args.trie.now c.args.start.now (keys_before c.args.key c.args.keys.now) m c.descend-missed.result.1.now) c.in-None.is
-    (subst (λ l. Descends E b c.args.trie.now c.args.start.now l c.descend-missed.result.0 c.descend-missed.result.1.now) c.keys_before.ensures c.descend-missed.ensures.ends) in
-    record {
-      fits = (
-        (λ e. fits_down_from E g.met.R.PartialEq.laws b c.args.trie.now c.args.key c.args.run.now c.args.start.now c.descend-missed.result.1.now c.args.keys.now c.requires.member ends (c.run_fits.ensures.0 e)),
-        (λ f. c.run_fits.ensures.1 (fits_down_end E g.met.R.PartialEq.laws b c.args.trie.now c.args.key c.args.run.now c.args.start.now c.descend-missed.result.1.now c.args.keys.now ends f)),
-      );
-      moved = λ e next l.
-          subst (λ d. IsLinked E c.args.start.now.register next c.descend-missed.result.2 d c.args.trie.now) (sym (alone_same (c.run_fits.ensures.0 e).entry))
-          (c.descend-missed.ensures.moved next l);
-    }
+    let trie = c.args.trie.now in
+    let live = c.requires.cut.live c.args.key c.requires.there in
+    let step = above_step E g.met.R.PartialEq.laws g.R.Behaves.is g.met.R.Register.alike trie c.requires.cut c.args.start.now c.args.key c.above-above.result
+    c.above-above.ensures.each live.0 live.1 in
+    let down = subst (ComesDown E (g.R.Behaves.is c.args.start.now.register) trie c.args.start.now (keys_to (keys_in trie.strands live.0) c.above-above.result)) c.entry.ensures.entry
+    ((c.comes_down.ensures live.0 step.reached).0 c.if-not-comes_down.false) in
+    subst (λ n. IsLinked E c.args.start.now.register next n (alone c.args.run.now.entry) trie) (sym c.number_at.ensures.number)
+    (number_came E g.met.R.PartialEq.laws g.R.Behaves.is g.met.R.Register.alike trie c.args.start.now c.args.run.now.entry (keys_in trie.strands live.0) c.above-above.result next
+    step.reached c.number_at.ensures.kept down linked)

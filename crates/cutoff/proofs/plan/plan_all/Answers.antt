@@ -15,14 +15,14 @@ loop-index-init g c = λ all p.
     c.new-jobs.ensures.items c.in_ok-plan_branch.ensures p
 
 pub plan_branch-requires-in-loop-index-clause-fits : goal.plan_branch-requires-in-loop-index-clause-fits
-plan_branch-requires-in-loop-index-clause-fits g c = fits_on (g.R.Behaves.is c.args.start.now.register) c.args.trie.now c.requires.fits c.loop-index.index _ c.keys_at.ensures.keys
+plan_branch-requires-in-loop-index-clause-fits g c = fits_on (g.R.Behaves.is c.args.start.now.register) c.args.trie.now c.requires.fits c.loop-index.index _ (c.deref.ensures.value ∙ c.in_ok-keys.ensures.keys)
 
 pub loop-index-preserved : goal.loop-index-preserved
 loop-index-preserved g c = λ all p.
     let count : c.branches-index-end.result ≡ length c.args.trie.now.strands = c.branches-index-end.ensures.count ∙ length-map c.args.trie.now.strands (branch_on (piece_at c.args.trie.now.pieces)) in
     let inside : c.loop-index.index < length c.args.trie.now.strands = omega arith in
     c.loop-index.invariant all
-    (plan_on g.R.PartialEq.eq (g.R.Behaves.is c.args.start.now.register) c.args.trie.now c.args.start.now _ _ all c.loop-index.index _ inside c.keys_at.ensures.keys
+    (plan_on g.R.PartialEq.eq (g.R.Behaves.is c.args.start.now.register) c.args.trie.now c.args.start.now _ _ all c.loop-index.index _ inside (c.deref.ensures.value ∙ c.in_ok-keys.ensures.keys)
     c.in_ok-plan_branch-2.ensures p)
 
 pub returns : goal.returns

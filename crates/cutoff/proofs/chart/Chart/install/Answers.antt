@@ -1,9 +1,8 @@
 use Rattle.std.proofs.Common.{◌≡◌, IsSome, refl, sym, subst, ◌∙◌, true≢false}
 use Rattle.std.specs.Arc.{arc_value}
-use Rattle.schedule_trie.specs.Cut.{piece_at}
+use Rattle.schedule_trie.specs.Cut.{piece_at, keys_in}
 use Rattle.cutoff.specs.Held.{Charted}
-use Rattle.cutoff.specs.Plans.{CanInstall, CannotInstall, IsInstalled}
-use Rattle.cutoff.proofs.Paths.{can_told, cannot_told}
+use Rattle.cutoff.specs.Plans.{FitsDown, CanInstall, CannotInstall, IsInstalled}
 use Rattle.cutoff.proofs.Installed.{charted_installed}
 use Rattle.cutoff.proofs.chart.Chart.install.Goals as goal
 
@@ -12,15 +11,17 @@ returns-then-not-fits g c =
     let E = g.R.PartialEq.eq in
     let b = g.R.Behaves.is c.self.inside.start.register in
     let was : Charted g.row.R.Denot g.row.R-Pending.Denot = record { cut = c.self.inside.trie; start = c.self.inside.start; value = c.self.inside.value } in
-    let refused = cannot_told E b was c.args.key (arc_value c.args.run) c.deref.result.now c.in-Some.index c.keys_at.result.now c.keys_at.ensures.keys c.in-Some.ensures.found c.deref.ensures
-    c.self.invariant.whole (λ f. true≢false (sym (c.fits_down-fits.ensures.fits.1 f) ∙ c.if-not-fits.true)) in
+    let refused : CannotInstall E b was c.args.key (arc_value c.args.run) =
+    λ i h f. true≢false (sym ((c.fits_down-fits.ensures.fits i h).1 (subst (λ r. FitsDown E b c.self.inside.trie c.args.key r c.self.inside.start (keys_in c.self.inside.trie.strands i)) (sym c.deref.ensures) f)) ∙ c.if-not-fits.true) in
     subst (λ v. IsSome (piece_at v.cut.pieces c.args.key) × CannotInstall E (g.R.Behaves.is v.start.register) v c.args.key (arc_value c.args.run) × (v ≡ v)) c.self.view_is
-    (c.in-Some.ensures.there, refused, refl)
+    (c.has_segment.ensures.yes c.if-not-has_segment.false, refused, refl)
 
 pub invariant_of-self : goal.invariant_of-self
 invariant_of-self g c =
+    let live = c.self.invariant.whole.live c.args.key (c.has_segment.ensures.yes c.if-not-has_segment.false) in
     charted_installed g.R.PartialEq.eq (g.R.Behaves.is c.self.inside.start.register) c.self.inside.next c.take_number-id.new.next _ c.set_note.new.self c.args.key c.new.result
-    (arc_value c.args.run) c.deref.result.now c.keys_at.result.now c.take_number-id.result c.self.invariant (c.fits_down-fits.ensures.fits.0 c.if-not-fits.false) c.deref.ensures
+    (arc_value c.args.run) c.deref.result.now (keys_in c.self.inside.trie.strands live.0) c.take_number-id.result c.self.invariant
+    ((c.fits_down-fits.ensures.fits live.0 live.1).0 c.if-not-fits.false) c.deref.ensures
     c.new.ensures.run c.new.ensures.id c.fits_down-fits.result.1 c.new.ensures.link (c.fits_down-fits.ensures.moved c.if-not-fits.false c.self.inside.next) c.set_note.ensures c.take_number-id.ensures
 
 pub returns : goal.returns
@@ -29,7 +30,7 @@ returns g c =
     let b = g.R.Behaves.is c.self.inside.start.register in
     let was : Charted g.row.R.Denot g.row.R-Pending.Denot = record { cut = c.self.inside.trie; start = c.self.inside.start; value = c.self.inside.value } in
     let now : Charted g.row.R.Denot g.row.R-Pending.Denot = record { cut = c.set_note.new.self; start = c.self.inside.start; value = c.self.inside.value } in
-    let can = can_told E b was c.args.key (arc_value c.args.run) c.deref.result.now c.in-Some.index c.keys_at.result.now c.keys_at.ensures.keys c.in-Some.ensures.found c.deref.ensures
-    c.self.invariant.whole (c.fits_down-fits.ensures.fits.0 c.if-not-fits.false) in
+    let can : CanInstall E b was c.args.key (arc_value c.args.run) =
+    λ i h. subst (λ r. FitsDown E b c.self.inside.trie c.args.key r c.self.inside.start (keys_in c.self.inside.trie.strands i)) c.deref.ensures ((c.fits_down-fits.ensures.fits i h).0 c.if-not-fits.false) in
     subst (λ v. IsSome (piece_at v.cut.pieces c.args.key) × CanInstall E (g.R.Behaves.is v.start.register) v c.args.key (arc_value c.args.run) × IsInstalled v now c.args.key (arc_value c.args.run)) c.self.view_is
-    (c.in-Some.ensures.there, can, record { noted = (c.new.result, c.new.ensures.run, c.set_note.ensures); start = refl; value = refl })
+    (c.has_segment.ensures.yes c.if-not-has_segment.false, can, record { noted = (c.new.result, c.new.ensures.run, c.set_note.ensures); start = refl; value = refl })

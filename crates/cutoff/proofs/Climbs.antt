@@ -1,0 +1,191 @@
+-- Stored runs that come down to a configuration, seen from below.
+use Rattle.std.proofs.Common.{◌≡◌, ℕ, ◌+◌, ◌<◌, ◌≤◌, arith, length, Bool, true, false, ◌||◌, nat_eq, List, [], ◌∷◌, ◌++◌, Option, Some, None, slice_get, inl, inr, refl, sym, ap, subst, ◌∙◌, true≢false, eq-eqb}
+use Rattle.std.specs.Prelude.{⊤}
+use Rattle.std.specs.Cmp.{IsPartialEquivalence}
+use Rattle.frames.specs.declared.types.Step.{Step}
+use Rattle.frames.specs.Behaviour.{Behaviour}
+use Rattle.frames.specs.Configuration.{Configuration, replayed}
+use Rattle.frames.specs.Equality.{SameConfiguration}
+use Rattle.checkpoints.specs.Segment.{SegmentRun, IsRun}
+use Rattle.std.proofs.lemmas.List.{length-append}
+use Rattle.schedule_trie.specs.Cut.{Cut, piece_at, note_of, keys_in, has, Once, IsCut}
+use Rattle.schedule_trie.specs.Climbs.{keys_up_to, keys_to, last_of, IsReached}
+use Rattle.schedule_trie.proofs.Climbs.{IsStepUp, once_before, step_up}
+use Rattle.schedule_trie.proofs.Once.{Once-from_linked}
+use Rattle.schedule_trie.proofs.Partings.{parting}
+use Rattle.cutoff.specs.Fitting.{StoredRun, RunFits, steps_at}
+use Rattle.cutoff.specs.Links.{alone, number_at, number_of, CameTo, IsStored, IsLinked}
+use Rattle.cutoff.specs.Plans.{ComesDown, FitsDown}
+use Rattle.cutoff.proofs.Fits.{alone_same, stored_at, register_kept, same_symm, same_trans, same_from_alone, exit_same, fits_from_note, fits_to_note, no_note_no_fit}
+
+not_first : (key k : ℕ) (ks : List ℕ) → has key (k ∷ ks) ≡ false → key ≡ k → ⊥
+not_first key k ks h e = true≢false (sym (ap (λ x. x || has key ks) (eq-eqb key k e)) ∙ h)
+
+not_below : (key k : ℕ) (ks : List ℕ) → has key (k ∷ ks) ≡ false → has key ks ≡ false
+not_below key k ks h = by (nat_eq key k) refl
+  where
+    by : (b : Bool) → nat_eq key k ≡ b → has key ks ≡ false
+    by true e = absurd (true≢false (sym (ap (λ x. x || has key ks) e) ∙ h))
+    by false e = sym (ap (λ x. x || has key ks) e) ∙ h
+
+-- a run at a key fits where runs above come down to where it begins
+module _ {R P : Type 0} (E : R → R → Bool) (b : Behaviour P) (cut : Cut (StoredRun R P)) (key : ℕ) (run : SegmentRun R P) where
+  pub down_parts : (c : Configuration R P) (front back : List ℕ) → has key front ≡ false → FitsDown E b cut key run c (front ++ key ∷ back)
+      → (run.steps ≡ steps_at cut key) × ComesDown E b cut c front run.entry
+  down_parts c [] back lacks (inl f) = (f.1.steps, f.1.entry)
+  down_parts c [] back lacks (inr f) = absurd (f.0 refl)
+  down_parts c (k ∷ front) back lacks (inl f) = absurd (not_first key k front lacks f.0)
+  down_parts c (k ∷ front) back lacks (inr f) =
+      let rest = down_parts (replayed b c (steps_at cut k)) front back (not_below key k front lacks) f.2 in
+      (rest.0, (f.1, rest.1))
+
+  pub down_whole : (c : Configuration R P) (front back : List ℕ) → has key front ≡ false → run.steps ≡ steps_at cut key → ComesDown E b cut c front run.entry
+      → FitsDown E b cut key run c (front ++ key ∷ back)
+  down_whole c [] back lacks steps down = inl (refl, record { steps = steps; entry = down })
+  down_whole c (k ∷ front) back lacks steps down =
+      inr (not_first key k front lacks, down.0, down_whole (replayed b c (steps_at cut k)) front back (not_below key k front lacks) steps down.1)
+
+-- where no run is stored none comes down
+pub down_noted : {R P : Type 0} (E : R → R → Bool) (b : Behaviour P) (cut : Cut (StoredRun R P)) (k : ℕ) (entry c : Configuration R P) (front : List ℕ)
+    → note_of (piece_at cut.pieces k) ≡ None → ComesDown E b cut c (front ++ k ∷ []) entry → ⊥
+down_noted E b cut k entry c [] none d = no_note_no_fit E cut c k none d.0
+down_noted E b cut k entry c (j ∷ front) none d = down_noted E b cut k entry (replayed b c (steps_at cut j)) front none d.1
+
+-- one segment more, by the run that is stored there
+module _ {R P : Type 0} (E : R → R → Bool) (per : IsPartialEquivalence E) (is : R → Behaviour P) (alike : (x y : R) → E x y ≡ true → is x ≡ is y) (b : Behaviour P)
+    (cut : Cut (StoredRun R P)) (k : ℕ) (s : StoredRun R P) (noted : note_of (piece_at cut.pieces k) ≡ Some s) (true_run : IsRun (is s.run.entry.register) s.run)
+    (entry : Configuration R P) where
+  pub down_before : (c : Configuration R P) (front : List ℕ) → is c.register ≡ b → ComesDown E b cut c (front ++ k ∷ []) entry
+      → SameConfiguration E entry s.run.exit × ComesDown E b cut c front s.run.entry
+  down_before c [] home d =
+      let fits = fits_from_note E cut c k s noted d.0 in
+      let exit = exit_same E is alike b c (steps_at cut k) s.run home true_run fits in
+      (same_trans E per entry (replayed b c (steps_at cut k)) s.run.exit d.1 (same_symm E per s.run.exit (replayed b c (steps_at cut k)) exit), fits.entry)
+  down_before c (j ∷ front) home d =
+      let rest = down_before (replayed b c (steps_at cut j)) front (ap is (register_kept b c (steps_at cut j)) ∙ home) d.1 in
+      (rest.0, (d.0, rest.1))
+
+  pub down_behind : (c : Configuration R P) (front : List ℕ) → is c.register ≡ b → s.run.steps ≡ steps_at cut k → SameConfiguration E entry s.run.exit
+      → ComesDown E b cut c front s.run.entry → ComesDown E b cut c (front ++ k ∷ []) entry
+  down_behind c [] home covers same d =
+      let fits : RunFits E c (steps_at cut k) s.run = record { steps = covers; entry = d } in
+      (fits_to_note E cut c k s noted fits, same_trans E per entry s.run.exit (replayed b c (steps_at cut k)) same (exit_same E is alike b c (steps_at cut k) s.run home true_run fits))
+  down_behind c (j ∷ front) home covers same d =
+      (d.0, down_behind (replayed b c (steps_at cut j)) front (ap is (register_kept b c (steps_at cut j)) ∙ home) covers same d.1)
+
+-- a run comes to where one that was found behind it begins
+module _ {R P : Type 0} (E : R → R → Bool) (per : IsPartialEquivalence E) (b : Behaviour P) (s : StoredRun R P) (entry : Configuration R P) where
+  pub link_same : (h : R) (exits : List (Configuration ⊤ P)) (segment : List Step) → IsStored E h exits segment s → (a : ℕ) → s.id ≡ Some a
+      → slice_get exits a ≡ Some (alone entry) → E entry.register h ≡ true → (alone entry ≡ alone s.run.exit) × (E entry.register s.run.entry.register ≡ true)
+  link_same h exits segment told a numbered there own =
+      let here : slice_get exits a ≡ Some (alone s.run.exit) = subst (λ o. CameTo exits o (alone s.run.exit)) numbered told.id in
+      let home : E h s.run.entry.register ≡ true = per.symm h s.run.entry.register ∙ told.own in
+      (cc, per.trans entry.register h s.run.entry.register own home)
+
+  pub ends_same : IsRun b s.run → (alone entry ≡ alone s.run.exit) → E entry.register s.run.entry.register ≡ true → SameConfiguration E entry s.run.exit
+  ends_same true_run same own =
+      let kept : s.run.exit.register ≡ s.run.entry.register = ap (λ c. c.register) true_run.exit ∙ register_kept b s.run.entry s.run.steps in
+      same_from_alone E entry s.run.exit (subst (λ r. E entry.register r ≡ true) (sym kept) own) same
+
+-- what a stored run tells of where it begins
+pub link_came : {R P : Type 0} (E : R → R → Bool) (h : R) (exits : List (Configuration ⊤ P)) (segment : List Step) (s : StoredRun R P) → IsStored E h exits segment s
+    → (a : ℕ) → s.link ≡ Some a → (slice_get exits a ≡ Some (alone s.run.entry)) × (E s.run.entry.register h ≡ true)
+link_came E h exits segment s told a linked = (subst (λ o. CameTo exits o (alone s.run.entry)) linked told.link, told.own)
+
+-- one step of the climb: what is wanted of the segments down to one is wanted of those above it
+module _ {R P : Type 0} (E : R → R → Bool) (per : IsPartialEquivalence E) (is : R → Behaviour P) (alike : (x y : R) → E x y ≡ true → is x ≡ is y)
+    (cut : Cut (StoredRun R P)) (start entry : Configuration R P) (keys : List ℕ) (k : ℕ) (s : StoredRun R P) (noted : note_of (piece_at cut.pieces k) ≡ Some s)
+    (true_run : IsRun (is s.run.entry.register) s.run) where
+  abbrev b : Behaviour P
+  b = is start.register
+
+  pub climb_ends : has k keys ≡ true → ComesDown E b cut start (keys_up_to k keys) entry → SameConfiguration E entry s.run.exit
+  climb_ends h d =
+      let p = parting keys k h in
+      (down_before E per is alike b cut k s noted true_run entry start p.front refl (subst (λ l. ComesDown E b cut start l entry) p.to d)).0
+
+  module _ (above : Option ℕ) (step : IsStepUp keys k above) where
+    pub climb_down : ComesDown E b cut start (keys_up_to k keys) entry → ComesDown E b cut start (keys_to keys above) s.run.entry
+    climb_down d =
+        (down_before E per is alike b cut k s noted true_run entry start (keys_to keys above) refl (subst (λ l. ComesDown E b cut start l entry) step.is d)).1
+
+    pub climb_up : s.run.steps ≡ steps_at cut k → SameConfiguration E entry s.run.exit → ComesDown E b cut start (keys_to keys above) s.run.entry
+        → ComesDown E b cut start (keys_up_to k keys) entry
+    climb_up covers same d =
+        subst (λ l. ComesDown E b cut start l entry) (sym step.is)
+        (down_behind E per is alike b cut k s noted true_run entry start (keys_to keys above) refl covers same d)
+
+-- each key of a branch once
+pub path_once : {T : Type 0} (cut : Cut T) → IsCut cut → (i : ℕ) → Once (keys_in cut.strands i)
+path_once cut whole i = Once-from_linked whole.shares.above (keys_in cut.strands i) (whole.shares.linked i)
+
+-- no more keys than the branch has
+pub few_to : (keys : List ℕ) (last : Option ℕ) → IsReached keys last → length (keys_to keys last) ≤ length keys
+few_to keys None h = omega arith
+few_to keys (Some k) h =
+    let p = parting keys k h in
+    let to : length (keys_up_to k keys) ≡ length p.front + 1 = ap length p.to ∙ length-append p.front (k ∷ []) in
+    let all : length keys ≡ length p.front + length (k ∷ p.back) = ap length p.is ∙ length-append p.front (k ∷ p.back) in
+    omega (arith, to, all)
+
+pub some_to : (keys : List ℕ) (k : ℕ) → has k keys ≡ true → 0 < length (keys_up_to k keys)
+some_to keys k h =
+    let p = parting keys k h in
+    let to : length (keys_up_to k keys) ≡ length p.front + 1 = ap length p.to ∙ length-append p.front (k ∷ []) in
+    omega (arith, to)
+
+-- a climb that has passed all keys is past the first
+pub past_first : (keys : List ℕ) (at : Option ℕ) (counter all : ℕ) → IsReached keys at → counter + length (keys_to keys at) ≤ all → all ≤ counter → at ≡ None
+past_first keys None counter all h short past = refl
+past_first keys (Some k) counter all h short past = let some = some_to keys k h in absurd (omega (arith, some))
+
+pub shorter : (keys : List ℕ) (k : ℕ) (above : Option ℕ) → IsStepUp keys k above → length (keys_up_to k keys) ≡ length (keys_to keys above) + 1
+shorter keys k above step = ap length step.is ∙ length-append (keys_to keys above) (k ∷ [])
+
+-- a run at a key, and the segment above it
+module _ {R P : Type 0} (E : R → R → Bool) (per : IsPartialEquivalence E) (is : R → Behaviour P) (alike : (x y : R) → E x y ≡ true → is x ≡ is y)
+    (cut : Cut (StoredRun R P)) (whole : IsCut cut) (start : Configuration R P) (key : ℕ) (above : Option ℕ)
+    (each : (i : ℕ) (front back : List ℕ) → keys_in cut.strands i ≡ front ++ key ∷ back → above ≡ last_of front) where
+  pub above_step : (i : ℕ) → has key (keys_in cut.strands i) ≡ true → IsStepUp (keys_in cut.strands i) key above
+  above_step i h = step_up (keys_in cut.strands i) key above (path_once cut whole i) h (λ front back e. each i front back e)
+
+  lacks_above : (i : ℕ) (step : IsStepUp (keys_in cut.strands i) key above) → has key (keys_to (keys_in cut.strands i) above) ≡ false
+  lacks_above i step = once_before (keys_to (keys_in cut.strands i) above) key step.back (subst Once step.parts (path_once cut whole i))
+
+  pub fits_whole : (run : SegmentRun R P) (i : ℕ) → has key (keys_in cut.strands i) ≡ true → run.steps ≡ steps_at cut key
+      → ComesDown E (is start.register) cut start (keys_to (keys_in cut.strands i) above) run.entry
+      → FitsDown E (is start.register) cut key run start (keys_in cut.strands i)
+  fits_whole run i h steps down =
+      let step = above_step i h in
+      subst (FitsDown E (is start.register) cut key run start) (sym step.parts)
+      (down_whole E (is start.register) cut key run start (keys_to (keys_in cut.strands i) above) step.back (lacks_above i step) steps down)
+
+  pub fits_parts : (run : SegmentRun R P) (i : ℕ) → has key (keys_in cut.strands i) ≡ true → FitsDown E (is start.register) cut key run start (keys_in cut.strands i)
+      → (run.steps ≡ steps_at cut key) × ComesDown E (is start.register) cut start (keys_to (keys_in cut.strands i) above) run.entry
+  fits_parts run i h fits =
+      let step = above_step i h in
+      down_parts E (is start.register) cut key run start (keys_to (keys_in cut.strands i) above) step.back (lacks_above i step)
+      (subst (FitsDown E (is start.register) cut key run start) step.parts fits)
+
+-- a run of other steps fits nowhere
+pub down_steps : {R P : Type 0} (E : R → R → Bool) (b : Behaviour P) (cut : Cut (StoredRun R P)) (key : ℕ) (run : SegmentRun R P) (c : Configuration R P) (keys : List ℕ)
+    → FitsDown E b cut key run c keys → run.steps ≡ steps_at cut key
+down_steps E b cut key run c [] f = absurd f
+down_steps E b cut key run c (k ∷ ks) (inl f) = f.1.steps ∙ ap (steps_at cut) (sym f.0)
+down_steps E b cut key run c (k ∷ ks) (inr f) = down_steps E b cut key run (replayed b c (steps_at cut k)) ks f.2
+
+-- the number of the run right above is that of one that came to where a run begins
+pub number_came : {R P : Type 0} (E : R → R → Bool) (per : IsPartialEquivalence E) (is : R → Behaviour P) (alike : (x y : R) → E x y ≡ true → is x ≡ is y)
+    (cut : Cut (StoredRun R P)) (start entry : Configuration R P) (keys : List ℕ) (above : Option ℕ) (next : ℕ) → IsReached keys above
+    → ((k : ℕ) (s : StoredRun R P) → above ≡ Some k → note_of (piece_at cut.pieces k) ≡ Some s → IsRun (is s.run.entry.register) s.run)
+    → ComesDown E (is start.register) cut start (keys_to keys above) entry → IsLinked E start.register next None (alone start) cut
+    → IsLinked E start.register next (number_at cut above) (alone entry) cut
+number_came E per is alike cut start entry keys None next h true_run d l = record { exits = l.exits; as_many = l.as_many; each = l.each; came = tt }
+number_came {R} {P} E per is alike cut start entry keys (Some k) next h true_run d l =
+    record { exits = l.exits; as_many = l.as_many; each = l.each; came = by (note_of (piece_at cut.pieces k)) refl }
+  where
+    by : (o : Option (StoredRun R P)) → note_of (piece_at cut.pieces k) ≡ o → CameTo l.exits (number_of o) (alone entry)
+    by None e = tt
+    by (Some s) e =
+        let same = climb_ends E per is alike cut start entry keys k s e (true_run k s refl e) h d in
+        subst (CameTo l.exits s.id) (sym (alone_same E entry s.run.exit same)) (stored_at E start.register l.exits cut k s (l.each k) e).id

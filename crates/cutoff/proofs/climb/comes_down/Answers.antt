@@ -1,0 +1,112 @@
+use Rattle.std.proofs.Common.{◌≡◌, ℕ, true, Some, None, slice_get, length, sym, ap, subst, ◌∙◌, true≢false, arith}
+use Rattle.schedule_trie.specs.Cut.{keys_in, note_of, piece_at}
+use Rattle.schedule_trie.specs.Climbs.{keys_to, IsReached}
+use Rattle.schedule_trie.proofs.Climbs.{IsStepUp, step_up}
+use Rattle.schedule_trie.proofs.Partings.{parting}
+use Rattle.cutoff.specs.Fitting.{steps_at}
+use Rattle.cutoff.specs.Links.{alone}
+use Rattle.cutoff.specs.Plans.{ComesDown}
+use Rattle.cutoff.proofs.Climbs.{down_noted, link_same, link_came, climb_ends, climb_down, climb_up, path_once, few_to, past_first, shorter}
+use Rattle.cutoff.proofs.Fits.{stored_at}
+use Rattle.cutoff.proofs.climb.comes_down.Goals as goal
+use Rattle.cutoff.proofs.climb.comes_down.Goals.{else-loop-test, then-loop-test+in_default}
+
+pub returns-in_default-note : goal.returns-in_default-note
+returns-in_default-note g c = λ i h. (
+  (λ e. absurd (true≢false (sym e))),
+  (λ d.
+      let E = g.R.PartialEq.eq in
+      let b = g.R.Behaves.is c.args.start.now.register in
+      let keys = keys_in c.args.trie.now.strands i in
+      let here = subst (λ o. ComesDown E b c.args.trie.now c.args.start.now (keys_to keys o) c.loop.entry.now) c.in-Some.is (c.loop.invariant.down i h d) in
+      let p = parting keys c.in-Some.key (subst (IsReached keys) c.in-Some.is (c.loop.invariant.reached i h)) in
+      absurd (down_noted E b c.args.trie.now c.in-Some.key c.loop.entry.now c.args.start.now p.front (sym c.in_default-note.ensures)
+      (subst (λ l. ComesDown E b c.args.trie.now c.args.start.now l c.loop.entry.now) p.to here))),
+)
+
+pub ends-requires : goal.ends-requires
+ends-requires g c = record {
+  linked = λ a link id.
+      let E = g.R.PartialEq.eq in
+      let h = c.args.start.now.register in
+      let told = c.requires.linked in
+      let came = c.loop.invariant.came told.0 told.1 a link in
+      link_same E g.met.R.PartialEq.laws (g.R.Behaves.is h) c.in-Some-note.stored.now c.loop.entry.now h told.1.exits (steps_at c.args.trie.now c.in-Some.key)
+      (stored_at E h told.1.exits c.args.trie.now c.in-Some.key c.in-Some-note.stored.now (told.1.each c.in-Some.key) (sym c.in-Some-note.ensures)) a id came.0 came.1;
+}
+
+pub returns-then-not-ends : goal.returns-then-not-ends
+returns-then-not-ends g c = λ i h. (
+  (λ e. absurd (true≢false (sym e))),
+  (λ d.
+      let E = g.R.PartialEq.eq in
+      let b = g.R.Behaves.is c.args.start.now.register in
+      let keys = keys_in c.args.trie.now.strands i in
+      let here = subst (λ o. ComesDown E b c.args.trie.now c.args.start.now (keys_to keys o) c.loop.entry.now) c.in-Some.is (c.loop.invariant.down i h d) in
+      let there = subst (IsReached keys) c.in-Some.is (c.loop.invariant.reached i h) in
+      let same = climb_ends E g.met.R.PartialEq.laws g.R.Behaves.is g.met.R.Register.alike c.args.trie.now c.args.start.now c.loop.entry.now keys c.in-Some.key c.in-Some-note.stored.now
+      (sym c.in-Some-note.ensures) c.entry-begun.ensures.kept there here in
+      absurd (true≢false (sym (c.ends.ensures.1 same) ∙ c.if-not-ends.true))),
+)
+
+pub loop-preserved : goal.loop-preserved
+loop-preserved g c =
+    let E = g.R.PartialEq.eq in
+    let b = g.R.Behaves.is c.args.start.now.register in
+    let trie = c.args.trie.now in
+    let start = c.args.start.now in
+    let s = c.in-Some-note.stored.now in
+    let noted : note_of (piece_at trie.pieces c.in-Some.key) ≡ Some s = sym c.in-Some-note.ensures in
+    let was = c.loop.invariant in
+    let begun = c.entry-begun.ensures.entry in
+    let step : (i : ℕ) → IsReached (keys_in trie.strands i) c.args.last → IsStepUp (keys_in trie.strands i) c.in-Some.key c.above-at.result =
+    λ i h. step_up (keys_in trie.strands i) c.in-Some.key c.above-at.result (path_once trie c.requires.cut i)
+    (subst (IsReached (keys_in trie.strands i)) c.in-Some.is (was.reached i h)) (λ front back e. c.above-at.ensures.each i front back e) in
+    record {
+      reached = λ i h. (step i h).reached;
+      short = λ i h.
+          let keys = keys_in trie.strands i in
+          let up = shorter keys c.in-Some.key c.above-at.result (step i h) in
+          let at = ap (λ o. length (keys_to keys o)) c.in-Some.is in
+          let old = was.short i h in
+          omega (arith, up, at, old);
+      down = λ i h d.
+          let keys = keys_in trie.strands i in
+          let here = subst (λ o. ComesDown E b trie start (keys_to keys o) c.loop.entry.now) c.in-Some.is (was.down i h d) in
+          subst (ComesDown E b trie start (keys_to keys c.above-at.result)) (sym begun)
+          (climb_down E g.met.R.PartialEq.laws g.R.Behaves.is g.met.R.Register.alike trie start c.loop.entry.now keys c.in-Some.key s noted c.entry-begun.ensures.kept
+          c.above-at.result (step i h) here);
+      up = λ i h d.
+          let keys = keys_in trie.strands i in
+          let told = c.requires.linked.1 in
+          let covers = (stored_at E start.register told.exits trie c.in-Some.key s (told.each c.in-Some.key) noted).covers in
+          was.up i h (subst (λ o. ComesDown E b trie start (keys_to keys o) c.loop.entry.now) (sym c.in-Some.is)
+          (climb_up E g.met.R.PartialEq.laws g.R.Behaves.is g.met.R.Register.alike trie start c.loop.entry.now keys c.in-Some.key s noted c.entry-begun.ensures.kept
+          c.above-at.result (step i h) covers (c.ends.ensures.0 c.if-not-ends.false)
+          (subst (ComesDown E b trie start (keys_to keys c.above-at.result)) begun d)));
+      came = λ next told a link.
+          subst (λ e. (slice_get told.exits a ≡ Some (alone e)) × (E e.register start.register ≡ true)) (sym begun)
+          (link_came E start.register told.exits (steps_at trie c.in-Some.key) s
+          (stored_at E start.register told.exits trie c.in-Some.key s (told.each c.in-Some.key) noted) a (sym c.link-link.ensures ∙ link));
+    }
+
+pub returns : goal.returns
+returns g c = λ i h.
+    let E = g.R.PartialEq.eq in
+    let b = g.R.Behaves.is c.args.start.now.register in
+    let trie = c.args.trie.now in
+    let keys = keys_in trie.strands i in
+    let was = c.loop.invariant in
+    let first = c.requires.reached in
+    let end : c.loop.at ≡ None =
+    elim c.loop-test.branch [
+      | else-loop-test w ↦
+          let few = few_to (keys_in trie.strands first.0) c.args.last first.1 in
+          let made = c.made-end.ensures.few first.0 in
+          past_first (keys_in trie.strands first.0) c.loop.at c.loop.counter (length (keys_to (keys_in trie.strands first.0) c.args.last)) (was.reached first.0 first.1)
+          (was.short first.0 first.1) (omega (arith, few, made, w.loop-test.false))
+      | then-loop-test+in_default w ↦ w.in_default.is
+    ] in (
+      (λ e. was.up i h (subst (λ o. ComesDown E b trie c.args.start.now (keys_to keys o) c.loop.entry.now) (sym end) (c.eq.ensures.same.0 e))),
+      (λ d. c.eq.ensures.same.1 (subst (λ o. ComesDown E b trie c.args.start.now (keys_to keys o) c.loop.entry.now) end (was.down i h d))),
+    )

@@ -1,0 +1,51 @@
+//! A walk up a branch that only looks: whether stored runs come down to where a run begins.
+
+ghost use Rattle.std.specs.Prelude.{◌≡◌, ◌≤◌, ◌+◌, ℕ, None, length};
+ghost use Rattle.std.specs.Bool.{Decides};
+ghost use Rattle.schedule_trie.specs.Cut.{keys_in, line, piece_at, IsCut};
+ghost use Rattle.schedule_trie.specs.Climbs.{keys_to, IsReached};
+ghost use Rattle.cutoff.specs.Links.{IsLinked, alone};
+ghost use Rattle.cutoff.specs.Plans.{ComesDown};
+
+use crate::stored::Stored;
+use frames::config::Config;
+use frames::register::Register;
+use schedule_trie::trie::{SegKey, Trie};
+
+/// Whether stored runs fit all segments from a branch's first down to one, if one is named, and come to a configuration there. It
+/// takes no memory: it goes up, from each run to the one that came to where it begins.
+pub(crate) fn comes_down<R: Register>(
+    trie: &Trie<Stored<R>>,
+    start: &Config<R>,
+    last: Option<SegKey>,
+    config: &Config<R>,
+) -> bool
+    requires linked { (next : ℕ) × IsLinked R.PartialEq.eq start.now.register next None
+        (alone start.now) trie.now }
+    requires cut { IsCut trie.now }
+    requires reached { (i : ℕ) × IsReached (keys_in trie.now.strands i) last }
+    ensures { (i : ℕ) → IsReached (keys_in trie.now.strands i) last
+        → Decides result (ComesDown R.PartialEq.eq (R.is start.now.register) trie.now start.now
+        (keys_to (keys_in trie.now.strands i) last) config.now) }
+{
+    let mut entry = config;
+    let mut link = None;
+    let mut at = last;
+    // A branch has no more segments than cells were made.
+    for _ in 0..trie.made() {
+        let Some(key) = at else {
+            break;
+        };
+        let Some(stored) = trie.note(key) else {
+            return false;
+        };
+        let begun = stored.entry();
+        if !stored.ends(entry, link) {
+            return false;
+        }
+        entry = begun;
+        link = stored.link();
+        at = trie.above(key);
+    }
+    *entry == *start
+}
