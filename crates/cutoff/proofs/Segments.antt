@@ -5,11 +5,19 @@ use Rattle.std.specs.Option.{option_map}
 use Rattle.frames.specs.Configuration.{Configuration}
 use Rattle.frames.specs.Equality.{SameConfiguration}
 use Rattle.checkpoints.specs.Segment.{SegmentRun}
-use Rattle.schedule_trie.specs.Cut.{Cut, piece_at, note_of, IsNoted}
+use Rattle.schedule_trie.specs.Cut.{Cut, Piece, piece, piece_at, note_of, with_note, IsNoted}
 use Rattle.cutoff.specs.Fitting.{StoredRun, run_of, RunFits, Fits, steps_at, IsSegmentSettled}
 use Rattle.cutoff.specs.Links.{alone, CameTo, IsStored, IsLinked}
 use Rattle.cutoff.proofs.Fits.{alone_same, stored_at, fits_to_note}
 use Rattle.cutoff.proofs.Links.{taken_linked, new_linked}
+
+-- a note that is there already
+pub noted_still : {T : Type 0} (c : Cut T) (k : ℕ) (s : T) → note_of (piece_at c.pieces k) ≡ Some s → IsNoted c c k (Some s)
+noted_still c k s e = record { here = by (piece_at c.pieces k) e; others = λ j ne. refl; strands = refl; limits = refl; unchanged = refl }
+  where
+    by : (o : Option (Piece _)) → note_of o ≡ Some s → o ≡ option_map (with_note (Some s)) o
+    by None h = cc
+    by (Some p) h = λ i. Some (piece p.slots (h i))
 
 module _ {R P : Type 0} (E : R → R → Bool) (old new : Cut (StoredRun R P)) (c : Configuration R P) (k : ℕ) (run : SegmentRun R P) (s : StoredRun R P)
     (noted : IsNoted old new k (Some s)) (same : s.run ≡ run) where

@@ -142,6 +142,13 @@ pub(crate) fn settle_segment<R: Register>(
     };
     let run = Arc::try_clone(stored.run())?;
     let id = stored.id();
+    if stored.is_as_found(above) {
+        return Ok(Settled {
+            run,
+            id,
+            replayed: 0,
+        });
+    }
     let again = stored.behind(above)?;
     trie.set_note(key, Some(again));
     Ok(Settled {

@@ -1,6 +1,6 @@
 //! Stored runs, and the test whether one begins from a configuration.
 
-ghost use Rattle.std.specs.Prelude.{◌≡◌, ◌⊎◌, ℕ, Some, true, IfOk};
+ghost use Rattle.std.specs.Prelude.{◌≡◌, ◌⊎◌, ℕ, None, Some, true, IfOk};
 ghost use Rattle.std.specs.Bool.{Decides};
 ghost use Rattle.std.specs.Arc.{arc_value};
 ghost use Rattle.checkpoints.specs.Segment.{IsRun};
@@ -90,6 +90,13 @@ impl<R: Register> Stored<R> {
             id: self.id,
             link,
         })
+    }
+
+    /// Whether it would have no other link where it is found behind the run with this number, if it has one.
+    pub(crate) fn is_as_found(&self, above: Option<u64>) -> bool
+        ensures { result ≡ true → (above ≡ None) ⊎ (self.now.link ≡ above) }
+    {
+        above.is_none() || is_behind(self.link, above)
     }
 
     /// Whether it begins from a configuration. A run with the number `above` came to that.
