@@ -1,9 +1,9 @@
 -- New segments beside those that were there.
-use Rattle.std.proofs.Common.{◌≡◌, ℕ, zero, suc, ◌+◌, ◌<◌, ◌≤◌, Bool, true, false, nat_eq, cond, List, [], ◌∷◌, length, Option, Some, None, IsSome, ◌⊎◌, refl, sym, ap, subst, ◌∙◌, true≢false, arith, eq-eqb, inl, inr}
+use Rattle.std.proofs.Common.{◌≡◌, ℕ, zero, suc, ◌+◌, ◌<◌, ◌≤◌, Bool, true, false, nat_eq, cond, List, [], ◌∷◌, length, Option, Some, None, IsSome, refl, sym, ap, subst, ◌∙◌, true≢false, arith, eq-eqb}
 use Rattle.std.specs.Option.{IfSome}
 use Rattle.std.proofs.lemmas.Bool.{eqb-true}
 use Rattle.schedule_trie.specs.Forest.{branch, renumbered, only_in}
-use Rattle.schedule_trie.specs.Cut.{Piece, Strand, strand, slots_of, note_of, line, branches_on, keys_in, set_keys, has, has_cell, Once, Linked, SharesAbove, IsSegment, IsSound, before_key}
+use Rattle.schedule_trie.specs.Cut.{Piece, Strand, slots_of, note_of, line, branches_on, keys_in, set_keys, has, has_cell, Once, Linked, IsSegment, IsSound, before_key}
 use Rattle.schedule_trie.proofs.Once.{has_not_from, has-head, has-tail}
 use Rattle.schedule_trie.proofs.Lines.{given_at}
 use Rattle.schedule_trie.proofs.Pushes.{not_equal}

@@ -1,16 +1,15 @@
 -- A path seen from one of its keys, upwards.
-use Rattle.std.proofs.Common.{◌≡◌, ℕ, zero, suc, ◌+◌, ◌-◌, ◌<◌, ◌≤◌, Bool, true, false, ◌||◌, nat_eq, cond, List, [], ◌∷◌, ◌++◌, length, map, take, get_or, position, not, nat_lt, slice_get, Option, Some, None, IsSome, refl, sym, ap, subst, ◌∙◌, true≢false, arith, eq-eqb, append_assoc, append-nil}
+use Rattle.std.proofs.Common.{◌≡◌, ℕ, suc, ◌+◌, ◌-◌, ◌<◌, ◌≤◌, Bool, true, false, ◌||◌, nat_eq, cond, List, [], ◌∷◌, ◌++◌, length, map, position, not, nat_lt, slice_get, Option, Some, None, refl, sym, ap, subst, ◌∙◌, true≢false, arith, eq-eqb, append_assoc, append-nil}
 use Rattle.std.proofs.lemmas.Bool.{eqb-true}
-use Rattle.std.proofs.lemmas.List.{length-append, length-map}
-use Rattle.std.proofs.Math.Seq.{take-append_seam}
+use Rattle.std.proofs.lemmas.List.{length-append}
 use Rattle.std.specs.List.{position_or_len}
 use Rattle.lineage.specs.Family.{last_of, last_from}
 use Rattle.schedule_trie.specs.declared.slot.Slot.{Slot}
-use Rattle.schedule_trie.specs.Forest.{cell_of, is_cell, slots_in}
-use Rattle.schedule_trie.specs.Cut.{Piece, Strand, slots_of, line, branches_on, keys_in, has, has_cell, Once, StandsAt, LiesIn}
+use Rattle.schedule_trie.specs.Forest.{cell_of, is_cell}
+use Rattle.schedule_trie.specs.Cut.{Piece, slots_of, line, has, has_cell, Once, StandsAt, LiesIn}
 use Rattle.schedule_trie.specs.Climbs.{keys_up_to, keys_to, IsReached}
-use Rattle.schedule_trie.proofs.Once.{has-append, has-head, has-tail, has_cases, has_not_from}
-use Rattle.schedule_trie.proofs.Lines.{slots_in_on, slice_get_left, slice_get_right, in_line}
+use Rattle.schedule_trie.proofs.Once.{has-tail, has_cases, has_not_from}
+use Rattle.schedule_trie.proofs.Lines.{slice_get_left, slice_get_right, in_line}
 use Rattle.schedule_trie.proofs.Pushes.{line-append}
 use Rattle.schedule_trie.proofs.Partings.{parting, has-in}
 use Rattle.std.proofs.lemmas.Bool.Decides.{nat_tests}

@@ -1,11 +1,11 @@
 -- A division, by what the fields become.
-use Rattle.std.proofs.Common.{◌≡◌, ℕ, ◌<◌, List, Option, [], Some, None, IsSome, set, refl, sym, ap, subst, ◌∙◌, true≢false}
+use Rattle.std.proofs.Common.{◌≡◌, ℕ, List, [], Some, None, IsSome, set, sym, ap, subst, ◌∙◌, true≢false}
 use Rattle.std.proofs.lemmas.List.{get_or-set_same, get_or-set_other}
-use Rattle.lineage.specs.Family.{Family, item_at, with_item, IsAdded}
+use Rattle.lineage.specs.Family.{Family, item_at, IsAdded}
 use Rattle.schedule_trie.specs.declared.slot.Slot.{Slot}
 use Rattle.schedule_trie.specs.declared.segment.Segment.{Segment}
 use Rattle.schedule_trie.specs.declared.trie.Trie.TheInside.{Inside}
-use Rattle.schedule_trie.specs.Cut.{Piece, piece, piece_at}
+use Rattle.schedule_trie.specs.Cut.{piece, piece_at}
 use Rattle.schedule_trie.specs.Held.{piece_of, cut_of}
 use Rattle.schedule_trie.proofs.StepSet.{piece_seen, key_within}
 use Rattle.schedule_trie.proofs.Division.{Divides}

@@ -1,17 +1,15 @@
 -- A branch is dropped.
-use Rattle.std.proofs.Common.{◌≡◌, ℕ, zero, suc, ◌<◌, ◌≤◌, Bool, true, false, nat_eq, List, [], ◌∷◌, length, map, Option, None, ◌⊎◌, refl, sym, ap, subst, ◌∙◌, arith, inl, inr}
+use Rattle.std.proofs.Common.{◌≡◌, ℕ, zero, suc, ◌<◌, ◌≤◌, true, List, [], ◌∷◌, length, Option, None, refl, sym, ap, subst, ◌∙◌, arith}
 use Rattle.std.specs.List.{remove}
-use Rattle.std.proofs.lemmas.Bool.{eqb-true}
 use Rattle.indexmap.proofs.SetLemmas.{map-remove}
 use Rattle.lineage.specs.Family.{path_in, IsReleased as IsReleasedIn}
 use Rattle.std.specs.Map.{keys_of}
 use Rattle.schedule_trie.specs.declared.trie.Trie.TheInside.{Inside}
-use Rattle.schedule_trie.specs.Cut.{Piece, Strand, strand, piece_at, note_of, branch_on, branches_on, keys_in, has, Linked, SharesAbove, IsSound}
+use Rattle.schedule_trie.specs.Cut.{Piece, Strand, piece_at, note_of, branch_on, branches_on, keys_in, has, Linked, IsSound}
 use Rattle.schedule_trie.specs.Held.{piece_of, strands_of, names_of, cut_of, IsHeld}
 use Rattle.schedule_trie.specs.Releases.{IsDropped}
 use Rattle.schedule_trie.proofs.Strands.{keys_in-of, length-strands, strands-remove}
 use Rattle.schedule_trie.proofs.StepSet.{piece_seen, cut_from_sound}
-use Rattle.schedule_trie.proofs.Pushes.{not_equal}
 use Rattle.schedule_trie.proofs.Released.{IsReleased, IsSoundBut, released_sound, released_branches, released_notes}
 
 -- the branches that are left are those that were there but one
@@ -22,7 +20,7 @@ keys_left (s ∷ ss) zero j = (suc j, refl)
 keys_left (s ∷ ss) (suc index) zero = (0, refl)
 keys_left (s ∷ ss) (suc index) (suc j) = let p = keys_left ss index j in (suc p.0, p.1)
 
-length-remove : {X : Type 0} (xs : List X) (i : ℕ) → i < length xs → suc (length (remove xs i)) ≡ length xs
+pub length-remove : {X : Type 0} (xs : List X) (i : ℕ) → i < length xs → suc (length (remove xs i)) ≡ length xs
 length-remove [] i h = absurd (omega arith)
 length-remove (x ∷ xs) zero h = refl
 length-remove (x ∷ xs) (suc i) h = ap suc (length-remove xs i (omega arith))

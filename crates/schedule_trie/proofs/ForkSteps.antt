@@ -1,5 +1,5 @@
 -- A fork, by what the fields become.
-use Rattle.std.proofs.Common.{◌≡◌, ℕ, suc, ◌+◌, ◌<◌, nat_eq, true, List, [], ◌∷◌, ◌++◌, length, map, take, position, Option, Some, None, IsSome, refl, sym, ap, subst, ◌∙◌, append_assoc}
+use Rattle.std.proofs.Common.{◌≡◌, ℕ, ◌+◌, ◌<◌, nat_eq, List, [], ◌∷◌, ◌++◌, length, map, take, position, Option, Some, None, IsSome, refl, sym, ap, subst, ◌∙◌, append_assoc}
 use Rattle.std.specs.Cmp.Lexicographic.{pointwise}
 use Rattle.std.specs.Map.{keys_of}
 use Rattle.std.proofs.lemmas.List.{map-append, length_push}
@@ -8,12 +8,11 @@ use Rattle.indexmap.specs.IndexMap.{insert_entry}
 use Rattle.indexmap.proofs.MapLemmas.{Missing-position, insert_entry-absent}
 use Rattle.std.specs.Option.{IfSome}
 use Rattle.lineage.specs.Family.{Family, item_at, last_of, last_from, path_in, IsForked as IsForkedIn}
-use Rattle.schedule_trie.specs.declared.segment.Segment.{Segment}
 use Rattle.schedule_trie.specs.declared.trie.Trie.TheInside.{Inside}
 use Rattle.schedule_trie.specs.Forest.{index_of, name_of}
-use Rattle.schedule_trie.specs.Cut.{Cut, strand, forest, piece_at, line, branches_on, keys_in, has, IsWhole}
+use Rattle.schedule_trie.specs.Cut.{Cut, strand, forest, piece_at, line, branches_on, keys_in, IsWhole}
 use Rattle.schedule_trie.specs.Climbs.{keys_to, IsReached}
-use Rattle.schedule_trie.specs.Held.{piece_of, pieces_of, strands_of, names_of, cut_of, IsHeld}
+use Rattle.schedule_trie.specs.Held.{pieces_of, strands_of, names_of, cut_of, IsHeld}
 use Rattle.schedule_trie.specs.Forks.{IsForked}
 use Rattle.schedule_trie.proofs.Partings.{parting}
 use Rattle.schedule_trie.proofs.Forks.{with_front, front_whole, front_forked}

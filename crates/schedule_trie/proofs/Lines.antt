@@ -7,7 +7,7 @@ use Rattle.std.proofs.lemmas.List.{map-append, length-map, length-append}
 use Rattle.std.proofs.Math.Seq.{drop-cons}
 use Rattle.std.specs.List.{position}
 use Rattle.schedule_trie.specs.declared.trie.Trie.TheInside.{Inside}
-use Rattle.schedule_trie.specs.Forest.{step_of, cell_of, name_of, slots_in, index_of, name_in}
+use Rattle.schedule_trie.specs.Forest.{step_of, cell_of, slots_in, index_of, name_in}
 use Rattle.std.specs.Cmp.Lexicographic.{pointwise}
 use Rattle.std.proofs.lemmas.Option.{slice_get-map}
 use Rattle.schedule_trie.specs.Cut.{forest, piece_at, Piece, Strand, line, slots_of, branches_on, keys_in, has, has_cell, Once, IsSegment, IsSound, StandsAt}

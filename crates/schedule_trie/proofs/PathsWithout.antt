@@ -1,8 +1,7 @@
 -- A key goes from paths.
-use Rattle.std.proofs.Common.{◌≡◌, ℕ, zero, suc, ◌+◌, ◌<◌, ◌≤◌, Bool, true, false, not, ◌||◌, nat_eq, cond, List, [], ◌∷◌, length, map, slice_get, Option, Some, None, refl, sym, ap, subst, ◌∙◌, arith}
+use Rattle.std.proofs.Common.{◌≡◌, ℕ, zero, suc, Bool, true, false, not, ◌||◌, nat_eq, cond, List, [], ◌∷◌, map, Option, Some, None, refl, sym, ap, subst, ◌∙◌}
 use Rattle.std.proofs.lemmas.Bool.{eqb-true}
-use Rattle.std.proofs.lemmas.List.{length-map}
-use Rattle.schedule_trie.specs.Cut.{Strand, keys_in, set_keys, has, Linked, keys_without, strand_without}
+use Rattle.schedule_trie.specs.Cut.{Strand, keys_in, has, Linked, keys_without, strand_without}
 use Rattle.schedule_trie.proofs.Once.{has-head, has-tail, has_cases}
 
 -- the keys of a branch

@@ -1,5 +1,5 @@
 -- A push as a segment of its own, by what the fields become.
-use Rattle.std.proofs.Common.{◌≡◌, ℕ, zero, suc, ◌+◌, ◌<◌, Bool, true, false, ◌||◌, nat_eq, cond, List, [], ◌∷◌, ◌++◌, length, set, Option, Some, None, IsSome, refl, sym, ap, subst, ◌∙◌, true≢false, arith, eq-eqb, append-nil}
+use Rattle.std.proofs.Common.{◌≡◌, ℕ, ◌+◌, ◌<◌, Bool, true, false, ◌||◌, nat_eq, cond, List, [], ◌∷◌, ◌++◌, length, set, Option, Some, None, IsSome, refl, sym, ap, subst, ◌∙◌, true≢false, arith, eq-eqb, append-nil}
 use Rattle.std.proofs.lemmas.Bool.{eqb-true}
 use Rattle.std.proofs.lemmas.List.{length-set}
 use Rattle.lineage.specs.Family.{path_in, last_from, IsAdded}
@@ -13,7 +13,7 @@ use Rattle.schedule_trie.proofs.Once.{has_not_from}
 use Rattle.schedule_trie.proofs.Changes.{Changes}
 use Rattle.schedule_trie.proofs.Notes.{notes_beside}
 use Rattle.schedule_trie.proofs.Pushes.{not_equal}
-use Rattle.schedule_trie.proofs.Whole.{whole_pushed, is_pushed, set_keys-same, keys_in-set_same, keys_in-set_other}
+use Rattle.schedule_trie.proofs.Whole.{whole_pushed, is_pushed, keys_in-set_same, keys_in-set_other}
 use Rattle.schedule_trie.proofs.PushSteps.{has_front}
 use Rattle.schedule_trie.proofs.StepSet.{piece_seen}
 use Rattle.schedule_trie.proofs.Strands.{strands-set, keys_in-of}

@@ -8,8 +8,8 @@ use Rattle.frames.specs.declared.types.Step.{Step}
 use Rattle.schedule_trie.specs.declared.segment.Segment.{Segment}
 use Rattle.schedule_trie.specs.declared.trie.Trie.TheInside.{Inside}
 use Rattle.schedule_trie.specs.Forest.{slot}
-use Rattle.schedule_trie.specs.Cut.{piece, piece_at, slots_of, note_of, line, keys_in, set_keys, has, Once, IsOwnEnd, IsChangedEnd, HasChanged, IsPushed, IsWhole}
-use Rattle.schedule_trie.specs.Held.{piece_of, cut_of, IsHeld}
+use Rattle.schedule_trie.specs.Cut.{forest, piece, piece_at, slots_of, note_of, line, keys_in, set_keys, has, Once, IsOwnEnd, IsChangedEnd, HasChanged, IsPushed, IsWhole}
+use Rattle.schedule_trie.specs.Held.{piece_of, cut_of, AreLengths, IsHeld, IsKept}
 use Rattle.schedule_trie.proofs.Once.{has-append, Once-from_linked}
 use Rattle.schedule_trie.proofs.Changes.{Changes, piece_at_set}
 use Rattle.schedule_trie.proofs.Climbs.{last_parts}
@@ -34,9 +34,12 @@ cut_written t key v w there items note =
     let same : piece_of (Some w) ≡ piece_of (item_at t.segments key) = (λ i. Some (piece (items i) (note i))) ∙ ap piece_of (sym there) in
     ap (λ p. record (cut_of t) { pieces = p }) (map-set_same piece_of t.segments.items key (Some w) None same)
 
-pub kept_held : {T : Type 0} (t : Inside T) (key : ℕ) (w : Segment T) → IsHeld t → cut_of (record t { segments = with_item t.segments key w }) ≡ cut_of t
-    → IsHeld (record t { segments = with_item t.segments key w })
-kept_held t key w held same = record { whole = subst IsWhole (sym same) held.whole; paths = held.paths }
+pub kept_held : {T : Type 0} (t : Inside T) (key : ℕ) (w : Segment T) → IsKept t → cut_of (record t { segments = with_item t.segments key w }) ≡ cut_of t
+    → IsKept (record t { segments = with_item t.segments key w })
+kept_held t key w kept same = record {
+  held = record { whole = subst IsWhole (sym same) kept.held.whole; paths = kept.held.paths };
+  lengths = subst (λ c. AreLengths t.branches.entries (forest c).branches) (sym same) kept.lengths;
+}
 
 -- in the last segment of a branch
 module _ {T : Type 0} (t : Inside T) (index key : ℕ) (held : IsHeld t) (end : IsOwnEnd (cut_of t) index key) where

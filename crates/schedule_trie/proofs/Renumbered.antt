@@ -17,7 +17,7 @@ length-numbered : (n : ℕ) (steps : List Step) → length (numbered n steps) �
 length-numbered n [] = refl
 length-numbered n (s ∷ ss) = ap suc (length-numbered (suc n) ss)
 
-length-renumbered : (n : ℕ) (slots : List Slot) → length (renumbered n slots) ≡ length slots
+pub length-renumbered : (n : ℕ) (slots : List Slot) → length (renumbered n slots) ≡ length slots
 length-renumbered n slots = length-numbered n (map step_of slots) ∙ length-map slots step_of
 
 numbered-append : (n : ℕ) (xs ys : List Step) → numbered n (xs ++ ys) ≡ numbered n xs ++ numbered (n + length xs) ys

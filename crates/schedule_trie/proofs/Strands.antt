@@ -1,8 +1,8 @@
 -- Branches by their names and their paths.
-use Rattle.std.proofs.Common.{◌≡◌, ℕ, zero, suc, ◌<◌, nat_eq, cond, Bool, true, false, List, [], ◌∷◌, ◌++◌, length, map, get_or, set, refl, sym, ap, ◌∙◌, arith}
+use Rattle.std.proofs.Common.{◌≡◌, ℕ, zero, suc, List, [], ◌∷◌, ◌++◌, length, map, get_or, set, refl, ap, arith}
 use Rattle.std.specs.List.{remove}
 use Rattle.schedule_trie.specs.Forest.{name_of}
-use Rattle.schedule_trie.specs.Cut.{Piece, Strand, strand, branches_on, keys_in, set_keys, divided_keys, divided_strand, keys_without, strand_without}
+use Rattle.schedule_trie.specs.Cut.{Piece, strand, branches_on, keys_in, set_keys, divided_keys, divided_strand, keys_without, strand_without}
 use Rattle.schedule_trie.specs.Held.{strands_of}
 use Rattle.std.specs.Prelude.{Option}
 

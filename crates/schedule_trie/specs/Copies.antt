@@ -1,8 +1,8 @@
 -- Segments that are made again with new cells.
-use Rattle.std.specs.Prelude.{◌≡◌, ℕ, ◌+◌, true, false, List, [], ◌∷◌, Option, Some, None, length}
+use Rattle.std.specs.Prelude.{◌≡◌, ℕ, ◌+◌, List, [], ◌∷◌, Option, None, length}
 use Rattle.schedule_trie.specs.declared.segment.Segment.{Segment}
 use Rattle.schedule_trie.specs.Forest.{renumbered, only_in, slots_in}
-use Rattle.schedule_trie.specs.Cut.{Cut, Piece, slots_of, forest, has, Once, IsCut, KeepsAllNotes}
+use Rattle.schedule_trie.specs.Cut.{Cut, Piece, slots_of, forest, IsCut, KeepsAllNotes}
 
 -- each segment of a path is made again: its steps in cells with numbers from n on, and no note
 abbrev pub AreCopies : {T : Type 0} → (ℕ → Option (Piece T)) → ℕ → List ℕ → List (Segment T) → Type 0

@@ -1,7 +1,7 @@
 -- A fork, by what the cut becomes.
-use Rattle.std.specs.Prelude.{ℕ, ◌≡◌, ◌+◌, ◌<◌, ◌≤◌, List, [], ◌∷◌, ◌++◌, Option, Some, length, take, slice_index}
+use Rattle.std.specs.Prelude.{ℕ, ◌≡◌, List, [], ◌∷◌, ◌++◌, Some, take}
 use Rattle.schedule_trie.specs.Forest.{branch, index_of, slots_in}
-use Rattle.schedule_trie.specs.Cut.{Cut, Piece, forest, line, slots_of, IsCut, KeepsNotesBut, IsParted}
+use Rattle.schedule_trie.specs.Cut.{Cut, forest, IsCut, KeepsNotesBut, IsParted}
 
 -- a branch of this name goes last, with the first cells of the branch at an index
 pub record IsForked {T : Type 0} (old new : Cut T) (index place : ℕ) (name : List ℕ) : Type 0 where

@@ -1,9 +1,10 @@
 -- What a trie's fields hold: its cut.
-use Rattle.std.specs.Prelude.{ℕ, ◌≡◌, List, [], ◌∷◌, Option, Some, None, length, map}
+use Rattle.std.specs.Prelude.{ℕ, ◌≡◌, List, [], ◌∷◌, Option, Some, None, IfSome, length, map, slice_get}
 use Rattle.std.specs.Map.{keys_of}
 use Rattle.schedule_trie.specs.declared.segment.Segment.{Segment}
 use Rattle.schedule_trie.specs.declared.trie.Trie.TheInside.{Inside}
-use Rattle.schedule_trie.specs.Cut.{Cut, Piece, Strand, piece, strand, IsWhole}
+use Rattle.schedule_trie.specs.Forest.{Branch, slots_in}
+use Rattle.schedule_trie.specs.Cut.{Cut, Piece, Strand, piece, strand, forest, IsWhole}
 
 module _ {T : Type 0} where
   abbrev pub piece_of : Option (Segment T) → Option (Piece T)
@@ -19,6 +20,15 @@ strands_of [] paths = []
 strands_of (n ∷ ns) [] = strand n [] ∷ strands_of ns []
 strands_of (n ∷ ns) (p ∷ ps) = strand n p ∷ strands_of ns ps
 
+-- the length that is kept with a branch, if one is
+abbrev pub kept_in : Option (List ℕ × Option ℕ) → Option ℕ
+kept_in None = None
+kept_in (Some entry) = entry.1
+
+-- each length that is kept is how many cells the branch has
+abbrev pub AreLengths : List (List ℕ × Option ℕ) → List Branch → Type 0
+AreLengths entries branches = (i : ℕ) → IfSome (kept_in (slice_get entries i)) (λ n. n ≡ length (slots_in branches i))
+
 module _ {T : Type 0} where
   abbrev pub names_of : Inside T → List (List ℕ)
   names_of t = keys_of t.branches.entries
@@ -30,3 +40,8 @@ module _ {T : Type 0} where
   pub record IsHeld (t : Inside T) : Type 0 where
     pub whole : IsWhole (cut_of t)
     pub paths : length t.segments.paths ≡ length (names_of t)
+
+  -- and the lengths that are kept are right
+  pub record IsKept (t : Inside T) : Type 0 where
+    pub held : IsHeld t
+    pub lengths : AreLengths t.branches.entries (forest (cut_of t)).branches

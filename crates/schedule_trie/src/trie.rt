@@ -13,6 +13,7 @@ mod detach;
 mod drops;
 mod fork;
 mod insert;
+mod lengths;
 mod push;
 mod remove;
 
@@ -42,11 +43,11 @@ impl<T> Model for Trie<T> {
 
     ghost Value = { Cut T };
 
-    ghost use Rattle.schedule_trie.specs.Held.{cut_of, IsHeld};
+    ghost use Rattle.schedule_trie.specs.Held.{cut_of, IsKept};
 
     ghost view = { cut_of };
 
-    ghost invariant = { IsHeld };
+    ghost invariant = { IsKept };
 }
 
 impl<T: Drop> Trie<T> {
@@ -82,6 +83,7 @@ impl<T: Drop> Trie<T> {
         for step in steps {
             trie.push_last(alloc, 0, *step)?;
         }
+        trie.learn_len(0);
         Ok(trie)
     }
 
@@ -260,6 +262,7 @@ impl<T: Drop> Trie<T> {
         let Some(index) = self.index(branch) else {
             return Err(Refusal::NoBranch);
         };
+        self.learn_len(index);
         let Some((key, offset)) = self.find_cell(index, place) else {
             return Err(Refusal::NoPlace);
         };

@@ -4,19 +4,24 @@ ghost use Rattle.std.specs.Prelude.{ℕ, List, ◌≡◌, ◌≤◌, ◌<◌, �
 ghost use Rattle.std.specs.List.{position};
 ghost use Rattle.lineage.specs.Family.{last_of};
 ghost use Rattle.schedule_trie.specs.Forest.{is_cell, slots_in};
-ghost use Rattle.schedule_trie.specs.Cut.{forest, piece_at, slots_of, keys_in, line, StandsAt, LiesIn};
+ghost use Rattle.schedule_trie.specs.Cut.{forest, piece_at, slots_of, keys_in, line, StandsAt, LiesIn, IsWhole};
 ghost use Rattle.schedule_trie.specs.Climbs.{keys_to, IsReached};
 
 use super::Trie;
+use super::lengths::kept_length;
 use crate::segment::SegKey;
 use crate::slot::Slot;
 
 impl<T: Drop> Trie<T> {
     /// How many cells the branch at an index has.
     pub(super) fn len_at(&self, index: usize) -> u32
-        ensures { result ≡ length (slots_in (forest self.now).branches index) }
+        ensures len { result ≡ length (slots_in (forest self.now).branches index) }
+        ensures whole { IsWhole self.now }
     {
-        self.len_to(index, self.segments.last(index))
+        match kept_length(&self.branches, index) {
+            Some(len) => len,
+            None => self.len_to(index, self.segments.last(index)),
+        }
     }
 
     /// How many cells the branch at an index has down to the end of one of its segments, if one is named.

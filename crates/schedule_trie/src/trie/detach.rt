@@ -25,7 +25,7 @@ impl<T: Drop> Trie<T> {
         let Some(index) = self.index(branch) else {
             return Err(Refusal::NoBranch);
         };
-        if self.len_at(index) > self.limits.cells - self.made {
+        if self.learn_len(index) > self.limits.cells - self.made {
             return Err(Refusal::Full);
         }
         self.detach_at(alloc, index)?;

@@ -43,13 +43,15 @@ impl<T: Drop> Trie<T> {
         if !name.is_well_formed() {
             return Err(Refusal::BadName);
         }
-        if self.len_at(index) < place {
+        if self.learn_len(index) < place {
             return Err(Refusal::NoPlace);
         }
-        if self.branches() >= self.limits.branches {
+        let count = self.branches();
+        if count >= self.limits.branches {
             return Err(Refusal::TooManyBranches);
         }
         self.fork_at(alloc, index, place, name)?;
+        self.keep_len(count as usize, place);
         Ok(())
     }
 

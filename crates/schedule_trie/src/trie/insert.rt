@@ -7,6 +7,7 @@ ghost use Rattle.schedule_trie.specs.Forest.{slots_in};
 ghost use Rattle.schedule_trie.specs.Cut.{forest, piece_at, slots_of, IsPutBefore, IsInserted};
 
 use super::Trie;
+use super::lengths::forget_lengths;
 use crate::name::Name;
 use crate::refusal::Refusal;
 use crate::segment::{MOST_SLOTS, SegKey, Segment};
@@ -38,13 +39,15 @@ impl<T: Drop> Trie<T> {
         let Some(index) = self.index(branch) else {
             return Err(Refusal::NoBranch);
         };
-        if self.len_at(index) < place {
+        let len = self.learn_len(index);
+        if len < place {
             return Err(Refusal::NoPlace);
         }
         if self.limits.cells <= self.made {
             return Err(Refusal::Full);
         }
         self.insert_at(alloc, index, place, step)?;
+        self.keep_len(index, len + 1);
         Ok(())
     }
 
@@ -100,6 +103,7 @@ impl<T: Drop> Trie<T> {
             step,
         };
         self.segments.item_mut(key).insert(offset, slot)?;
+        forget_lengths(&mut self.branches);
         self.made += 1;
         Ok(())
     }
@@ -129,6 +133,7 @@ impl<T: Drop> Trie<T> {
         };
         self.segments.divide(key, above)?;
         self.segments.item_mut(key).set_slots(below);
+        forget_lengths(&mut self.branches);
         self.made += 1;
         Ok(())
     }

@@ -4,6 +4,7 @@ ghost use Rattle.std.specs.Prelude.{◌≡◌, ◌<◌, length, IfSome, OnOk, On
 ghost use Rattle.schedule_trie.specs.Cut.{IsOwnEnd, IsPushed};
 
 use super::Trie;
+use super::lengths::set_length;
 use crate::segment::{MOST_SLOTS, SegKey, Segment};
 use crate::slot::Slot;
 use frames::types::Step;
@@ -41,6 +42,7 @@ impl<T: Drop> Trie<T> {
             step,
         };
         self.segments.item_mut(key).push(slot)?;
+        set_length(&mut self.branches, index, None);
         self.made += 1;
         Ok(())
     }
@@ -58,6 +60,7 @@ impl<T: Drop> Trie<T> {
         };
         let segment = Segment::new(alloc, slot)?;
         self.segments.push(index, segment)?;
+        set_length(&mut self.branches, index, None);
         self.made += 1;
         Ok(())
     }

@@ -8,6 +8,7 @@ use crate::name::Name;
 use crate::refusal::Refusal;
 use crate::segment::SegKey;
 use crate::trie::Trie;
+use crate::trie::lengths::forget_lengths;
 
 impl<T: Drop> Trie<T> {
     /// Takes the cell at a place of a branch out of each branch that holds it. It takes no memory.
@@ -22,10 +23,12 @@ impl<T: Drop> Trie<T> {
         let Some(index) = self.index(branch) else {
             return Err(Refusal::NoBranch);
         };
+        let len = self.learn_len(index);
         let Some((key, offset)) = self.find_cell(index, place) else {
             return Err(Refusal::NoPlace);
         };
         self.remove_slot(key, offset);
+        self.keep_len(index, len - 1);
         Ok(())
     }
 
@@ -48,6 +51,7 @@ impl<T: Drop> Trie<T> {
         ensures { IsRemoved self.old self.new key offset }
     {
         self.segments.item_mut(key).remove(offset);
+        forget_lengths(&mut self.branches);
     }
 
     /// Takes a segment of one cell out of each branch.
@@ -56,5 +60,6 @@ impl<T: Drop> Trie<T> {
         ensures { IsRemoved self.old self.new key 0 }
     {
         self.segments.take_out(key);
+        forget_lengths(&mut self.branches);
     }
 }

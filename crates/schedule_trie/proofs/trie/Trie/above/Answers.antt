@@ -9,7 +9,7 @@ use Rattle.schedule_trie.proofs.trie.Trie.above.Goals as goal
 pub returns-clause-first : goal.returns-clause-first
 returns-clause-first g c =
     let t = c.self.inside in
-    let held = c.self.invariant in
+    let held = c.self.invariant.held in
     rw (← c.self.view_is) (above_told (cut_of t).strands c.args.key c.above.result
     (λ i front back e. c.above.ensures.each i front back (sym (keys_are t held i) ∙ e))
     (λ lacks. c.above.ensures.none (none_there t c.args.key (lacked_none (piece_at (cut_of t).pieces c.args.key) (cut_of t).strands c.args.key (held.whole.sound.live c.args.key) lacks))))

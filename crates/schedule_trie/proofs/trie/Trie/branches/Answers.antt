@@ -10,7 +10,7 @@ pub overflow_cast-result : goal.overflow_cast-result
 overflow_cast-result g c =
     let t = c.self.inside in
     let count = c.len.ensures.len ∙ sym (length-map t.branches.entries (λ e. e.0)) ∙ sym (length-strands (names_of t) t.segments.paths) in
-    let w = c.self.invariant.whole.within in
+    let w = c.self.invariant.held.whole.within in
     omega (arith, count, w.branches_fit, w.most_branches)
 
 pub returns-clause-count : goal.returns-clause-count

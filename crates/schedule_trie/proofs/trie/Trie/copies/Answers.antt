@@ -11,7 +11,7 @@ loop-key-init g c =
     let now = c.args.self.now in
     let at = piece_at now.pieces in
     let made : c.self.inside.made ≡ now.made = ap (λ z. z.made) c.self.view_is in
-    let most : now.limits.cells ≤ 16777216 = subst (λ z. z.limits.cells ≤ 16777216) c.self.view_is c.self.invariant.whole.within.most_cells in
+    let most : now.limits.cells ≤ 16777216 = subst (λ z. z.limits.cells ≤ 16777216) c.self.view_is c.self.invariant.held.whole.within.most_cells in
     let len = ap length (slots_in_on at now.strands c.args.index ∙ ap (line at) (sym (c.deref-key-items.ensures.value ∙ c.in_ok-keys.ensures.keys))) in
     record {
       copies = subst (AreCopies at now.made []) (sym c.in_ok-copies.ensures.items) tt;

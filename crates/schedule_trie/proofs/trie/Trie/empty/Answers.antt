@@ -1,13 +1,17 @@
 use Rattle.std.proofs.Common.{refl, ◌∙◌}
 use Rattle.schedule_trie.proofs.Openings.{one_name, one_path, first_held, first_forest, first_cut}
+use Rattle.schedule_trie.proofs.Lengths.{first_lengths}
 use Rattle.schedule_trie.proofs.trie.Trie.empty.Goals as goal
 
 pub invariant_of-result : goal.invariant_of-result
 invariant_of-result g c =
-    first_held c.args.limits c.requires (record { segments = c.fork.new.self; branches = c.insert.new.self; made = 0; limits = c.args.limits })
-    (one_name _ c.new-branches.result.entries c.insert.new.self.entries c.main.result _ c.new-branches.ensures.empty c.in_ok-insert.ensures.entries c.main.ensures)
-    (one_path c.new-segments.result c.fork.new.self c.new-segments.ensures.paths c.in_ok-fork.ensures.ok)
-    (c.in_ok-fork.ensures.ok.items ∙ c.new-segments.ensures.items) refl refl
+    record {
+      held = first_held c.args.limits c.requires (record { segments = c.fork.new.self; branches = c.insert.new.self; made = 0; limits = c.args.limits })
+          (one_name _ c.new-branches.result.entries c.insert.new.self.entries c.main.result _ c.new-branches.ensures.empty c.in_ok-insert.ensures.entries c.main.ensures)
+          (one_path c.new-segments.result c.fork.new.self c.new-segments.ensures.paths c.in_ok-fork.ensures.ok)
+          (c.in_ok-fork.ensures.ok.items ∙ c.new-segments.ensures.items) refl refl;
+      lengths = first_lengths _ c.new-branches.result.entries c.insert.new.self.entries c.main.result _ c.new-branches.ensures.empty c.in_ok-insert.ensures.entries;
+    }
 
 pub returns-clause-cut : goal.returns-clause-cut
 returns-clause-cut g c =

@@ -10,9 +10,9 @@ use Rattle.schedule_trie.proofs.trie.Trie.find_cell.Given.{Over}
 pub loop-at-init : goal.loop-at-init
 loop-at-init g c =
     let now = c.args.self.now in
-    let l = path_last c.self.inside now c.self.view_is c.self.invariant c.args.index c.last-at.result c.last-at.ensures in
+    let l = path_last c.self.inside now c.self.view_is c.self.invariant.held c.args.index c.last-at.result c.last-at.ensures in
     let all = ap (λ ks. length (line (piece_at now.pieces) ks)) l.all in
-    let len = c.len_at-len.ensures ∙ ap length (slots_in_on (piece_at now.pieces) now.strands c.args.index) in
+    let len = c.len_at-len.ensures.len ∙ ap length (slots_in_on (piece_at now.pieces) now.strands c.args.index) in
     record { reached = l.reached; behind = omega (arith, all, len); some = omega arith }
 
 pub returns-then-rest-len-clause-lies : goal.returns-then-rest-len-clause-lies
@@ -32,7 +32,7 @@ returns-then-rest-len-clause-found g c =
 
 step : (g : Over) (c : goal.After-above-at g) → IsStepUp (keys_in c.args.self.now.strands c.args.index) c.in-Some.key c.above-at.result
 step g c =
-    path_up c.self.inside c.args.self.now c.self.view_is c.self.invariant c.args.index c.in-Some.key c.above-at.result
+    path_up c.self.inside c.args.self.now c.self.view_is c.self.invariant.held c.args.index c.in-Some.key c.above-at.result
     (subst (IsReached (keys_in c.args.self.now.strands c.args.index)) c.in-Some.is c.loop-at.invariant.reached) c.above-at.ensures.each
 
 pub loop-at-smaller : goal.loop-at-smaller

@@ -1,8 +1,11 @@
-use Rattle.std.proofs.Common.{refl, sym, ap, ◌∙◌, Ok, is_some, inl, arith}
+use Rattle.std.proofs.Common.{◌≡◌, ◌≤◌, None, length, refl, sym, ap, subst, ◌∙◌, Ok, is_some, inl, arith}
 use Rattle.std.proofs.lemmas.Result.{err_from_is_err_and}
-use Rattle.std.proofs.lemmas.List.{length-map}
-use Rattle.schedule_trie.specs.Cut.{forest, branch_on, piece_at}
+use Rattle.schedule_trie.specs.Edits.{Fork, IsEdited}
+use Rattle.schedule_trie.specs.Forest.{index_of, slots_in}
+use Rattle.schedule_trie.specs.Cut.{forest}
+use Rattle.schedule_trie.specs.Forks.{IsForked}
 use Rattle.schedule_trie.proofs.ForkAnswers.{name_taken, bad_name, no_place, too_many, is_forked, memory_alone, none_from}
+use Rattle.schedule_trie.proofs.LengthsAfter.{branch_count, fork_last, fork_long}
 use Rattle.schedule_trie.proofs.trie.Trie.fork.Goals as goal
 
 pub returns-then-is_some-clause-err : goal.returns-then-is_some-clause-err
@@ -21,52 +24,69 @@ returns-then-not-is_well_formed-clause-err g c =
       unchanged = refl;
     }
 
-pub returns-then-len_at-place-clause-err : goal.returns-then-len_at-place-clause-err
-returns-then-len_at-place-clause-err g c =
+pub returns-then-learn_len-place-clause-err : goal.returns-then-learn_len-place-clause-err
+returns-then-learn_len-place-clause-err g c =
     record {
       why = inl (no_place c.args.self.now.limits (forest c.args.self.now) c.args.branch.now c.args.name c.args.place c.in-Some.index (sym c.in-Some.ensures.index)
           (ap is_some (sym c.index-2.ensures.index) ∙ sym c.is_some.ensures ∙ c.if-is_some.false) (sym c.is_well_formed.ensures ∙ c.if-not-is_well_formed.false)
-          (omega (arith, c.len_at.ensures, c.if-len_at-place.true)));
-      unchanged = refl;
+          (omega (arith, c.learn_len.ensures.len, c.if-learn_len-place.true)));
+      unchanged = c.learn_len.ensures.same;
     }
 
-pub returns-then-branches-self-clause-err : goal.returns-then-branches-self-clause-err
-returns-then-branches-self-clause-err g c =
-    let most = ap (λ z. z.limits.branches) c.self.view_is in
+pub returns-then-count-self-clause-err : goal.returns-then-count-self-clause-err
+returns-then-count-self-clause-err g c =
+    let most = ap (λ z. z.limits.branches) (c.self.view_is ∙ c.learn_len.ensures.same) in
+    let branches = c.branches-count.ensures.count ∙ ap (λ z. length (forest z).branches) c.learn_len.ensures.same in
     record {
       why = inl (too_many c.args.self.now.limits (forest c.args.self.now) c.args.branch.now c.args.name c.args.place c.in-Some.index (sym c.in-Some.ensures.index)
           (ap is_some (sym c.index-2.ensures.index) ∙ sym c.is_some.ensures ∙ c.if-is_some.false) (sym c.is_well_formed.ensures ∙ c.if-not-is_well_formed.false)
-          (omega (arith, c.len_at.ensures, c.if-len_at-place.false)) (omega (arith, most, c.branches.ensures.count, c.if-branches-self.true)));
-      unchanged = refl;
+          (omega (arith, c.learn_len.ensures.len, c.if-learn_len-place.false)) (omega (arith, most, branches, c.if-count-self.true)));
+      unchanged = c.learn_len.ensures.same;
     }
 
 pub fork_at-requires-clause-name : goal.fork_at-requires-clause-name
 fork_at-requires-clause-name g c =
-    none_from _ (ap is_some (sym c.index-2.ensures.index) ∙ sym c.is_some.ensures ∙ c.if-is_some.false)
+    subst (λ z. index_of (forest z).branches c.args.name ≡ None) (sym c.learn_len.ensures.same)
+    (none_from _ (ap is_some (sym c.index-2.ensures.index) ∙ sym c.is_some.ensures ∙ c.if-is_some.false))
 
 pub fork_at-requires-clause-room : goal.fork_at-requires-clause-room
 fork_at-requires-clause-room g c =
     let most = ap (λ z. z.limits.branches) c.self.view_is in
-    let count = length-map c.args.self.now.strands (branch_on (piece_at c.args.self.now.pieces)) in
-    omega (arith, most, count, c.branches.ensures.count, c.if-branches-self.false)
+    let count = branch_count c.learn_len.new.self in
+    omega (arith, most, count, c.branches-count.ensures.count, c.if-count-self.false)
+
+pub keep_len-requires-clause-index : goal.keep_len-requires-clause-index
+keep_len-requires-clause-index g c =
+    let more = fork_last c.learn_len.new.self c.fork_at.new.self c.in-Some.index c.args.place c.args.name c.in_ok-fork_at.ensures.ok in
+    omega (arith, more, c.branches-count.ensures.count, branch_count c.learn_len.new.self)
+
+pub keep_len-requires-clause-len : goal.keep_len-requires-clause-len
+keep_len-requires-clause-len g c =
+    let fits = subst (λ z. c.args.place ≤ length (slots_in (forest z).branches c.in-Some.index)) (sym c.learn_len.ensures.same) (omega (arith, c.learn_len.ensures.len, c.if-learn_len-place.false)) in
+    subst (λ n. c.args.place ≡ length (slots_in (forest c.fork_at.new.self).branches n)) (sym (c.branches-count.ensures.count ∙ branch_count c.learn_len.new.self))
+    (fork_long c.learn_len.new.self c.fork_at.new.self c.in-Some.index c.args.place c.args.name c.in_ok-fork_at.ensures.ok fits)
 
 pub returns-clause-ok : goal.returns-clause-ok
 returns-clause-ok g c =
-    let most = ap (λ z. z.limits.branches) c.self.view_is in
-    record {
+    let most = ap (λ z. z.limits.branches) (c.self.view_is ∙ c.learn_len.ensures.same) in
+    let branches = c.branches-count.ensures.count ∙ ap (λ z. length (forest z).branches) c.learn_len.ensures.same in
+    let told = subst (λ z. IsForked z c.fork_at.new.self c.in-Some.index c.args.place c.args.name) c.learn_len.ensures.same c.in_ok-fork_at.ensures.ok in
+    subst (λ z. IsEdited c.args.self.now z (Fork c.args.branch.now c.args.place c.args.name)) (sym c.keep_len.ensures)
+    (record {
       forest = is_forked c.args.self.now.limits (forest c.args.self.now) c.args.branch.now c.args.name c.args.place c.in-Some.index (sym c.in-Some.ensures.index)
           (ap is_some (sym c.index-2.ensures.index) ∙ sym c.is_some.ensures ∙ c.if-is_some.false) (sym c.is_well_formed.ensures ∙ c.if-not-is_well_formed.false)
-          (omega (arith, c.len_at.ensures, c.if-len_at-place.false)) (omega (arith, most, c.branches.ensures.count, c.if-branches-self.false))
-          ∙ sym (λ i. Ok (record { branches = c.in_ok-fork_at.ensures.ok.branches i; made = c.in_ok-fork_at.ensures.ok.made i }));
-      notes = c.in_ok-fork_at.ensures.ok.notes c.args.branch.now (sym c.in-Some.ensures.index);
-      cut = c.in_ok-fork_at.ensures.ok.cut;
-      limits = c.in_ok-fork_at.ensures.ok.limits;
-    }
+          (omega (arith, c.learn_len.ensures.len, c.if-learn_len-place.false)) (omega (arith, most, branches, c.if-count-self.false))
+          ∙ sym (λ i. Ok (record { branches = told.branches i; made = told.made i }));
+      notes = told.notes c.args.branch.now (sym c.in-Some.ensures.index);
+      cut = told.cut;
+      limits = told.limits;
+    })
 
 pub returns-in_err-fork_at-clause-err : goal.returns-in_err-fork_at-clause-err
 returns-in_err-fork_at-clause-err g c =
-    let most = ap (λ z. z.limits.branches) c.self.view_is in
+    let most = ap (λ z. z.limits.branches) (c.self.view_is ∙ c.learn_len.ensures.same) in
+    let branches = c.branches-count.ensures.count ∙ ap (λ z. length (forest z).branches) c.learn_len.ensures.same in
     let why = memory_alone c.args.self.now.limits (forest c.args.self.now) c.args.branch.now c.args.name c.args.place c.in-Some.index (sym c.in-Some.ensures.index)
     (ap is_some (sym c.index-2.ensures.index) ∙ sym c.is_some.ensures ∙ c.if-is_some.false) (sym c.is_well_formed.ensures ∙ c.if-not-is_well_formed.false)
-    (omega (arith, c.len_at.ensures, c.if-len_at-place.false)) (omega (arith, most, c.branches.ensures.count, c.if-branches-self.false)) in
-    let p = err_from_is_err_and c.from_residual.result c.from_residual.ensures.1 in rw (p.1, p.2) (record { why = why; unchanged = c.in_err-fork_at.ensures.err })
+    (omega (arith, c.learn_len.ensures.len, c.if-learn_len-place.false)) (omega (arith, most, branches, c.if-count-self.false)) in
+    let p = err_from_is_err_and c.from_residual.result c.from_residual.ensures.1 in rw (p.1, p.2) (record { why = why; unchanged = c.in_err-fork_at.ensures.err ∙ c.learn_len.ensures.same })

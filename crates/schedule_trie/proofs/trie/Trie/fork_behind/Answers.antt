@@ -1,3 +1,4 @@
+use Rattle.schedule_trie.specs.Held.{cut_of}
 use Rattle.std.proofs.Common.{◌≡◌, ◌<◌, nat_eq, None, length, refl, sym, ap, subst, ◌∙◌}
 use Rattle.std.specs.Cmp.Lexicographic.{pointwise}
 use Rattle.indexmap.specs.IndexMap.{insert_entry}
@@ -5,27 +6,38 @@ use Rattle.schedule_trie.specs.Forest.{index_of}
 use Rattle.schedule_trie.specs.Cut.{forest, keys_in}
 use Rattle.schedule_trie.specs.Climbs.{IsReached}
 use Rattle.schedule_trie.proofs.ForkSteps.{reached_there, behind_held, behind_told}
+use Rattle.schedule_trie.proofs.LengthSteps.{forked_lengths}
 use Rattle.schedule_trie.proofs.trie.Trie.fork_behind.Goals as goal
 
 pub fork-requires : goal.fork-requires
 fork-requires g c =
-    reached_there c.self.inside c.args.index c.args.last c.self.invariant (subst (λ z. IsReached (keys_in z.strands c.args.index) c.args.last) (sym c.self.view_is) c.requires.last)
+    reached_there c.self.inside c.args.index c.args.last c.self.invariant.held (subst (λ z. IsReached (keys_in z.strands c.args.index) c.args.last) (sym c.self.view_is) c.requires.last)
 
 pub invariant_of-self-2 : goal.invariant_of-self-2
 invariant_of-self-2 g c =
     let t = c.self.inside in
     let view = c.self.view_is in
-    behind_held t (record t { segments = c.fork.new.self; branches = c.insert_reserved.new.branches }) c.args.name c.args.index c.args.last None c.self.invariant
-    (subst (λ z. length z.strands < z.limits.branches) (sym view) c.requires.room) (subst (λ z. index_of (forest z).branches c.args.name ≡ None) (sym view) c.requires.name)
-    (subst (λ z. IsReached (keys_in z.strands c.args.index) c.args.last) (sym view) c.requires.last) c.in_ok-fork.ensures.ok
-    (c.insert_reserved.ensures ∙ ap (λ es. insert_entry (pointwise nat_eq) es c.args.name None) c.in_ok-reserve.ensures.entries) refl refl
+    let u = record t { segments = c.fork.new.self; branches = c.insert_reserved.new.branches } in
+    let entries = c.insert_reserved.ensures ∙ ap (λ es. insert_entry (pointwise nat_eq) es c.args.name None) c.in_ok-reserve.ensures.entries in
+    record {
+      held = behind_held t (record t { segments = c.fork.new.self; branches = c.insert_reserved.new.branches }) c.args.name c.args.index c.args.last None c.self.invariant.held
+          (subst (λ z. length z.strands < z.limits.branches) (sym view) c.requires.room) (subst (λ z. index_of (forest z).branches c.args.name ≡ None) (sym view) c.requires.name)
+          (subst (λ z. IsReached (keys_in z.strands c.args.index) c.args.last) (sym view) c.requires.last) c.in_ok-fork.ensures.ok
+          (c.insert_reserved.ensures ∙ ap (λ es. insert_entry (pointwise nat_eq) es c.args.name None) c.in_ok-reserve.ensures.entries) refl refl;
+      lengths = forked_lengths t (cut_of u) u.branches.entries c.args.index _ c.args.name c.self.invariant.lengths
+          (subst (λ z. index_of (forest z).branches c.args.name ≡ None) (sym view) c.requires.name) entries
+          (behind_told t (record t { segments = c.fork.new.self; branches = c.insert_reserved.new.branches }) c.args.name c.args.index c.args.last None c.self.invariant.held
+          (subst (λ z. length z.strands < z.limits.branches) (sym view) c.requires.room) (subst (λ z. index_of (forest z).branches c.args.name ≡ None) (sym view) c.requires.name)
+          (subst (λ z. IsReached (keys_in z.strands c.args.index) c.args.last) (sym view) c.requires.last) c.in_ok-fork.ensures.ok
+          (c.insert_reserved.ensures ∙ ap (λ es. insert_entry (pointwise nat_eq) es c.args.name None) c.in_ok-reserve.ensures.entries) refl refl);
+    }
 
 pub returns-clause-ok : goal.returns-clause-ok
 returns-clause-ok g c =
     let t = c.self.inside in
     let view = c.self.view_is in
     rw (← c.self.view_is)
-    (behind_told t (record t { segments = c.fork.new.self; branches = c.insert_reserved.new.branches }) c.args.name c.args.index c.args.last None c.self.invariant
+    (behind_told t (record t { segments = c.fork.new.self; branches = c.insert_reserved.new.branches }) c.args.name c.args.index c.args.last None c.self.invariant.held
     (subst (λ z. length z.strands < z.limits.branches) (sym view) c.requires.room) (subst (λ z. index_of (forest z).branches c.args.name ≡ None) (sym view) c.requires.name)
     (subst (λ z. IsReached (keys_in z.strands c.args.index) c.args.last) (sym view) c.requires.last) c.in_ok-fork.ensures.ok
     (c.insert_reserved.ensures ∙ ap (λ es. insert_entry (pointwise nat_eq) es c.args.name None) c.in_ok-reserve.ensures.entries) refl refl)

@@ -7,14 +7,14 @@ use Rattle.schedule_trie.proofs.trie.Trie.keys_at.Goals as goal
 pub returns-clause-keys : goal.returns-clause-keys
 returns-clause-keys g c =
     if_ok c.keys.result (λ keys. keys.items ≡ path_in c.self.inside.segments c.args.index) (λ keys. keys.items ≡ keys_in c.args.self.now.strands c.args.index)
-    (λ keys e. subst (λ z. keys.items ≡ keys_in z.strands c.args.index) c.self.view_is (keys_told c.self.inside c.self.invariant c.args.index keys.items e).0) c.keys.ensures
+    (λ keys e. subst (λ z. keys.items ≡ keys_in z.strands c.args.index) c.self.view_is (keys_told c.self.inside c.self.invariant.held c.args.index keys.items e).0) c.keys.ensures
 
 pub returns-clause-short : goal.returns-clause-short
 returns-clause-short g c =
     if_ok c.keys.result (λ keys. keys.items ≡ path_in c.self.inside.segments c.args.index) (λ keys. length (line (piece_at c.args.self.now.pieces) keys.items) ≤ c.args.self.now.made)
-    (λ keys e. subst (λ z. length (line (piece_at z.pieces) keys.items) ≤ z.made) c.self.view_is (keys_told c.self.inside c.self.invariant c.args.index keys.items e).1) c.keys.ensures
+    (λ keys e. subst (λ z. length (line (piece_at z.pieces) keys.items) ≤ z.made) c.self.view_is (keys_told c.self.inside c.self.invariant.held c.args.index keys.items e).1) c.keys.ensures
 
 pub returns-clause-made : goal.returns-clause-made
 returns-clause-made g c =
-    let w = c.self.invariant.whole.within in
+    let w = c.self.invariant.held.whole.within in
     subst (λ z. z.made ≤ 16777216) c.self.view_is (omega (arith, w.cells, w.most_cells))

@@ -14,12 +14,12 @@ overflow_add-len g c =
     let own = cells_own (piece_at now.pieces) keys c.loop-at.at c.in-Some.key was.reached c.in-Some.is in
     let len = ap length c.slots_at.ensures in
     let within = cells_within (piece_at now.pieces) keys c.args.last c.requires in
-    let short = path_short c.self.inside now c.self.view_is c.self.invariant c.args.index in
+    let short = path_short c.self.inside now c.self.view_is c.self.invariant.held c.args.index in
     omega (arith, own, len, within, short, was.sum)
 
 step : (g : Over) (c : goal.After-above-at g) → IsStepUp (keys_in c.args.self.now.strands c.args.index) c.in-Some.key c.above-at.result
 step g c =
-    path_up c.self.inside c.args.self.now c.self.view_is c.self.invariant c.args.index c.in-Some.key c.above-at.result
+    path_up c.self.inside c.args.self.now c.self.view_is c.self.invariant.held c.args.index c.in-Some.key c.above-at.result
     (subst (IsReached (keys_in c.args.self.now.strands c.args.index)) c.in-Some.is c.loop-at.invariant.reached) c.above-at.ensures.each
 
 pub loop-at-smaller : goal.loop-at-smaller

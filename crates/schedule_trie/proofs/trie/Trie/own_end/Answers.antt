@@ -8,5 +8,5 @@ returns g c =
     let t = c.self.inside in
     let len = ap length c.slots_at.ensures in
     let few : length (slots_of (piece_at c.args.self.now.pieces c.in_ok-key.key)) < 128 = omega (arith, len) in
-    rw (← c.self.view_is) (own_told t c.args.index c.in_ok-key.key c.self.invariant (sym c.in_ok-key.ensures) (c.if-not-ends_alone.ensures.yes refl)
+    rw (← c.self.view_is) (own_told t c.args.index c.in_ok-key.key c.self.invariant.held (sym c.in_ok-key.ensures) (c.if-not-ends_alone.ensures.yes refl)
     (subst (λ z. length (slots_of (piece_at z.pieces c.in_ok-key.key)) < 128) (sym c.self.view_is) few))

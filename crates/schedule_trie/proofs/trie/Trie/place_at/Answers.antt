@@ -12,12 +12,12 @@ use Rattle.schedule_trie.proofs.trie.Trie.place_at.Goals as goal
 pub loop-at-init : goal.loop-at-init
 loop-at-init g c =
     let now = c.args.self.now in
-    let l = path_last c.self.inside now c.self.view_is c.self.invariant c.args.index c.last-at.result c.last-at.ensures in
+    let l = path_last c.self.inside now c.self.view_is c.self.invariant.held c.args.index c.last-at.result c.last-at.ensures in
     record { reached = l.reached; same = ap (λ ks. position (is_cell c.args.cell) (line (piece_at now.pieces) ks)) l.all }
 
 pub len_to-requires : goal.len_to-requires
 len_to-requires g c =
-    let s = path_up c.self.inside c.args.self.now c.self.view_is c.self.invariant c.args.index c.in-Some.key c.above-above.result
+    let s = path_up c.self.inside c.args.self.now c.self.view_is c.self.invariant.held c.args.index c.in-Some.key c.above-above.result
     (subst (IsReached (keys_in c.args.self.now.strands c.args.index)) c.in-Some.is c.loop-at.invariant.reached) c.above-above.ensures.each in
     s.reached
 
@@ -25,25 +25,25 @@ pub overflow_add-result : goal.overflow_add-result
 overflow_add-result g c =
     let now = c.args.self.now in
     let keys = keys_in now.strands c.args.index in
-    let s = path_up c.self.inside c.args.self.now c.self.view_is c.self.invariant c.args.index c.in-Some.key c.above-above.result
+    let s = path_up c.self.inside c.args.self.now c.self.view_is c.self.invariant.held c.args.index c.in-Some.key c.above-above.result
     (subst (IsReached (keys_in c.args.self.now.strands c.args.index)) c.in-Some.is c.loop-at.invariant.reached) c.above-above.ensures.each in
     let up = cells_up (piece_at now.pieces) keys c.in-Some.key c.above-above.result s in
     let inside = first_within (is_cell c.args.cell) c.slots_at.result.now c.in-Some-offset_of.offset c.in-Some-offset_of.ensures in
     let len = ap length c.slots_at.ensures in
     let at = ap (λ o. length (line (piece_at now.pieces) (keys_to keys o))) c.in-Some.is in
     let within = cells_within (piece_at now.pieces) keys c.loop-at.at c.loop-at.invariant.reached in
-    let short = path_short c.self.inside now c.self.view_is c.self.invariant c.args.index in
+    let short = path_short c.self.inside now c.self.view_is c.self.invariant.held c.args.index in
     omega (arith, up, inside, len, at, within, short, c.len_to.ensures)
 
 pub returns-in-Some-offset_of : goal.returns-in-Some-offset_of
 returns-in-Some-offset_of g c =
     let now = c.args.self.now in
     let keys = keys_in now.strands c.args.index in
-    let sound = (subst IsWhole c.self.view_is c.self.invariant.whole).sound in
-    let s = path_up c.self.inside c.args.self.now c.self.view_is c.self.invariant c.args.index c.in-Some.key c.above-above.result
+    let sound = (subst IsWhole c.self.view_is c.self.invariant.held.whole).sound in
+    let s = path_up c.self.inside c.args.self.now c.self.view_is c.self.invariant.held c.args.index c.in-Some.key c.above-above.result
     (subst (IsReached (keys_in c.args.self.now.strands c.args.index)) c.in-Some.is c.loop-at.invariant.reached) c.above-above.ensures.each in
     let here = place_up (piece_at now.pieces) c.args.cell keys c.in-Some.key c.above-above.result s sound.apart
-    (path_once c.self.inside now c.self.view_is c.self.invariant c.args.index) c.in-Some-offset_of.offset
+    (path_once c.self.inside now c.self.view_is c.self.invariant.held c.args.index) c.in-Some-offset_of.offset
     (c.in-Some-offset_of.ensures ∙ ap (position (is_cell c.args.cell)) c.slots_at.ensures) in
     ap (λ n. Some (n + c.in-Some-offset_of.offset)) c.len_to.ensures ∙ sym here
     ∙ ap (λ o. position (is_cell c.args.cell) (line (piece_at now.pieces) (keys_to keys o))) (sym c.in-Some.is) ∙ c.loop-at.invariant.same
@@ -52,7 +52,7 @@ returns-in-Some-offset_of g c =
 pub loop-at-smaller : goal.loop-at-smaller
 loop-at-smaller g c =
     let keys = keys_in c.args.self.now.strands c.args.index in
-    let s = path_up c.self.inside c.args.self.now c.self.view_is c.self.invariant c.args.index c.in-Some.key c.above-above.result
+    let s = path_up c.self.inside c.args.self.now c.self.view_is c.self.invariant.held c.args.index c.in-Some.key c.above-above.result
     (subst (IsReached (keys_in c.args.self.now.strands c.args.index)) c.in-Some.is c.loop-at.invariant.reached) c.above-above.ensures.each in
     subst (λ o. length (keys_to keys c.above-above.result) < length (keys_to keys o)) (sym c.in-Some.is)
     (shorter_up (piece_at c.args.self.now.pieces) keys c.in-Some.key c.above-above.result s)
@@ -61,13 +61,13 @@ pub loop-at-preserved : goal.loop-at-preserved
 loop-at-preserved g c =
     let now = c.args.self.now in
     let keys = keys_in now.strands c.args.index in
-    let s = path_up c.self.inside c.args.self.now c.self.view_is c.self.invariant c.args.index c.in-Some.key c.above-above.result
+    let s = path_up c.self.inside c.args.self.now c.self.view_is c.self.invariant.held c.args.index c.in-Some.key c.above-above.result
     (subst (IsReached (keys_in c.args.self.now.strands c.args.index)) c.in-Some.is c.loop-at.invariant.reached) c.above-above.ensures.each in
-    let sound = (subst IsWhole c.self.view_is c.self.invariant.whole).sound in
+    let sound = (subst IsWhole c.self.view_is c.self.invariant.held.whole).sound in
     record {
       reached = s.reached;
       same = sym (place_above (piece_at now.pieces) c.args.cell keys c.in-Some.key c.above-above.result s sound.apart
-          (path_once c.self.inside now c.self.view_is c.self.invariant c.args.index)
+          (path_once c.self.inside now c.self.view_is c.self.invariant.held c.args.index)
           (c.in_default-offset_of.ensures ∙ ap (position (is_cell c.args.cell)) c.slots_at.ensures))
           ∙ ap (λ o. position (is_cell c.args.cell) (line (piece_at now.pieces) (keys_to keys o))) (sym c.in-Some.is) ∙ c.loop-at.invariant.same;
     }

@@ -1,36 +1,56 @@
-use Rattle.std.proofs.Common.{sym, subst, ◌∙◌, ◌<◌, length}
-use Rattle.schedule_trie.specs.Cut.{IsOwnEnd}
+use Rattle.std.specs.Map.{keys_of}
+use Rattle.lineage.specs.Family.{with_item}
+use Rattle.schedule_trie.specs.Held.{cut_of}
+use Rattle.std.proofs.Common.{sym, subst, ap, refl, None, ◌∙◌, ◌+◌, ◌<◌, length}
+use Rattle.schedule_trie.specs.Cut.{IsOwnEnd, IsPushed}
 use Rattle.schedule_trie.proofs.PushSteps.{on_err, kept_held, own_there, cut_kept, in_held, in_pushed}
+use Rattle.schedule_trie.proofs.Lengths.{names_set, relength_seen}
+use Rattle.schedule_trie.proofs.LengthSteps.{entry_within, one_held, pushed_lengths}
 use Rattle.schedule_trie.proofs.trie.Trie.push_in.Goals as goal
 
 pub item_mut-requires : goal.item_mut-requires
 item_mut-requires g c =
-    own_there c.self.inside c.args.index c.args.key c.self.invariant (subst (λ z. IsOwnEnd z c.args.index c.args.key) (sym c.self.view_is) c.requires.end)
+    own_there c.self.inside c.args.index c.args.key c.self.invariant.held (subst (λ z. IsOwnEnd z c.args.index c.args.key) (sym c.self.view_is) c.requires.end)
 
 pub invariant_of-self : goal.invariant_of-self
 invariant_of-self g c =
     let end = subst (λ z. IsOwnEnd z c.args.index c.args.key) (sym c.self.view_is) c.requires.end in
-    kept_held c.self.inside c.args.key c.push.new.self c.self.invariant (cut_kept c.self.inside c.args.index c.args.key c.self.invariant end c.item_mut.result.now c.push.new.self c.item_mut.ensures.value
+    kept_held c.self.inside c.args.key c.push.new.self c.self.invariant (cut_kept c.self.inside c.args.index c.args.key c.self.invariant.held end c.item_mut.result.now c.push.new.self c.item_mut.ensures.value
     c.in_err-push.ensures.err_slots c.in_err-push.ensures.err_note)
 
 pub returns-in_err-push-clause-err : goal.returns-in_err-push-clause-err
 returns-in_err-push-clause-err g c =
     let end = subst (λ z. IsOwnEnd z c.args.index c.args.key) (sym c.self.view_is) c.requires.end in
-    on_err c.from_residual.result _ (cut_kept c.self.inside c.args.index c.args.key c.self.invariant end c.item_mut.result.now c.push.new.self c.item_mut.ensures.value
+    on_err c.from_residual.result _ (cut_kept c.self.inside c.args.index c.args.key c.self.invariant.held end c.item_mut.result.now c.push.new.self c.item_mut.ensures.value
     c.in_err-push.ensures.err_slots c.in_err-push.ensures.err_note ∙ c.self.view_is)
+
+pub set_length-requires : goal.set_length-requires
+set_length-requires g c = entry_within c.self.inside c.args.self.now c.args.index c.self.view_is c.requires.index
 
 pub invariant_of-self-2 : goal.invariant_of-self-2
 invariant_of-self-2 g c =
+    let t = c.self.inside in
     let end = subst (λ z. IsOwnEnd z c.args.index c.args.key) (sym c.self.view_is) c.requires.end in
-    in_held c.self.inside c.args.index c.args.key c.self.invariant end c.item_mut.result.now c.push.new.self c.item_mut.ensures.value c.args.step
-    (subst (λ z. c.args.index < length z.strands) (sym c.self.view_is) c.requires.index)
-    (subst (λ z. z.made < z.limits.cells) (sym c.self.view_is) c.requires.room)
-    c.in_ok-push.ensures.slots c.in_ok-push.ensures.note
+    let index_in = subst (λ z. c.args.index < length z.strands) (sym c.self.view_is) c.requires.index in
+    let room = subst (λ z. z.made < z.limits.cells) (sym c.self.view_is) c.requires.room in
+    let p = record t { segments = with_item t.segments c.args.key c.push.new.self; made = t.made + 1 } in
+    let names = ap keys_of c.set_length.ensures ∙ names_set t.branches.entries c.args.index None in
+    one_held p (record p { branches = c.set_length.new.branches }) names refl refl refl _
+    (in_held t c.args.index c.args.key c.self.invariant.held end c.item_mut.result.now c.push.new.self c.item_mut.ensures.value c.args.step index_in room
+    c.in_ok-push.ensures.slots c.in_ok-push.ensures.note)
+    (pushed_lengths (cut_of t) (cut_of p) t.branches.entries c.self.invariant.lengths c.args.index c.args.step
+    (in_pushed t c.args.index c.args.key c.self.invariant.held end c.item_mut.result.now c.push.new.self c.item_mut.ensures.value c.args.step index_in room
+    c.in_ok-push.ensures.slots c.in_ok-push.ensures.note)) c.set_length.ensures
 
 pub returns-clause-ok : goal.returns-clause-ok
 returns-clause-ok g c =
+    let t = c.self.inside in
     let end = subst (λ z. IsOwnEnd z c.args.index c.args.key) (sym c.self.view_is) c.requires.end in
-    rw (← c.self.view_is) (in_pushed c.self.inside c.args.index c.args.key c.self.invariant end c.item_mut.result.now c.push.new.self c.item_mut.ensures.value c.args.step
+    let p = record t { segments = with_item t.segments c.args.key c.push.new.self; made = t.made + 1 } in
+    let names = ap keys_of c.set_length.ensures ∙ names_set t.branches.entries c.args.index None in
+    rw (← c.self.view_is)
+    (subst (λ z. IsPushed (cut_of t) z c.args.index c.args.step) (sym (relength_seen p (record p { branches = c.set_length.new.branches }) names refl refl refl))
+    (in_pushed t c.args.index c.args.key c.self.invariant.held end c.item_mut.result.now c.push.new.self c.item_mut.ensures.value c.args.step
     (subst (λ z. c.args.index < length z.strands) (sym c.self.view_is) c.requires.index)
     (subst (λ z. z.made < z.limits.cells) (sym c.self.view_is) c.requires.room)
-    c.in_ok-push.ensures.slots c.in_ok-push.ensures.note)
+    c.in_ok-push.ensures.slots c.in_ok-push.ensures.note))

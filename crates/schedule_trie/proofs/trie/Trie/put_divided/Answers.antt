@@ -1,21 +1,31 @@
-use Rattle.std.proofs.Common.{◌+◌, refl}
+use Rattle.schedule_trie.specs.Cut.{IsPutBefore}
+use Rattle.schedule_trie.specs.Held.{cut_of}
+use Rattle.std.proofs.Common.{◌+◌, refl, sym, subst}
 use Rattle.lineage.specs.Family.{with_item}
 use Rattle.schedule_trie.proofs.InsertSteps.{divided_held, divided_told}
+use Rattle.schedule_trie.proofs.Lengths.{relength_seen}
+use Rattle.schedule_trie.proofs.LengthSteps.{none_held}
 use Rattle.schedule_trie.proofs.trie.Trie.put_divided.Goals as goal
 
 pub invariant_of-self-2 : goal.invariant_of-self-2
 invariant_of-self-2 g c =
-    divided_held c.self.inside (record c.self.inside { segments = with_item c.divide.new.self c.args.key c.set_slots.new.self; made = c.self.inside.made + 1 })
+    let p = record c.self.inside { segments = with_item c.divide.new.self c.args.key c.set_slots.new.self; made = c.self.inside.made + 1 } in
+    none_held p (record p { branches = c.forget_lengths.new.branches }) c.forget_lengths.ensures.names refl refl refl
+    (divided_held c.self.inside (record c.self.inside { segments = with_item c.divide.new.self c.args.key c.set_slots.new.self; made = c.self.inside.made + 1 })
     c.args.self.now c.self.view_is c.divide.new.self c.args.key _ c.args.offset c.args.step c.in_ok-above.above c.in_ok-above.below c.item_mut.result.now c.set_slots.new.self
-    c.slots_at.result.now c.self.invariant c.slots_at.ensures c.in_ok-divide.ensures.item c.item_mut.ensures.value refl c.set_slots.ensures.slots c.set_slots.ensures.note
+    c.slots_at.result.now c.self.invariant.held c.slots_at.ensures c.in_ok-divide.ensures.item c.item_mut.ensures.value refl c.set_slots.ensures.slots c.set_slots.ensures.note
     c.in_ok-divide.ensures.paths refl refl refl
-    c.requires.room c.requires.offset c.requires.full c.in_ok-above.ensures.parts c.in_ok-above.ensures.least c.in_ok-above.ensures.most
+    c.requires.room c.requires.offset c.requires.full c.in_ok-above.ensures.parts c.in_ok-above.ensures.least c.in_ok-above.ensures.most)
+    c.forget_lengths.ensures.none
 
 pub returns-clause-ok : goal.returns-clause-ok
 returns-clause-ok g c =
+    let p = record c.self.inside { segments = with_item c.divide.new.self c.args.key c.set_slots.new.self; made = c.self.inside.made + 1 } in
     rw (← c.self.view_is)
+    (subst (λ z. IsPutBefore (cut_of c.self.inside) z c.args.key c.args.offset c.args.step)
+    (sym (relength_seen p (record p { branches = c.forget_lengths.new.branches }) c.forget_lengths.ensures.names refl refl refl))
     (divided_told c.self.inside (record c.self.inside { segments = with_item c.divide.new.self c.args.key c.set_slots.new.self; made = c.self.inside.made + 1 })
     c.args.self.now c.self.view_is c.divide.new.self c.args.key _ c.args.offset c.args.step c.in_ok-above.above c.in_ok-above.below c.item_mut.result.now c.set_slots.new.self
-    c.slots_at.result.now c.self.invariant c.slots_at.ensures c.in_ok-divide.ensures.item c.item_mut.ensures.value refl c.set_slots.ensures.slots c.set_slots.ensures.note
+    c.slots_at.result.now c.self.invariant.held c.slots_at.ensures c.in_ok-divide.ensures.item c.item_mut.ensures.value refl c.set_slots.ensures.slots c.set_slots.ensures.note
     c.in_ok-divide.ensures.paths refl refl refl
-    c.requires.room c.requires.offset c.requires.full c.in_ok-above.ensures.parts c.in_ok-above.ensures.least c.in_ok-above.ensures.most)
+    c.requires.room c.requires.offset c.requires.full c.in_ok-above.ensures.parts c.in_ok-above.ensures.least c.in_ok-above.ensures.most))

@@ -1,7 +1,12 @@
-use Rattle.std.proofs.Common.{sym, subst, ◌∙◌, ◌<◌, length}
+use Rattle.lineage.specs.Family.{with_item}
+use Rattle.schedule_trie.specs.Cut.{IsPutBefore}
+use Rattle.schedule_trie.specs.Held.{cut_of}
+use Rattle.std.proofs.Common.{sym, subst, refl, ◌∙◌, ◌+◌, ◌<◌, length}
 use Rattle.schedule_trie.proofs.PushSteps.{on_err, kept_held, cut_written}
 use Rattle.schedule_trie.proofs.StepSet.{inside_from}
 use Rattle.schedule_trie.proofs.InsertSteps.{slots_seen, put_held, put_told}
+use Rattle.schedule_trie.proofs.Lengths.{relength_seen}
+use Rattle.schedule_trie.proofs.LengthSteps.{none_held}
 use Rattle.schedule_trie.proofs.trie.Trie.put_in.Goals as goal
 
 pub invariant_of-self : goal.invariant_of-self
@@ -16,16 +21,23 @@ returns-in_err-insert-clause-err g c =
 
 pub invariant_of-self-2 : goal.invariant_of-self-2
 invariant_of-self-2 g c =
-    put_held c.self.inside c.args.key c.args.offset c.args.step c.item_mut.result.now c.insert.new.self c.self.invariant c.item_mut.ensures.value
+    let p = record c.self.inside { segments = with_item c.self.inside.segments c.args.key c.insert.new.self; made = c.self.inside.made + 1 } in
+    none_held p (record p { branches = c.forget_lengths.new.branches }) c.forget_lengths.ensures.names refl refl refl
+    (put_held c.self.inside c.args.key c.args.offset c.args.step c.item_mut.result.now c.insert.new.self c.self.invariant.held c.item_mut.ensures.value
     (inside_from c.self.inside c.args.key c.args.offset c.item_mut.result.now c.args.self.now c.self.view_is c.item_mut.ensures.value c.requires.offset)
     (subst (λ l. length l < 128) (slots_seen c.self.inside c.args.key c.item_mut.result.now c.args.self.now c.self.view_is c.item_mut.ensures.value) c.requires.few)
     (subst (λ z. z.made < z.limits.cells) (sym c.self.view_is) c.requires.room)
-    c.in_ok-insert.ensures.slots c.in_ok-insert.ensures.note
+    c.in_ok-insert.ensures.slots c.in_ok-insert.ensures.note) c.forget_lengths.ensures.none
 
 pub returns-clause-ok : goal.returns-clause-ok
 returns-clause-ok g c =
-    rw (← c.self.view_is) (put_told c.self.inside c.args.key c.args.offset c.args.step c.item_mut.result.now c.insert.new.self c.self.invariant c.item_mut.ensures.value
+    let t = c.self.inside in
+    let p = record t { segments = with_item t.segments c.args.key c.insert.new.self; made = t.made + 1 } in
+    rw (← c.self.view_is)
+    (subst (λ z. IsPutBefore (cut_of t) z c.args.key c.args.offset c.args.step)
+    (sym (relength_seen p (record p { branches = c.forget_lengths.new.branches }) c.forget_lengths.ensures.names refl refl refl))
+    (put_told c.self.inside c.args.key c.args.offset c.args.step c.item_mut.result.now c.insert.new.self c.self.invariant.held c.item_mut.ensures.value
     (inside_from c.self.inside c.args.key c.args.offset c.item_mut.result.now c.args.self.now c.self.view_is c.item_mut.ensures.value c.requires.offset)
     (subst (λ l. length l < 128) (slots_seen c.self.inside c.args.key c.item_mut.result.now c.args.self.now c.self.view_is c.item_mut.ensures.value) c.requires.few)
     (subst (λ z. z.made < z.limits.cells) (sym c.self.view_is) c.requires.room)
-    c.in_ok-insert.ensures.slots c.in_ok-insert.ensures.note)
+    c.in_ok-insert.ensures.slots c.in_ok-insert.ensures.note))

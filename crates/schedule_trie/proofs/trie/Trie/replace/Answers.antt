@@ -1,14 +1,20 @@
-use Rattle.std.proofs.Common.{sym}
+use Rattle.std.proofs.Common.{◌≡◌, Some, sym, subst}
+use Rattle.schedule_trie.specs.Forest.{index_of}
+use Rattle.schedule_trie.specs.Cut.{forest}
+use Rattle.schedule_trie.specs.Edits.{Replace, IsEdited}
 use Rattle.schedule_trie.proofs.StepSet.{replace_ok, notes_here}
 use Rattle.schedule_trie.proofs.trie.Trie.replace.Goals as goal
 
 pub returns-clause-ok : goal.returns-clause-ok
 returns-clause-ok g c =
-    record {
-      forest = replace_ok c.args.self.now c.set_step.new.self c.args.branch.now c.args.place c.in-Some.index c.in-Some-find_cell.key c.in-Some-find_cell.offset
-          (sym c.in-Some.ensures.index) c.in-Some-find_cell.ensures.found c.args.step c.set_step.ensures;
-      notes = notes_here c.args.self.now c.set_step.new.self c.args.branch.now c.args.place c.in-Some.index c.in-Some-find_cell.key c.in-Some-find_cell.offset
-          (sym c.in-Some.ensures.index) c.in-Some-find_cell.ensures.found c.set_step.ensures.notes;
+    let now = c.learn_len.new.self in
+    let found = subst (λ z. index_of (forest z).branches c.args.branch.now ≡ Some c.in-Some.index) (sym c.learn_len.ensures.same) (sym c.in-Some.ensures.index) in
+    subst (λ z. IsEdited z c.set_step.new.self (Replace c.args.branch.now c.args.place c.args.step)) c.learn_len.ensures.same
+    (record {
+      forest = replace_ok now c.set_step.new.self c.args.branch.now c.args.place c.in-Some.index c.in-Some-find_cell.key c.in-Some-find_cell.offset
+          found c.in-Some-find_cell.ensures.found c.args.step c.set_step.ensures;
+      notes = notes_here now c.set_step.new.self c.args.branch.now c.args.place c.in-Some.index c.in-Some-find_cell.key c.in-Some-find_cell.offset
+          found c.in-Some-find_cell.ensures.found c.set_step.ensures.notes;
       cut = c.set_step.ensures.cut;
       limits = c.set_step.ensures.limits;
-    }
+    })

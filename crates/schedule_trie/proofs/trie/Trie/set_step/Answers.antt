@@ -1,14 +1,27 @@
+use Rattle.std.proofs.Common.{◌<◌, length, sym, subst}
+use Rattle.lineage.specs.Family.{with_item}
+use Rattle.schedule_trie.specs.Cut.{piece_at, slots_of}
+use Rattle.schedule_trie.specs.Held.{cut_of}
 use Rattle.schedule_trie.proofs.StepSet.{inside_from, set_held, set_told}
+use Rattle.schedule_trie.proofs.LengthSteps.{set_lengths}
 use Rattle.schedule_trie.proofs.trie.Trie.set_step.Goals as goal
 
 pub invariant_of-self : goal.invariant_of-self
 invariant_of-self g c =
-    set_held c.self.inside c.args.key c.args.offset c.args.step c.item_mut.result.now c.set_step.new.self c.self.invariant c.item_mut.ensures.value
-    (inside_from c.self.inside c.args.key c.args.offset c.item_mut.result.now c.args.self.now c.self.view_is c.item_mut.ensures.value c.requires)
-    c.set_step.ensures.slots c.set_step.ensures.note
+    let t = c.self.inside in
+    record {
+      held = set_held t c.args.key c.args.offset c.args.step c.item_mut.result.now c.set_step.new.self c.self.invariant.held c.item_mut.ensures.value
+          (inside_from t c.args.key c.args.offset c.item_mut.result.now c.args.self.now c.self.view_is c.item_mut.ensures.value c.requires)
+          c.set_step.ensures.slots c.set_step.ensures.note;
+      lengths = set_lengths (cut_of t) (cut_of (record t { segments = with_item t.segments c.args.key c.set_step.new.self })) t.branches.entries c.self.invariant.lengths c.args.key c.args.offset c.args.step
+          (set_told t c.args.key c.args.offset c.args.step c.item_mut.result.now c.set_step.new.self c.self.invariant.held c.item_mut.ensures.value
+          (inside_from t c.args.key c.args.offset c.item_mut.result.now c.args.self.now c.self.view_is c.item_mut.ensures.value c.requires)
+          c.set_step.ensures.slots c.set_step.ensures.note)
+          (subst (λ z. c.args.offset < length (slots_of (piece_at z.pieces c.args.key))) (sym c.self.view_is) c.requires);
+    }
 
 pub returns : goal.returns
 returns g c =
-    rw (← c.self.view_is) (set_told c.self.inside c.args.key c.args.offset c.args.step c.item_mut.result.now c.set_step.new.self c.self.invariant c.item_mut.ensures.value
+    rw (← c.self.view_is) (set_told c.self.inside c.args.key c.args.offset c.args.step c.item_mut.result.now c.set_step.new.self c.self.invariant.held c.item_mut.ensures.value
     (inside_from c.self.inside c.args.key c.args.offset c.item_mut.result.now c.args.self.now c.self.view_is c.item_mut.ensures.value c.requires)
     c.set_step.ensures.slots c.set_step.ensures.note)

@@ -1,0 +1,73 @@
+-- Lengths that are kept, after each edit.
+use Rattle.std.proofs.Common.{◌≡◌, ℕ, ◌<◌, nat_eq, List, [], ◌∷◌, ◌++◌, length, slice_get, position, Option, None, sym, ap, subst, ◌∙◌}
+use Rattle.std.specs.Cmp.Lexicographic.{pointwise}
+use Rattle.std.specs.List.{remove}
+use Rattle.std.proofs.lemmas.List.{length-map}
+use Rattle.indexmap.specs.IndexMap.{insert_entry, set_value_at}
+use Rattle.indexmap.proofs.MapLemmas.{Missing-position, insert_entry-absent}
+use Rattle.frames.specs.declared.types.Step.{Step}
+use Rattle.schedule_trie.specs.declared.trie.Trie.TheInside.{Inside}
+use Rattle.schedule_trie.specs.Forest.{index_of, put_last, renumbered, replaced, slot, slots_in, with_step}
+use Rattle.schedule_trie.specs.Cut.{Cut, forest, piece_at, slots_of, branch_on, IsStepSet, IsNoted, IsPushed}
+use Rattle.schedule_trie.specs.Copies.{IsDetached}
+use Rattle.schedule_trie.specs.Forks.{IsForked}
+use Rattle.schedule_trie.specs.Releases.{IsDropped}
+use Rattle.schedule_trie.specs.Held.{names_of, cut_of, kept_in, AreLengths, IsHeld, IsKept}
+use Rattle.schedule_trie.proofs.Lengths.{relength_seen, relength_held, none_kept, same_lengths, length-everywhere, length-only_in, one_forgotten, lengths_left, lengths_more}
+use Rattle.schedule_trie.proofs.Lines.{index_is}
+use Rattle.schedule_trie.proofs.Renumbered.{length-renumbered}
+use Rattle.schedule_trie.proofs.StepSet.{slice_get_some}
+use Rattle.schedule_trie.proofs.Strands.{length-strands}
+
+module _ {T : Type 0} (old new : Cut T) (es : List (List ℕ × Option ℕ)) (right : AreLengths es (forest old).branches) where
+  pub set_lengths : (key offset : ℕ) (step : Step) → IsStepSet old new key offset step → offset < length (slots_of (piece_at old.pieces key)) → AreLengths es (forest new).branches
+  set_lengths key offset step told inside =
+      let p = slice_get_some (slots_of (piece_at old.pieces key)) offset inside in
+      let set = told.everywhere_set p.0 p.1 in
+      same_lengths es (forest old).branches (forest new).branches
+      (λ i. ap (λ l. length (slots_in l i)) set ∙ length-everywhere (replaced p.0.cell step) (λ slots. length-map slots (with_step p.0.cell step)) (forest old).branches i) right
+
+  pub noted_lengths : (key : ℕ) (noted : Option T) → IsNoted old new key noted → AreLengths es (forest new).branches
+  noted_lengths key noted told = subst (λ f. AreLengths es f.branches) (sym told.unchanged) right
+
+  pub pushed_lengths : (index : ℕ) (step : Step) → IsPushed old new index step → AreLengths (set_value_at es index None) (forest new).branches
+  pushed_lengths index step told =
+      subst (AreLengths (set_value_at es index None)) (sym told.branches) (one_forgotten (put_last (slot old.made step)) es (forest old).branches index right)
+
+  pub detached_lengths : (index : ℕ) → IsDetached old new index → AreLengths es (forest new).branches
+  detached_lengths index told =
+      same_lengths es (forest old).branches (forest new).branches
+      (λ i. ap (λ l. length (slots_in l i)) told.branches ∙ length-only_in (renumbered old.made) (length-renumbered old.made) (forest old).branches index i) right
+
+  pub dropped_lengths : (index : ℕ) → IsDropped old new index → AreLengths (remove es index) (forest new).branches
+  dropped_lengths index told = subst (AreLengths (remove es index)) (sym told.branches) (lengths_left es (forest old).branches index right)
+
+-- how many branches there are
+pub count_of : {T : Type 0} (t : Inside T) → length t.branches.entries ≡ length (cut_of t).strands
+count_of t = sym (length-map t.branches.entries (λ e. e.0)) ∙ sym (length-strands (names_of t) t.segments.paths)
+
+pub entry_within : {T : Type 0} (t : Inside T) (c : Cut T) (index : ℕ) → cut_of t ≡ c → index < length c.strands → index < length t.branches.entries
+entry_within t c index view inside = subst (λ n. index < n) (ap (λ z. length z.strands) (sym view) ∙ sym (count_of t)) inside
+
+pub forked_lengths : {T : Type 0} (t : Inside T) (new : Cut T) (entries : List (List ℕ × Option ℕ)) (index place : ℕ) (name : List ℕ) → AreLengths t.branches.entries (forest (cut_of t)).branches
+    → index_of (forest (cut_of t)).branches name ≡ None → entries ≡ insert_entry (pointwise nat_eq) t.branches.entries name None
+    → IsForked (cut_of t) new index place name → AreLengths entries (forest new).branches
+forked_lengths t new entries index place name right free is told =
+    let es = t.branches.entries in
+    let absent : position (pointwise nat_eq name) (names_of t) ≡ None = sym (index_is t name) ∙ free in
+    let all : entries ≡ es ++ (name, None) ∷ [] = is ∙ insert_entry-absent (pointwise nat_eq) name None es (Missing-position (pointwise nat_eq name) es absent).absent in
+    let count : length es ≡ length (forest (cut_of t)).branches = count_of t ∙ sym (length-map (cut_of t).strands (branch_on (piece_at (cut_of t).pieces))) in
+    subst (λ l. AreLengths l (forest new).branches) (sym all)
+    (subst (AreLengths (es ++ (name, None) ∷ [])) (sym told.branches) (lengths_more es (forest (cut_of t)).branches name _ count right))
+
+-- no length is kept any more
+module _ {T : Type 0} (t u : Inside T) (names : names_of u ≡ names_of t) (segments : u.segments ≡ t.segments) (made : u.made ≡ t.made) (limits : u.limits ≡ t.limits) where
+  pub none_held : IsHeld t → ((i : ℕ) → kept_in (slice_get u.branches.entries i) ≡ None) → IsKept u
+  none_held held none = record { held = relength_held t u names segments made limits held; lengths = none_kept u.branches.entries (forest (cut_of u)).branches none }
+
+  pub one_held : (es : List (List ℕ × Option ℕ)) → IsHeld t → AreLengths es (forest (cut_of t)).branches → u.branches.entries ≡ es → IsKept u
+  one_held es held right is = record {
+    held = relength_held t u names segments made limits held;
+    lengths = subst (λ l. AreLengths l (forest (cut_of u)).branches) (sym is)
+        (subst (λ c. AreLengths es (forest c).branches) (sym (relength_seen t u names segments made limits)) right);
+  }

@@ -1,0 +1,128 @@
+-- How long a branch is after an edit.
+use Rattle.std.proofs.Common.{◌≡◌, ℕ, zero, suc, ◌+◌, ◌<◌, ◌≤◌, Bool, true, false, nat_eq, cond, List, [], ◌∷◌, ◌++◌, length, map, take, slice_get, Some, refl, sym, ap, subst, ◌∙◌, arith, eq-eqb, true≢false}
+use Rattle.std.specs.List.{remove}
+use Rattle.std.proofs.lemmas.List.{length-map, length_push, length-take-le}
+use Rattle.std.proofs.lemmas.Option.{slice_get_within}
+use Rattle.std.proofs.lemmas.List.Edits.{length-insert}
+use Rattle.frames.specs.declared.types.Step.{Step}
+use Rattle.schedule_trie.specs.declared.slot.Slot.{Slot}
+use Rattle.schedule_trie.specs.Forest.{Branch, branch, cell_of, cell_in, changed, everywhere, only_in, put_before, put_last, slot, slots_in, without}
+use Rattle.schedule_trie.specs.Cut.{Cut, forest, piece_at, slots_of, branch_on, keys_in, Once, StandsAt, IsWhole, IsInserted, IsRemoved}
+use Rattle.schedule_trie.specs.Forks.{IsForked}
+use Rattle.schedule_trie.proofs.Drops.{length-remove}
+use Rattle.schedule_trie.proofs.Insertion.{inserted-at}
+use Rattle.schedule_trie.proofs.Lines.{line_once, slots_in_on, sound_short}
+use Rattle.schedule_trie.proofs.Once.{Once-from_linked}
+use Rattle.schedule_trie.proofs.Removals.{without-at}
+use Rattle.schedule_trie.proofs.StepSet.{slice_get_some, cell_in_at}
+
+slots_everywhere : (g : List Slot → List Slot) (branches : List Branch) (i : ℕ) → i < length branches → slots_in (everywhere g branches) i ≡ g (slots_in branches i)
+slots_everywhere g [] i h = absurd (omega arith)
+slots_everywhere g (b ∷ bs) zero h = refl
+slots_everywhere g (b ∷ bs) (suc i) h = slots_everywhere g bs i (omega arith)
+
+slots_only : (g : List Slot → List Slot) (branches : List Branch) (i : ℕ) → i < length branches → slots_in (only_in i g branches) i ≡ g (slots_in branches i)
+slots_only g [] i h = absurd (omega arith)
+slots_only g (b ∷ bs) zero h = refl
+slots_only g (b ∷ bs) (suc i) h = slots_only g bs i (omega arith)
+
+count_only : (g : List Slot → List Slot) (branches : List Branch) (i : ℕ) → length (only_in i g branches) ≡ length branches
+count_only g [] i = refl
+count_only g (b ∷ bs) zero = refl
+count_only g (b ∷ bs) (suc i) = ap suc (count_only g bs i)
+
+slots_last : (branches : List Branch) (b : Branch) → slots_in (branches ++ b ∷ []) (length branches) ≡ b.slots
+slots_last [] b = refl
+slots_last (x ∷ xs) b = slots_last xs b
+
+module _ {T : Type 0} (c : Cut T) (whole : IsWhole c) (index : ℕ) where
+  pub cells_once : Once (map cell_of (slots_in (forest c).branches index))
+  cells_once =
+      subst (λ l. Once (map cell_of l)) (sym (slots_in_on (piece_at c.pieces) c.strands index))
+      (line_once (piece_at c.pieces) c.made whole.sound.segments whole.sound.apart (keys_in c.strands index)
+      (Once-from_linked whole.sound.shares.above (keys_in c.strands index) (whole.sound.shares.linked index)))
+
+  pub cells_few : length (slots_in (forest c).branches index) ≤ c.made
+  cells_few = subst (λ l. length l ≤ c.made) (sym (slots_in_on (piece_at c.pieces) c.strands index)) (sound_short (piece_at c.pieces) c.strands c.made whole.sound index)
+
+pub branch_count : {T : Type 0} (c : Cut T) → length (forest c).branches ≡ length c.strands
+branch_count c = length-map c.strands (branch_on (piece_at c.pieces))
+
+-- a place that is found is inside
+pub place_inside : {T : Type 0} (c : Cut T) (index place : ℕ) (spot : ℕ × ℕ) → StandsAt (piece_at c.pieces) (keys_in c.strands index) place spot
+    → place < length (slots_in (forest c).branches index)
+place_inside c index place spot stands =
+    let p = slice_get_some (slots_of (piece_at c.pieces spot.0)) spot.1 stands.within in
+    slice_get_within (slots_in (forest c).branches index) place p.0
+    (ap (λ l. slice_get l place) (slots_in_on (piece_at c.pieces) c.strands index) ∙ sym stands.same ∙ p.1)
+
+module _ {T : Type 0} (old new : Cut T) (whole : IsWhole old) (index : ℕ) (inside : index < length old.strands) where
+  abbrev slots : List Slot
+  slots = slots_in (forest old).branches index
+
+  within : index < length (forest old).branches
+  within = subst (λ n. index < n) (sym (branch_count old)) inside
+
+  pub longer : (place : ℕ) (step : Step) → IsInserted old new index place step → place ≤ length slots → length slots + 1 ≡ length (slots_in (forest new).branches index)
+  longer place step told fits = sym (ap (λ f. length (slots_in f.branches index)) told.forest_is ∙ by (nat_eq place (length slots)) refl)
+    where
+      by : (b : Bool) → nat_eq place (length slots) ≡ b
+          → length (slots_in (cond b (only_in index (put_last (slot old.made step)) (forest old).branches) (everywhere (put_before (cell_in slots place) (slot old.made step)) (forest old).branches)) index) ≡ length slots + 1
+      by true e = ap length (slots_only (put_last (slot old.made step)) (forest old).branches index within) ∙ length_push slots (slot old.made step)
+      by false e =
+          let other : place ≡ length slots → ⊥ = (λ f. true≢false (sym (eq-eqb place (length slots) f) ∙ e)) in
+          let p = slice_get_some slots place (less place (length slots) fits other) in
+          ap length (slots_everywhere (put_before (cell_in slots place) (slot old.made step)) (forest old).branches index within)
+          ∙ ap (λ x. length (put_before x (slot old.made step) slots)) (cell_in_at slots place p.0 p.1)
+          ∙ ap length (sym (inserted-at slots place p.0 (slot old.made step) (cells_once old whole index) p.1))
+          ∙ length-insert slots place (slot old.made step) fits
+        where
+          less : (a b : ℕ) → a ≤ b → (a ≡ b → ⊥) → a < b
+          less a b le ne = omega (arith, le, ne)
+
+  pub still_inserted : (place : ℕ) (step : Step) → IsInserted old new index place step → index < length new.strands
+  still_inserted place step told =
+      let same : length (forest new).branches ≡ length (forest old).branches = ap (λ f. length f.branches) told.forest_is ∙ by (nat_eq place (length slots)) in
+      omega (arith, same, within, branch_count new)
+    where
+      by : (b : Bool)
+          → length (cond b (only_in index (put_last (slot old.made step)) (forest old).branches) (everywhere (put_before (cell_in slots place) (slot old.made step)) (forest old).branches))
+          ≡ length (forest old).branches
+      by true = count_only (put_last (slot old.made step)) (forest old).branches index
+      by false = length-map (forest old).branches (changed (put_before (cell_in slots place) (slot old.made step)))
+
+  pub still_removed : (key offset : ℕ) → offset < length (slots_of (piece_at old.pieces key)) → IsRemoved old new key offset → index < length new.strands
+  still_removed key offset inside_key told =
+      let p = slice_get_some (slots_of (piece_at old.pieces key)) offset inside_key in
+      let same : length (forest new).branches ≡ length (forest old).branches = ap length (told.everywhere_gone p.0 p.1) ∙ length-map (forest old).branches (changed (without p.0.cell)) in
+      omega (arith, same, within, branch_count new)
+
+  pub shorter : (place key offset : ℕ) → StandsAt (piece_at old.pieces) (keys_in old.strands index) place (key, offset) → IsRemoved old new key offset
+      → place < length slots → length slots ≡ length (slots_in (forest new).branches index) + 1
+  shorter place key offset stands told less =
+      let p = slice_get_some (slots_of (piece_at old.pieces key)) offset stands.within in
+      let there : slice_get slots place ≡ Some p.0 =
+      ap (λ l. slice_get l place) (slots_in_on (piece_at old.pieces) old.strands index) ∙ sym stands.same ∙ p.1 in
+      let rest : slots_in (forest new).branches index ≡ remove slots place =
+      ap (λ l. slots_in l index) (told.everywhere_gone p.0 p.1) ∙ slots_everywhere (without p.0.cell) (forest old).branches index within
+      ∙ sym (without-at slots place p.0 (cells_once old whole index) there) in
+      let one : suc (length (remove slots place)) ≡ length slots = length-remove slots place less in
+      let same = ap length rest in
+      omega (arith, one, same)
+
+-- a fork goes last, and is as long as its place says
+module _ {T : Type 0} (old new : Cut T) (index place : ℕ) (name : List ℕ) (told : IsForked old new index place name) where
+  abbrev last : Branch
+  last = branch name (take place (slots_in (forest old).branches index))
+
+  pub fork_last : length old.strands < length new.strands
+  fork_last =
+      let more = ap length told.branches ∙ length_push (forest old).branches last in
+      omega (arith, more, branch_count old, branch_count new)
+
+  pub fork_long : place ≤ length (slots_in (forest old).branches index) → place ≡ length (slots_in (forest new).branches (length old.strands))
+  fork_long fits =
+      sym (ap (λ l. length (slots_in l (length old.strands))) told.branches
+      ∙ ap (λ n. length (slots_in ((forest old).branches ++ last ∷ []) n)) (sym (branch_count old))
+      ∙ ap length (slots_last (forest old).branches last)
+      ∙ length-take-le place (slots_in (forest old).branches index) fits)

@@ -1,0 +1,61 @@
+//! Lengths that are kept with branches, so that they aren't counted again.
+
+ghost use Rattle.std.specs.Prelude.{ℕ, ◌≡◌, ◌<◌, None, length, slice_get};
+ghost use Rattle.std.specs.Map.{keys_of};
+ghost use Rattle.indexmap.specs.IndexMap.{index_map_len, set_value_at};
+ghost use Rattle.schedule_trie.specs.Forest.{slots_in};
+ghost use Rattle.schedule_trie.specs.Cut.{forest, IsWhole};
+ghost use Rattle.schedule_trie.specs.Held.{kept_in};
+
+use super::Trie;
+use crate::name::Name;
+use indexmap::IndexMap;
+
+impl<T: Drop> Trie<T> {
+    /// How many cells the branch at an index has. From now on it is kept.
+    pub(super) fn learn_len(&mut self, index: usize) -> u32
+        requires { index < length self.old.strands }
+        ensures len { result ≡ length (slots_in (forest self.old).branches index) }
+        ensures whole { IsWhole self.old }
+        ensures same { self.new ≡ self.old }
+    {
+        let len = self.len_at(index);
+        self.keep_len(index, len);
+        len
+    }
+
+    /// Keeps how many cells the branch at an index has.
+    pub(super) fn keep_len(&mut self, index: usize, len: u32)
+        requires index { index < length self.old.strands }
+        requires len { len ≡ length (slots_in (forest self.old).branches index) }
+        ensures { self.new ≡ self.old }
+    {
+        set_length(&mut self.branches, index, Some(len));
+    }
+}
+
+/// The length that is kept with the branch at an index, if one is.
+pub(super) fn kept_length(branches: &IndexMap<Name, Option<u32>>, index: usize) -> Option<u32>
+    ensures { result ≡ kept_in (slice_get branches.now.entries index) }
+{
+    let (_, len) = branches.get_index(index)?;
+    *len
+}
+
+/// Keeps a length with the branch at an index, or none.
+pub(super) fn set_length(branches: &mut IndexMap<Name, Option<u32>>, index: usize, len: Option<u32>)
+    requires { index < index_map_len branches.old }
+    ensures { branches.new.entries ≡ set_value_at branches.old.entries index len }
+{
+    branches[index] = len;
+}
+
+/// Keeps no length with any branch.
+pub(super) fn forget_lengths(branches: &mut IndexMap<Name, Option<u32>>)
+    ensures names { keys_of branches.new.entries ≡ keys_of branches.old.entries }
+    ensures none { (i : ℕ) → kept_in (slice_get branches.new.entries i) ≡ None }
+{
+    for index in 0..branches.len() {
+        set_length(branches, index, None);
+    }
+}
