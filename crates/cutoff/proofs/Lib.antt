@@ -8,6 +8,7 @@ pub mod Descents
 pub mod Paths
 pub mod Installed
 pub mod Plannings
+pub mod Chainings
 pub mod Commands
 pub mod Edited
 pub mod EarlyCutoff

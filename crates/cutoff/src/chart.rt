@@ -11,6 +11,7 @@ ghost use Rattle.cutoff.specs.Fitting.{part_of};
 ghost use Rattle.cutoff.specs.Held.{IsSettled, KeepsOrFills, StepsFit, look};
 ghost use Rattle.schedule_trie.specs.Cut.{AreLimits, IsCut, IsBlank, forest, if_lacks};
 
+mod chains;
 mod edits;
 
 use crate::install::{Installation, branch_with, fits_down};

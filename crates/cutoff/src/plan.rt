@@ -101,10 +101,24 @@ fn plan_segment<R: Register>(
     if is_planned(jobs, key) {
         return Ok(());
     }
+    let job = job_at(alloc, trie, key, config)?;
+    jobs.push(job)?;
+    Ok(())
+}
+
+/// The job of a segment where a walk has come to a configuration.
+pub(crate) fn job_at<R: Register>(
+    alloc: Global,
+    trie: &Trie<Stored<R>>,
+    key: SegKey,
+    config: &Config<R>,
+) -> Result<Job<R>, AllocError>
+    requires { AllFit (R.is config.now.register) (steps_at trie.now key) }
+    ensures { IfOk result (λ job. Some job ≡ job_of trie.now (Some key) config.now) }
+{
     let steps = segment_steps(alloc, trie, key)?;
     let entry = config.copy(alloc)?;
-    jobs.push(Job { key, entry, steps })?;
-    Ok(())
+    Ok(Job { key, entry, steps })
 }
 
 /// The jobs of a path, and then those of all branches.
