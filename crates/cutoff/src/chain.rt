@@ -80,6 +80,14 @@ impl<R: Register> Chain<R> {
         &self.job
     }
 
+    /// Its job alone.
+    fn into_job(self) -> Job<R>
+        ensures { result ≡ self.job }
+    {
+        let Self { job, .. } = self;
+        job
+    }
+
     /// The segments that follow its job's.
     pub fn followers(&self) -> &[Follower]
         ensures later { result.now ≡ self.now.later }
@@ -146,6 +154,20 @@ pub(crate) fn chain_all<R: Register>(
         chain_branch(alloc, trie, start, trie.keys_at(index), most, &mut chains)?;
     }
     Ok(chains)
+}
+
+/// The jobs of chains, without what follows them.
+pub(crate) fn jobs_of<R: Register>(
+    alloc: Global,
+    chains: Vec<Chain<R>>,
+) -> Result<Vec<Job<R>>, AllocError>
+    ensures { IfOk result (λ jobs. jobs.items ≡ map job_in chains.items) }
+{
+    let mut jobs = Vec::new(alloc);
+    for chain in chains {
+        jobs.push(chain.into_job())?;
+    }
+    Ok(jobs)
 }
 
 /// The segments with these keys, as far as no run is stored.

@@ -28,9 +28,7 @@ impl<R: Register> Chart<R> {
             (λ e. if_lacks (index_of (forest self.now.cut).branches branch.now) ≡ e) }
     {
         let keys = self.trie.segments(alloc, branch)?;
-        match chain_all(alloc, &self.trie, &self.start, &keys, most) {
-            Ok(chains) => Ok(chains),
-            Err(_) => Err(Refusal::Memory),
-        }
+        let chains = chain_all(alloc, &self.trie, &self.start, &keys, most)?;
+        Ok(chains)
     }
 }
