@@ -9,6 +9,7 @@ pub mod Climbs
 pub mod Paths
 pub mod Installed
 pub mod Plannings
+pub mod Chainings
 pub mod Commands
 pub mod Edited
 pub mod EarlyCutoff

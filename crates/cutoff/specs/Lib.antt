@@ -4,4 +4,5 @@ pub mod Held
 pub mod Edits
 pub mod Plans
 pub mod Installs
+pub mod Chains
 pub mod EarlyCutoff

@@ -11,10 +11,12 @@ ghost use Rattle.cutoff.specs.Fitting.{part_of};
 ghost use Rattle.cutoff.specs.Held.{IsSettled, KeepsOrFills, StepsFit, look};
 ghost use Rattle.schedule_trie.specs.Cut.{AreLimits, IsCut, IsBlank, forest, if_lacks};
 
+mod chains;
 mod edits;
 
+use crate::chain::jobs_of;
 use crate::install::{Installation, fits_down, has_segment};
-use crate::plan::{Job, plan_all};
+use crate::plan::Job;
 use crate::settle::{Spot, settle_along, take_number};
 use crate::stored::Stored;
 use checkpoints::run::Run;
@@ -224,8 +226,8 @@ impl<R: Register> Chart<R> {
         ensures err { IfErr result
             (λ e. if_lacks (index_of (forest self.now.cut).branches branch.now) ≡ e) }
     {
-        let keys = self.trie.segments(alloc, branch)?;
-        let jobs = plan_all(alloc, &self.trie, &self.start, &keys)?;
+        let chains = self.chains(alloc, branch, 0)?;
+        let jobs = jobs_of(alloc, chains)?;
         Ok(jobs)
     }
 

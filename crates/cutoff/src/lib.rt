@@ -4,6 +4,7 @@
 //! A stored run is trusted only where it is looked at: an edit throws no run away but that of the segment that it touches.
 #![tactic(auto)]
 
+pub mod chain;
 pub mod chart;
 mod climb;
 mod descent;

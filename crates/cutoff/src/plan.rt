@@ -1,16 +1,10 @@
 //! Jobs: segments that no stored run fits.
 
-ghost use Rattle.std.specs.Prelude.{◌≡◌, ℕ, [], ◌∷◌, Option, None, Some, OnOk, IfOk, map};
-ghost use Rattle.frames.specs.Configuration.{Configuration};
+ghost use Rattle.std.specs.Prelude.{◌≡◌, Some, IfOk};
 ghost use Rattle.frames.specs.Recorded.{AllFit};
-ghost use Rattle.schedule_trie.specs.Forest.{step_of};
-ghost use Rattle.schedule_trie.specs.Cut.{piece_at, line, has, keys_in, forest};
 ghost use Rattle.cutoff.specs.Fitting.{steps_at};
-ghost use Rattle.cutoff.specs.Held.{StepsFit};
-ghost use Rattle.cutoff.specs.Links.{IsLinked, alone};
-ghost use Rattle.cutoff.specs.Plans.{Descends, Plans, with_job, job_of, key_of, keys_of};
+ghost use Rattle.cutoff.specs.Plans.{job_of};
 
-use crate::descent::descend;
 use crate::settle::segment_steps;
 use crate::stored::Stored;
 use frames::config::Config;
@@ -63,82 +57,17 @@ impl<R: Register> Job<R> {
     }
 }
 
-/// Adds the job of a branch, unless stored runs fit it all or the segment is planned already.
-fn plan_branch<R: Register>(
-    alloc: Global,
-    trie: &Trie<Stored<R>>,
-    start: &Config<R>,
-    keys: &[SegKey],
-    jobs: &mut Vec<Job<R>>,
-) -> Result<(), AllocError>
-    requires linked { (next : ℕ) × IsLinked R.PartialEq.eq start.now.register next None
-        (alone start.now) trie.now }
-    requires fits { AllFit (R.is start.now.register) (map step_of
-        (line (piece_at trie.now.pieces) keys.now)) }
-    ensures { OnOk result ((missed : Option ℕ) × (end : Configuration R R.Pending)
-        × Descends R.PartialEq.eq (R.is start.now.register) trie.now start.now keys.now missed end
-        × (jobs.new.items ≡ with_job jobs.old.items (job_of trie.now missed end))) }
-{
-    let (missed, config, _) = descend(trie, start, keys);
-    match missed {
-        Some(key) => plan_segment(alloc, trie, key, config, jobs),
-        None => Ok(()),
-    }
-}
-
-/// Adds the job of a segment, unless it is planned already.
-fn plan_segment<R: Register>(
+/// The job of a segment where a walk has come to a configuration.
+pub(crate) fn job_at<R: Register>(
     alloc: Global,
     trie: &Trie<Stored<R>>,
     key: SegKey,
     config: &Config<R>,
-    jobs: &mut Vec<Job<R>>,
-) -> Result<(), AllocError>
+) -> Result<Job<R>, AllocError>
     requires { AllFit (R.is config.now.register) (steps_at trie.now key) }
-    ensures { OnOk result (jobs.new.items ≡ with_job jobs.old.items
-        (job_of trie.now (Some key) config.now)) }
+    ensures { IfOk result (λ job. Some job ≡ job_of trie.now (Some key) config.now) }
 {
-    if is_planned(jobs, key) {
-        return Ok(());
-    }
     let steps = segment_steps(alloc, trie, key)?;
     let entry = config.copy(alloc)?;
-    jobs.push(Job { key, entry, steps })?;
-    Ok(())
-}
-
-/// The jobs of a path, and then those of all branches.
-pub(crate) fn plan_all<R: Register>(
-    alloc: Global,
-    trie: &Trie<Stored<R>>,
-    start: &Config<R>,
-    keys: &[SegKey],
-) -> Result<Vec<Job<R>>, AllocError>
-    requires linked { (next : ℕ) × IsLinked R.PartialEq.eq start.now.register next None
-        (alone start.now) trie.now }
-    requires fits { StepsFit (R.is start.now.register) (forest trie.now) }
-    requires branch { (i : ℕ) × (keys.now ≡ keys_in trie.now.strands i) }
-    ensures { IfOk result
-        (λ jobs. Plans R.PartialEq.eq (R.is start.now.register) trie.now start.now []
-        (keys.now ∷ map keys_of trie.now.strands) jobs.items) }
-{
-    let mut jobs = Vec::new(alloc);
-    plan_branch(alloc, trie, start, keys, &mut jobs)?;
-    for index in 0..trie.branches() as usize {
-        let keys = trie.keys_at(alloc, index)?;
-        plan_branch(alloc, trie, start, &keys, &mut jobs)?;
-    }
-    Ok(jobs)
-}
-
-/// Whether a segment is among those of jobs.
-fn is_planned<R: Register>(jobs: &[Job<R>], key: SegKey) -> bool
-    ensures { result ≡ has key (map key_of jobs.now) }
-{
-    for job in jobs {
-        if key == job.key() {
-            return true;
-        }
-    }
-    false
+    Ok(Job { key, entry, steps })
 }

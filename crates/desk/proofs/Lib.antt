@@ -5,3 +5,4 @@ pub mod Answering
 pub mod Works
 pub mod Holdings
 pub mod Fillings
+pub mod Chainings

@@ -6,7 +6,7 @@ use Rattle.schedule_trie.specs.declared.refusal.Refusal.{Refusal}
 use Rattle.schedule_trie.specs.declared.refusal.Refusal.TheVariants.{LogFull, Memory}
 use Rattle.schedule_trie.specs.Cut.{forest, if_lacks}
 use Rattle.schedule_trie.specs.Forest.{IsRefused, index_of}
-use Rattle.cutoff.specs.Plans.{Planned, IsPlan}
+use Rattle.cutoff.specs.Chains.{Chained, AreChains}
 use Rattle.views.specs.declared.page.Page.{Page}
 use Rattle.views.specs.declared.query.Query.{Query}
 use Rattle.sessions.specs.declared.command.Command.{Command}
@@ -36,11 +36,11 @@ answer_of w query (Ok page) shown found refused = (found, shown)
 answer_of w query (Err e) shown found refused = refused
 
 -- the chart of a book is one of its world's branches
-plans : {R P : Type 0} (E : R → R → Bool) (is : R → Behaviour P) (h : Held R P) (branch : List ℕ) (r : Result (Vec (Planned R P)) Refusal)
-    → IfOk r (λ jobs. IsPlan E (is h.now.chart.start.register) h.now.chart branch jobs.items) → OnOk r (IsSome (index_of (forest h.now.chart.cut).branches branch))
-    → IfErr r (λ e. if_lacks (index_of (forest h.now.chart.cut).branches branch) ≡ e) → PlansOf E is branch (world_of is h.now) r
-plans E is h branch (Ok jobs) plan found refused = (found, (h.now.chart, refl, plan))
-plans E is h branch (Err e) plan found refused = refused
+plans : {R P : Type 0} (E : R → R → Bool) (is : R → Behaviour P) (h : Held R P) (branch : List ℕ) (most : ℕ) (r : Result (Vec (Chained R P)) Refusal)
+    → IfOk r (λ chains. AreChains E (is h.now.chart.start.register) h.now.chart branch most chains.items) → OnOk r (IsSome (index_of (forest h.now.chart.cut).branches branch))
+    → IfErr r (λ e. if_lacks (index_of (forest h.now.chart.cut).branches branch) ≡ e) → PlansOf E is branch most (world_of is h.now) r
+plans E is h branch most (Ok jobs) plan found refused = (found, (h.now.chart, refl, plan))
+plans E is h branch most (Err e) plan found refused = refused
 
 -- what is made of an answer's slip is the answer too
 pub paged_so : {P : Type 0} (w : World P) (query : Query) (slip result : Result Page Refusal) → IsPaged slip result → IsAnswer w query slip → IsAnswer w query result
@@ -137,9 +137,9 @@ module _ {R P : Type 0} (is : R → Behaviour P) where
     looks_so query at r shown found refused world log is_at =
         reads_so (λ n w. (at ≡ n) × IsAnswer w query r) world log (is_at ∙ ap length log, answer_of (world_of is old.now) query r shown found refused)
 
-    pub plans_so : (E : R → R → Bool) (branch : List ℕ) (r : Result (Vec (Planned R P)) Refusal)
-        → IfOk r (λ jobs. IsPlan E (is old.now.chart.start.register) old.now.chart branch jobs.items)
+    pub plans_so : (E : R → R → Bool) (branch : List ℕ) (most : ℕ) (r : Result (Vec (Chained R P)) Refusal)
+        → IfOk r (λ chains. AreChains E (is old.now.chart.start.register) old.now.chart branch most chains.items)
         → OnOk r (IsSome (index_of (forest old.now.chart.cut).branches branch))
         → IfErr r (λ e. if_lacks (index_of (forest old.now.chart.cut).branches branch) ≡ e) → world_of is new.now ≡ world_of is old.now → new.log ≡ old.log
-        → IsReading is (λ n w. PlansOf E is branch w r) (items first old.log) (items first new.log)
-    plans_so E branch r plan found refused world log = reads_so (λ n w. PlansOf E is branch w r) world log (plans E is old branch r plan found refused)
+        → IsReading is (λ n w. PlansOf E is branch most w r) (items first old.log) (items first new.log)
+    plans_so E branch most r plan found refused world log = reads_so (λ n w. PlansOf E is branch most w r) world log (plans E is old branch most r plan found refused)

@@ -25,9 +25,13 @@ use Rattle.desk.specs.Histories.{IsHistory, seen, own}
 use Rattle.desk.specs.Works.{IsAnswer, NeedsBranch}
 
 module _ {R P : Type 0} where
+  -- the book of a desk as it opened
+  abbrev pub book_at_first : Desk R P → Held R P
+  book_at_first desk = desk.first.value
+
   -- a chair is one of a desk's: it is one of its turn, and has seen a legal history from the desk's opening on
   abbrev pub IsAt : {g : _} → (R → Behaviour P) → Desk R P → Chair (List (Item R P)) (Item R P) g → Type 0
-  IsAt is desk chair = IsOf desk.turn chair × IsHistory is desk.first.value (view chair).seen
+  IsAt is desk chair = IsOf desk.turn chair × IsHistory is (book_at_first desk) (view chair).seen
 
   -- The history that a chair finds as it takes the turn: it begins with what the chair had seen, and is just that where the chair has every
   -- share; it is no shorter than the chair was told

@@ -10,7 +10,7 @@ use Rattle.schedule_trie.specs.Forest.{IsRefused, index_of}
 use Rattle.cutoff.specs.declared.install.Installation.{Installation}
 use Rattle.cutoff.specs.Held.{Charted}
 use Rattle.cutoff.specs.Installs.{Installs}
-use Rattle.cutoff.specs.Plans.{Planned, IsPlan}
+use Rattle.cutoff.specs.Chains.{Chained, AreChains}
 use Rattle.views.specs.declared.page.Page.{Page}
 use Rattle.views.specs.declared.query.Query.{Query}
 use Rattle.workers.specs.declared.job.Outcome.{Outcome}
@@ -55,12 +55,13 @@ module _ {R P : Type 0} (E : R → R → Bool) (is : R → Behaviour P) where
   Offers key (Some run) w (Some answer) =
       (old : Charted R P) × (new : Charted R P) × (forest old.cut ≡ w.forest) × Installs E (is old.start.register) old new key (arc_value run) answer
 
-  -- the jobs of a plan for a branch are those that some chart of the world's branches plans; a plan is refused as NoBranch only where the
-  -- branch isn't there, or as Memory
-  abbrev pub PlansOf : List ℕ → World P → Result (Vec (Planned R P)) Refusal → Type 0
-  PlansOf branch w (Ok jobs) =
-      IsSome (index_of w.forest.branches branch) × ((chart : Charted R P) × (forest chart.cut ≡ w.forest) × IsPlan E (is chart.start.register) chart branch jobs.items)
-  PlansOf branch w (Err r) = if_lacks (index_of w.forest.branches branch) ≡ r
+  -- the chains of a plan for a branch are those that some chart of the world's branches plans, with so many segments behind a job at most; a
+  -- plan is refused as NoBranch only where the branch isn't there, or as Memory
+  abbrev pub PlansOf : List ℕ → ℕ → World P → Result (Vec (Chained R P)) Refusal → Type 0
+  PlansOf branch most w (Ok chains) =
+      IsSome (index_of w.forest.branches branch)
+      × ((chart : Charted R P) × (forest chart.cut ≡ w.forest) × AreChains E (is chart.start.register) chart branch most chains.items)
+  PlansOf branch most w (Err r) = if_lacks (index_of w.forest.branches branch) ≡ r
 
 module _ {R P : Type 0} (is : R → Behaviour P) where
   -- A command, brought by some chair, finds a legal history and leaves it with the call at its end, unless the call isn't logged; it is

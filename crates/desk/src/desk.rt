@@ -14,7 +14,7 @@ ghost use Rattle.sessions.specs.Held.{opening_of};
 ghost use Rattle.desk.specs.Items.{items, made_under};
 ghost use Rattle.desk.specs.Histories.{seen};
 ghost use Rattle.desk.specs.Works.{IsPaged};
-ghost use Rattle.desk.specs.Chairs.{IsAt, Received, Looked};
+ghost use Rattle.desk.specs.Chairs.{IsAt, Received, Looked, book_at_first};
 
 use crate::act::Act;
 use crate::journal::Journal;
@@ -64,10 +64,10 @@ impl<R: Register> Desk<R> {
         requires limits { AreLimits limits }
         requires fits { AllFit (R.is register) steps.now }
         ensures chair { IfOk result (λ r. IsAt R.is r.0 r.1) }
-        ensures first { IfOk result (λ r. view r.1 ≡ first_view (items r.0.first.value [])) }
+        ensures first { IfOk result (λ r. view r.1 ≡ first_view (items (book_at_first r.0) [])) }
         ensures opening { let first = opening (R.is register) value limits
             (forests.opening steps.now) in
-            IfOk result (λ r. opening_of R.is r.0.first.value ≡ first) }
+            IfOk result (λ r. opening_of R.is (book_at_first r.0) ≡ first) }
         ensures ok { OnOk result (opened limits steps.now ≡ Ok (forests.opening steps.now)) }
         ensures err { IfErr result (IsRefused (opened limits steps.now)) }
     {
@@ -91,8 +91,8 @@ impl<R: Register> Desk<R> {
     ) -> Receipt
         requires { IsAt R.is self.now chair.old }
         ensures chair { IsAt R.is self.now chair.new }
-        ensures received { Received R.is self.now.first.value who if_at command.now (view chair.old)
-            (view chair.new) result }
+        ensures received { Received R.is (book_at_first self.now) who if_at command.now
+            (view chair.old) (view chair.new) result }
         ensures owns { OwnsItsCalls made_under (view chair.new) }
     {
         let mut act = Act {
@@ -116,7 +116,7 @@ impl<R: Register> Desk<R> {
     ) -> Answer
         requires { IsAt R.is self.now chair.old }
         ensures chair { IsAt R.is self.now chair.new }
-        ensures looked { Looked R.is self.now.first.value query (view chair.old)
+        ensures looked { Looked R.is (book_at_first self.now) query (view chair.old)
             (view chair.new) result }
         ensures owns { OwnsItsCalls made_under (view chair.new) }
     {
@@ -169,7 +169,7 @@ impl<R: Register> Desk<R> {
     pub fn close(self, chair: Chair<R>) -> Result<Log, (ChairsOut, Desk<R>, Chair<R>)>
         requires { IsAt R.is self chair }
         ensures { MatchResult result (λ log. HasAll (view chair).shares × (log ≡ seen (view chair))
-            × IsLegal (opening_of R.is self.first.value) log)
+            × IsLegal (opening_of R.is (book_at_first self)) log)
             (λ r. (¬ HasAll (view chair).shares) × (r.1 ≡ self) × (r.2 ≡ chair)) }
     {
         let Desk { turn, first } = self;

@@ -58,6 +58,19 @@ impl Report {
         }
     }
 
+    /// Adds the report of later jobs.
+    pub(crate) fn add(&mut self, later: Report)
+        requires sum { IsSum self.old × IsSum later }
+        requires room { self.old.planned + later.planned < 2 ^ 64 }
+        ensures { self.new ≡ both self.old later }
+    {
+        self.planned += later.planned;
+        self.installed += later.installed;
+        self.stale += later.stale;
+        self.gone += later.gone;
+        self.memory += later.memory;
+    }
+
     /// Both reports together; none where a count would pass 64 bits.
     pub(crate) fn plus(self, other: Report) -> Option<Report>
         requires { IsSum self × IsSum other }

@@ -14,6 +14,8 @@ ghost use Rattle.sessions.specs.Logs as spec;
 ghost use Rattle.sessions.specs.Looks.{looked, shown_in};
 ghost use Rattle.sessions.specs.Held.{Acts, IsHeld, TellsMemoryLast, Wants, opening_of, world_of};
 
+mod chains;
+
 use crate::command::Command;
 use crate::log::{Entry, Log};
 use crate::reply::Reply;

@@ -47,13 +47,13 @@ where
     ghost use Rattle.turn.specs.Shares.{HasAll};
     ghost use Rattle.turn.specs.Chairs as chairs;
     ghost use Rattle.desk.specs.Works.{NeedsBranch};
-    ghost use Rattle.desk.specs.Chairs.{IsAt};
+    ghost use Rattle.desk.specs.Chairs.{IsAt, book_at_first};
     ghost use Rattle.desk.specs.Histories.{seen};
     ghost use Rattle.towerbench.specs.Seats.{Seated};
 
     ghost Value = { Seated R R.Pending };
 
-    ghost view = { λ s. record { first = s.desk.first.value; seen = seen (chairs.view s.chair) } };
+    ghost view = { λ s. record { first = book_at_first s.desk; seen = seen (chairs.view s.chair) } };
 
     ghost invariant = { λ s. IsAt R.is s.desk s.chair × HasAll (chairs.view s.chair).shares × (s.thieves ≤ 4) };
 }

@@ -1,7 +1,8 @@
 //! The jobs of a chart's plan are jobs of a crew.
 
+use crate::chain::run_shared;
 use crate::job;
-use checkpoints::run::{Run, run_segment};
+use checkpoints::run::Run;
 use cutoff::plan::Job;
 use frames::register::Register;
 use schedule_trie::trie::SegKey;
@@ -25,7 +26,6 @@ impl<R: Register> job::Job for Job<R> {
     }
 
     fn run(&self, alloc: Global) -> Result<Arc<Run<R>>, AllocError> {
-        let run = run_segment(alloc, self.entry(), self.steps())?;
-        Ok(Arc::new(alloc, run)?)
+        run_shared(alloc, self.entry(), self.steps())
     }
 }

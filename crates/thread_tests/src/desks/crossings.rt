@@ -6,6 +6,7 @@ ghost use Rattle.turn.specs.Shares.{every_share};
 ghost use Rattle.turn.specs.Chairs.{view};
 ghost use Rattle.desk.specs.Chairs.{IsAt};
 
+use super::fills::thousand;
 use super::growths::text_again;
 use super::{READ, halves, limits, name, text_at};
 use desk::{Chair, Desk, Item, Journal, Report};
@@ -124,9 +125,7 @@ fn filled_beside<R: Abort + Threads + Wait + Sync>(
 
 /// Whether one run came late, those that fit are installed, and none was refused memory.
 fn is_crossed(report: Report) -> bool {
-    let late = report.stale.wrapping_add(report.gone);
-    let on_time = report.installed == 1 || report.installed == 2;
-    late == 1 && on_time && report.planned == report.installed.wrapping_add(1) && report.memory == 0
+    is_crossed_once(report, 1) && report.installed <= 2
 }
 
 /// The state behind the write and the read.
@@ -146,6 +145,25 @@ fn crossing_install(rt: HostRuntime) -> Result<(), Fail> {
     let (at, text) = text_at(&rt, rt.alloc(), &desk, &mut first, &query)?;
     assert_eq!(rt; at, 1);
     assert!(rt; text.as_slice() == STATE);
+    Ok(())
+}
+
+/// Whether one run came late, and all others, so many at least, are installed.
+fn is_crossed_once(report: Report, least: u64) -> bool {
+    let late = report.stale.wrapping_add(report.gone);
+    late == 1
+        && report.installed >= least
+        && report.planned == report.installed.wrapping_add(1)
+        && report.memory == 0
+}
+
+/// Of a chain whose first run came late nothing more is offered: the next plan's runs are all installed.
+#[test]
+fn crossing_a_chain(rt: HostRuntime) -> Result<(), Fail> {
+    let (desk, first) = thousand(rt.alloc(), 1024)?;
+    let (mut first, second) = halves(&desk, first);
+    let report = filled_beside(&rt, rt.alloc(), &desk, &mut first, second)?;
+    assert!(rt; is_crossed_once(report, 8));
     Ok(())
 }
 

@@ -102,7 +102,7 @@ fn all_installed(count: u64) -> Report {
     }
 }
 
-/// A segment has 128 cells at most, and each round fills one of the only branch.
+/// A segment has 128 cells at most, and each round fills one of the only branch, though a plan gives those behind it too.
 #[test]
 fn thousand_steps(rt: HostRuntime) -> Result<(), Fail> {
     let (main, zed) = (name(&rt, b"main"), name(&rt, b"zed"));

@@ -1,15 +1,8 @@
-use Rattle.std.proofs.Common.{◌≡◌, [], ◌∷◌, map, sym, subst, ◌∙◌}
-use Rattle.schedule_trie.specs.Forest.{index_of}
-use Rattle.schedule_trie.specs.Cut.{forest}
-use Rattle.cutoff.specs.Held.{keys_named}
-use Rattle.cutoff.specs.Plans.{IsPlan, Plans, keys_of}
-use Rattle.cutoff.proofs.Plannings.{keys_found}
+use Rattle.std.proofs.Common.{sym, subst}
+use Rattle.cutoff.specs.Plans.{IsPlan}
 use Rattle.cutoff.proofs.chart.Chart.plan.Goals as goal
 
 pub returns-clause-ok : goal.returns-clause-ok
 returns-clause-ok g c =
-    let keys : c.deref.result.now ≡ keys_named c.self.inside.trie c.args.branch.now =
-    c.deref.ensures.value ∙ sym (keys_found (index_of (forest c.self.inside.trie).branches c.args.branch.now) c.self.inside.trie.strands c.in_ok-keys.keys.items c.in_ok-keys.ensures.ok) in
-    subst (λ v. IsPlan g.R.PartialEq.eq (g.R.Behaves.is v.start.register) v c.args.branch.now c.in_ok-jobs.jobs.items) c.self.view_is
-    (subst (λ ks. Plans g.R.PartialEq.eq (g.R.Behaves.is c.self.inside.start.register) c.self.inside.trie c.self.inside.start [] (ks ∷ map keys_of c.self.inside.trie.strands) c.in_ok-jobs.jobs.items)
-    keys c.in_ok-jobs.ensures)
+    let v = c.args.self.now in
+    subst (IsPlan g.R.PartialEq.eq (g.R.Behaves.is v.start.register) v c.args.branch.now) (sym c.in_ok-jobs.ensures) c.in_ok-chains.ensures.ok.plan

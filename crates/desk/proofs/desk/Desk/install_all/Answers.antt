@@ -2,7 +2,7 @@ use Rattle.std.proofs.Common.{length, ap, sym, subst, ◌∙◌, arith, rules}
 use Rattle.turn.specs.Chairs.{view}
 use Rattle.desk.specs.Fills.{AreOffered}
 use Rattle.desk.specs.Reports.{IsSum}
-use Rattle.desk.proofs.Fillings.{offered_none, offered_next, offered_all, sum_none, sum_more, planned_more}
+use Rattle.desk.proofs.Fillings.{offered_none, offered_next, offered_last, offered_all, sum_none, sum_more, planned_more}
 use Rattle.desk.proofs.desk.Desk.install_all.Goals as goal
 
 pub loop-done-init : goal.loop-done-init
@@ -23,11 +23,20 @@ loop-done-preserved g c =
       at = c.install-answer.ensures.chair;
       owns = c.install-answer.ensures.owns;
       offered = offered_next g.R.PartialEq.eq g.R.Behaves.is c.args.self.now.first.value _ _ _ _ c.in-Some.done (view c.loop-done.chair) (view c.install-answer.new.chair) answer c.loop-done.report c.count.new.self
-          steps.0 c.count.ensures c.install-answer.ensures.reads was.offered;
+          steps.0 c.count.ensures c.install-answer.ensures.reads was.offered (sym c.is_installed.ensures ∙ c.if-not-is_installed.false);
       sum = subst IsSum (sym c.count.ensures) (sum_more answer c.loop-done.report was.sum);
       count = let all = was.count in let gone = steps.1 in let one = ap (λ r. r.planned) c.count.ensures ∙ planned_more answer c.loop-done.report in omega arith;
       len = let len = was.len in let gone = steps.1 in let short = ap length steps.0 in omega arith;
     }
+
+pub returns-then-not-is_installed-clause-offered : goal.returns-then-not-is_installed-clause-offered
+returns-then-not-is_installed-clause-offered g c =
+    let was = c.loop-done.invariant in
+    let steps = c.in-Some.ensures.steps in
+    subst (λ all. AreOffered g.R.PartialEq.eq g.R.Behaves.is c.args.self.now.first.value all (view c.args.chair.now) (view c.install-answer.new.chair) c.count.new.self)
+    c.into_iter-done-iterator.ensures.into_iter_gives.0
+    (offered_last g.R.PartialEq.eq g.R.Behaves.is c.args.self.now.first.value _ _ _ _ c.in-Some.done (view c.loop-done.chair) (view c.install-answer.new.chair) c.install-answer.result c.loop-done.report c.count.new.self
+    steps.0 c.count.ensures c.install-answer.ensures.reads was.offered (sym c.is_installed.ensures ∙ c.if-not-is_installed.true))
 
 pub returns-clause-offered : goal.returns-clause-offered
 returns-clause-offered g c =

@@ -9,6 +9,7 @@ returns-clause-kept g c =
     let is = g.R.Behaves.is in
     let inside = c.journal.inside in
     let branch = c.args.self.now.branch.now in
-    let told = c.plan.ensures in
-    subst (λ l. IsReading is (λ n w. PlansOf E is branch w c.plan.result) l l) c.journal.view_is
-    (plans_so is inside.first.value inside.book inside.book c.journal.invariant refl c.held.ensures E branch c.plan.result told.ok told.found told.err refl refl)
+    let most = c.args.self.now.most in
+    let told = c.chains.ensures in
+    subst (λ l. IsReading is (λ n w. PlansOf E is branch most w c.chains.result) l l) c.journal.view_is
+    (plans_so is inside.first.value inside.book inside.book c.journal.invariant refl c.held.ensures E branch most c.chains.result told.ok told.found told.err refl refl)
