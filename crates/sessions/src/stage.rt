@@ -214,24 +214,12 @@ impl<R: Register> Stage<R> {
         match command {
             Command::Join => Ok(self.join(alloc, who)),
             Command::Leave => Ok(self.leave(alloc, who)),
-            Command::Insert {
-                branch,
-                place,
-                step,
-            } => self.insert(alloc, branch, *place, *step),
-            Command::Remove { branch, place } => self.remove(branch, *place),
-            Command::Replace {
-                branch,
-                place,
-                step,
-            } => self.replace(branch, *place, *step),
-            Command::Fork {
-                branch,
-                place,
-                name,
-            } => self.fork(alloc, branch, *place, name),
-            Command::Detach { branch } => self.detach(alloc, branch),
-            Command::Drop { branch } => self.drop_branch(branch),
+            Command::Insert { .. }
+            | Command::Remove { .. }
+            | Command::Replace { .. }
+            | Command::Fork { .. }
+            | Command::Detach { .. }
+            | Command::Drop { .. } => self.edit(alloc, command),
             Command::Go { branch, place } => self.go(who, branch, *place),
             Command::Seek => self.seek(alloc, who, Way::Forth),
             Command::Back => self.seek(alloc, who, Way::Back),
