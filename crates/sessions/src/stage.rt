@@ -78,9 +78,7 @@ impl<R: Register> Stage<R> {
         ensures err { IfErr result (IsRefused (opened limits steps.now)) }
     {
         let chart = Chart::new(alloc, register, value, limits, steps)?;
-        let Ok(breaks) = no_breaks(alloc) else {
-            return Err(Refusal::Memory);
-        };
+        let breaks = no_breaks(alloc)?;
         Ok(Stage {
             chart,
             limits,

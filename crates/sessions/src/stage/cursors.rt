@@ -86,9 +86,7 @@ impl<R: Register> Stage<R> {
         requires session { who < 16 }
         ensures { Does R.is who (command_of way) self.old self.new result }
     {
-        let Ok(hit) = self.hit_of(alloc, who, way) else {
-            return Err(Refusal::Memory);
-        };
+        let hit = self.hit_of(alloc, who, way)?;
         let reply = hit_reply(&hit);
         if hit.is_some() {
             self.cursors[who as usize] = hit;
@@ -123,9 +121,7 @@ impl<R: Register> Stage<R> {
         requires session { who < 16 }
         ensures { Does R.is who (Command.Break added) self.old self.new result }
     {
-        let Ok(()) = self.breaks[who as usize].add(added) else {
-            return Err(Refusal::Memory);
-        };
+        self.breaks[who as usize].add(added)?;
         self.logged += 1;
         Ok(Reply::BreakSet)
     }
@@ -173,10 +169,11 @@ fn hit_from<R: Register>(
     ensures kept { IsKept chart.old chart.new }
 {
     let search = Search {
+        breaks,
         way,
         from: cursor.place,
     };
-    match next_hit(alloc, chart, &cursor.branch, breaks, search)? {
+    match next_hit(alloc, chart, &cursor.branch, &search)? {
         None => Ok(None),
         Some(place) => Ok(Some(Cursor {
             branch: cursor.branch,

@@ -28,7 +28,7 @@ loop-run-preserved g c =
       place = ap (λ n. n + x.1) c.loop-run.invariant.place ∙ sym (counted_split runs i x c.loop-run-test.true c.loop-run-item.is);
       found = λ test first tells.
           c.in_ok-found.ensures test
-          (subst (λ r. Tells is c.args.breaks.now test place (record { run = r; count = x.1 })) (sym c.deref.ensures)
-          (subst (λ n. Tells is c.args.breaks.now test n (part_of x)) here (tells_at is c.args.breaks.now test 0 runs i x c.loop-run-test.true c.loop-run-item.is tells)))
+          (subst (λ r. Tells is c.args.search.now.breaks.now test place (record { run = r; count = x.1 })) (sym c.deref.ensures)
+          (subst (λ n. Tells is c.args.search.now.breaks.now test n (part_of x)) here (tells_at is c.args.search.now.breaks.now test 0 runs i x c.loop-run-test.true c.loop-run-item.is tells)))
           (c.loop-run.invariant.found test first tells);
     }

@@ -10,15 +10,15 @@ pub invariant_of-self : goal.invariant_of-self
 invariant_of-self g c =
     let i = c.self.inside in
     let old : Staged g.row.R.Denot g.row.R-Pending.Denot = record { chart = i.chart; limits = i.limits; cursors = i.cursors; breaks = i.breaks.items; edits = i.edits; logged = i.logged } in
-    let logged : i.logged ≡ c.args.self.now.logged = ap (λ s. s.logged) c.self.view_is ∙ ap (λ w. w.logged) c.in-Ok.ensures.world in
-    let limits : i.limits ≡ c.args.self.now.limits = ap (λ s. s.limits) c.self.view_is ∙ c.in-Ok.ensures.limits in
+    let logged : i.logged ≡ c.args.self.now.logged = ap (λ s. s.logged) c.self.view_is ∙ ap (λ w. w.logged) c.in_ok-hit.ensures.world in
+    let limits : i.limits ≡ c.args.self.now.limits = ap (λ s. s.limits) c.self.view_is ∙ c.in_ok-hit.ensures.limits in
     let log : i.limits.log ≡ c.args.self.now.limits.log = ap (λ l. l.log) limits in
     let room : i.logged < i.limits.log = omega (arith, c.requires.room) in
     elim c.if-is_some.branch [
       | then-is_some w ↦
           rw w.self-inside-is
-          (put_staged old c.args.who c.in-Ok.hit i.breaks.items c.self.invariant c.requires.session
-          (subst (λ s. IfSome c.in-Ok.hit (StandsIn (forest s.chart.cut))) (sym c.self.view_is) c.in-Ok.ensures.stands) c.self.invariant.breaks room)
+          (put_staged old c.args.who c.in_ok-hit.hit i.breaks.items c.self.invariant c.requires.session
+          (subst (λ s. IfSome c.in_ok-hit.hit (StandsIn (forest s.chart.cut))) (sym c.self.view_is) c.in_ok-hit.ensures.stands) c.self.invariant.breaks room)
       | else-is_some w ↦
           rw w.self-inside-is (record {
             same_limits = c.self.invariant.same_limits;
