@@ -120,6 +120,11 @@ module _ {P : Type 0} (who : ℕ) (c : Command) (w : World P) where
       by (command.Break break) h = absurd (cc)
       by (command.Clear break) h = absurd (cc)
 
+-- no cursor holds it up
+pub not_held_up : {R P : Type 0} (o : Option Edit) (old now : Staged R P) (t : Bool) → old ≡ now → t ≡ is_held_up o (forest now.chart.cut) now.cursors → t ≡ false
+    → is_held_up o (forest old.chart.cut) old.cursors ≡ false
+not_held_up o old now t same is free = ap (λ s. is_held_up o (forest s.chart.cut) s.cursors) same ∙ sym is ∙ free
+
 -- a stage behind an edit
 abbrev pub after : {R P : Type 0} → Staged R P → Charted R P → List (Option Cursor) → Staged R P
 after old chart cursors = record { chart = chart; limits = old.limits; cursors = cursors; breaks = old.breaks; edits = old.edits + 1; logged = old.logged + 1 }

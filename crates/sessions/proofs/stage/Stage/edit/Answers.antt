@@ -1,10 +1,10 @@
-use Rattle.std.proofs.Common.{◌≡◌, ◌≤◌, ◌∙◌, false, sym, ap, subst, arith}
+use Rattle.std.proofs.Common.{◌≤◌, ◌∙◌, sym, subst, arith}
 use Rattle.schedule_trie.specs.Cut.{forest}
 use Rattle.sessions.specs.Bounds.{CanLog}
-use Rattle.sessions.specs.Edits.{edit_of, moved_if, is_held_up}
+use Rattle.sessions.specs.Edits.{edit_of}
 use Rattle.sessions.specs.Held.{Staged}
 use Rattle.sessions.proofs.Standing.{are_within}
-use Rattle.sessions.proofs.EditAnswers.{unchanged, staged_after, done_edit}
+use Rattle.sessions.proofs.EditAnswers.{unchanged, staged_after, done_edit, not_held_up}
 use Rattle.sessions.proofs.stage.Stage.edit.Goals as goal
 
 pub moved-moved-requires-clause-within : goal.moved-moved-requires-clause-within
@@ -23,20 +23,13 @@ pub invariant_of-self-2 : goal.invariant_of-self-2
 invariant_of-self-2 g c =
     let i = c.self.inside in
     let old : Staged g.row.R.Denot g.row.R-Pending.Denot = record { chart = i.chart; limits = i.limits; cursors = i.cursors; breaks = i.breaks.items; edits = i.edits; logged = i.logged } in
-    let edit = edit_of c.args.command.now in
-    let free : is_held_up edit (forest i.chart.cut) i.cursors ≡ false =
-    ap (λ s. is_held_up edit (forest s.chart.cut) s.cursors) c.self.view_is ∙ sym c.is_held_up.ensures ∙ c.if-is_held_up.false in
-    let moved : c.put.new.cursors ≡ moved_if edit (forest i.chart.cut) i.cursors = c.put.ensures ∙ c.moved-moved.ensures in
-    staged_after g.R.Behaves.is old c.change.new.chart c.put.new.cursors c.self.invariant c.held.ensures c.held-2.ensures (subst CanLog (sym c.self.view_is) c.requires.room) edit
-    c.in_ok-change.field-0 c.requires.edits free c.in_ok-change.ensures moved
+    staged_after g.R.Behaves.is old c.change.new.chart c.put.new.cursors c.self.invariant c.held.ensures c.held-2.ensures (subst CanLog (sym c.self.view_is) c.requires.room) (edit_of c.args.command.now)
+    c.in_ok-change.field-0 c.requires.edits (not_held_up (edit_of c.args.command.now) _ _ c.is_held_up.result c.self.view_is c.is_held_up.ensures c.if-is_held_up.false) c.in_ok-change.ensures (c.put.ensures ∙ c.moved-moved.ensures)
 
 pub returns : goal.returns
 returns g c = λ who.
     let i = c.self.inside in
     let old : Staged g.row.R.Denot g.row.R-Pending.Denot = record { chart = i.chart; limits = i.limits; cursors = i.cursors; breaks = i.breaks.items; edits = i.edits; logged = i.logged } in
-    let edit = edit_of c.args.command.now in
-    let free : is_held_up edit (forest i.chart.cut) i.cursors ≡ false =
-    ap (λ s. is_held_up edit (forest s.chart.cut) s.cursors) c.self.view_is ∙ sym c.is_held_up.ensures ∙ c.if-is_held_up.false in
-    let moved : c.put.new.cursors ≡ moved_if edit (forest i.chart.cut) i.cursors = c.put.ensures ∙ c.moved-moved.ensures in
     rw (← c.self.view_is)
-    (done_edit g.R.Behaves.is old c.change.new.chart c.put.new.cursors c.self.invariant who c.args.command.now c.in_ok-change.field-0 c.requires.edits free c.in_ok-change.ensures moved)
+    (done_edit g.R.Behaves.is old c.change.new.chart c.put.new.cursors c.self.invariant who c.args.command.now c.in_ok-change.field-0 c.requires.edits
+    (not_held_up (edit_of c.args.command.now) _ _ c.is_held_up.result c.self.view_is c.is_held_up.ensures c.if-is_held_up.false) c.in_ok-change.ensures (c.put.ensures ∙ c.moved-moved.ensures))
