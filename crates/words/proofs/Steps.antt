@@ -117,21 +117,17 @@ two_short (w ∷ ws) n h =
     let b = some_then (one_number ws) (λ y. Some (a.0, y)) n a.2 in
     subst (λ (m : ℕ × ℕ). (m.0 < 10 ^ 9) × (m.1 < 10 ^ 9)) (same_Some (a.0, b.0) n b.2) ((decimal-number w a.0 a.1).0, one_short ws b.0 b.1)
 
+-- the numbers that a step is made of
+with_short : {A : Type 0} (o : Option A) (of : A → Step) (s : Step) → ((n : A) → o ≡ Some n → HasShortNumbers (of n)) → option_map of o ≡ Some s → HasShortNumbers s
+with_short o of s short h = let a = mapped of o s h in subst HasShortNumbers a.2 (short a.0 a.1)
+
 short_by : (isw isr isg isx : Bool) (ws : List (List ℕ)) (s : Step)
     → cond isw (option_map (λ n. step.Write n.0 n.1) (two_numbers ws)) (cond isr (option_map (λ p. step.Read p) (one_number ws)) (cond isg (option_map (λ n. step.Go n.0 n.1) (two_numbers ws)) (cond isx (option_map (λ p. step.Stop p) (one_number ws)) None))) ≡ Some s
     → HasShortNumbers s
-short_by true isr isg isx ws s h =
-    let a = mapped (λ n. step.Write n.0 n.1) (two_numbers ws) s h in
-    subst HasShortNumbers a.2 (two_short ws a.0 a.1)
-short_by false true isg isx ws s h =
-    let a = mapped (λ p. step.Read p) (one_number ws) s h in
-    subst HasShortNumbers a.2 (one_short ws a.0 a.1)
-short_by false false true isx ws s h =
-    let a = mapped (λ n. step.Go n.0 n.1) (two_numbers ws) s h in
-    subst HasShortNumbers a.2 (two_short ws a.0 a.1)
-short_by false false false true ws s h =
-    let a = mapped (λ p. step.Stop p) (one_number ws) s h in
-    subst HasShortNumbers a.2 (one_short ws a.0 a.1)
+short_by true isr isg isx ws s h = with_short (two_numbers ws) (λ n. step.Write n.0 n.1) s (two_short ws) h
+short_by false true isg isx ws s h = with_short (one_number ws) (λ p. step.Read p) s (one_short ws) h
+short_by false false true isx ws s h = with_short (two_numbers ws) (λ n. step.Go n.0 n.1) s (two_short ws) h
+short_by false false false true ws s h = with_short (one_number ws) (λ p. step.Stop p) s (one_short ws) h
 short_by false false false false ws s h = absurd cc
 
 step_short : (ws : List (List ℕ)) (s : Step) → step_of ws ≡ Some s → HasShortNumbers s
