@@ -136,15 +136,11 @@ step_short (w ∷ ws) s h = short_by (bytes_eq w (codes "w")) (bytes_eq w (codes
 
 pub step_again : (s : Step) → HasShortNumbers s → step_of (words (step_text s)) ≡ Some s
 step_again (step.Write p v) h =
-    let a = h.0 in
-    let b = h.1 in
-    ap step_of (words-text (codes "w") (p ∷ v ∷ []) refl (a, (b, tt))) ∙ rw (number-decimal p a, number-decimal v b) refl
+    ap step_of (words-text (codes "w") (p ∷ v ∷ []) refl (h.0, (h.1, tt))) ∙ rw (number-decimal p h.0, number-decimal v h.1) refl
 step_again (step.Read p) h =
     ap step_of (words-text (codes "r") (p ∷ []) refl (h, tt)) ∙ rw (number-decimal p h) refl
 step_again (step.Go p c) h =
-    let a = h.0 in
-    let b = h.1 in
-    ap step_of (words-text (codes "g") (p ∷ c ∷ []) refl (a, (b, tt))) ∙ rw (number-decimal p a, number-decimal c b) refl
+    ap step_of (words-text (codes "g") (p ∷ c ∷ []) refl (h.0, (h.1, tt))) ∙ rw (number-decimal p h.0, number-decimal c h.1) refl
 step_again (step.Stop p) h =
     ap step_of (words-text (codes "x") (p ∷ []) refl (h, tt)) ∙ rw (number-decimal p h) refl
 
