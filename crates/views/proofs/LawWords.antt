@@ -1,5 +1,5 @@
 -- The law's words, by what is known as a read returns, say what Lamport's say.
-use Rattle.std.proofs.Common.{◌≡◌, ◌≢◌, ℕ, true, false, ◌||◌, List, [], ◌∷◌, ◌++◌, length, drop, Option, Some, None, ◌⊎◌, inl, inr, refl, sym, ap, subst, ◌∙◌, true≢false, eq-eqb}
+use Rattle.std.proofs.Common.{◌≡◌, ◌≢◌, ℕ, ◌<◌, true, false, ◌||◌, List, [], ◌∷◌, ◌++◌, length, drop, Option, Some, None, ◌⊎◌, inl, inr, refl, sym, ap, subst, ◌∙◌, true≢false, eq-eqb}
 use Rattle.std.specs.Prelude.{◌==◌, ◌↔◌}
 use Rattle.std.specs.List.{list_any}
 use Rattle.frames.specs.declared.types.Op.TheVariants as op
@@ -10,7 +10,8 @@ use Rattle.frames.specs.declared.verdict.Verdict.{Verdict}
 use Rattle.frames.specs.declared.verdict.Verdict.TheVariants.{Fresh, Overlap, Stray}
 use Rattle.frames.specs.Behaviour.{Behaviour}
 use Rattle.frames.specs.OneWriter.{HasOneWriter}
-use Rattle.frames.specs.Recorded.{recorded}
+use Rattle.frames.specs.Recorded.{AllFit, recorded}
+use Rattle.frames.specs.declared.types.Step.{Step}
 use Rattle.frames.specs.Verdicts.{Known, initially, invoked_now, after, reading, is_value, judged}
 use Rattle.frames.specs.Regularity.{in_progress, overlapped, OnReturn, EachRead, FreshAlone, NotStray, AlwaysReads, IsSafe, IsRegular}
 use Rattle.views.specs.VerdictWords.{InProgress, IsHistory, ReturnedRead, MatchVerdict, RecordsHistories}
@@ -145,23 +146,21 @@ module _ {P : Type 0} (b : Behaviour P) (records : HasOneWriter b → RecordsHis
   module _ (Says : Known → ℕ → ℕ → Type 0) (Words : (history : List (ℕ × Event)) → ℕ → ReturnedRead history → Type 0) where
     always_in_words : ((initial : ℕ) (history : List (ℕ × Event)) → IsHistory history → (r : ReturnedRead history) → Says (then_known initial r) r.process r.value → Words history initial r)
         → AlwaysReads b Says → AlwaysInWords b Words
-    always_in_words to h = record {
-      one_writer = h.one_writer;
-      refuses_none = h.refuses_none;
-      each_read = λ value steps within fit.
-          let history = records h.one_writer value steps within fit in
-          words_of_each value (recorded b value steps) history Says (Words (recorded b value steps) value) (to value (recorded b value steps) history) (h.each_read value steps within fit);
-    }
+    always_in_words to h = record { one_writer = h.one_writer; refuses_none = h.refuses_none; each_read = each }
+      where
+        each : (value : ℕ) (steps : List Step) → value < b.values → AllFit b steps → (r : ReturnedRead (recorded b value steps)) → Words (recorded b value steps) value r
+        each value steps within fit =
+            let history = records h.one_writer value steps within fit in
+            words_of_each value (recorded b value steps) history Says (Words (recorded b value steps) value) (to value (recorded b value steps) history) (h.each_read value steps within fit)
 
     always_by_words : ((initial : ℕ) (history : List (ℕ × Event)) → IsHistory history → (r : ReturnedRead history) → Words history initial r → Says (then_known initial r) r.process r.value)
         → AlwaysInWords b Words → AlwaysReads b Says
-    always_by_words from h = record {
-      one_writer = h.one_writer;
-      refuses_none = h.refuses_none;
-      each_read = λ value steps within fit.
-          let history = records h.one_writer value steps within fit in
-          each_of_words value (recorded b value steps) history Says (Words (recorded b value steps) value) (from value (recorded b value steps) history) (h.each_read value steps within fit);
-    }
+    always_by_words from h = record { one_writer = h.one_writer; refuses_none = h.refuses_none; each_read = each }
+      where
+        each : (value : ℕ) (steps : List Step) → value < b.values → AllFit b steps → EachRead Says (initially value) (recorded b value steps)
+        each value steps within fit =
+            let history = records h.one_writer value steps within fit in
+            each_of_words value (recorded b value steps) history Says (Words (recorded b value steps) value) (from value (recorded b value steps) history) (h.each_read value steps within fit)
 
   pub safe_words_alike : IsSafe b ↔ IsSafeInWords b
   safe_words_alike =
