@@ -1,8 +1,8 @@
 -- What a turn and the end of a conversation come to.
-use Rattle.std.proofs.Common.{◌≡◌, ℕ, ◌+◌, ◌^◌, ◌<◌, ◌≤◌, Bool, List, [], ◌++◌, length, take, Option, refl, sym, ap, subst, ◌∙◌, arith, append_assoc, append-nil, length-append, inl, inr}
+use Rattle.std.proofs.Common.{◌≡◌, ℕ, ◌+◌, ◌<◌, ◌≤◌, Bool, List, [], ◌++◌, length, take, Option, refl, sym, ap, subst, ◌∙◌, arith, append_assoc, append-nil, length-append, inl, inr}
 use Rattle.std.specs.Io.KnownBytes.{Appends, Consumes, IsAtEnd}
 use Rattle.conversation.specs.declared.fault.StreamFault.TheVariants.{Read, Write, TooLong, Memory}
-use Rattle.conversation.specs.Scripts.{Definition, answers_to, lines_of, IsAnswer}
+use Rattle.conversation.specs.Scripts.{Definition, answers_to, IsAnswer}
 use Rattle.std.specs.Prelude.{⊤, IfErr, OnOk, Result, Ok, Err}
 use Rattle.std.specs.Result.{IsErr, IsErrAnd}
 use Rattle.conversation.specs.declared.fault.StreamFault.{StreamFault}

@@ -231,24 +231,12 @@ module _ (Says : Known → ℕ → ℕ → Type 0) (Good : Returned → Type 0) 
   says_split i (Some e) k rest h = h
 
   event_known : (e : Option Event) (k : Known) (s : Seen) → ReadsAgree e k s → AllByRecursion Good (got e s) → SaysOf e k
-  event_known None k s a h = tt
   event_known (Some (Got p v)) k s a h = alike.known p v k s a h.0
-  event_known (Some (Invoke p o)) k s a h = tt
-  event_known (Some (Wrote p)) k s a h = tt
-  event_known (Some (Refused p layer)) k s a h = tt
-  event_known (Some (Void p reason)) k s a h = tt
-  event_known (Some (Stop p)) k s a h = tt
-  event_known (Some (Chosen p bit v)) k s a h = tt
+  event_known e k s a h = tt
 
   event_seen : (e : Option Event) (k : Known) (s : Seen) → ReadsAgree e k s → SaysOf e k → AllByRecursion Good (got e s)
-  event_seen None k s a h = tt
   event_seen (Some (Got p v)) k s a h = (alike.seen p v k s a h, tt)
-  event_seen (Some (Invoke p o)) k s a h = tt
-  event_seen (Some (Wrote p)) k s a h = tt
-  event_seen (Some (Refused p layer)) k s a h = tt
-  event_seen (Some (Void p reason)) k s a h = tt
-  event_seen (Some (Stop p)) k s a h = tt
-  event_seen (Some (Chosen p bit v)) k s a h = tt
+  event_seen e k s a h = tt
 
   module _ {P : Type 0} (b : Behaviour P) (one : HasOneWriter b) (Holds : Memory → Type 0) (Reaches : ℕ → Op → P → Type 0) (lawful : IsLawful b Holds Reaches) where
     known_from : (c : Alone P) (steps : List Step) (i : ℕ) (k : Known) (s : Seen) → IsConfiguration b Holds Reaches c → AllFit b steps → Agrees (ops_of c) k s

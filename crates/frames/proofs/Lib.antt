@@ -1,4 +1,5 @@
 pub mod Stacks
+pub mod Stepped
 pub mod Pointwise
 pub mod Halves
 pub mod Seen

@@ -5,7 +5,7 @@ use Rattle.std.specs.Bool.{Decides}
 use Rattle.std.specs.Cmp.Lexicographic.{pointwise}
 use mathlib.Core.Bool.{beq}
 use Rattle.std.proofs.lemmas.Bool.{cases_eq}
-use Rattle.std.proofs.lemmas.Bool.Decides.{Decides-and, Decides-like}
+use Rattle.std.proofs.lemmas.Bool.Decides.{Decides-and, Decides-at, Decides-like}
 use Rattle.std.proofs.lemmas.Slice.Eq.{slice_eq-Decides}
 use Rattle.std.proofs.lemmas.List.{get_or-set_same, get_or-set_other, get_or_default, same_lists}
 use Rattle.safe_bit.specs.laws.Equality.{memory_eq, memory_decides}
@@ -136,3 +136,13 @@ same_flat is Holds Reaches find E alike finds_alike r r' m m' stacks stacks' sto
         let each' = length_running (find r') 0 stacks' in
         let as_many : length stacks ≡ length stacks' = omega (arith, long, each, each') in
         same_lists stacks stacks' as_many (λ k x lt. at_place e s as_many k x lt)
+
+-- a test that is theirs
+pub same_tested : {R P : Type 0} {is : R → Behaviour P} (Holds : R → Memory → Type 0) (Reaches : R → ℕ → Op → P → Type 0) {find : R → ℕ → List Frame → Option P}
+    {E : R → R → Bool} (alike : (a b : R) → E a b ≡ true → is a ≡ is b) (finds_alike : (a b : R) → E a b ≡ true → find a ≡ find b)
+    {r r' : R} {m m' : Memory} {stacks stacks' : List (List Frame)} {stopped stopped' : List Bool}
+    → IsFlat (is r) (Holds r) (Reaches r) (shown (find r) r m stacks stopped) stacks → IsFlat (is r') (Holds r') (Reaches r') (shown (find r') r' m' stacks' stopped') stacks'
+    → (t : Bool) → t ≡ (E r r' && (memory_eq m m' && (pointwise stack_eq stacks stacks' && pointwise beq stopped stopped')))
+    → Decides t (SameConfiguration E (shown (find r) r m stacks stopped) (shown (find r') r' m' stacks' stopped'))
+same_tested {is = is} Holds Reaches {find = find} {E = E} alike finds_alike {r} {r'} {m} {m'} {stacks} {stacks'} {stopped} {stopped'} was was' t e =
+    Decides-at _ _ e (same_flat is Holds Reaches find E alike finds_alike r r' m m' stacks stacks' stopped stopped' was was')

@@ -9,12 +9,19 @@ use Rattle.sessions.specs.declared.reply.Reply.TheVariants.{No}
 use Rattle.sessions.specs.World.{opening}
 use Rattle.sessions.specs.Acts.{acted, is_full}
 use Rattle.sessions.specs.Logs.{IsLegal, is_logged, world_after, acted_by}
-use Rattle.sessions.specs.Held.{Held, IsHeld, Acts, opening_of, world_of}
+use Rattle.sessions.specs.Held.{Held, IsHeld, Staged, Acts, opening_of, world_of}
+use Rattle.std.specs.Prelude.{◌-◌, vec_capacity, vec_len}
+use Rattle.std.specs.Global.{Vec}
+use Rattle.cutoff.specs.Held.{Charted}
 use Rattle.sessions.proofs.LegalLogs.{legal_more, after_more}
 use Rattle.sessions.proofs.Ordinary.{acted_logged, acted_full}
 
 below : (a b : ℕ) (t : Bool) → nat_le a b ≡ t → t ≡ false → b < a
 below a b t e f = grind (arith, e, f)
+
+-- what lies in a book's fields
+abbrev pub kept : {R P : Type 0} → Charted R P → Staged R P → Vec Entry → Held R P
+kept first now log = record { first = first; now = now; log = log.items; room = vec_capacity log - vec_len log }
 
 module _ {R P : Type 0} (is : R → Behaviour P) (old new : Held R P) (e : Entry) where
   -- the log is full

@@ -1,10 +1,11 @@
 pub mod Answered
 pub mod LegalLogs
 pub mod Ordinary
-pub mod Lates
 pub mod Books
 pub mod Searches
 pub mod Runs
 pub mod NextHits
 pub mod Looks
 pub mod Rows
+pub mod Standing
+pub mod EditAnswers

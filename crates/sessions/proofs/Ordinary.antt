@@ -8,6 +8,7 @@ use Rattle.schedule_trie.specs.declared.refusal.Refusal.TheVariants.{NameTaken, 
 use Rattle.schedule_trie.specs.Names.{is_well_formed}
 use Rattle.schedule_trie.specs.Forest as forests
 use Rattle.schedule_trie.specs.Forest.{Forest, on_found, index_of, slots_in, name_of, branch}
+use Rattle.schedule_trie.specs.Edits.{Edit, Insert, Remove, Replace, Fork, Detach, Drop, edited}
 use Rattle.cutoff.specs.Held.{looked_at}
 use Rattle.sessions.specs.declared.command.Command.{Command}
 use Rattle.sessions.specs.declared.command.Command.TheVariants as command
@@ -16,7 +17,8 @@ use Rattle.sessions.specs.declared.reply.Reply.{Reply}
 use Rattle.sessions.specs.declared.reply.Reply.TheVariants.{No}
 use Rattle.sessions.specs.declared.way.Way.TheVariants as way
 use Rattle.sessions.specs.World.{World}
-use Rattle.sessions.specs.Acts.{acted, answered, refusals, late_refusals, first_refusal, refused_if, refusal_in, refused, reply_to, hit_reply, hit_of, is_full, lacks_session, is_missed, fits_command, branches_after, drops_occupied, lacks_break}
+use Rattle.sessions.specs.Acts.{acted, answered, refusals, late_refusals, first_refusal, refused_if, refusal_in, refused, reply_to, hit_reply, hit_of, is_full, lacks_session, is_missed, fits_command, lacks_break, looked_by, late_by, left_by}
+use Rattle.sessions.specs.Edits.{edit_of, drops_occupied}
 use Rattle.sessions.specs.Logs.{is_logged}
 use Rattle.sessions.specs.Held.{IsLate}
 
@@ -42,41 +44,43 @@ on : (o : Option ℕ) (work : ℕ → Result Forest Refusal) → ((i : ℕ) → 
 on None work h = refl
 on (Some i) work h = h i
 
-branches_ordinary : (limits : Limits) (f : Forest) (c : Command) → IsOrdinary (refusal_in (branches_after limits f c))
-branches_ordinary limits f (command.Insert name place step) =
+edited_ordinary : (limits : Limits) (f : Forest) (edit : Edit) → IsOrdinary (refusal_in (edited limits f edit))
+edited_ordinary limits f (Insert name place step) =
     on (index_of f.branches name) (forests.insert_at limits f place step)
     (λ i. by_test (nat_lt (length (slots_in f.branches i)) place) (Err NoPlace) _ refl (by_test (nat_le limits.cells f.made) (Err Full) (Ok (forests.inserted f i place step)) refl tt))
-branches_ordinary limits f (command.Remove name place) =
+edited_ordinary limits f (Remove name place) =
     on (index_of f.branches name) (forests.at_cell f place forests.without) (λ i. by_test (nat_le (length (slots_in f.branches i)) place) (Err NoPlace) (Ok _) refl tt)
-branches_ordinary limits f (command.Replace name place step) =
+edited_ordinary limits f (Replace name place step) =
     on (index_of f.branches name) (forests.at_cell f place (forests.replaced_by step)) (λ i. by_test (nat_le (length (slots_in f.branches i)) place) (Err NoPlace) (Ok _) refl tt)
-branches_ordinary limits f (command.Fork name place new) =
+edited_ordinary limits f (Fork name place new) =
     on (index_of f.branches name) (forests.fork_at limits f place new)
     (λ i. by_test (list_any (pointwise nat_eq new) (map name_of f.branches)) (Err NameTaken) _ refl
     (by_test (not (is_well_formed new)) (Err BadName) _ refl
     (by_test (nat_lt (length (slots_in f.branches i)) place) (Err NoPlace) _ refl
     (by_test (nat_le limits.branches (length f.branches)) (Err TooManyBranches) (Ok _) refl tt))))
-branches_ordinary limits f (command.Detach name) =
+edited_ordinary limits f (Detach name) =
     on (index_of f.branches name) (forests.detach_at limits f) (λ i. by_test (nat_lt limits.cells (f.made + length (slots_in f.branches i))) (Err Full) (Ok _) refl tt)
-branches_ordinary limits f (command.Drop name) =
+edited_ordinary limits f (Drop name) =
     on (index_of f.branches name) (forests.drop_at f) (λ i. by_test (nat_le (length f.branches) 1) (Err LastBranch) (Ok _) refl tt)
-branches_ordinary limits f (command.Go name place) =
+
+looked_ordinary : (f : Forest) (c : Command) → IsOrdinary (refusal_in (looked_by f c))
+looked_ordinary f (command.Go name place) =
     on (index_of f.branches name) (looked_at f place) (λ i. by_test (nat_lt (length (slots_in f.branches i)) place) (Err NoPlace) (Ok f) refl tt)
-branches_ordinary limits f command.Join = tt
-branches_ordinary limits f command.Leave = tt
-branches_ordinary limits f command.Seek = tt
-branches_ordinary limits f command.Back = tt
-branches_ordinary limits f (command.Break break) = tt
-branches_ordinary limits f (command.Clear break) = tt
+looked_ordinary f c = tt
+
+late_ordinary : {P : Type 0} (edit : Option Edit) (who : ℕ) (c : Command) (w : World P) → IsOrdinary (first_refusal (late_by edit who c w))
+late_ordinary (Some edit) who c w =
+    first_of (refusal_in (edited w.limits w.forest edit)) _ (edited_ordinary w.limits w.forest edit)
+    (first_of (refused_if (drops_occupied edit w.cursors) Occupied) [] (if_so (drops_occupied edit w.cursors) Occupied refl) tt)
+late_ordinary None who c w =
+    first_of (refusal_in (looked_by w.forest c)) _ (looked_ordinary w.forest c)
+    (first_of (refused_if (lacks_break who c w.breaks) NoBreak) [] (if_so (lacks_break who c w.breaks) NoBreak refl) tt)
 
 -- want of memory is no late refusal
 pub memory_last : {P : Type 0} (who : ℕ) (c : Command) (w : World P) (r : Refusal) → IsLate who c w r → r ≡ Memory
     → first_refusal (late_refusals who c w) ≡ None
 memory_last who c w r (inl e) memory =
-    let ordinary : IsOrdinary (first_refusal (late_refusals who c w)) =
-    first_of (refusal_in (branches_after w.limits w.forest c)) _ (branches_ordinary w.limits w.forest c)
-    (first_of (refused_if (drops_occupied c w.cursors) Occupied) _ (if_so (drops_occupied c w.cursors) Occupied refl)
-    (first_of (refused_if (lacks_break who c w.breaks) NoBreak) [] (if_so (lacks_break who c w.breaks) NoBreak refl) tt)) in
+    let ordinary : IsOrdinary (first_refusal (late_refusals who c w)) = late_ordinary (edit_of c) who c w in
     let logged : is_logged (No Memory) ≡ true = subst IsOrdinary (e ∙ ap Some memory) ordinary in
     absurd (cc)
 memory_last who c w r (inr m) memory = m.1
@@ -109,10 +113,18 @@ module _ {P : Type 0} (who : ℕ) (w : World P) where
   refused_counted LogFull h = cc
   refused_counted r h = refl
 
+  left_counted : (edit : Option Edit) (c : Command) → (left_by edit who c w).logged ≡ w.logged + 1
+  left_counted (Some edit) c = refl
+  left_counted None c = refl
+
+  left_limits : (edit : Option Edit) (c : Command) → (left_by edit who c w).limits ≡ w.limits
+  left_limits (Some edit) c = refl
+  left_limits None c = refl
+
   -- an answer that is logged is counted
   by_first : (c : Command) (o : Option Refusal) → IsOrdinary o
       → (is_logged (answered o who c w).reply ≡ true) × ((answered o who c w).world.logged ≡ w.logged + 1) × ((answered o who c w).world.limits ≡ w.limits)
-  by_first c None h = (reply_logged c, refl, refl)
+  by_first c None h = (reply_logged c, left_counted (edit_of c) c, left_limits (edit_of c) c)
   by_first c (Some r) h = (h, refused_counted r h, refused_limits r)
 
   pub acted_logged : (guard : Option ℕ) (c : Command) → is_full w ≡ false
@@ -123,9 +135,7 @@ module _ {P : Type 0} (who : ℕ) (w : World P) where
       (first_of (refused_if (lacks_session who c w.cursors) NoSession) _ (if_so (lacks_session who c w.cursors) NoSession refl)
       (first_of (refused_if (is_missed guard w.edits) (Newer w.edits)) _ (if_so (is_missed guard w.edits) (Newer w.edits) refl)
       (first_of (refused_if (not (fits_command w.tower c)) BadStep) _ (if_so (not (fits_command w.tower c)) BadStep refl)
-      (first_of (refusal_in (branches_after w.limits w.forest c)) _ (branches_ordinary w.limits w.forest c)
-      (first_of (refused_if (drops_occupied c w.cursors) Occupied) _ (if_so (drops_occupied c w.cursors) Occupied refl)
-      (first_of (refused_if (lacks_break who c w.breaks) NoBreak) [] (if_so (lacks_break who c w.breaks) NoBreak refl) tt)))))))
+      (late_ordinary (edit_of c) who c w)))))
 
   -- it is no want of memory
   pub never_memory : (guard : Option ℕ) (c : Command) (after : World P) (reply : Reply) → is_full w ≡ false

@@ -3,23 +3,22 @@ use Rattle.std.specs.Prelude.{ℕ, ◌+◌, Bool, true, false, not, ◌==◌, �
 use Rattle.std.specs.Option.{option_map}
 use Rattle.frames.specs.Behaviour.{Behaviour}
 use Rattle.frames.specs.Configuration.{fits_step}
-use Rattle.schedule_trie.specs.declared.limits.Limits.{Limits}
 use Rattle.schedule_trie.specs.declared.refusal.Refusal.{Refusal}
 use Rattle.schedule_trie.specs.declared.refusal.Refusal.TheVariants.{LogFull, NoSession, Newer, BadStep, Occupied, NoBreak}
-use Rattle.schedule_trie.specs.Forest as forests
 use Rattle.schedule_trie.specs.Forest.{Forest}
+use Rattle.schedule_trie.specs.Edits.{Edit, edited}
 use Rattle.cutoff.specs.Held.{look}
 use Rattle.views.specs.declared.breakpoint.Break.{Break}
 use Rattle.views.specs.Looks.{steps_in}
 use Rattle.sessions.specs.declared.cursor.Cursor.{Cursor}
-use Rattle.sessions.specs.declared.cursor.Shift.TheVariants as shift
 use Rattle.sessions.specs.declared.way.Way.{Way}
 use Rattle.sessions.specs.declared.way.Way.TheVariants as way
 use Rattle.sessions.specs.declared.command.Command.{Command}
 use Rattle.sessions.specs.declared.command.Command.TheVariants as command
 use Rattle.sessions.specs.declared.reply.Reply.{Reply}
 use Rattle.sessions.specs.declared.reply.Reply.TheVariants.{Joined, Left, Edited, Moved, NoHit, BreakSet, BreakCleared, No}
-use Rattle.sessions.specs.Cursors.{cursor, cursor_at, first_cursor, shifted, each_cursor, is_occupied}
+use Rattle.sessions.specs.Cursors.{cursor, cursor_at, first_cursor}
+use Rattle.sessions.specs.Edits.{edit_of, moved_by, drops_occupied}
 use Rattle.sessions.specs.BreakLists.{breaks_at, has_break, with_break, without_break}
 use Rattle.sessions.specs.Seeks.{hits, next_of}
 use Rattle.sessions.specs.World.{World}
@@ -48,21 +47,10 @@ fits_command b (command.Insert branch place step) = fits_step b step
 fits_command b (command.Replace branch place step) = fits_step b step
 fits_command b c = true
 
--- the branches after a command, or why they refuse it; a go only looks
-abbrev pub branches_after : Limits → Forest → Command → Result Forest Refusal
-branches_after limits f (command.Insert branch place step) = forests.insert limits f branch place step
-branches_after limits f (command.Remove branch place) = forests.remove_cell f branch place
-branches_after limits f (command.Replace branch place step) = forests.replace_step f branch place step
-branches_after limits f (command.Fork branch place name) = forests.fork limits f branch place name
-branches_after limits f (command.Detach branch) = forests.detach limits f branch
-branches_after limits f (command.Drop branch) = forests.drop_branch f branch
-branches_after limits f (command.Go branch place) = look f branch place
-branches_after limits f c = Ok f
-
--- a drop of a branch on which a cursor stands
-abbrev pub drops_occupied : Command → List (Option Cursor) → Bool
-drops_occupied (command.Drop branch) cursors = is_occupied branch cursors
-drops_occupied c cursors = false
+-- a go only looks
+abbrev pub looked_by : Forest → Command → Result Forest Refusal
+looked_by f (command.Go branch place) = look f branch place
+looked_by f c = Ok f
 
 -- a clear of a break that isn't there
 abbrev pub lacks_break : ℕ → Command → List (List Break) → Bool
@@ -96,12 +84,25 @@ module _ {P : Type 0} where
       ∷ refused_if (not (fits_command w.tower c)) BadStep
       ∷ []
 
-  abbrev pub late_refusals : ℕ → Command → World P → List (Option Refusal)
-  late_refusals who c w =
-      refusal_in (branches_after w.limits w.forest c)
-      ∷ refused_if (drops_occupied c w.cursors) Occupied
+  -- of an edit, and of another command
+  abbrev pub edit_refusals : Edit → World P → List (Option Refusal)
+  edit_refusals edit w =
+      refusal_in (edited w.limits w.forest edit)
+      ∷ refused_if (drops_occupied edit w.cursors) Occupied
+      ∷ []
+
+  abbrev pub other_refusals : ℕ → Command → World P → List (Option Refusal)
+  other_refusals who c w =
+      refusal_in (looked_by w.forest c)
       ∷ refused_if (lacks_break who c w.breaks) NoBreak
       ∷ []
+
+  abbrev pub late_by : Option Edit → ℕ → Command → World P → List (Option Refusal)
+  late_by (Some edit) who c w = edit_refusals edit w
+  late_by None who c w = other_refusals who c w
+
+  abbrev pub late_refusals : ℕ → Command → World P → List (Option Refusal)
+  late_refusals who c w = late_by (edit_of c) who c w
 
   abbrev pub refusals : ℕ → Option ℕ → Command → World P → List (Option Refusal)
   refusals who guard c w = early_refusals who guard c w ++ late_refusals who c w
@@ -118,12 +119,10 @@ abbrev pub put_cursor : ℕ → Option Cursor → List (Option Cursor) → List 
 put_cursor who None cursors = cursors
 put_cursor who (Some c) cursors = slice_set cursors who (Some c)
 
--- the cursors after a command that isn't refused
+-- the cursors after a command that is no edit and isn't refused
 abbrev pub cursors_after : {P : Type 0} → ℕ → Command → World P → List (Option Cursor)
 cursors_after who command.Join w = slice_set w.cursors who (first_cursor w.forest)
 cursors_after who command.Leave w = slice_set w.cursors who None
-cursors_after who (command.Insert branch place step) w = each_cursor (shifted shift.Up w.forest branch place) w.cursors
-cursors_after who (command.Remove branch place) w = each_cursor (shifted shift.Down w.forest branch place) w.cursors
 cursors_after who (command.Go branch place) w = slice_set w.cursors who (Some (cursor branch place))
 cursors_after who command.Seek w = put_cursor who (hit_of way.Forth w who) w.cursors
 cursors_after who command.Back w = put_cursor who (hit_of way.Back w who) w.cursors
@@ -136,16 +135,6 @@ breaks_after who command.Leave breaks = slice_set breaks who []
 breaks_after who (command.Break break) breaks = slice_set breaks who (with_break break (breaks_at breaks who))
 breaks_after who (command.Clear break) breaks = slice_set breaks who (without_break break (breaks_at breaks who))
 breaks_after who c breaks = breaks
-
--- an edit is counted
-abbrev pub edits_after : Command → ℕ → ℕ
-edits_after (command.Insert branch place step) edits = edits + 1
-edits_after (command.Remove branch place) edits = edits + 1
-edits_after (command.Replace branch place step) edits = edits + 1
-edits_after (command.Fork branch place name) edits = edits + 1
-edits_after (command.Detach branch) edits = edits + 1
-edits_after (command.Drop branch) edits = edits + 1
-edits_after c edits = edits
 
 abbrev pub hit_reply : Option Cursor → Reply
 hit_reply None = NoHit
@@ -170,16 +159,32 @@ kept_or (Err r) f = f
 abbrev pub counted : {P : Type 0} → World P → World P
 counted w = record w { logged = w.logged + 1 }
 
--- a command that isn't refused leaves this
-abbrev pub left : {P : Type 0} → ℕ → Command → World P → World P
-left who c w =
+-- an edit that isn't refused leaves this
+abbrev pub edited_world : {P : Type 0} → Edit → World P → World P
+edited_world edit w =
     record w {
-      forest = kept_or (branches_after w.limits w.forest c) w.forest;
-      cursors = cursors_after who c w;
-      breaks = breaks_after who c w.breaks;
-      edits = edits_after c w.edits;
+      forest = kept_or (edited w.limits w.forest edit) w.forest;
+      cursors = moved_by edit w.forest w.cursors;
+      edits = w.edits + 1;
       logged = w.logged + 1;
     }
+
+-- another command leaves this
+abbrev pub moved_world : {P : Type 0} → ℕ → Command → World P → World P
+moved_world who c w =
+    record w {
+      cursors = cursors_after who c w;
+      breaks = breaks_after who c w.breaks;
+      logged = w.logged + 1;
+    }
+
+abbrev pub left_by : {P : Type 0} → Option Edit → ℕ → Command → World P → World P
+left_by (Some edit) who c w = edited_world edit w
+left_by None who c w = moved_world who c w
+
+-- a command that isn't refused
+abbrev pub left : {P : Type 0} → ℕ → Command → World P → World P
+left who c w = left_by (edit_of c) who c w
 
 -- a refused command is counted and changes nothing else; where the log is full it isn't counted
 abbrev pub refused : {P : Type 0} → Refusal → World P → World P

@@ -1,5 +1,7 @@
 -- Bounds that commands and seeks keep within.
-use Rattle.std.specs.Prelude.{ℕ, ◌<◌, ◌^◌}
+use Rattle.std.specs.Prelude.{ℕ, ◌<◌, ◌≤◌, ◌^◌, List, Option, IfSome}
+use Rattle.sessions.specs.declared.cursor.Cursor.{Cursor}
+use Rattle.sessions.specs.Cursors.{cursor_at}
 use Rattle.sessions.specs.Held.{Staged}
 
 -- another command can be logged
@@ -9,3 +11,7 @@ CanLog s = s.logged < s.limits.log
 -- a place that a look can name
 abbrev pub IsPlace : ℕ → Type 0
 IsPlace place = place < 2 ^ 32
+
+-- no cursor stands behind more cells than can ever be made
+abbrev pub AreWithin : List (Option Cursor) → Type 0
+AreWithin cursors = (who : ℕ) → IfSome (cursor_at cursors who) (λ c. c.place ≤ 16777216)

@@ -1,9 +1,10 @@
 -- Cursors of sessions: where they stand, and how an edit moves them.
-use Rattle.std.specs.Prelude.{ℕ, ◌+◌, ◌-◌, Bool, ◌&&◌, false, nat_eq, nat_lt, List, Option, Some, None, map, is_some, slice_index_or, if◌then◌else◌}
+use Rattle.std.specs.Prelude.{ℕ, ◌≡◌, ◌+◌, ◌-◌, Bool, ◌&&◌, false, nat_eq, nat_lt, List, Option, Some, None, Ok, map, is_some, IfSome, slice_index_or, if◌then◌else◌}
 use Rattle.std.specs.List.{list_any}
 use Rattle.std.specs.Option.{option_map}
 use Rattle.std.specs.Cmp.Lexicographic.{pointwise}
 use Rattle.schedule_trie.specs.Forest.{Forest, cell_at, place_of, name_in}
+use Rattle.cutoff.specs.Held.{look}
 use Rattle.sessions.specs.declared.cursor.Cursor.{Cursor}
 use Rattle.sessions.specs.declared.cursor.Shift.{Shift}
 use Rattle.sessions.specs.declared.cursor.Shift.TheVariants.{Up, Down}
@@ -47,3 +48,10 @@ stands_on branch (Some c) = pointwise nat_eq branch c.branch
 
 abbrev pub is_occupied : List ℕ → List (Option Cursor) → Bool
 is_occupied branch cursors = list_any (stands_on branch) cursors
+
+-- a cursor stands where a look can: on a branch, at a place within it
+abbrev pub StandsIn : Forest → Cursor → Type 0
+StandsIn f c = look f c.branch c.place ≡ Ok f
+
+abbrev pub AllStand : Forest → List (Option Cursor) → Type 0
+AllStand f cursors = (who : ℕ) → IfSome (cursor_at cursors who) (StandsIn f)

@@ -1,12 +1,13 @@
 -- What a book keeps.
 use Rattle.std.specs.Prelude.{ℕ, ◌≡◌, ◌≤◌, ◌⊎◌, false, List, Option, Some, None, Result, Ok, Err, length}
-use Rattle.frames.specs.declared.types.Step.{Step}
 use Rattle.frames.specs.Behaviour.{Behaviour}
 use Rattle.schedule_trie.specs.declared.limits.Limits.{Limits}
 use Rattle.schedule_trie.specs.declared.refusal.Refusal.{Refusal}
 use Rattle.schedule_trie.specs.declared.refusal.Refusal.TheVariants.{Memory}
-use Rattle.schedule_trie.specs.Cut.{forest}
+use Rattle.schedule_trie.specs.Cut.{AreLimits, forest}
+use Rattle.schedule_trie.specs.Edits.{Edit, IsEdited}
 use Rattle.cutoff.specs.Held.{Charted}
+use Rattle.cutoff.specs.Edits.{IsUneditedChart, KeepsBeginning}
 use Rattle.views.specs.declared.breakpoint.Break.{Break}
 use Rattle.sessions.specs.declared.cursor.Cursor.{Cursor}
 use Rattle.sessions.specs.declared.command.Command.{Command}
@@ -16,6 +17,7 @@ use Rattle.sessions.specs.declared.way.Way.TheVariants.{Forth, Back}
 use Rattle.sessions.specs.declared.reply.Reply.{Reply}
 use Rattle.sessions.specs.declared.reply.Reply.TheVariants.{No}
 use Rattle.sessions.specs.declared.log.Entry.{Entry}
+use Rattle.sessions.specs.Cursors.{AllStand}
 use Rattle.sessions.specs.World.{World, opening}
 use Rattle.sessions.specs.Acts.{acted, first_refusal, refusals, late_refusals, is_full, left, reply_to}
 use Rattle.sessions.specs.Logs.{IsLegal, world_after, logged}
@@ -42,10 +44,13 @@ world_of is s =
       logged = s.logged;
     }
 
--- what it keeps: its limits are its branches', there are sixteen sessions, and its counts are within the log
+-- what it keeps: its limits are its branches' and lie in their ranges, there are sixteen sessions, whose cursors stand within
+-- the branches, and its counts are within the log
 pub record IsStaged {R P : Type 0} (s : Staged R P) : Type 0 where
   pub same_limits : s.chart.cut.limits ≡ s.limits
-  pub most_log : s.limits.log ≤ 1048576
+  pub in_range : AreLimits s.limits
+  pub few_cells : (forest s.chart.cut).made ≤ s.limits.cells
+  pub stand : AllStand (forest s.chart.cut) s.cursors
   pub cursors : length s.cursors ≡ 16
   pub breaks : length s.breaks ≡ 16
   pub few_edits : s.edits ≤ s.logged
@@ -101,12 +106,11 @@ TellsMemoryLast is h who guard c reply = reply ≡ No Memory → MayWant is h wh
 abbrev pub IsLate : {P : Type 0} → ℕ → Command → World P → Refusal → Type 0
 IsLate who c w r = (first_refusal (late_refusals who c w) ≡ Some r) ⊎ ((r ≡ Memory) × NoneDueLate who c w)
 
--- why an insert at a place of a branch isn't done, or a remove
-abbrev pub WhyNoInsert : {P : Type 0} → World P → List ℕ → ℕ → Refusal → Type 0
-WhyNoInsert w branch place r = (who : ℕ) (step : Step) → IsLate who (command.Insert branch place step) w r
-
-abbrev pub WhyNoRemove : {P : Type 0} → World P → List ℕ → ℕ → Refusal → Type 0
-WhyNoRemove w branch place r = (who : ℕ) → IsLate who (command.Remove branch place) w r
+-- an edit, if there is one, changes a chart or is refused; otherwise nothing is changed
+abbrev pub Changes : {R P : Type 0} → Option Edit → Charted R P → Charted R P → Result (Unit {0}) Refusal → Type 0
+Changes (Some edit) old new (Ok done) = IsEdited old.cut new.cut edit × KeepsBeginning old new
+Changes (Some edit) old new (Err e) = IsUneditedChart old new edit e
+Changes None old new result = new ≡ old
 
 -- work on a command that nothing refuses early: it is done, or a late refusal or want of memory changes nothing that a command sees
 pub record Done {R P : Type 0} (is : R → Behaviour P) (who : ℕ) (c : Command) (old new : Staged R P) (reply : Reply) : Type 0 where

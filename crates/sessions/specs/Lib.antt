@@ -5,6 +5,7 @@ pub mod Walks
 pub mod World
 pub mod Acts
 pub mod Logs
+pub mod Edits
 pub mod Held
 pub mod Bounds
 pub mod Looks

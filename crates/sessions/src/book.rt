@@ -80,8 +80,9 @@ impl<R: Register> Book<R> {
         ensures ok { OnOk result (opened limits steps.now ≡ Ok (forests.opening steps.now)) }
         ensures err { IfErr result (IsRefused (opened limits steps.now)) }
     {
-        let stage = Stage::new(alloc, register, value, limits, steps)?;
-        let first = Snapshot::of(stage.chart());
+        let chart = Chart::new(alloc, register, value, limits, steps)?;
+        let first = Snapshot::of(&chart);
+        let stage = Stage::new(alloc, chart, limits)?;
         Ok(Book {
             first,
             stage,

@@ -1,15 +1,17 @@
 //! Cursors of sessions.
 
-ghost use Rattle.std.specs.Prelude.{◌≡◌, IfOk, length};
-ghost use Rattle.std.specs.Option.{option_map};
+ghost use Rattle.std.specs.Prelude.{◌≡◌, ◌<◌, ◌≤◌, IfSome, length};
+ghost use Rattle.std.specs.Option.{option_map, unwrap_or};
 ghost use Rattle.schedule_trie.specs.Forest.{cell_at};
 ghost use Rattle.schedule_trie.specs.Cut.{forest};
+ghost use Rattle.sessions.specs.Bounds.{AreWithin};
 ghost use Rattle.sessions.specs.Cursors as spec;
+ghost use Rattle.sessions.specs.Edits.{edit_of, moved_if};
 
+use crate::command::Command;
 use cutoff::chart::Chart;
 use frames::register::Register;
 use schedule_trie::name::Name;
-use std::alloc::AllocError;
 
 /// How many sessions there are.
 pub const SESSIONS: usize = 16;
@@ -31,13 +33,15 @@ pub enum Shift {
 }
 
 impl Shift {
-    /// The place that a place goes to. No branch is so long that there is none.
-    fn of(self, place: u32) -> Result<u32, AllocError>
-        ensures { IfOk result (λ moved. moved ≡ spec.shifted_place self place) }
+    /// The place that a place behind an edit's goes to. No branch is so long that there is none.
+    fn of(self, place: u32) -> u32
+        requires behind { 0 < place }
+        requires within { place ≤ 16777216 }
+        ensures { result ≡ spec.shifted_place self place }
     {
         match self {
-            Shift::Up => place.checked_add(1).ok_or(AllocError),
-            Shift::Down => Ok(place.saturating_sub(1)),
+            Shift::Up => place + 1,
+            Shift::Down => place - 1,
         }
     }
 }
@@ -60,45 +64,66 @@ fn shifted_one<R: Register>(
     place: u32,
     shift: Shift,
     cursor: &Option<Cursor>,
-) -> Result<Option<Cursor>, AllocError>
-    requires { cell ≡ cell_at (forest chart.now.cut) branch.now place }
-    ensures { IfOk result
-        (λ moved. moved ≡ option_map (spec.shifted shift (forest chart.now.cut) branch.now place)
-        cursor.now) }
+) -> Option<Cursor>
+    requires cell { cell ≡ cell_at (forest chart.now.cut) branch.now place }
+    requires within { IfSome cursor.now (λ c. c.place ≤ 16777216) }
+    ensures { result
+        ≡ option_map (spec.shifted shift (forest chart.now.cut) branch.now place) cursor.now }
 {
     let Some(cursor) = cursor else {
-        return Ok(None);
+        return None;
     };
     if !acts_in(chart, cell, branch, &cursor.branch) || cursor.place <= place {
-        return Ok(Some(*cursor));
+        return Some(*cursor);
     }
-    let place = shift.of(cursor.place)?;
-    Ok(Some(Cursor {
+    Some(Cursor {
         branch: cursor.branch,
-        place,
-    }))
+        place: shift.of(cursor.place),
+    })
 }
 
 /// Where the cursors stand behind an edit at a place of a branch.
-pub(crate) fn shifted<R: Register>(
+fn shifted<R: Register>(
     chart: &Chart<R>,
     cursors: &[Option<Cursor>],
     branch: &Name,
     place: u32,
     shift: Shift,
-) -> Result<[Option<Cursor>; SESSIONS], AllocError>
-    requires { length cursors.now ≡ 16 }
-    ensures { IfOk result
-        (λ moved. moved
+) -> [Option<Cursor>; SESSIONS]
+    requires sessions { length cursors.now ≡ 16 }
+    requires within { AreWithin cursors.now }
+    ensures { result
         ≡ spec.each_cursor (spec.shifted shift (forest chart.now.cut) branch.now place)
-        cursors.now) }
+        cursors.now }
 {
     let cell = chart.cell_at(branch, place);
     let mut moved = [None; SESSIONS];
     for i in 0..SESSIONS {
-        moved[i] = shifted_one(chart, cell, branch, place, shift, &cursors[i])?;
+        moved[i] = shifted_one(chart, cell, branch, place, shift, &cursors[i]);
     }
-    Ok(moved)
+    moved
+}
+
+/// Where the cursors stand behind a command, by its edit; none where they stay.
+pub(crate) fn moved<R: Register>(
+    chart: &Chart<R>,
+    cursors: &[Option<Cursor>],
+    command: &Command,
+) -> Option<[Option<Cursor>; SESSIONS]>
+    requires sessions { length cursors.now ≡ 16 }
+    requires within { AreWithin cursors.now }
+    ensures { unwrap_or result cursors.now
+        ≡ moved_if (edit_of command.now) (forest chart.now.cut) cursors.now }
+{
+    match command {
+        Command::Insert { branch, place, .. } => {
+            Some(shifted(chart, cursors, branch, *place, Shift::Up))
+        }
+        Command::Remove { branch, place } => {
+            Some(shifted(chart, cursors, branch, *place, Shift::Down))
+        }
+        _ => None,
+    }
 }
 
 /// Whether a cursor stands on a branch.

@@ -1,10 +1,9 @@
 //! Seeks: the places of a branch at which breaks are met.
 
-ghost use Rattle.std.specs.Prelude.{ℕ, Bool, List, ◌≡◌, ◌<◌, ◌≤◌, ◌+◌, ◌&&◌, ◌||◌, nat_lt, IfOk, IfSome, length, map, slice_index_or, take, if◌then◌else◌, Some, None};
+ghost use Rattle.std.specs.Prelude.{ℕ, Bool, List, ◌≡◌, ◌<◌, ◌≤◌, ◌+◌, ◌&&◌, ◌||◌, nat_lt, IfOk, IfSome, length, map, if◌then◌else◌, Some, None};
 ghost use Rattle.std.specs.List.{list_any};
 ghost use Rattle.std.specs.Option.{option_or};
 ghost use Rattle.safe_bit.specs.Parts.{HasSize};
-ghost use Rattle.frames.specs.Configuration.{history, replayed};
 ghost use Rattle.frames.specs.Recorded.{AllFit};
 ghost use Rattle.schedule_trie.specs.Cut.{forest};
 ghost use Rattle.cutoff.specs.Fitting.{counted, part_of};
@@ -12,9 +11,8 @@ ghost use Rattle.views.specs.Breaks as breaks_spec;
 ghost use Rattle.views.specs.Cells.{HasCells};
 ghost use Rattle.views.specs.Looks.{IsKept, steps_in};
 ghost use Rattle.sessions.specs.Bounds.{IsPlace};
-ghost use Rattle.sessions.specs.Seeks.{hits, next_of, no_events, places_with};
-ghost use Rattle.sessions.specs.Walks.{Tells, TellAll};
-ghost use Rattle.sessions.specs.Seeks.{IsNextHit, is_hit};
+ghost use Rattle.sessions.specs.Seeks.{hits, next_of, no_events, IsNextHit, is_hit};
+ghost use Rattle.sessions.specs.Walks.{found_below, GoesOn, Tells, TellAll, TellsEvents, TellsSteps};
 ghost use Rattle.sessions.specs.Walks as spec;
 
 use crate::way::Way;
@@ -30,9 +28,10 @@ use std::sync::Arc;
 use views::breakpoint::Break;
 use views::spot::front;
 
-/// A seek: its way, and the place from which it goes.
+/// A seek: the breaks that it looks for, its way, and the place from which it goes.
 #[derive(Clone, Copy)]
-pub struct Search {
+pub struct Search<'a> {
+    pub breaks: &'a [Break],
     pub way: Way,
     pub from: u32,
 }
@@ -44,12 +43,12 @@ struct Progress {
     found: Option<u32>,
 }
 
-impl Search {
+impl Search<'_> {
     /// What is found behind one more place, greater than those before it.
-    fn with_place(self, found: Option<u32>, place: u32, hit: bool) -> Option<u32>
-        ensures { (test : ℕ → Bool) → test place ≡ hit → found
-            ≡ next_of self.way self.from (places_with test place)
-            → result ≡ next_of self.way self.from (places_with test (place + 1)) }
+    fn with_place(&self, found: Option<u32>, place: u32, hit: bool) -> Option<u32>
+        ensures { (test : ℕ → Bool) → test place ≡ hit
+            → found ≡ found_below self.now test place
+            → result ≡ found_below self.now test (place + 1) }
     {
         match self.way {
             Way::Forth => first_of(found, hit, self.from, place),
@@ -126,23 +125,18 @@ fn is_met<R: Register>(breaks: &[Break], events: StepEvents, config: &Config<R>)
 
 /// Goes on over the places behind steps that record these events; the first step stands at a place.
 fn along_events(
-    search: Search,
-    breaks: &[Break],
+    search: &Search<'_>,
     events: &[StepEvents],
     place: u32,
     found: Option<u32>,
 ) -> Option<u32>
     requires { IsPlace (place + length events.now) }
-    ensures { (test : ℕ → Bool) → ((i : ℕ) → i < length events.now
-        → test ((place + 1) + i) ≡ spec.records_any breaks.now
-        (slice_index_or events.now i no_events)) → found
-        ≡ next_of search.way search.from (places_with test (place + 1))
-        → result ≡ next_of search.way search.from (places_with test
-        ((place + length events.now) + 1)) }
+    ensures { (test : ℕ → Bool) → TellsEvents search.now.breaks.now test place events.now
+        → GoesOn search.now test place (length events.now) found result }
 {
     let mut found = found;
     for (i, step) in events.iter().enumerate() {
-        let hit = records_any(breaks, *step);
+        let hit = records_any(search.breaks, *step);
         found = search.with_place(found, place + 1 + i as u32, hit);
     }
     found
@@ -150,8 +144,7 @@ fn along_events(
 
 /// Goes on over the places behind steps that are made from a configuration at a place.
 fn along_steps<R: Register>(
-    search: Search,
-    breaks: &[Break],
+    search: &Search<'_>,
     config: Config<R>,
     steps: &[Step],
     place: u32,
@@ -159,19 +152,15 @@ fn along_steps<R: Register>(
 ) -> Option<u32>
     requires fits { AllFit (R.is config.register) steps.now }
     requires room { IsPlace (place + length steps.now) }
-    ensures { (test : ℕ → Bool) → ((i : ℕ) → i < length steps.now
-        → test ((place + 1) + i) ≡ breaks_spec.is_met breaks.now
-        (slice_index_or (history (R.is config.register) config steps.now) i no_events)
-        (replayed (R.is config.register) config (take (i + 1) steps.now)).memory)
-        → found ≡ next_of search.way search.from (places_with test (place + 1))
-        → result ≡ next_of search.way search.from (places_with test
-        ((place + length steps.now) + 1)) }
+    ensures { (test : ℕ → Bool)
+        → TellsSteps (R.is config.register) search.now.breaks.now test place config steps.now
+        → GoesOn search.now test place (length steps.now) found result }
 {
     let mut config = config;
     let mut found = found;
     for (i, step) in steps.iter().enumerate() {
         let events = config.step(*step);
-        let hit = is_met(breaks, events, &config);
+        let hit = is_met(search.breaks, events, &config);
         found = search.with_place(found, place + 1 + i as u32, hit);
     }
     found
@@ -180,60 +169,49 @@ fn along_steps<R: Register>(
 /// Goes on over the places of a run that begins at a place, as far as it counts. Only a break on a bit makes it replay the run.
 fn along_run<R: Register>(
     alloc: Global,
-    search: Search,
-    breaks: &[Break],
+    search: &Search<'_>,
     run: &Run<R>,
     count: u32,
     progress: Progress,
 ) -> Result<Option<u32>, AllocError>
     requires { IsPlace (progress.place + count) }
-    ensures { IfOk result
-        (λ all. (test : ℕ → Bool) → Tells R.is breaks.now test progress.place
-        (record { run = run.now; count = count }) → progress.found
-        ≡ next_of search.way search.from (places_with test (progress.place + 1))
-        → all ≡ next_of search.way search.from (places_with test ((progress.place + count) + 1))) }
+    ensures { IfOk result (λ all. (test : ℕ → Bool)
+        → Tells R.is search.now.breaks.now test progress.place
+        (record { run = run.now; count = count })
+        → GoesOn search.now test progress.place count progress.found all) }
 {
-    if any_on_bit(breaks) {
+    if any_on_bit(search.breaks) {
         let config = run.entry().copy(alloc)?;
         let steps = front(run.steps(), count);
-        return Ok(along_steps(
-            search,
-            breaks,
-            config,
-            steps,
-            progress.place,
-            progress.found,
-        ));
+        return Ok(along_steps(search, config, steps, progress.place, progress.found));
     }
     let events = front(run.events().as_slice(), count);
-    Ok(along_events(search, breaks, events, progress.place, progress.found))
+    Ok(along_events(search, events, progress.place, progress.found))
 }
 
 /// Goes over the places of runs one after the other, and the beginning.
 fn along_runs<R: Register>(
     alloc: Global,
-    search: Search,
-    breaks: &[Break],
+    search: &Search<'_>,
     first: &Config<R>,
     runs: &[(Arc<Run<R>>, u32)],
 ) -> Result<Option<u32>, AllocError>
     requires size { HasSize (R.is first.now.register).size first.now.memory }
     requires room { IsPlace (counted (map part_of runs.now)) }
-    ensures { IfOk result (λ all. (test : ℕ → Bool) → test 0
-        ≡ breaks_spec.is_met breaks.now no_events first.now.memory
-        → TellAll R.is breaks.now test 0 (map part_of runs.now)
-        → all ≡ next_of search.way search.from (places_with test
-        (counted (map part_of runs.now) + 1))) }
+    ensures { let parts = map part_of runs.now in IfOk result (λ all. (test : ℕ → Bool)
+        → test 0 ≡ breaks_spec.is_met search.now.breaks.now no_events first.now.memory
+        → TellAll R.is search.now.breaks.now test 0 parts
+        → all ≡ found_below search.now test (counted parts + 1)) }
 {
     let none = StepEvents {
         first: None,
         second: None,
     };
-    let mut found = search.with_place(None, 0, is_met(breaks, none, first));
+    let mut found = search.with_place(None, 0, is_met(search.breaks, none, first));
     let mut place = 0;
     for (run, count) in runs {
         let progress = Progress { place, found };
-        found = along_run(alloc, search, breaks, run, *count, progress)?;
+        found = along_run(alloc, search, run, *count, progress)?;
         place += *count;
     }
     Ok(found)
@@ -244,21 +222,20 @@ pub fn next_hit<R: Register>(
     alloc: Global,
     chart: &mut Chart<R>,
     branch: &Name,
-    breaks: &[Break],
-    search: Search,
+    search: &Search<'_>,
 ) -> Result<Option<u32>, AllocError>
     ensures met { let b = R.is chart.old.start.register in
         let steps = steps_in (forest chart.old.cut) branch.now in
-        IfOk result (λ place. IfSome place (IsNextHit search.way
-        (is_hit b chart.old.value steps breaks.now) (length steps + 1) search.from)) }
+        let test = is_hit b chart.old.value steps search.now.breaks.now in IfOk result
+        (λ place. IfSome place (IsNextHit search.now.way test (length steps + 1) search.now.from)) }
     ensures hit { let all = hits (R.is chart.old.start.register) chart.old.value
-        (steps_in (forest chart.old.cut) branch.now) breaks.now in
-        IfOk result (λ place. place ≡ next_of search.way search.from all) }
+        (steps_in (forest chart.old.cut) branch.now) search.now.breaks.now in
+        IfOk result (λ place. place ≡ next_of search.now.way search.now.from all) }
     ensures kept { IsKept chart.old chart.new }
 {
     let runs = settled(alloc, chart, branch)?;
     let first = chart.initial().copy(alloc)?;
-    along_runs(alloc, search, breaks, &first, &runs)
+    along_runs(alloc, search, &first, &runs)
 }
 
 /// The stored runs of a whole branch; none where there is no such branch.

@@ -1,12 +1,9 @@
 //! The world of a desk, without its log.
 
-ghost use Rattle.std.specs.Prelude.{◌≡◌, ◌<◌, ◌≤◌, ◌+◌, ℕ, true, false, replicate, [], IfOk, IfErr, OnErr};
+ghost use Rattle.std.specs.Prelude.{◌≡◌, ◌<◌, ◌≤◌, ◌+◌, ℕ, true, false, replicate, [], IfOk, OnErr};
 ghost use Rattle.std.specs.Arc.{arc_value};
 ghost use Rattle.cutoff.specs.Installs.{Installs};
-ghost use Rattle.frames.specs.Recorded.{AllFit};
-ghost use Rattle.schedule_trie.specs.Forest.{IsRefused, opened};
-ghost use Rattle.schedule_trie.specs.Forest as forests;
-ghost use Rattle.schedule_trie.specs.Cut.{AreLimits};
+ghost use Rattle.schedule_trie.specs.Cut.{AreLimits, forest};
 ghost use Rattle.sessions.specs.World.{opening};
 ghost use Rattle.sessions.specs.Acts.{acted, answered, early_refusals, first_refusal, late_refusals, refused};
 ghost use Rattle.sessions.specs.Acts as spec;
@@ -27,7 +24,6 @@ use cutoff::chart::Chart;
 use cutoff::install::Installation;
 use frames::register::Register;
 use frames::roles::step_fits;
-use frames::types::Step;
 use schedule_trie::limits::Limits;
 use schedule_trie::refusal::Refusal;
 use schedule_trie::trie::SegKey;
@@ -58,29 +54,19 @@ impl<R: Register> Model for Stage<R> {
 }
 
 impl<R: Register> Stage<R> {
-    /// The world before the first command: a register at a value, the limits, and steps that fit the register.
-    ///
-    /// # Errors
-    ///
-    /// Full where there are more steps than cells may be made; Memory.
+    /// The world before the first command, on branches with these limits.
     pub(crate) fn new(
         alloc: Global,
-        register: R,
-        value: u32,
+        chart: Chart<R>,
         limits: Limits,
-        steps: &[Step],
-    ) -> Result<Stage<R>, Refusal>
-        requires value { value < (R.is register).values }
+    ) -> Result<Stage<R>, AllocError>
         requires limits { AreLimits limits }
-        requires fits { AllFit (R.is register) steps.now }
-        ensures world { IfOk result (λ stage. world_of R.is stage
-            ≡ opening (R.is register) value limits (forests.opening steps.now)) }
-        ensures err { IfErr result (IsRefused (opened limits steps.now)) }
+        requires same_limits { chart.cut.limits ≡ limits }
+        requires few_cells { (forest chart.cut).made ≤ limits.cells }
+        ensures { IfOk result (λ stage. world_of R.is stage
+            ≡ opening (R.is chart.start.register) chart.value limits (forest chart.cut)) }
     {
-        let chart = Chart::new(alloc, register, value, limits, steps)?;
-        let Ok(breaks) = no_breaks(alloc) else {
-            return Err(Refusal::Memory);
-        };
+        let breaks = no_breaks(alloc)?;
         Ok(Stage {
             chart,
             limits,
@@ -214,24 +200,12 @@ impl<R: Register> Stage<R> {
         match command {
             Command::Join => Ok(self.join(alloc, who)),
             Command::Leave => Ok(self.leave(alloc, who)),
-            Command::Insert {
-                branch,
-                place,
-                step,
-            } => self.insert(alloc, branch, *place, *step),
-            Command::Remove { branch, place } => self.remove(branch, *place),
-            Command::Replace {
-                branch,
-                place,
-                step,
-            } => self.replace(branch, *place, *step),
-            Command::Fork {
-                branch,
-                place,
-                name,
-            } => self.fork(alloc, branch, *place, name),
-            Command::Detach { branch } => self.detach(alloc, branch),
-            Command::Drop { branch } => self.drop_branch(branch),
+            Command::Insert { .. }
+            | Command::Remove { .. }
+            | Command::Replace { .. }
+            | Command::Fork { .. }
+            | Command::Detach { .. }
+            | Command::Drop { .. } => self.edit(alloc, command),
             Command::Go { branch, place } => self.go(who, branch, *place),
             Command::Seek => self.seek(alloc, who, Way::Forth),
             Command::Back => self.seek(alloc, who, Way::Back),

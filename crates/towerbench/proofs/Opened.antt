@@ -49,6 +49,15 @@ module _ (old now before after : Option (List ℕ)) where
       (subst (λ (ss : List Step). EndsOver limits ss (answers_to answer_line (opening d value limits ss)) old now before after r) same_steps
       (subst (λ (x : Behaviour P). EndsOver limits steps (answers_to answer_line (opening x value limits steps)) old now before after r) same_tower h))
 
+  -- and from an opening of that register
+  pub on_opening : {P : Type 0} (r : Result ⊤ Fault) (l limits : Limits) (v value : ℕ) (b d : Behaviour P) (ss steps : List Step) (tower given : TowerSpec) (f : File)
+      → l ≡ limits → v ≡ value → b ≡ d → ss ≡ steps → steps ≡ f.steps → given ≡ f.spec → given ≡ tower
+      → ((xs : List Step) → answers_of tower limits xs ≡ answers_to answer_line (opening d value limits xs))
+      → EndsOver l ss (answers_to answer_line (opening b v l ss)) old now before after r
+      → EndsOver limits f.steps (answers_on f limits) old now before after r
+  on_opening r l limits v value b d ss steps tower given f same_limits same_value same_tower same_given same_steps spec is written h =
+      on_file r limits value d d steps tower given f refl same_steps spec is written (as_given r l limits v value b d ss steps same_limits same_value same_tower same_given h)
+
   module _ (limits : Limits) (steps : List Step) (answering : Answering) where
     -- a fault of the streams, handed on
     pub handed : (r : Result ⊤ Fault) (e : StreamFault) (Is : Fault → Type 0) → IsErrAnd r Is → ((x : Fault) → Is x → x ≡ fault.Stream e) → length steps ≤ limits.cells

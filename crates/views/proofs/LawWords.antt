@@ -1,6 +1,6 @@
 -- The law's words, by what is known as a read returns, say what Lamport's say.
-use Rattle.std.proofs.Common.{◌≡◌, ◌≢◌, ℕ, true, false, ◌||◌, List, [], ◌∷◌, ◌++◌, length, drop, Option, Some, None, ◌⊎◌, inl, inr, refl, sym, ap, subst, ◌∙◌, true≢false, eq-eqb}
-use Rattle.std.specs.Prelude.{◌==◌}
+use Rattle.std.proofs.Common.{◌≡◌, ◌≢◌, ℕ, ◌<◌, true, false, ◌||◌, List, [], ◌∷◌, ◌++◌, length, drop, Option, Some, None, ◌⊎◌, inl, inr, refl, sym, ap, subst, ◌∙◌, true≢false, eq-eqb}
+use Rattle.std.specs.Prelude.{◌==◌, ◌↔◌}
 use Rattle.std.specs.List.{list_any}
 use Rattle.frames.specs.declared.types.Op.TheVariants as op
 use Rattle.frames.specs.declared.types.Event.{Event}
@@ -10,11 +10,12 @@ use Rattle.frames.specs.declared.verdict.Verdict.{Verdict}
 use Rattle.frames.specs.declared.verdict.Verdict.TheVariants.{Fresh, Overlap, Stray}
 use Rattle.frames.specs.Behaviour.{Behaviour}
 use Rattle.frames.specs.OneWriter.{HasOneWriter}
-use Rattle.frames.specs.Recorded.{recorded}
+use Rattle.frames.specs.Recorded.{AllFit, recorded}
+use Rattle.frames.specs.declared.types.Step.{Step}
 use Rattle.frames.specs.Verdicts.{Known, initially, invoked_now, after, reading, is_value, judged}
-use Rattle.frames.specs.Regularity.{in_progress, overlapped, OnReturn, EachRead, FreshAlone, NotStray, IsSafe, IsRegular}
+use Rattle.frames.specs.Regularity.{in_progress, overlapped, OnReturn, EachRead, FreshAlone, NotStray, AlwaysReads, IsSafe, IsRegular}
 use Rattle.views.specs.VerdictWords.{InProgress, IsHistory, ReturnedRead, MatchVerdict, RecordsHistories}
-use Rattle.views.specs.LawWords.{Overlaps, FreshIfAlone, FreshOrOverlapping, IsSafeInWords, IsRegularInWords}
+use Rattle.views.specs.LawWords.{Overlaps, FreshIfAlone, FreshOrOverlapping, AlwaysInWords, IsSafeInWords, IsRegularInWords}
 use Rattle.views.proofs.VerdictKnown.{known, reading_of_progress}
 use Rattle.views.proofs.VerdictOverlaps.{crossing_of_words, words_of_crossing}
 use Rattle.views.proofs.VerdictWords.{history-left, verdict_words, test_of_crossing, crossing_of_test}
@@ -140,39 +141,33 @@ module _ (initial : ℕ) (history : List (ℕ × Event)) (h : IsHistory history)
   words_regular : FreshOrOverlapping initial r → NotStray all r.process r.value
   words_regular says = not_stray_if_seen (judged all r.process r.value) _ _ (verdict_words initial history h r) says
 
+-- what is said of each read that returns, and in words
 module _ {P : Type 0} (b : Behaviour P) (records : HasOneWriter b → RecordsHistories b) where
-  pub safe_in_words : IsSafe b → IsSafeInWords b
-  safe_in_words h = record {
-    one_writer = h.one_writer;
-    refuses_none = h.refuses_none;
-    each_read = λ value steps within fit.
-        let history = records h.one_writer value steps within fit in
-        words_of_each value (recorded b value steps) history FreshAlone (FreshIfAlone value) (safe_words value (recorded b value steps) history) (h.each_read value steps within fit);
-  }
+  module _ (Says : Known → ℕ → ℕ → Type 0) (Words : (history : List (ℕ × Event)) → ℕ → ReturnedRead history → Type 0) where
+    always_in_words : ((initial : ℕ) (history : List (ℕ × Event)) → IsHistory history → (r : ReturnedRead history) → Says (then_known initial r) r.process r.value → Words history initial r)
+        → AlwaysReads b Says → AlwaysInWords b Words
+    always_in_words to h = record { one_writer = h.one_writer; refuses_none = h.refuses_none; each_read = each }
+      where
+        each : (value : ℕ) (steps : List Step) → value < b.values → AllFit b steps → (r : ReturnedRead (recorded b value steps)) → Words (recorded b value steps) value r
+        each value steps within fit =
+            let history = records h.one_writer value steps within fit in
+            words_of_each value (recorded b value steps) history Says (Words (recorded b value steps) value) (to value (recorded b value steps) history) (h.each_read value steps within fit)
 
-  pub safe_by_words : IsSafeInWords b → IsSafe b
-  safe_by_words h = record {
-    one_writer = h.one_writer;
-    refuses_none = h.refuses_none;
-    each_read = λ value steps within fit.
-        let history = records h.one_writer value steps within fit in
-        each_of_words value (recorded b value steps) history FreshAlone (FreshIfAlone value) (words_safe value (recorded b value steps) history) (h.each_read value steps within fit);
-  }
+    always_by_words : ((initial : ℕ) (history : List (ℕ × Event)) → IsHistory history → (r : ReturnedRead history) → Words history initial r → Says (then_known initial r) r.process r.value)
+        → AlwaysInWords b Words → AlwaysReads b Says
+    always_by_words from h = record { one_writer = h.one_writer; refuses_none = h.refuses_none; each_read = each }
+      where
+        each : (value : ℕ) (steps : List Step) → value < b.values → AllFit b steps → EachRead Says (initially value) (recorded b value steps)
+        each value steps within fit =
+            let history = records h.one_writer value steps within fit in
+            each_of_words value (recorded b value steps) history Says (Words (recorded b value steps) value) (from value (recorded b value steps) history) (h.each_read value steps within fit)
 
-  pub regular_in_words : IsRegular b → IsRegularInWords b
-  regular_in_words h = record {
-    one_writer = h.one_writer;
-    refuses_none = h.refuses_none;
-    each_read = λ value steps within fit.
-        let history = records h.one_writer value steps within fit in
-        words_of_each value (recorded b value steps) history NotStray (FreshOrOverlapping value) (regular_words value (recorded b value steps) history) (h.each_read value steps within fit);
-  }
+  pub safe_words_alike : IsSafe b ↔ IsSafeInWords b
+  safe_words_alike =
+      let words = λ (history : List (ℕ × Event)) (initial : ℕ) (r : ReturnedRead history). FreshIfAlone initial r in
+      (always_in_words FreshAlone words safe_words, always_by_words FreshAlone words words_safe)
 
-  pub regular_by_words : IsRegularInWords b → IsRegular b
-  regular_by_words h = record {
-    one_writer = h.one_writer;
-    refuses_none = h.refuses_none;
-    each_read = λ value steps within fit.
-        let history = records h.one_writer value steps within fit in
-        each_of_words value (recorded b value steps) history NotStray (FreshOrOverlapping value) (words_regular value (recorded b value steps) history) (h.each_read value steps within fit);
-  }
+  pub regular_words_alike : IsRegular b ↔ IsRegularInWords b
+  regular_words_alike =
+      let words = λ (history : List (ℕ × Event)) (initial : ℕ) (r : ReturnedRead history). FreshOrOverlapping initial r in
+      (always_in_words NotStray words regular_words, always_by_words NotStray words words_regular)

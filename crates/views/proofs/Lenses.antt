@@ -1,5 +1,5 @@
 -- What a lens keeps stays true, and what is found in it is like what was asked for.
-use Rattle.std.proofs.Common.{◌≡◌, ℕ, zero, suc, ◌≤◌, Bool, true, List, [], ◌∷◌, ◌++◌, take, drop, length, ◌-◌, Contains, Some, refl, sym, ap, subst, ◌∙◌, inl, inr, arith}
+use Rattle.std.proofs.Common.{◌≡◌, ℕ, zero, suc, ◌≤◌, Bool, true, List, [], ◌∷◌, ◌++◌, take, drop, length, ◌-◌, Some, refl, sym, ap, subst, ◌∙◌, inl, inr, arith}
 use Rattle.std.specs.Prelude.{Result, Ok, Err, OnOk, OnErr}
 use Rattle.std.specs.Bool.{Decides}
 use Rattle.std.specs.Map.{lookup}
@@ -19,7 +19,7 @@ use Rattle.views.specs.declared.page.head.Head.{Head}
 use Rattle.views.specs.Lenses.{AreTrue}
 use Rattle.views.specs.Pages.{page_at}
 use Rattle.views.specs.Spots.{IsAlike, part_end}
-use Rattle.views.specs.laws.Places.{SamePlace, same_place, place_decides}
+use Rattle.views.specs.laws.PlaceLaws.{SamePlace, same_place, place_decides}
 use Rattle.views.proofs.Alone.{replayed_alone, replayed-append, page_alone}
 
 pub take-take : (n m : ℕ) (steps : List Step) → n ≤ m → take n (take m steps) ≡ take n steps

@@ -53,7 +53,7 @@ impl Break {
         }
     }
 
-    /// Whether memory of so many cells meets it.
+    /// Whether memory of so many bit cells meets it.
     pub fn is_shown(self, store: &Store, cells: u32) -> bool
         requires { HasCells store.now cells }
         ensures { result ≡ spec.is_shown self store.now }

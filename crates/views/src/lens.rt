@@ -20,7 +20,7 @@ use std::sync::Arc;
 /// How many places a lens keeps.
 const PLACES: usize = 32;
 
-/// How many places who goes backwards passes until steps are replayed again.
+/// How many places one who goes backwards passes until steps are replayed again.
 const STRETCH: u32 = 16;
 
 /// What pages that were made leave for those that follow: the configurations of the places of runs that were looked at last. A place is
@@ -68,7 +68,9 @@ impl<R: Register> Lens<R> {
             return ended(alloc, run, count);
         }
         let (made, config) = self.nearest(alloc, run, count)?;
-        Ok(self.come_to(alloc, run, made, count, config))
+        let first = self.kept_from(run, made, count);
+        let config = advanced(run, made, first, config);
+        Ok(self.walk(alloc, run, first, count, config))
     }
 
     /// From where the first `count` steps of a run are made: that place, or the one before it, where it is kept, and else the run's entry.
@@ -92,26 +94,15 @@ impl<R: Register> Lens<R> {
         Ok((0, entry))
     }
 
-    /// Goes on from a place of a run to a later one, which is then kept. Who comes from the place behind that one goes backwards, and so the
-    /// places before it are kept too.
-    fn come_to(
-        &mut self,
-        alloc: Global,
-        run: &Arc<Run<R>>,
-        made: u32,
-        count: u32,
-        config: Config<R>,
-    ) -> Config<R>
-        requires order { made ≤ count }
-        requires within { count < length (arc_value run.now).steps }
-        requires from { IsAt R.is (arc_value run.now) made config }
-        ensures { IsAt R.is (arc_value run.now) count result }
+    /// From where on the way to a place the places are kept: from the one before it. Who comes from the place behind that one goes backwards,
+    /// and so more places before it are kept.
+    fn kept_from(&self, run: &Arc<Run<R>>, made: u32, count: u32) -> u32
+        requires { made ≤ count }
+        ensures { (made ≤ result) × (result ≤ count) }
     {
         let goes_back = count - made > 1 && self.has(run, count.saturating_add(1));
         let passed = if goes_back { STRETCH } else { 1 };
-        let first = made.max(count.saturating_sub(passed));
-        let config = advanced(run, made, first, config);
-        self.walk(alloc, run, first, count, config)
+        made.max(count.saturating_sub(passed))
     }
 
     /// Goes on from a place of a run to a later one, and keeps each place behind the first.

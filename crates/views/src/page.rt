@@ -15,17 +15,17 @@ pub mod state;
 pub mod steps;
 pub mod verdict;
 
-use bits::{BitsPage, push_bits_page};
-use branches::{BranchesPage, push_branches_page};
-use cursor::{CursorPage, push_cursor_page};
-use history::{HistoryPage, push_history_page};
-use pending::{PendingPage, push_pending_page};
-use process::{ProcessPage, push_process_page};
+use bits::{BitsPage, push_bits};
+use branches::{BranchesPage, push_branches};
+use cursor::{CursorPage, push_cursor};
+use history::{HistoryPage, push_history};
+use pending::{PendingPage, push_pending};
+use process::{ProcessPage, push_process};
 use state::{StatePage, push_state};
 use std::alloc::{AllocError, Global};
 use std::io;
-use steps::{StepsPage, push_steps_page};
-use verdict::{VerdictPage, push_verdict_page};
+use steps::{StepsPage, push_steps};
+use verdict::{VerdictPage, push_verdict};
 
 /// What a look shows.
 #[derive(Drop)]
@@ -53,18 +53,18 @@ pub fn page_text(alloc: Global, who: u32, page: &Page) -> Result<Vec<u8>, AllocE
 }
 
 /// Adds the text of a page.
-fn push_page(out: &mut Vec<u8>, who: u32, page: &Page) -> io::Result<()>
-    ensures { OnOk result (out.new.items ≡ out.old.items ++ spec.page_text who page.now) }
+fn push_page(out: &mut Vec<u8>, session: u32, page: &Page) -> io::Result<()>
+    ensures { OnOk result (out.new.items ≡ out.old.items ++ spec.page_text session page.now) }
 {
     match page {
-        Page::State(page) => push_state(out, who, page),
-        Page::Process(page) => push_process_page(out, who, page),
-        Page::Bits(page) => push_bits_page(out, who, page),
-        Page::Pending(page) => push_pending_page(out, who, page),
-        Page::History(page) => push_history_page(out, who, page),
-        Page::Verdict(page) => push_verdict_page(out, who, page),
-        Page::Branches(page) => push_branches_page(out, who, page),
-        Page::Cursor(page) => push_cursor_page(out, who, page),
-        Page::Steps(page) => push_steps_page(out, who, page),
+        Page::State(page) => push_state(out, session, page),
+        Page::Process(page) => push_process(out, session, page),
+        Page::Bits(page) => push_bits(out, session, page),
+        Page::Pending(page) => push_pending(out, session, page),
+        Page::History(page) => push_history(out, session, page),
+        Page::Verdict(page) => push_verdict(out, session, page),
+        Page::Branches(page) => push_branches(out, session, page),
+        Page::Cursor(page) => push_cursor(out, session, page),
+        Page::Steps(page) => push_steps(out, session, page),
     }
 }

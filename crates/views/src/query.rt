@@ -5,7 +5,7 @@ use schedule_trie::name::Name;
 /// A look. A place is after so many steps of a branch.
 #[derive(Clone, Copy, Debug, PartialEq, Eq)]
 pub enum Query {
-    /// The processes, and the values of all cells and words.
+    /// The processes, and the values of all bit cells and words.
     State {
         branch: Name,
         place: u32,
@@ -16,7 +16,7 @@ pub enum Query {
         place: u32,
         process: u32,
     },
-    /// Each cell and each word.
+    /// Each bit cell and each word.
     Bits {
         branch: Name,
         place: u32,

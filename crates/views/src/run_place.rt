@@ -39,7 +39,7 @@ impl<R: Register> RunPlace<R> {
 }
 
 impl<R: Register> PartialEq for RunPlace<R> {
-    ghost use Rattle.views.specs.laws.Places.{same_place, same_place_per};
+    ghost use Rattle.views.specs.laws.PlaceLaws.{same_place, same_place_per};
 
     ghost eq = { same_place R.PartialEq.eq R.Pending.PartialEq.eq };
 
@@ -53,13 +53,13 @@ impl<R: Register> PartialEq for RunPlace<R> {
 }
 
 impl<R: Register> Eq for RunPlace<R> {
-    ghost use Rattle.views.specs.laws.Places.{same_place_equivalence};
+    ghost use Rattle.views.specs.laws.PlaceLaws.{same_place_equivalence};
 
     ghost laws = { same_place_equivalence R.PartialEq.eq R.Pending.PartialEq.eq R.same_pending R.Eq.laws };
 }
 
 impl<R: Register> Hash for RunPlace<R> {
-    ghost use Rattle.views.specs.laws.Places.{places_hash_alike};
+    ghost use Rattle.views.specs.laws.PlaceLaws.{places_hash_alike};
 
     ghost hash_input = { λ p. fed.usize (length p.run.steps) ++ fed.u32 p.count };
 

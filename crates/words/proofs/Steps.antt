@@ -77,21 +77,26 @@ is_word w v h = (bytes_eq-Decides w v).0 h
 
 -- ---- steps
 
+-- a word, and the numbers behind it of which a step is made
+with_two : (w v : List ℕ) (ws : List (List ℕ)) (s : Step) (of : ℕ × ℕ → Step) → ((n : ℕ × ℕ) → text v (n.0 ∷ n.1 ∷ []) ≡ step_text (of n)) → w ≡ v → option_map of (two_numbers ws) ≡ Some s
+    → join_with_byte 32 (w ∷ ws) ≡ step_text s
+with_two w v ws s of spells e h =
+    let a = mapped of (two_numbers ws) s h in
+    joined w v ws (a.0.0 ∷ a.0.1 ∷ []) e (two_are ws a.0 a.1) ∙ spells a.0 ∙ ap step_text a.2
+
+with_one : (w v : List ℕ) (ws : List (List ℕ)) (s : Step) (of : ℕ → Step) → ((p : ℕ) → text v (p ∷ []) ≡ step_text (of p)) → w ≡ v → option_map of (one_number ws) ≡ Some s
+    → join_with_byte 32 (w ∷ ws) ≡ step_text s
+with_one w v ws s of spells e h =
+    let a = mapped of (one_number ws) s h in
+    joined w v ws (a.0 ∷ []) e (one_is ws a.0 a.1) ∙ spells a.0 ∙ ap step_text a.2
+
 step_by : (isw isr isg isx : Bool) (w : List ℕ) (ws : List (List ℕ)) (s : Step) → (isw ≡ true → w ≡ codes "w") → (isr ≡ true → w ≡ codes "r") → (isg ≡ true → w ≡ codes "g") → (isx ≡ true → w ≡ codes "x")
     → cond isw (option_map (λ n. step.Write n.0 n.1) (two_numbers ws)) (cond isr (option_map (λ p. step.Read p) (one_number ws)) (cond isg (option_map (λ n. step.Go n.0 n.1) (two_numbers ws)) (cond isx (option_map (λ p. step.Stop p) (one_number ws)) None))) ≡ Some s
     → join_with_byte 32 (w ∷ ws) ≡ step_text s
-step_by true isr isg isx w ws s e f g k h =
-    let a = mapped (λ n. step.Write n.0 n.1) (two_numbers ws) s h in
-    joined w (codes "w") ws (a.0.0 ∷ a.0.1 ∷ []) (e refl) (two_are ws a.0 a.1) ∙ ap step_text a.2
-step_by false true isg isx w ws s e f g k h =
-    let a = mapped (λ p. step.Read p) (one_number ws) s h in
-    joined w (codes "r") ws (a.0 ∷ []) (f refl) (one_is ws a.0 a.1) ∙ ap step_text a.2
-step_by false false true isx w ws s e f g k h =
-    let a = mapped (λ n. step.Go n.0 n.1) (two_numbers ws) s h in
-    joined w (codes "g") ws (a.0.0 ∷ a.0.1 ∷ []) (g refl) (two_are ws a.0 a.1) ∙ ap step_text a.2
-step_by false false false true w ws s e f g k h =
-    let a = mapped (λ p. step.Stop p) (one_number ws) s h in
-    joined w (codes "x") ws (a.0 ∷ []) (k refl) (one_is ws a.0 a.1) ∙ ap step_text a.2
+step_by true isr isg isx w ws s e f g k h = with_two w (codes "w") ws s (λ n. step.Write n.0 n.1) (λ n. refl) (e refl) h
+step_by false true isg isx w ws s e f g k h = with_one w (codes "r") ws s (λ p. step.Read p) (λ p. refl) (f refl) h
+step_by false false true isx w ws s e f g k h = with_two w (codes "g") ws s (λ n. step.Go n.0 n.1) (λ n. refl) (g refl) h
+step_by false false false true w ws s e f g k h = with_one w (codes "x") ws s (λ p. step.Stop p) (λ p. refl) (k refl) h
 step_by false false false false w ws s e f g k h = absurd cc
 
 pub step_is : (ws : List (List ℕ)) (s : Step) → step_of ws ≡ Some s → join_with_byte 32 ws ≡ step_text s
@@ -112,21 +117,17 @@ two_short (w ∷ ws) n h =
     let b = some_then (one_number ws) (λ y. Some (a.0, y)) n a.2 in
     subst (λ (m : ℕ × ℕ). (m.0 < 10 ^ 9) × (m.1 < 10 ^ 9)) (same_Some (a.0, b.0) n b.2) ((decimal-number w a.0 a.1).0, one_short ws b.0 b.1)
 
+-- the numbers that a step is made of
+with_short : {A : Type 0} (o : Option A) (of : A → Step) (s : Step) → ((n : A) → o ≡ Some n → HasShortNumbers (of n)) → option_map of o ≡ Some s → HasShortNumbers s
+with_short o of s short h = let a = mapped of o s h in subst HasShortNumbers a.2 (short a.0 a.1)
+
 short_by : (isw isr isg isx : Bool) (ws : List (List ℕ)) (s : Step)
     → cond isw (option_map (λ n. step.Write n.0 n.1) (two_numbers ws)) (cond isr (option_map (λ p. step.Read p) (one_number ws)) (cond isg (option_map (λ n. step.Go n.0 n.1) (two_numbers ws)) (cond isx (option_map (λ p. step.Stop p) (one_number ws)) None))) ≡ Some s
     → HasShortNumbers s
-short_by true isr isg isx ws s h =
-    let a = mapped (λ n. step.Write n.0 n.1) (two_numbers ws) s h in
-    subst HasShortNumbers a.2 (two_short ws a.0 a.1)
-short_by false true isg isx ws s h =
-    let a = mapped (λ p. step.Read p) (one_number ws) s h in
-    subst HasShortNumbers a.2 (one_short ws a.0 a.1)
-short_by false false true isx ws s h =
-    let a = mapped (λ n. step.Go n.0 n.1) (two_numbers ws) s h in
-    subst HasShortNumbers a.2 (two_short ws a.0 a.1)
-short_by false false false true ws s h =
-    let a = mapped (λ p. step.Stop p) (one_number ws) s h in
-    subst HasShortNumbers a.2 (one_short ws a.0 a.1)
+short_by true isr isg isx ws s h = with_short (two_numbers ws) (λ n. step.Write n.0 n.1) s (two_short ws) h
+short_by false true isg isx ws s h = with_short (one_number ws) (λ p. step.Read p) s (one_short ws) h
+short_by false false true isx ws s h = with_short (two_numbers ws) (λ n. step.Go n.0 n.1) s (two_short ws) h
+short_by false false false true ws s h = with_short (one_number ws) (λ p. step.Stop p) s (one_short ws) h
 short_by false false false false ws s h = absurd cc
 
 step_short : (ws : List (List ℕ)) (s : Step) → step_of ws ≡ Some s → HasShortNumbers s
@@ -135,15 +136,11 @@ step_short (w ∷ ws) s h = short_by (bytes_eq w (codes "w")) (bytes_eq w (codes
 
 pub step_again : (s : Step) → HasShortNumbers s → step_of (words (step_text s)) ≡ Some s
 step_again (step.Write p v) h =
-    let a = h.0 in
-    let b = h.1 in
-    ap step_of (words-text (codes "w") (p ∷ v ∷ []) refl (a, (b, tt))) ∙ rw (number-decimal p a, number-decimal v b) refl
+    ap step_of (words-text (codes "w") (p ∷ v ∷ []) refl (h.0, (h.1, tt))) ∙ rw (number-decimal p h.0, number-decimal v h.1) refl
 step_again (step.Read p) h =
     ap step_of (words-text (codes "r") (p ∷ []) refl (h, tt)) ∙ rw (number-decimal p h) refl
 step_again (step.Go p c) h =
-    let a = h.0 in
-    let b = h.1 in
-    ap step_of (words-text (codes "g") (p ∷ c ∷ []) refl (a, (b, tt))) ∙ rw (number-decimal p a, number-decimal c b) refl
+    ap step_of (words-text (codes "g") (p ∷ c ∷ []) refl (h.0, (h.1, tt))) ∙ rw (number-decimal p h.0, number-decimal c h.1) refl
 step_again (step.Stop p) h =
     ap step_of (words-text (codes "x") (p ∷ []) refl (h, tt)) ∙ rw (number-decimal p h) refl
 

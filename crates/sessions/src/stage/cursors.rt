@@ -1,8 +1,9 @@
 //! The sessions of a world: their cursors and breaks.
 
-ghost use Rattle.std.specs.Prelude.{◌≡◌, ◌<◌, IfOk, length};
+ghost use Rattle.std.specs.Prelude.{◌≡◌, ◌<◌, IfOk, IfSome, length};
 ghost use Rattle.schedule_trie.specs.Cut.{forest};
 ghost use Rattle.sessions.specs.Cursors as spec;
+ghost use Rattle.sessions.specs.Cursors.{StandsIn};
 ghost use Rattle.sessions.specs.Held.{Does, Done, command_of, world_of};
 ghost use Rattle.sessions.specs.Bounds.{CanLog};
 ghost use Rattle.std.specs.Option.{option_map};
@@ -32,6 +33,7 @@ impl<R: Register> Stage<R> {
         requires session { who < 16 }
         ensures { Done R.is who Command.Join self.old self.new result }
     {
+        self.chart.held();
         self.cursors[who as usize] = first_cursor(&self.chart);
         self.breaks[who as usize] = Breaks::new(alloc);
         self.logged += 1;
@@ -84,9 +86,7 @@ impl<R: Register> Stage<R> {
         requires session { who < 16 }
         ensures { Does R.is who (command_of way) self.old self.new result }
     {
-        let Ok(hit) = self.hit_of(alloc, who, way) else {
-            return Err(Refusal::Memory);
-        };
+        let hit = self.hit_of(alloc, who, way)?;
         let reply = hit_reply(&hit);
         if hit.is_some() {
             self.cursors[who as usize] = hit;
@@ -99,6 +99,7 @@ impl<R: Register> Stage<R> {
     fn hit_of(&mut self, alloc: Global, who: u32, way: Way) -> Result<Option<Cursor>, AllocError>
         requires { who < 16 }
         ensures hit { IfOk result (λ hit. hit ≡ hit_of way (world_of R.is self.old) who) }
+        ensures stands { IfOk result (λ hit. IfSome hit (StandsIn (forest self.new.chart.cut))) }
         ensures world { world_of R.is self.new ≡ world_of R.is self.old }
         ensures limits { self.new.limits ≡ self.old.limits }
     {
@@ -120,9 +121,7 @@ impl<R: Register> Stage<R> {
         requires session { who < 16 }
         ensures { Does R.is who (Command.Break added) self.old self.new result }
     {
-        let Ok(()) = self.breaks[who as usize].add(added) else {
-            return Err(Refusal::Memory);
-        };
+        self.breaks[who as usize].add(added)?;
         self.logged += 1;
         Ok(Reply::BreakSet)
     }
@@ -161,17 +160,20 @@ fn hit_from<R: Register>(
     breaks: &[Break],
     way: Way,
 ) -> Result<Option<Cursor>, AllocError>
+    requires { StandsIn (forest chart.old.cut) cursor.now }
     ensures hit { let all = hits (R.is chart.old.start.register) chart.old.value
         (steps_in (forest chart.old.cut) cursor.now.branch) breaks.now in
         IfOk result (λ hit. hit ≡ option_map (spec.cursor cursor.now.branch)
         (next_of way cursor.now.place all)) }
+    ensures stands { IfOk result (λ hit. IfSome hit (StandsIn (forest chart.old.cut))) }
     ensures kept { IsKept chart.old chart.new }
 {
     let search = Search {
+        breaks,
         way,
         from: cursor.place,
     };
-    match next_hit(alloc, chart, &cursor.branch, breaks, search)? {
+    match next_hit(alloc, chart, &cursor.branch, &search)? {
         None => Ok(None),
         Some(place) => Ok(Some(Cursor {
             branch: cursor.branch,

@@ -71,9 +71,7 @@ impl<R: Register> Stage<R> {
             ≡ page.Branches (branches_page self.now.edits (forest self.now.chart.cut))) }
         ensures err { IfErr result (λ e. e ≡ Refusal.Memory) }
     {
-        let Ok(page) = BranchesPage::new(alloc, self.edits, &self.chart) else {
-            return Err(Refusal::Memory);
-        };
+        let page = BranchesPage::new(alloc, self.edits, &self.chart)?;
         Ok(Slip::of(Page::Branches(page)))
     }
 
@@ -94,9 +92,7 @@ impl<R: Register> Stage<R> {
         let Some(cursor) = self.cursors[index] else {
             return Err(Refusal::NoSession);
         };
-        let Ok(breaks) = Vec::from_slice(alloc, self.breaks[index].as_slice()) else {
-            return Err(Refusal::Memory);
-        };
+        let breaks = Vec::from_slice(alloc, self.breaks[index].as_slice())?;
         let breaks = Listed::new(breaks);
         let branch = cursor.branch;
         let place = cursor.place;

@@ -4,10 +4,10 @@ use Rattle.frames.specs.Configuration.{Configuration}
 use Rattle.views.specs.declared.page.head.Head.{Head}
 use Rattle.views.specs.declared.page.bits.BitsPage.{BitsPage}
 use Rattle.views.specs.page.Head.{head_line}
-use Rattle.views.specs.page.Memory.{cell_lines, words_line}
+use Rattle.views.specs.page.Memory.{bit_cell_lines, words_line}
 
 abbrev pub bits_page : {R P : Type 0} → Head → Configuration R P → BitsPage
 bits_page head c = record { head = head; cells = c.memory.cells; words = c.memory.words }
 
 abbrev pub bits_text : ℕ → BitsPage → List ℕ
-bits_text session p = head_line session (codes "bits") p.head ++ cell_lines p.cells ++ words_line p.words
+bits_text session p = head_line session (codes "bits") p.head ++ bit_cell_lines p.cells ++ words_line p.words

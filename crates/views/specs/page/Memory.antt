@@ -38,10 +38,10 @@ writing_name (Some v) = bit_name v
 abbrev pub reading_name : Cell → List ℕ
 reading_name c = if c.reading then (if c.hit then codes "h" else codes "r") else codes "-"
 
-abbrev pub cell_line : ℕ → Cell → List ℕ
-cell_line j c =
+abbrev pub bit_cell_line : ℕ → Cell → List ℕ
+bit_cell_line j c =
     codes "  " ++ decimal j ++ codes " " ++ bit_name c.value ++ codes " " ++ writing_name c.writing ++ codes " " ++ reading_name c ++ line_end
 
 -- a line for each cell, numbered from 0
-abbrev pub cell_lines : List Cell → List ℕ
-cell_lines cells = numbered cell_line 0 cells
+abbrev pub bit_cell_lines : List Cell → List ℕ
+bit_cell_lines cells = numbered bit_cell_line 0 cells

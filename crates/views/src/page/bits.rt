@@ -1,4 +1,4 @@
-//! The page of each cell and each word.
+//! The page of each bit cell and each word.
 
 ghost use Rattle.std.specs.Prelude.{◌≡◌, ◌++◌, IfOk, OnOk};
 ghost use Rattle.safe_bit.specs.Parts.{HasSize};
@@ -6,14 +6,14 @@ ghost use Rattle.views.specs.page.Bits as spec;
 
 use crate::listed::Listed;
 use crate::page::head::{Head, push_head};
-use crate::page::memory::{cells, push_cells, push_words, words};
+use crate::page::memory::{bit_cells, push_bit_cells, push_words, words};
 use frames::config::Config;
 use frames::register::Register;
 use safe_bit::Cell;
 use std::alloc::{AllocError, Global};
 use std::io;
 
-/// Each cell and each word.
+/// Each bit cell and each word.
 #[derive(Drop)]
 pub struct BitsPage {
     pub head: Head,
@@ -31,17 +31,17 @@ pub(crate) fn bits_page<R: Register>(
     ensures { IfOk result (λ page. page ≡ spec.bits_page head.now config.now) }
 {
     let size = config.register().size();
-    let cells = cells(alloc, config.store(), size.cell)?;
+    let cells = bit_cells(alloc, config.store(), size.cell)?;
     let words = words(alloc, config.store(), size.word)?;
     let head = *head;
     Ok(BitsPage { head, cells, words })
 }
 
-/// Adds the page of each cell and each word.
-pub(crate) fn push_bits_page(out: &mut Vec<u8>, session: u32, page: &BitsPage) -> io::Result<()>
+/// Adds the page of each bit cell and each word.
+pub(crate) fn push_bits(out: &mut Vec<u8>, session: u32, page: &BitsPage) -> io::Result<()>
     ensures { OnOk result (out.new.items ≡ out.old.items ++ spec.bits_text session page.now) }
 {
     push_head(out, session, "bits", &page.head)?;
-    push_cells(out, page.cells.as_slice())?;
+    push_bit_cells(out, page.cells.as_slice())?;
     push_words(out, page.words.as_slice())
 }

@@ -88,16 +88,12 @@ fn length_at<R: Register>(chart: &Chart<R>, index: u32) -> BranchLength
 }
 
 /// Adds the page of the branches.
-pub(crate) fn push_branches_page(
-    out: &mut Vec<u8>,
-    session: u32,
-    page: &BranchesPage,
-) -> io::Result<()>
+pub(crate) fn push_branches(out: &mut Vec<u8>, session: u32, page: &BranchesPage) -> io::Result<()>
     ensures { OnOk result (out.new.items ≡ out.old.items ++ spec.branches_text session page.now) }
 {
     let branches = page.branches.as_slice();
     push_counts(out, session, branches.len(), page.edits, page.made)?;
-    push_branches(out, branches)
+    push_lengths(out, branches)
 }
 
 /// Adds the first line of the page of the branches.
@@ -116,7 +112,7 @@ fn push_counts(
 }
 
 /// Adds a line for each branch.
-fn push_branches(out: &mut Vec<u8>, branches: &[BranchLength]) -> io::Result<()>
+fn push_lengths(out: &mut Vec<u8>, branches: &[BranchLength]) -> io::Result<()>
     ensures { OnOk result (out.new.items ≡ out.old.items
         ++ flat_map spec.branch_line branches.now) }
 {

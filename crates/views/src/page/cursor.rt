@@ -37,7 +37,7 @@ impl CursorPage {
 }
 
 /// Adds the page of a session's cursor.
-pub(crate) fn push_cursor_page(out: &mut Vec<u8>, session: u32, page: &CursorPage) -> io::Result<()>
+pub(crate) fn push_cursor(out: &mut Vec<u8>, session: u32, page: &CursorPage) -> io::Result<()>
     ensures { OnOk result (out.new.items ≡ out.old.items ++ spec.cursor_text session page.now) }
 {
     let breaks = page.breaks.as_slice();

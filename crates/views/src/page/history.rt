@@ -19,19 +19,15 @@ pub struct HistoryPage {
 }
 
 /// Adds the page of events.
-pub(crate) fn push_history_page(
-    out: &mut Vec<u8>,
-    session: u32,
-    page: &HistoryPage,
-) -> io::Result<()>
+pub(crate) fn push_history(out: &mut Vec<u8>, session: u32, page: &HistoryPage) -> io::Result<()>
     ensures { OnOk result (out.new.items ≡ out.old.items ++ spec.history_text session page.now) }
 {
     push_head(out, session, "history", &page.head)?;
-    push_history(out, page.events.as_slice())
+    push_events(out, page.events.as_slice())
 }
 
 /// Adds the lines of events, each with the index of its step; `none` where there are none.
-fn push_history(out: &mut Vec<u8>, events: &[(usize, Event)]) -> io::Result<()>
+fn push_events(out: &mut Vec<u8>, events: &[(usize, Event)]) -> io::Result<()>
     ensures { OnOk result (out.new.items ≡ out.old.items ++ spec.history_lines events.now) }
 {
     if events.is_empty() {

@@ -1,4 +1,4 @@
-//! The lines of cells and words.
+//! The lines of bit cells and words.
 
 ghost use Rattle.std.specs.Prelude.{◌≡◌, ◌++◌, IfOk, OnOk, length, map};
 ghost use Rattle.std.specs.List.{flat_map};
@@ -10,37 +10,41 @@ use std::alloc::{AllocError, Global};
 use std::io;
 use std::io::Write;
 
-/// The values of a store's cells, of which there are so many.
-pub(crate) fn bits(alloc: Global, store: &Store, cells: u32) -> Result<Listed<bool>, AllocError>
-    requires { length store.now.cells ≡ cells }
+/// The values of a store's bit cells, of which there are so many.
+pub(crate) fn bits(alloc: Global, store: &Store, count: u32) -> Result<Listed<bool>, AllocError>
+    requires { length store.now.cells ≡ count }
     ensures { IfOk result (λ all. all ≡ map spec.value_of store.now.cells) }
 {
     let mut all = Vec::new(alloc);
-    for i in 0..cells {
+    for i in 0..count {
         all.push(store.cell(i).value)?;
     }
     Ok(Listed::new(all))
 }
 
-/// A store's cells, of which there are so many.
-pub(crate) fn cells(alloc: Global, store: &Store, cells: u32) -> Result<Listed<Cell>, AllocError>
-    requires { length store.now.cells ≡ cells }
+/// A store's bit cells, of which there are so many.
+pub(crate) fn bit_cells(
+    alloc: Global,
+    store: &Store,
+    count: u32,
+) -> Result<Listed<Cell>, AllocError>
+    requires { length store.now.cells ≡ count }
     ensures { IfOk result (λ all. all ≡ store.now.cells) }
 {
     let mut all = Vec::new(alloc);
-    for i in 0..cells {
+    for i in 0..count {
         all.push(store.cell(i))?;
     }
     Ok(Listed::new(all))
 }
 
 /// A store's words, of which there are so many.
-pub(crate) fn words(alloc: Global, store: &Store, words: u32) -> Result<Listed<u32>, AllocError>
-    requires { length store.now.words ≡ words }
+pub(crate) fn words(alloc: Global, store: &Store, count: u32) -> Result<Listed<u32>, AllocError>
+    requires { length store.now.words ≡ count }
     ensures { IfOk result (λ all. all ≡ store.now.words) }
 {
     let mut all = Vec::new(alloc);
-    for i in 0..words {
+    for i in 0..count {
         all.push(store.word(i))?;
     }
     Ok(Listed::new(all))
@@ -53,7 +57,7 @@ pub(crate) fn bit_name(value: bool) -> &'static str
     if value { "1" } else { "0" }
 }
 
-/// Adds the line of the values of all cells.
+/// Adds the line of the values of all bit cells.
 pub(crate) fn push_bits(out: &mut Vec<u8>, bits: &[bool]) -> io::Result<()>
     ensures { OnOk result (out.new.items ≡ out.old.items ++ spec.bits_line bits.now) }
 {
@@ -79,19 +83,19 @@ pub(crate) fn push_words(out: &mut Vec<u8>, words: &[u32]) -> io::Result<()>
     writeln!(out)
 }
 
-/// Adds a line for each cell.
-pub(crate) fn push_cells(out: &mut Vec<u8>, cells: &[Cell]) -> io::Result<()>
-    ensures { OnOk result (out.new.items ≡ out.old.items ++ spec.cell_lines cells.now) }
+/// Adds a line for each bit cell.
+pub(crate) fn push_bit_cells(out: &mut Vec<u8>, cells: &[Cell]) -> io::Result<()>
+    ensures { OnOk result (out.new.items ≡ out.old.items ++ spec.bit_cell_lines cells.now) }
 {
     for (i, cell) in cells.iter().enumerate() {
-        push_cell(out, i, *cell)?;
+        push_bit_cell(out, i, *cell)?;
     }
     Ok(())
 }
 
-/// Adds the line of a cell.
-fn push_cell(out: &mut Vec<u8>, i: usize, cell: Cell) -> io::Result<()>
-    ensures { OnOk result (out.new.items ≡ out.old.items ++ spec.cell_line i cell) }
+/// Adds the line of a bit cell.
+fn push_bit_cell(out: &mut Vec<u8>, i: usize, cell: Cell) -> io::Result<()>
+    ensures { OnOk result (out.new.items ≡ out.old.items ++ spec.bit_cell_line i cell) }
 {
     let value = bit_name(cell.value);
     let writing = writing_name(cell.writing);
@@ -110,7 +114,7 @@ fn writing_name(writing: Option<bool>) -> &'static str
     }
 }
 
-/// A dash where a cell isn't read, `r` where it is, and `h` where that read is hit.
+/// A dash where a bit cell isn't read, `r` where it is, and `h` where that read is hit.
 fn reading_name(cell: Cell) -> &'static str
     ensures { result.now ≡ spec.reading_name cell }
 {

@@ -45,15 +45,11 @@ pub(crate) fn pending_page<R: Register>(
 }
 
 /// Adds the page of pending operations.
-pub(crate) fn push_pending_page(
-    out: &mut Vec<u8>,
-    session: u32,
-    page: &PendingPage,
-) -> io::Result<()>
+pub(crate) fn push_pending(out: &mut Vec<u8>, session: u32, page: &PendingPage) -> io::Result<()>
     ensures { OnOk result (out.new.items ≡ out.old.items ++ spec.pending_text session page.now) }
 {
     push_head(out, session, "pending", &page.head)?;
-    push_pending(out, page.processes.as_slice())
+    push_operations(out, page.processes.as_slice())
 }
 
 /// What each process has pending.
@@ -90,7 +86,7 @@ fn pending_at<R: Register>(
 }
 
 /// Adds a line for each process.
-fn push_pending(out: &mut Vec<u8>, statuses: &[PendingStatus]) -> io::Result<()>
+fn push_operations(out: &mut Vec<u8>, statuses: &[PendingStatus]) -> io::Result<()>
     ensures { OnOk result (out.new.items ≡ out.old.items ++ spec.pending_lines statuses.now) }
 {
     for (p, status) in statuses.iter().enumerate() {

@@ -50,11 +50,7 @@ pub(crate) fn process_page<R: Register>(
 }
 
 /// Adds the page of one process.
-pub(crate) fn push_process_page(
-    out: &mut Vec<u8>,
-    session: u32,
-    page: &ProcessPage,
-) -> io::Result<()>
+pub(crate) fn push_process(out: &mut Vec<u8>, session: u32, page: &ProcessPage) -> io::Result<()>
     ensures { OnOk result (out.new.items ≡ out.old.items ++ spec.process_text session page.now) }
 {
     push_head(out, session, "process", &page.head)?;
@@ -155,10 +151,10 @@ fn push_busy(out: &mut Vec<u8>, p: usize, op: Op, next: Action) -> io::Result<()
     ensures { OnOk result (out.new.items ≡ out.old.items ++ spec.busy_line p op next) }
 {
     let kind = kind_name(next.kind);
-    let cell = next.cell;
+    let bit = next.cell;
     write!(out, "  p{p} ")?;
     push_op(out, op)?;
-    writeln!(out, " next {kind} {cell}")
+    writeln!(out, " next {kind} {bit}")
 }
 
 /// Adds the line of a process that has stopped with an operation pending.

@@ -1,4 +1,4 @@
-//! The page of a configuration: its processes, and the values of all cells and words.
+//! The page of a configuration: its processes, and the values of all bit cells and words.
 
 ghost use Rattle.std.specs.Prelude.{◌≡◌, ◌++◌, IfOk, OnOk};
 ghost use Rattle.safe_bit.specs.Parts.{HasSize};
@@ -13,7 +13,7 @@ use frames::register::Register;
 use std::alloc::{AllocError, Global};
 use std::io;
 
-/// The processes, and the values of all cells and words.
+/// The processes, and the values of all bit cells and words.
 #[derive(Drop)]
 pub struct StatePage {
     pub head: Head,

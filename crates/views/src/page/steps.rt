@@ -31,12 +31,12 @@ impl StepsPage {
 }
 
 /// Adds the page of a branch's steps.
-pub(crate) fn push_steps_page(out: &mut Vec<u8>, session: u32, page: &StepsPage) -> io::Result<()>
+pub(crate) fn push_steps(out: &mut Vec<u8>, session: u32, page: &StepsPage) -> io::Result<()>
     ensures { OnOk result (out.new.items ≡ out.old.items ++ spec.steps_text session page.now) }
 {
     let steps = page.steps.as_slice();
     push_steps_head(out, session, &page.branch, steps.len())?;
-    push_steps(out, steps)
+    push_step_lines(out, steps)
 }
 
 /// Adds the first line of the page of a branch's steps.
@@ -49,7 +49,7 @@ fn push_steps_head(out: &mut Vec<u8>, session: u32, branch: &Name, len: usize) -
 }
 
 /// Adds a line for each step, with its index.
-fn push_steps(out: &mut Vec<u8>, steps: &[Step]) -> io::Result<()>
+fn push_step_lines(out: &mut Vec<u8>, steps: &[Step]) -> io::Result<()>
     ensures { OnOk result (out.new.items ≡ out.old.items ++ spec.step_lines steps.now) }
 {
     for (index, step) in steps.iter().enumerate() {

@@ -38,11 +38,7 @@ pub(crate) fn verdict_page(
 }
 
 /// Adds the page of verdicts.
-pub(crate) fn push_verdict_page(
-    out: &mut Vec<u8>,
-    session: u32,
-    page: &VerdictPage,
-) -> io::Result<()>
+pub(crate) fn push_verdict(out: &mut Vec<u8>, session: u32, page: &VerdictPage) -> io::Result<()>
     ensures { OnOk result (out.new.items ≡ out.old.items ++ spec.verdict_text session page.now) }
 {
     push_head(out, session, "verdict", &page.head)?;
@@ -67,13 +63,13 @@ fn push_verdicts(out: &mut Vec<u8>, verdicts: &[ReadVerdict]) -> io::Result<()>
         return writeln!(out, "  none");
     }
     for read in verdicts {
-        push_verdict(out, *read)?;
+        push_read(out, *read)?;
     }
     Ok(())
 }
 
 /// Adds the line of a returned read.
-fn push_verdict(out: &mut Vec<u8>, read: ReadVerdict) -> io::Result<()>
+fn push_read(out: &mut Vec<u8>, read: ReadVerdict) -> io::Result<()>
     ensures { OnOk result (out.new.items ≡ out.old.items ++ spec.verdict_line read) }
 {
     let step = read.step;
@@ -84,7 +80,7 @@ fn push_verdict(out: &mut Vec<u8>, read: ReadVerdict) -> io::Result<()>
     writeln!(out, "{value} {name}")
 }
 
-/// The word of a verdict.
+/// The name of a verdict.
 fn verdict_name(verdict: Verdict) -> &'static str
     ensures { result.now ≡ spec.verdict_name verdict }
 {

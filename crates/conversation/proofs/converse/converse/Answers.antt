@@ -1,4 +1,4 @@
-use Rattle.std.proofs.Common.{◌+◌, ◌≤◌, ◌<◌, ◌^◌, arith}
+use Rattle.std.proofs.Common.{◌+◌, ◌≤◌, ◌<◌, arith}
 use Rattle.conversation.proofs.Turns.{reached_start, breaks_long, finished, broken}
 use Rattle.conversation.proofs.converse.converse.Goals as goal
 use Rattle.conversation.specs.declared.limits.TheConstants.{MOST_BYTES}

@@ -1,4 +1,4 @@
-use Rattle.std.proofs.Common.{◌≡◌, ◌≤◌, ◌<◌, ◌+◌, ◌^◌, ℕ, []}
+use Rattle.std.proofs.Common.{◌≡◌, ◌≤◌, ◌<◌, ◌+◌, ℕ, []}
 use Rattle.conversation.specs.Told.{Reached}
 use Rattle.conversation.proofs.converse.converse.Given as goal
 use Rattle.conversation.specs.declared.limits.TheConstants.{MOST_BYTES}

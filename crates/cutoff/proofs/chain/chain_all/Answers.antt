@@ -20,7 +20,7 @@ loop-index-init g c = record {
 }
 
 pub chain_branch-requires-in-loop-index-clause-fits : goal.chain_branch-requires-in-loop-index-clause-fits
-chain_branch-requires-in-loop-index-clause-fits g c = fits_on (g.R.Behaves.is c.args.start.now.register) c.args.trie.now c.requires.fits c.loop-index.index _ c.keys_at.ensures.keys
+chain_branch-requires-in-loop-index-clause-fits g c = fits_on (g.R.Behaves.is c.args.start.now.register) c.args.trie.now c.requires.fits c.loop-index.index _ (c.deref.ensures.value ∙ c.in_ok-keys.ensures.keys)
 
 pub loop-index-preserved : goal.loop-index-preserved
 loop-index-preserved g c =
@@ -29,7 +29,7 @@ loop-index-preserved g c =
     let was = c.loop-index.invariant in record {
       jobs = λ all p.
           was.jobs all
-          (plan_on g.R.PartialEq.eq (g.R.Behaves.is c.args.start.now.register) c.args.trie.now c.args.start.now _ _ all c.loop-index.index _ inside c.keys_at.ensures.keys
+          (plan_on g.R.PartialEq.eq (g.R.Behaves.is c.args.start.now.register) c.args.trie.now c.args.start.now _ _ all c.loop-index.index _ inside (c.deref.ensures.value ∙ c.in_ok-keys.ensures.keys)
           c.in_ok-chain_branch-2.ensures.jobs p);
       follow = c.in_ok-chain_branch-2.ensures.follow;
       few = let one = c.in_ok-chain_branch-2.ensures.few in let few = was.few in omega arith;

@@ -18,17 +18,15 @@ overflow_add-place g c =
 
 pub loop-run-preserved : goal.loop-run-preserved
 loop-run-preserved g c =
-    let is = g.R.Behaves.is in
     let runs = c.args.runs.now in
     let i = c.loop-run.run-index in
     let x = c.loop-run-item.result in
-    let place = c.loop-run.place in
-    let here : 0 + counted (map part_of (take i runs)) ≡ place = omega (arith, c.loop-run.invariant.place) in
+    let here : 0 + counted (map part_of (take i runs)) ≡ c.loop-run.place = omega (arith, c.loop-run.invariant.place) in
     record {
       place = ap (λ n. n + x.1) c.loop-run.invariant.place ∙ sym (counted_split runs i x c.loop-run-test.true c.loop-run-item.is);
       found = λ test first tells.
           c.in_ok-found.ensures test
-          (subst (λ r. Tells is c.args.breaks.now test place (record { run = r; count = x.1 })) (sym c.deref.ensures)
-          (subst (λ n. Tells is c.args.breaks.now test n (part_of x)) here (tells_at is c.args.breaks.now test 0 runs i x c.loop-run-test.true c.loop-run-item.is tells)))
+          (subst (λ r. Tells g.R.Behaves.is c.args.search.now.breaks.now test c.loop-run.place (record { run = r; count = x.1 })) (sym c.deref.ensures)
+          (subst (λ n. Tells g.R.Behaves.is c.args.search.now.breaks.now test n (part_of x)) here (tells_at g.R.Behaves.is c.args.search.now.breaks.now test 0 runs i x c.loop-run-test.true c.loop-run-item.is tells)))
           (c.loop-run.invariant.found test first tells);
     }

@@ -8,6 +8,6 @@ use Rattle.sessions.proofs.seek.along_runs.Given as goal
 abbrev pub invariant-loop-run : goal.invariant-loop-run
 invariant-loop-run g l = record {
   place : l.place ≡ counted (map part_of (take l.run-index l.runs));
-  found : (test : ℕ → Bool) → test 0 ≡ is_met l.breaks no_events l.first.memory → TellAll g.R.Behaves.is l.breaks test 0 (map part_of l.runs)
+  found : (test : ℕ → Bool) → test 0 ≡ is_met l.search.breaks.now no_events l.first.memory → TellAll g.R.Behaves.is l.search.breaks.now test 0 (map part_of l.runs)
       → l.found ≡ next_of l.search.way l.search.from (places_with test (l.place + 1));
 }

@@ -45,14 +45,14 @@ loop-i-preserved g c =
       config = after;
       found = λ test each start.
           let told : test ((place + 1) + i) ≡ c.is_met-hit.result =
-          each i within ∙ ap (λ es. is_met c.args.breaks.now es (replayed b first (take (i + 1) steps)).memory) (recorded_next b first steps i s within item ∙ sym events)
-          ∙ ap (λ d. is_met c.args.breaks.now c.step-events.result d.memory) (sym after) ∙ sym c.is_met-hit.ensures in
-          subst (λ n. c.with_place-found.result ≡ next_of c.args.search.way c.args.search.from (places_with test n)) next
+          each i within ∙ ap (λ es. is_met c.args.search.now.breaks.now es (replayed b first (take (i + 1) steps)).memory) (recorded_next b first steps i s within item ∙ sym events)
+          ∙ ap (λ d. is_met c.args.search.now.breaks.now c.step-events.result d.memory) (sym after) ∙ sym c.is_met-hit.ensures in
+          subst (λ n. c.with_place-found.result ≡ next_of c.args.search.now.way c.args.search.now.from (places_with test n)) next
           (c.with_place-found.ensures test told
-          (subst (λ n. c.loop-i.found ≡ next_of c.args.search.way c.args.search.from (places_with test n)) here (c.loop-i.invariant.found test each start)));
+          (subst (λ n. c.loop-i.found ≡ next_of c.args.search.now.way c.args.search.now.from (places_with test n)) here (c.loop-i.invariant.found test each start)));
     }
 
 pub returns : goal.returns
 returns g c = λ test each start.
     let full : c.loop-i.i ≡ length c.args.steps.now = omega arith in
-    subst (λ n. c.loop-i.found ≡ next_of c.args.search.way c.args.search.from (places_with test ((c.args.place + n) + 1))) full (c.loop-i.invariant.found test each start)
+    subst (λ n. c.loop-i.found ≡ next_of c.args.search.now.way c.args.search.now.from (places_with test ((c.args.place + n) + 1))) full (c.loop-i.invariant.found test each start)

@@ -10,7 +10,7 @@ invariant-loop-i g l =
     record {
       config : l.config ≡ replayed b l.fn.config (take l.i l.steps);
       found : (test : ℕ → Bool)
-          → ((i : ℕ) → i < length l.steps → test ((l.place + 1) + i) ≡ is_met l.breaks (slice_index_or (history b l.fn.config l.steps) i no_events) (replayed b l.fn.config (take (i + 1) l.steps)).memory)
+          → ((i : ℕ) → i < length l.steps → test ((l.place + 1) + i) ≡ is_met l.search.breaks.now (slice_index_or (history b l.fn.config l.steps) i no_events) (replayed b l.fn.config (take (i + 1) l.steps)).memory)
           → l.fn.found ≡ next_of l.search.way l.search.from (places_with test (l.place + 1))
           → l.found ≡ next_of l.search.way l.search.from (places_with test ((l.place + l.i) + 1));
     }

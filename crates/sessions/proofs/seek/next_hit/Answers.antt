@@ -14,7 +14,7 @@ found g c =
     let is = g.R.Behaves.is in
     let old = c.args.chart.now in
     let b = is old.start.register in
-    let breaks = c.args.breaks.now in
+    let breaks = c.args.search.now.breaks.now in
     let steps = steps_in (forest old.cut) c.args.branch.now in
     let runs = c.in_ok-runs.runs.items in
     let kept = c.in_ok-runs.ensures.kept in
@@ -26,9 +26,9 @@ found g c =
     let long : counted (map part_of c.deref.result.now) ≡ length steps = ap (λ rs. counted (map part_of rs)) c.deref.ensures.value ∙ c.in_ok-runs.ensures.counts in
     IfOk-weaker c.along_runs.result
     (λ all. (test : ℕ → Bool) → test 0 ≡ is_met breaks no_events c.in_ok-first.first.memory → TellAll is breaks test 0 (map part_of c.deref.result.now)
-    → all ≡ next_of c.args.search.way c.args.search.from (places_with test (counted (map part_of c.deref.result.now) + 1)))
+    → all ≡ next_of c.args.search.now.way c.args.search.now.from (places_with test (counted (map part_of c.deref.result.now) + 1)))
     _
-    (λ all h. h (is_hit b old.value steps breaks) zero tells ∙ ap (λ n. next_of c.args.search.way c.args.search.from (places_with (is_hit b old.value steps breaks) (n + 1))) long)
+    (λ all h. h (is_hit b old.value steps breaks) zero tells ∙ ap (λ n. next_of c.args.search.now.way c.args.search.now.from (places_with (is_hit b old.value steps breaks) (n + 1))) long)
     c.along_runs.ensures
 
 pub returns-clause-hit : goal.returns-clause-hit
@@ -38,9 +38,9 @@ pub returns-clause-met : goal.returns-clause-met
 returns-clause-met g c =
     let old = c.args.chart.now in
     let steps = steps_in (forest old.cut) c.args.branch.now in
-    let test = is_hit (g.R.Behaves.is old.start.register) old.value steps c.args.breaks.now in
+    let test = is_hit (g.R.Behaves.is old.start.register) old.value steps c.args.search.now.breaks.now in
     IfOk-weaker c.along_runs.result
-    (λ place. place ≡ next_of c.args.search.way c.args.search.from (places_with test (length steps + 1)))
+    (λ place. place ≡ next_of c.args.search.now.way c.args.search.now.from (places_with test (length steps + 1)))
     _
-    (λ place h. next_is_hit test c.args.search.from c.args.search.way (length steps + 1) place h)
+    (λ place h. next_is_hit test c.args.search.now.from c.args.search.now.way (length steps + 1) place h)
     (found g c)

@@ -11,23 +11,15 @@ use Rattle.towerbench.proofs.run.run.Goals as goal
 
 pub returns-in_default : goal.returns-in_default
 returns-in_default g c =
-    let old = g.R.Read.remaining c.args.reader.now in
-    let now = g.R.Read.remaining c.begin.new.reader in
-    let before = g.W.Write.contents c.args.writer.now in
-    let after = g.W.Write.contents c.begin.new.writer in
-    with_file old now before after (option_map (λ bytes. bytes.now) c.args.file) (limits_of c.args.options) (file_of One (Safe 0) [])
+    with_file _ _ _ _ (option_map (λ bytes. bytes.now) c.args.file) (limits_of c.args.options) (file_of One (Safe 0) [])
     (ap (λ file. opened (option_map (λ bytes. bytes.now) file)) c.in_default.is) c.begin.result
     (let o = c.new-opening.result in
-    as_given old now before after c.begin.result (limits_of o.options) (limits_of c.args.options) o.value 0 _ safe_behaviour o.steps.items []
+    as_given _ _ _ _ c.begin.result (limits_of o.options) (limits_of c.args.options) o.value 0 _ safe_behaviour o.steps.items []
     (ap limits_of c.new-opening.ensures.options) c.new-opening.ensures.value refl (rw c.new-opening.ensures.steps c.new.ensures.items) c.begin.ensures)
 
 pub returns-in-Ok : goal.returns-in-Ok
 returns-in-Ok g c =
-    let old = g.R.Read.remaining c.args.reader.now in
-    let now = g.R.Read.remaining c.run_file.new.reader in
-    let before = g.W.Write.contents c.args.writer.now in
-    let after = g.W.Write.contents c.run_file.new.writer in
-    with_file old now before after (option_map (λ bytes. bytes.now) c.args.file) (limits_of c.args.options) c.in-Ok.file
+    with_file _ _ _ _ (option_map (λ bytes. bytes.now) c.args.file) (limits_of c.args.options) c.in-Ok.file
     (ap (λ file. opened (option_map (λ bytes. bytes.now) file)) c.in-Some.is ∙ c.in-Ok.ensures.exact) c.run_file.result
     c.run_file.ensures
 

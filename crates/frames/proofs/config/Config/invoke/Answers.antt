@@ -1,92 +1,27 @@
 use Rattle.std.proofs.Common.{◌≡◌, ◌<◌, true, length, rules, sym, subst}
-use Rattle.frames.specs.Configuration.{running_at, invoking}
-use Rattle.frames.specs.laws.Steps.{invoking_well}
-use Rattle.frames.proofs.Stacks.{shown, stack_there, found_there, put_shown, put_flat}
+use Rattle.frames.proofs.Stepped.{there, invokes}
 use Rattle.frames.proofs.config.Config.invoke.Goals as goal
 
 pub index_mut-stack-requires : goal.index_mut-stack-requires
 index_mut-stack-requires g c =
-    let r = c.self.inside.register in
-    let b = g.R.Behaves.is r in
-    let find = g.R.Register.point r in
-    let m = c.self.inside.store in
-    let stacks = c.self.inside.stacks.items in
-    let stopped = c.self.inside.stopped.items in
-    let Holds = g.R.Register.Holds r in
-    let Reaches = g.R.Register.Reaches r in
-    let lawful = g.met.R.Register.lawful r in
-    let tell = g.met.R.Register.tells r in
-    let was = c.self.invariant in
-    let who = c.args.who in
     let fits = subst (λ x. (g.R.Behaves.is x.register).suits c.args.who c.args.op ≡ true) (sym c.self.view_is) c.requires in
-    let lt : who < b.processes = lawful.nobody_else who c.args.op fits in
-    let there : who < length stacks = stack_there b Holds Reaches find lawful tell r m stacks stopped was who lt in
+    let inside : c.args.who < length c.self.inside.stacks.items = there (g.met.R.Register.lawful c.self.inside.register) (g.met.R.Register.tells c.self.inside.register) c.self.invariant c.args.who ((g.met.R.Register.lawful c.self.inside.register).nobody_else c.args.who c.args.op fits) in
     search rules
 
 pub invariant_of-self : goal.invariant_of-self
 invariant_of-self g c =
-    let r = c.self.inside.register in
-    let b = g.R.Behaves.is r in
-    let find = g.R.Register.point r in
-    let m = c.self.inside.store in
-    let stacks = c.self.inside.stacks.items in
-    let stopped = c.self.inside.stopped.items in
-    let Holds = g.R.Register.Holds r in
-    let Reaches = g.R.Register.Reaches r in
-    let lawful = g.met.R.Register.lawful r in
-    let tell = g.met.R.Register.tells r in
-    let was = c.self.invariant in
-    let who = c.args.who in
     let fits = subst (λ x. (g.R.Behaves.is x.register).suits c.args.who c.args.op ≡ true) (sym c.self.view_is) c.requires in
-    let lt : who < b.processes = lawful.nobody_else who c.args.op fits in
-    let slot = running_at who (shown find r m stacks stopped) in
-    let reached = was.configuration.reached who in
-    let found = found_there b Holds Reaches find lawful tell r m stacks stopped was who c.index_mut-stack.result.now lt c.index_mut-stack.ensures.value in
-    let acts = c.invoke.ensures slot reached found in
-    let well = invoking_well b Holds Reaches lawful who c.args.op slot m was.configuration.holds reached fits in
-    put_flat b Holds Reaches find lawful tell r m stacks stopped was who (invoking b who c.args.op slot m) c.invoke.result c.invoke.new.stack c.invoke.new.store acts well.reached lt well.holds
+    (invokes (g.met.R.Register.lawful c.self.inside.register) (g.met.R.Register.tells c.self.inside.register) c.self.invariant c.args.who ((g.met.R.Register.lawful c.self.inside.register).nobody_else c.args.who c.args.op fits)
+    c.index_mut-stack.result.now c.index_mut-stack.ensures.value c.invoke.result c.invoke.new.stack c.invoke.new.store c.args.op fits c.invoke.ensures).flat
 
 pub returns-clause-events : goal.returns-clause-events
 returns-clause-events g c =
-    let r = c.self.inside.register in
-    let b = g.R.Behaves.is r in
-    let find = g.R.Register.point r in
-    let m = c.self.inside.store in
-    let stacks = c.self.inside.stacks.items in
-    let stopped = c.self.inside.stopped.items in
-    let Holds = g.R.Register.Holds r in
-    let Reaches = g.R.Register.Reaches r in
-    let lawful = g.met.R.Register.lawful r in
-    let tell = g.met.R.Register.tells r in
-    let was = c.self.invariant in
-    let who = c.args.who in
     let fits = subst (λ x. (g.R.Behaves.is x.register).suits c.args.who c.args.op ≡ true) (sym c.self.view_is) c.requires in
-    let lt : who < b.processes = lawful.nobody_else who c.args.op fits in
-    let slot = running_at who (shown find r m stacks stopped) in
-    let reached = was.configuration.reached who in
-    let found = found_there b Holds Reaches find lawful tell r m stacks stopped was who c.index_mut-stack.result.now lt c.index_mut-stack.ensures.value in
-    let acts = c.invoke.ensures slot reached found in
-    rw (← c.self.view_is) acts.events
+    rw (← c.self.view_is) (invokes (g.met.R.Register.lawful c.self.inside.register) (g.met.R.Register.tells c.self.inside.register) c.self.invariant c.args.who ((g.met.R.Register.lawful c.self.inside.register).nobody_else c.args.who c.args.op fits)
+    c.index_mut-stack.result.now c.index_mut-stack.ensures.value c.invoke.result c.invoke.new.stack c.invoke.new.store c.args.op fits c.invoke.ensures).events
 
 pub returns-clause-after : goal.returns-clause-after
 returns-clause-after g c =
-    let r = c.self.inside.register in
-    let b = g.R.Behaves.is r in
-    let find = g.R.Register.point r in
-    let m = c.self.inside.store in
-    let stacks = c.self.inside.stacks.items in
-    let stopped = c.self.inside.stopped.items in
-    let Holds = g.R.Register.Holds r in
-    let Reaches = g.R.Register.Reaches r in
-    let lawful = g.met.R.Register.lawful r in
-    let tell = g.met.R.Register.tells r in
-    let was = c.self.invariant in
-    let who = c.args.who in
     let fits = subst (λ x. (g.R.Behaves.is x.register).suits c.args.who c.args.op ≡ true) (sym c.self.view_is) c.requires in
-    let lt : who < b.processes = lawful.nobody_else who c.args.op fits in
-    let slot = running_at who (shown find r m stacks stopped) in
-    let reached = was.configuration.reached who in
-    let found = found_there b Holds Reaches find lawful tell r m stacks stopped was who c.index_mut-stack.result.now lt c.index_mut-stack.ensures.value in
-    let acts = c.invoke.ensures slot reached found in
-    let well = invoking_well b Holds Reaches lawful who c.args.op slot m was.configuration.holds reached fits in
-    rw (← c.self.view_is) (put_shown b Holds Reaches find lawful tell r m stacks stopped was who (invoking b who c.args.op slot m) c.invoke.result c.invoke.new.stack c.invoke.new.store acts well.reached)
+    rw (← c.self.view_is) (invokes (g.met.R.Register.lawful c.self.inside.register) (g.met.R.Register.tells c.self.inside.register) c.self.invariant c.args.who ((g.met.R.Register.lawful c.self.inside.register).nobody_else c.args.who c.args.op fits)
+    c.index_mut-stack.result.now c.index_mut-stack.ensures.value c.invoke.result c.invoke.new.stack c.invoke.new.store c.args.op fits c.invoke.ensures).after

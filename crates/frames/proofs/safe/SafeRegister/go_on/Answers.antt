@@ -1,12 +1,18 @@
-use Rattle.std.proofs.Common.{◌≡◌, sym, ap, refl, ◌∙◌, arith, add-zero}
+use Rattle.std.proofs.Common.{◌≡◌, ℕ, ◌+◌, Bool, List, ◌∷◌, take, drop, Some, sym, ap, refl, ◌∙◌, arith, add-zero}
 use Rattle.safe_bit.specs.laws.Parts.{cell_at-part}
-use Rattle.safe_bit.specs.Memory.{cell_at}
-use Rattle.safe_bit.specs.Parts.{part}
+use Rattle.safe_bit.specs.Memory.{Memory, cell_at, on_cell}
+use Rattle.safe_bit.specs.Parts.{part, LiesIn}
+use Rattle.safe_bit.specs.declared.Place.{Place}
 use Rattle.safe_bit.specs.Actions.{start_write, end_write, start_read, end_read, read_gives}
 use Rattle.frames.specs.declared.types.Outcome.TheVariants.{Value, Written}
 use Rattle.frames.specs.declared.types.Next.TheVariants.{Done}
 use Rattle.frames.specs.declared.safe.SafePoint.TheVariants as at
-use Rattle.frames.specs.SafeBit.{value_of}
+use Rattle.frames.specs.SafeBit.{value_of, safe_behaviour, SafeReaches, safe_goes, point_at}
+use mir.Val.{bool_byte}
+use Rattle.frames.specs.declared.types.Op.{Op}
+use Rattle.frames.specs.declared.types.Frame.{Frame}
+use Rattle.frames.specs.declared.safe.SafePoint.{SafePoint}
+use Rattle.frames.specs.Flat.{StandsOn, Lands}
 use Rattle.frames.specs.laws.Safe.{on_own_cell, safe_size, byte_value, stands_on, ends_there}
 use Rattle.frames.proofs.safe.SafeRegister.go_on.Goals as goal
 
@@ -31,22 +37,25 @@ returns-in-ReadStart-clause-lands c =
     (c.start_read.ensures ∙ on_own_cell c.args.at start_read c.args.store.now c.requires.inside) in
     rw (c.set-in-ReadStart.ensures, c.frame_of-in-ReadStart.ensures) there
 
+-- a read has ended with what its action gave
+read_ended : (place : Place) (m : Memory) (who first : ℕ) (stack : List Frame) (choice : Bool) (frame : Frame) (found : drop first stack ≡ frame ∷ drop (first + 1) stack)
+    (is : at.ReadEnd ≡ point_at frame.op frame.i) (gave : Bool) (value : ℕ) (m' : Memory) → gave ≡ read_gives choice (cell_at place.cell m) → value ≡ bool_byte gave
+    → m' ≡ on_cell place.cell end_read m → LiesIn place safe_size m
+    → (o : Op) (p : SafePoint) → StandsOn safe_behaviour.frames SafeReaches who first stack o p
+    → Lands safe_behaviour.frames place (safe_goes p choice (part place safe_size m)).next (safe_goes p choice (part place safe_size m)).memory (take first stack) m (Some (Value value)) (take first stack) m'
+read_ended place m who first stack choice frame found is gave value m' told byte after inside =
+    let given : value_of (read_gives choice (cell_at 0 (part place safe_size m))) ≡ value =
+    ap value_of (ap (read_gives choice) (cell_at-part place safe_size 0 m (omega arith) ∙ ap (λ i. cell_at i m) (add-zero place.cell)) ∙ sym told) ∙ sym (byte ∙ byte_value gave) in
+    ends_there place m who first stack choice frame at.ReadEnd found is (Value value) m' (ap (λ v. Done (Value v)) given) (after ∙ on_own_cell place end_read m inside)
+
 pub returns-then-hit-clause-lands : goal.returns-then-hit-clause-lands
 returns-then-hit-clause-lands c =
-    let given : value_of (read_gives c.args.choice (cell_at 0 (part c.args.at safe_size c.args.store.now))) ≡ c.from.result =
-    ap value_of (ap (read_gives c.args.choice) (cell_at-part c.args.at safe_size 0 c.args.store.now (omega arith) ∙ ap (λ i. cell_at i c.args.store.now) (add-zero c.args.at.cell)) ∙ sym c.end_read-value.ensures.value)
-    ∙ sym (c.from.ensures ∙ byte_value c.end_read-value.result) in
-    let there = ends_there c.args.at c.args.store.now c.args._who c.args.first c.args.stack.now c.args.choice c.frame-frame.result at.ReadEnd
-    c.frame-frame.ensures (sym c.in-ReadEnd.is ∙ c.point_of.ensures) (Value c.from.result) c.end_read-value.new.self (ap (λ v. Done (Value v)) given)
-    (c.end_read-value.ensures.after ∙ on_own_cell c.args.at end_read c.args.store.now c.requires.inside) in
-    rw c.cut-in-ReadEnd.ensures there
+    rw c.cut-in-ReadEnd.ensures
+    (read_ended c.args.at c.args.store.now c.args._who c.args.first c.args.stack.now c.args.choice c.frame-frame.result c.frame-frame.ensures (sym c.in-ReadEnd.is ∙ c.point_of.ensures)
+    c.end_read-value.result c.from.result c.end_read-value.new.self c.end_read-value.ensures.value c.from.ensures c.end_read-value.ensures.after c.requires.inside)
 
 pub returns-else-hit-clause-lands : goal.returns-else-hit-clause-lands
 returns-else-hit-clause-lands c =
-    let given : value_of (read_gives c.args.choice (cell_at 0 (part c.args.at safe_size c.args.store.now))) ≡ c.from.result =
-    ap value_of (ap (read_gives c.args.choice) (cell_at-part c.args.at safe_size 0 c.args.store.now (omega arith) ∙ ap (λ i. cell_at i c.args.store.now) (add-zero c.args.at.cell)) ∙ sym c.end_read-value.ensures.value)
-    ∙ sym (c.from.ensures ∙ byte_value c.end_read-value.result) in
-    let there = ends_there c.args.at c.args.store.now c.args._who c.args.first c.args.stack.now c.args.choice c.frame-frame.result at.ReadEnd
-    c.frame-frame.ensures (sym c.in-ReadEnd.is ∙ c.point_of.ensures) (Value c.from.result) c.end_read-value.new.self (ap (λ v. Done (Value v)) given)
-    (c.end_read-value.ensures.after ∙ on_own_cell c.args.at end_read c.args.store.now c.requires.inside) in
-    rw c.cut-in-ReadEnd.ensures there
+    rw c.cut-in-ReadEnd.ensures
+    (read_ended c.args.at c.args.store.now c.args._who c.args.first c.args.stack.now c.args.choice c.frame-frame.result c.frame-frame.ensures (sym c.in-ReadEnd.is ∙ c.point_of.ensures)
+    c.end_read-value.result c.from.result c.end_read-value.new.self c.end_read-value.ensures.value c.from.ensures c.end_read-value.ensures.after c.requires.inside)

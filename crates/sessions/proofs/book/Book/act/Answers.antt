@@ -1,10 +1,8 @@
-use Rattle.std.proofs.Common.{◌≡◌, ◌∙◌, ◌⊎◌, ◌∷◌, [], ◌++◌, ◌-◌, inl, inr, refl, sym, ap, subst, false, arith}
-use Rattle.std.specs.Prelude.{vec_capacity, vec_len}
-use Rattle.sessions.specs.Acts.{is_full}
+use Rattle.std.proofs.Common.{◌∙◌, ◌∷◌, [], ◌++◌, inl, inr, refl, sym, ap, subst, arith}
 use Rattle.sessions.specs.Logs.{entry}
-use Rattle.sessions.specs.Held.{Held, Acts, MayWant, Wants, world_of, opening_of}
+use Rattle.sessions.specs.Held.{MayWant, world_of}
 use Rattle.sessions.proofs.Ordinary.{never_memory}
-use Rattle.sessions.proofs.Books.{done_acts, held_more, same_opening}
+use Rattle.sessions.proofs.Books.{kept, done_acts, held_more, same_opening}
 use Rattle.sessions.proofs.book.Book.act.Goals as goal
 
 pub returns-in_default-clause-acts : goal.returns-in_default-clause-acts
@@ -36,25 +34,17 @@ returns-in_default-act-clause-memory g c = λ e.
 
 pub invariant_of-self-2 : goal.invariant_of-self-2
 invariant_of-self-2 g c =
-    let is = g.R.Behaves.is in
-    let old : Held g.row.R.Denot g.row.R-Pending.Denot = record { first = c.self.inside.first.value; now = c.self.inside.stage; log = c.self.inside.log.items; room = vec_capacity c.self.inside.log - vec_len c.self.inside.log } in
-    let new : Held g.row.R.Denot g.row.R-Pending.Denot = record { first = c.self.inside.first.value; now = c.act.new.self; log = c.push_within.new.list.items; room = vec_capacity c.push_within.new.list - vec_len c.push_within.new.list } in
-    let e = entry c.args.chair c.args.who c.args.if_at c.args.command.now c.in-Ok-act.reply in
-    let room : is_full (world_of is c.self.inside.stage) ≡ false = sym c.is_full.ensures ∙ c.if-is_full.false in
-    let more : c.push_within.new.list.items ≡ c.self.inside.log.items ++ e ∷ [] =
-    c.push_within.ensures ∙ ap (λ l. l ++ c.entry.result ∷ []) c.reserve.ensures.items ∙ ap (λ x. c.self.inside.log.items ++ x ∷ []) c.entry.ensures in
-    held_more is old new e room c.in-Ok-act.ensures.ok more c.self.invariant refl
+    let i = c.self.inside in
+    let more = c.push_within.ensures ∙ ap (λ l. l ++ c.entry.result ∷ []) c.reserve.ensures.items ∙ ap (λ x. i.log.items ++ x ∷ []) c.entry.ensures in
+    held_more g.R.Behaves.is (kept i.first.value i.stage i.log) (kept i.first.value c.act.new.self c.push_within.new.list)
+    (entry c.args.chair c.args.who c.args.if_at c.args.command.now c.in-Ok-act.reply) (sym c.is_full.ensures ∙ c.if-is_full.false) c.in-Ok-act.ensures.ok more c.self.invariant refl
 
 pub returns-clause-acts : goal.returns-clause-acts
 returns-clause-acts g c =
-    let is = g.R.Behaves.is in
-    let old : Held g.row.R.Denot g.row.R-Pending.Denot = record { first = c.self.inside.first.value; now = c.self.inside.stage; log = c.self.inside.log.items; room = vec_capacity c.self.inside.log - vec_len c.self.inside.log } in
-    let new : Held g.row.R.Denot g.row.R-Pending.Denot = record { first = c.self.inside.first.value; now = c.act.new.self; log = c.push_within.new.list.items; room = vec_capacity c.push_within.new.list - vec_len c.push_within.new.list } in
-    let e = entry c.args.chair c.args.who c.args.if_at c.args.command.now c.in-Ok-act.reply in
-    let room : is_full (world_of is c.self.inside.stage) ≡ false = sym c.is_full.ensures ∙ c.if-is_full.false in
-    let more : c.push_within.new.list.items ≡ c.self.inside.log.items ++ e ∷ [] =
-    c.push_within.ensures ∙ ap (λ l. l ++ c.entry.result ∷ []) c.reserve.ensures.items ∙ ap (λ x. c.self.inside.log.items ++ x ∷ []) c.entry.ensures in
-    subst (λ h. Acts is h new e ⊎ Wants is h new c.in-Ok-act.reply) c.self.view_is (inl (done_acts is old new e room c.in-Ok-act.ensures.ok more))
+    let i = c.self.inside in
+    let more = c.push_within.ensures ∙ ap (λ l. l ++ c.entry.result ∷ []) c.reserve.ensures.items ∙ ap (λ x. i.log.items ++ x ∷ []) c.entry.ensures in
+    rw (← c.self.view_is) (inl (done_acts g.R.Behaves.is (kept i.first.value i.stage i.log) (kept i.first.value c.act.new.self c.push_within.new.list)
+    (entry c.args.chair c.args.who c.args.if_at c.args.command.now c.in-Ok-act.reply) (sym c.is_full.ensures ∙ c.if-is_full.false) c.in-Ok-act.ensures.ok more))
 
 pub returns-clause-memory : goal.returns-clause-memory
 returns-clause-memory g c = λ e.
@@ -63,11 +53,7 @@ returns-clause-memory g c = λ e.
 
 pub returns-clause-opening : goal.returns-clause-opening
 returns-clause-opening g c =
-    let is = g.R.Behaves.is in
-    let old : Held g.row.R.Denot g.row.R-Pending.Denot = record { first = c.self.inside.first.value; now = c.self.inside.stage; log = c.self.inside.log.items; room = vec_capacity c.self.inside.log - vec_len c.self.inside.log } in
-    let new : Held g.row.R.Denot g.row.R-Pending.Denot = record { first = c.self.inside.first.value; now = c.act.new.self; log = c.push_within.new.list.items; room = vec_capacity c.push_within.new.list - vec_len c.push_within.new.list } in
-    let e = entry c.args.chair c.args.who c.args.if_at c.args.command.now c.in-Ok-act.reply in
-    let room : is_full (world_of is c.self.inside.stage) ≡ false = sym c.is_full.ensures ∙ c.if-is_full.false in
-    let more : c.push_within.new.list.items ≡ c.self.inside.log.items ++ e ∷ [] =
-    c.push_within.ensures ∙ ap (λ l. l ++ c.entry.result ∷ []) c.reserve.ensures.items ∙ ap (λ x. c.self.inside.log.items ++ x ∷ []) c.entry.ensures in
-    same_opening is old new e room c.in-Ok-act.ensures.ok more refl ∙ ap (opening_of is) c.self.view_is
+    let i = c.self.inside in
+    let more = c.push_within.ensures ∙ ap (λ l. l ++ c.entry.result ∷ []) c.reserve.ensures.items ∙ ap (λ x. i.log.items ++ x ∷ []) c.entry.ensures in
+    rw (← c.self.view_is) (same_opening g.R.Behaves.is (kept i.first.value i.stage i.log) (kept i.first.value c.act.new.self c.push_within.new.list)
+    (entry c.args.chair c.args.who c.args.if_at c.args.command.now c.in-Ok-act.reply) (sym c.is_full.ensures ∙ c.if-is_full.false) c.in-Ok-act.ensures.ok more refl)

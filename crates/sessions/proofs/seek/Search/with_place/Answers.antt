@@ -3,8 +3,8 @@ use Rattle.sessions.proofs.seek.Search.with_place.Goals as goal
 
 pub returns-in-Forth : goal.returns-in-Forth
 returns-in-Forth c = rw c.in-Forth.is
-    (λ test told before. forth_more test c.args.self.from c.args.place c.args.hit c.args.found c.first_of.result told before c.first_of.ensures)
+    (λ test told before. forth_more test c.args.self.now.from c.args.place c.args.hit c.args.found c.first_of.result told before c.first_of.ensures)
 
 pub returns-in-Back : goal.returns-in-Back
 returns-in-Back c = rw c.in-Back.is
-    (λ test told before. back_more test c.args.self.from c.args.place c.args.hit c.args.found c.last_of.result told before c.last_of.ensures)
+    (λ test told before. back_more test c.args.self.now.from c.args.place c.args.hit c.args.found c.last_of.result told before c.last_of.ensures)

@@ -1,6 +1,5 @@
 use Rattle.sessions.specs.Held.{world_of}
 use Rattle.sessions.proofs.Answered.{late_done}
-use Rattle.sessions.proofs.Ordinary.{memory_last}
 use Rattle.sessions.proofs.stage.Stage.answer.Goals as goal
 
 pub returns-in-Ok-clause-ok : goal.returns-in-Ok-clause-ok

@@ -1,7 +1,7 @@
 use Rattle.std.proofs.Common.{sym, subst}
 use Rattle.views.specs.Lenses.{AreTrue}
 use Rattle.views.specs.Spots.{IsAlike, part_end}
-use Rattle.views.specs.laws.Places.{same_place}
+use Rattle.views.specs.laws.PlaceLaws.{same_place}
 use Rattle.views.proofs.Lenses.{found, still_true}
 use Rattle.views.proofs.lens.Lens.find.Goals as goal
 

@@ -11,7 +11,6 @@ use Rattle.std.proofs.lemmas.Slice.Eq.{slice_eq-Decides}
 use Rattle.safe_bit.specs.laws.Equality.{per_from_decides}
 use Rattle.frames.specs.declared.types.Step.{Step}
 use Rattle.frames.specs.declared.types.Step.TheVariants as step
-use Rattle.frames.specs.Configuration.{Configuration}
 use Rattle.frames.specs.Equality.{configuration_eq, configuration_per, configuration_decides, SameConfiguration}
 use Rattle.cutoff.specs.Fitting.{RunPart}
 

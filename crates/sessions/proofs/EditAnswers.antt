@@ -1,0 +1,229 @@
+-- How a command that edits is answered, and what it keeps of a stage.
+use Rattle.std.proofs.Common.{◌≡◌, ℕ, ◌+◌, ◌<◌, Bool, true, false, cond, ◌&&◌, ◌⊎◌, nat_lt, nat_le, List, [], ◌∷◌, length, Option, None, Some, IsSome, Result, Ok, Err, IsOk, is_some, inl, inr, refl, sym, ap, subst, ◌∙◌, arith}
+use Rattle.std.specs.Option.{option_map}
+use Rattle.std.specs.List.{remove}
+use Rattle.std.proofs.lemmas.Bool.Decides.{nat_tests}
+use Rattle.std.proofs.lemmas.List.{length-map, length-set}
+use Rattle.frames.specs.Behaviour.{Behaviour}
+use Rattle.schedule_trie.specs.declared.limits.Limits.{Limits}
+use Rattle.schedule_trie.specs.declared.refusal.Refusal.{Refusal}
+use Rattle.schedule_trie.specs.declared.refusal.Refusal.TheVariants.{Occupied, Memory, LastBranch}
+use Rattle.schedule_trie.specs.Forest as forests
+use Rattle.schedule_trie.specs.Forest.{Forest, IsForest, IsRefused, index_of, slots_in}
+use Rattle.schedule_trie.specs.Cut.{forest}
+use Rattle.schedule_trie.specs.Edits.{Edit, Insert, Remove, Replace, Fork, Detach, Drop, edited, WhyRefused, IsEdited}
+use Rattle.cutoff.specs.Held.{Charted}
+use Rattle.sessions.specs.declared.cursor.Cursor.{Cursor}
+use Rattle.sessions.specs.declared.cursor.Shift.TheVariants as shift
+use Rattle.sessions.specs.declared.command.Command.{Command}
+use Rattle.sessions.specs.declared.command.Command.TheVariants as command
+use Rattle.sessions.specs.declared.reply.Reply.TheVariants.{Edited}
+use Rattle.sessions.specs.World.{World}
+use Rattle.sessions.specs.Cursors.{shifted, is_occupied, AllStand, StandsIn}
+use Rattle.sessions.specs.Edits.{edit_of, moved_by, moved_if, drops_occupied, is_held_up}
+use Rattle.sessions.specs.Acts.{late_by, first_refusal, refusal_in, refused_if, left_by, reply_to, edited_world, kept_or}
+use Rattle.sessions.specs.Held.{Staged, IsStaged, Changes, Done, IsLate, world_of}
+use Rattle.sessions.proofs.Standing.{edited_stand, made_within, put_stands}
+use Rattle.views.specs.declared.breakpoint.Break.{Break}
+use Rattle.std.specs.Prelude.{slice_set, IfSome}
+
+below_one : (n : ℕ) → nat_le n 1 ≡ false → nat_lt 1 n ≡ true
+below_one n e = grind (arith, nat_tests)
+
+above_one : (n : ℕ) → nat_lt 1 n ≡ true → nat_le n 1 ≡ false
+above_one n e = grind (arith, nat_tests)
+
+-- a drop that the branches allow is held up by a cursor alone
+free_of : (f g : Forest) (name : List ℕ) (o : Option ℕ) (occupied : Bool) → forests.on_found o (forests.drop_at f) ≡ Ok g
+    → (is_some (option_map (λ i. length (slots_in f.branches i)) o) && (nat_lt 1 (length f.branches) && occupied)) ≡ false → occupied ≡ false
+free_of f g name None occupied e h = absurd (cc)
+free_of f g name (Some i) occupied e h = by (nat_le (length f.branches) 1) refl e
+  where
+    by : (b : Bool) → nat_le (length f.branches) 1 ≡ b → cond b (Err LastBranch) (Ok (record { branches = remove f.branches i; made = f.made })) ≡ Ok g → occupied ≡ false
+    by true t d = absurd (cc)
+    by false t d = sym (ap (λ b. b && occupied) (below_one (length f.branches) t)) ∙ h
+
+free : (limits : Limits) (f g : Forest) (edit : Edit) (cursors : List (Option Cursor)) → edited limits f edit ≡ Ok g → is_held_up (Some edit) f cursors ≡ false → drops_occupied edit cursors ≡ false
+free limits f g (Insert name place step) cursors e h = refl
+free limits f g (Remove name place) cursors e h = refl
+free limits f g (Replace name place step) cursors e h = refl
+free limits f g (Fork name place new) cursors e h = refl
+free limits f g (Detach name) cursors e h = refl
+free limits f g (Drop name) cursors e h = free_of f g name (index_of f.branches name) (is_occupied name cursors) e h
+
+-- it is one that they allow
+held_up_of : (f : Forest) (o : Option ℕ) (occupied : Bool) → (is_some (option_map (λ i. length (slots_in f.branches i)) o) && (nat_lt 1 (length f.branches) && occupied)) ≡ true
+    → (refusal_in (forests.on_found o (forests.drop_at f)) ≡ None) × (occupied ≡ true)
+held_up_of f None occupied h = absurd (cc)
+held_up_of f (Some i) occupied h = by (nat_lt 1 (length f.branches)) refl h
+  where
+    by : (b : Bool) → nat_lt 1 (length f.branches) ≡ b → (b && occupied) ≡ true → (refusal_in (forests.on_found (Some i) (forests.drop_at f)) ≡ None) × (occupied ≡ true)
+    by true t d = (ap (λ b. refusal_in (cond b (Err LastBranch) (Ok (record { branches = remove f.branches i; made = f.made })))) (above_one (length f.branches) t), d)
+    by false t d = absurd (cc)
+
+module _ {P : Type 0} (who : ℕ) (c : Command) (w : World P) where
+  held_up_by : (o : Option Edit) → is_held_up o w.forest w.cursors ≡ true → first_refusal (late_by o who c w) ≡ Some Occupied
+  held_up_by None h = absurd (cc)
+  held_up_by (Some (Insert name place step)) h = absurd (cc)
+  held_up_by (Some (Remove name place)) h = absurd (cc)
+  held_up_by (Some (Replace name place step)) h = absurd (cc)
+  held_up_by (Some (Fork name place new)) h = absurd (cc)
+  held_up_by (Some (Detach name)) h = absurd (cc)
+  held_up_by (Some (Drop name)) h =
+      let p = held_up_of w.forest (index_of w.forest.branches name) (is_occupied name w.cursors) h in
+      ap (λ o. first_refusal (o ∷ refused_if (is_occupied name w.cursors) Occupied ∷ [])) p.0 ∙ ap (λ b. first_refusal (refused_if b Occupied ∷ [])) p.1
+
+  -- why an edit that isn't held up is refused
+  refused : (edit : Edit) (r : Refusal) → edited w.limits w.forest edit ≡ Err r → first_refusal (late_by (Some edit) who c w) ≡ Some r
+  refused edit r e = ap (λ b. first_refusal (refusal_in b ∷ refused_if (drops_occupied edit w.cursors) Occupied ∷ [])) e
+
+  none : (model : Result Forest Refusal) → IsOk model → first_refusal (refusal_in model ∷ None ∷ []) ≡ None
+  none (Ok f) h = refl
+  none (Err e) h = cc
+
+  wanting : (edit : Edit) (r : Refusal) → drops_occupied edit w.cursors ≡ false → IsRefused (edited w.limits w.forest edit) r
+      → (first_refusal (late_by (Some edit) who c w) ≡ Some r) ⊎ ((r ≡ Memory) × (first_refusal (late_by (Some edit) who c w) ≡ None))
+  wanting edit r stays (inl e) = inl (refused edit r e)
+  wanting edit r stays (inr m) =
+      inr (m.0, ap (λ b. first_refusal (refusal_in (edited w.limits w.forest edit) ∷ refused_if b Occupied ∷ [])) stays ∙ none (edited w.limits w.forest edit) m.1)
+
+  late_edit : (edit : Edit) (r : Refusal) → WhyRefused edit (edited w.limits w.forest edit) r
+      → (first_refusal (late_by (Some edit) who c w) ≡ Some r) ⊎ ((r ≡ Memory) × (first_refusal (late_by (Some edit) who c w) ≡ None))
+  late_edit (Insert name place step) r h = wanting (Insert name place step) r refl h
+  late_edit (Remove name place) r h = inl (refused (Remove name place) r h)
+  late_edit (Replace name place step) r h = inl (refused (Replace name place step) r h)
+  late_edit (Fork name place new) r h = wanting (Fork name place new) r refl h
+  late_edit (Detach name) r h = wanting (Detach name) r refl h
+  late_edit (Drop name) r h = inl (refused (Drop name) r h)
+
+  -- an edit that is done
+  fine : (edit : Edit) (g : Forest) → edited w.limits w.forest edit ≡ Ok g → drops_occupied edit w.cursors ≡ false → first_refusal (late_by (Some edit) who c w) ≡ None
+  fine edit g e stays =
+      ap (λ b. first_refusal (refusal_in b ∷ refused_if (drops_occupied edit w.cursors) Occupied ∷ [])) e ∙ ap (λ b. first_refusal (refused_if b Occupied ∷ [])) stays
+
+  -- it replies the count of edits
+  edit_reply : IsSome (edit_of c) → reply_to who c w ≡ Edited (w.edits + 1)
+  edit_reply = by c
+    where
+      by : (d : Command) → IsSome (edit_of d) → reply_to who d w ≡ Edited (w.edits + 1)
+      by command.Join h = absurd (cc)
+      by command.Leave h = absurd (cc)
+      by (command.Insert name place step) h = refl
+      by (command.Remove name place) h = refl
+      by (command.Replace name place step) h = refl
+      by (command.Fork name place new) h = refl
+      by (command.Detach name) h = refl
+      by (command.Drop name) h = refl
+      by (command.Go name place) h = absurd (cc)
+      by command.Seek h = absurd (cc)
+      by command.Back h = absurd (cc)
+      by (command.Break break) h = absurd (cc)
+      by (command.Clear break) h = absurd (cc)
+
+-- no cursor holds it up
+pub not_held_up : {R P : Type 0} (o : Option Edit) (old now : Staged R P) (t : Bool) → old ≡ now → t ≡ is_held_up o (forest now.chart.cut) now.cursors → t ≡ false
+    → is_held_up o (forest old.chart.cut) old.cursors ≡ false
+not_held_up o old now t same is free = ap (λ s. is_held_up o (forest s.chart.cut) s.cursors) same ∙ sym is ∙ free
+
+-- a stage behind an edit
+abbrev pub after : {R P : Type 0} → Staged R P → Charted R P → List (Option Cursor) → Staged R P
+after old chart cursors = record { chart = chart; limits = old.limits; cursors = cursors; breaks = old.breaks; edits = old.edits + 1; logged = old.logged + 1 }
+
+sixteen : (edit : Edit) (f : Forest) (cursors : List (Option Cursor)) → length (moved_by edit f cursors) ≡ length cursors
+sixteen (Insert name place step) f cursors = length-map cursors (option_map (shifted shift.Up f name place))
+sixteen (Remove name place) f cursors = length-map cursors (option_map (shifted shift.Down f name place))
+sixteen (Replace name place step) f cursors = refl
+sixteen (Fork name place new) f cursors = refl
+sixteen (Detach name) f cursors = refl
+sixteen (Drop name) f cursors = refl
+
+module _ {R P : Type 0} (is : R → Behaviour P) (old : Staged R P) (chart : Charted R P) (cursors : List (Option Cursor)) (held : IsStaged old) where
+  -- nothing is changed
+  pub unchanged : (o : Option Edit) (e : Refusal) → IsSome o → Changes o old.chart chart (Err e) → chart ≡ old.chart
+  unchanged (Some edit) e some h = h.unchanged
+  unchanged None e some h = absurd (cc)
+
+  edits : (edit : Edit) → IsEdited old.chart.cut chart.cut edit → edited old.limits (forest old.chart.cut) edit ≡ Ok (forest chart.cut)
+  edits edit h = subst (λ l. edited l (forest old.chart.cut) edit ≡ Ok (forest chart.cut)) held.same_limits h.forest
+
+  module _ (before : IsForest (forest old.chart.cut)) (behind : IsForest (forest chart.cut)) (room : old.logged < old.limits.log) where
+    pub staged_after : (o : Option Edit) (done : Unit {0}) → IsSome o → is_held_up o (forest old.chart.cut) old.cursors ≡ false → Changes o old.chart chart (Ok done)
+        → cursors ≡ moved_if o (forest old.chart.cut) old.cursors → IsStaged (after old chart cursors)
+    staged_after None done some h e m = absurd (cc)
+    staged_after (Some edit) done some h e m =
+        let made : edited old.limits (forest old.chart.cut) edit ≡ Ok (forest chart.cut) = edits edit e.0 in
+        let stays = free old.limits (forest old.chart.cut) (forest chart.cut) edit old.cursors made h in
+        let moved = edited_stand old.limits (forest old.chart.cut) (forest chart.cut) before behind.apart old.cursors held.stand edit made stays in
+        let long : length cursors ≡ length old.cursors = ap length m ∙ sixteen edit (forest old.chart.cut) old.cursors in
+        record {
+          same_limits = e.0.limits ∙ held.same_limits;
+          in_range = held.in_range;
+          few_cells = made_within old.limits (forest old.chart.cut) held.few_cells (forest chart.cut) edit made;
+          stand = subst (AllStand (forest chart.cut)) (sym m) moved;
+          cursors = long ∙ held.cursors;
+          breaks = held.breaks;
+          few_edits = omega (arith, held.few_edits);
+          few_logged = omega arith;
+        }
+
+  module _ (who : ℕ) (c : Command) where
+    done_by : (o : Option Edit) (done : Unit {0}) → edit_of c ≡ o → IsSome o → is_held_up o (forest old.chart.cut) old.cursors ≡ false → Changes o old.chart chart (Ok done)
+        → cursors ≡ moved_if o (forest old.chart.cut) old.cursors → Done is who c old (after old chart cursors) (Edited (old.edits + 1))
+    done_by None done is_edit some h e m = absurd (cc)
+    done_by (Some edit) done is_edit some h e m =
+        let w = world_of is old in
+        let made : edited old.limits (forest old.chart.cut) edit ≡ Ok (forest chart.cut) = edits edit e.0 in
+        let stays = free old.limits (forest old.chart.cut) (forest chart.cut) edit old.cursors made h in
+        let forests_same : kept_or (edited old.limits (forest old.chart.cut) edit) (forest old.chart.cut) ≡ forest chart.cut = ap (λ x. kept_or x (forest old.chart.cut)) made in
+        let register : is old.chart.start.register ≡ is chart.start.register = sym (ap (λ s. is s.register) e.1.start) in
+        let value : old.chart.value ≡ chart.value = sym e.1.value in
+        let moved = sym m in
+        let leaves : edited_world edit w ≡ world_of is (after old chart cursors) =
+        λ i. record {
+          tower = register i;
+          value = value i;
+          limits = old.limits;
+          forest = forests_same i;
+          cursors = moved i;
+          breaks = old.breaks;
+          edits = old.edits + 1;
+          logged = old.logged + 1;
+        } in
+        record {
+          fine = ap (λ o. first_refusal (late_by o who c w)) is_edit ∙ fine who c w edit (forest chart.cut) made stays;
+          leaves = ap (λ o. left_by o who c w) is_edit ∙ leaves;
+          replies = edit_reply who c w (subst IsSome (sym is_edit) some);
+        }
+
+    pub done_edit : (done : Unit {0}) → IsSome (edit_of c) → is_held_up (edit_of c) (forest old.chart.cut) old.cursors ≡ false → Changes (edit_of c) old.chart chart (Ok done)
+        → cursors ≡ moved_if (edit_of c) (forest old.chart.cut) old.cursors → Done is who c old (after old chart cursors) (Edited (old.edits + 1))
+    done_edit done some h e m = done_by (edit_of c) done refl some h e m
+
+    why_by : (o : Option Edit) (e : Refusal) → IsSome o → Changes o old.chart chart (Err e)
+        → (first_refusal (late_by o who c (world_of is old)) ≡ Some e) ⊎ ((e ≡ Memory) × (first_refusal (late_by o who c (world_of is old)) ≡ None))
+    why_by None e some h = absurd (cc)
+    why_by (Some edit) e some h =
+        late_edit who c (world_of is old) edit e (subst (λ l. WhyRefused edit (edited l (forest old.chart.cut) edit) e) held.same_limits h.why)
+
+    pub why_edit : (e : Refusal) → IsSome (edit_of c) → Changes (edit_of c) old.chart chart (Err e) → IsLate who c (world_of is old) e
+    why_edit e some h = why_by (edit_of c) e some h
+
+    pub held_up : is_held_up (edit_of c) (forest old.chart.cut) old.cursors ≡ true → IsLate who c (world_of is old) Occupied
+    held_up h = inl (held_up_by who c (world_of is old) (edit_of c) h)
+
+-- a stage behind a command that puts a session's cursor
+pub put_staged : {R P : Type 0} (s : Staged R P) (who : ℕ) (o : Option Cursor) (breaks : List (List Break)) → IsStaged s → who < 16 → IfSome o (StandsIn (forest s.chart.cut)) → length breaks ≡ 16
+    → s.logged < s.limits.log
+    → IsStaged (record { chart = s.chart; limits = s.limits; cursors = slice_set s.cursors who o; breaks = breaks; edits = s.edits; logged = s.logged + 1 })
+put_staged s who o breaks held few one long room =
+    let same : length (slice_set s.cursors who o) ≡ length s.cursors = length-set s.cursors who o in
+    record {
+      same_limits = held.same_limits;
+      in_range = held.in_range;
+      few_cells = held.few_cells;
+      stand = put_stands (forest s.chart.cut) s.cursors who o (omega (arith, held.cursors)) one held.stand;
+      cursors = same ∙ held.cursors;
+      breaks = long;
+      few_edits = omega (arith, held.few_edits);
+      few_logged = omega arith;
+    }
