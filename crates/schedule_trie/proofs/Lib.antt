@@ -35,3 +35,6 @@ pub mod Notes
 pub mod Touched
 pub mod Apart
 pub mod Shared
+pub mod LimbLists
+pub mod LimbLaws
+pub mod LimbsLawful

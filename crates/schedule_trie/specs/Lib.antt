@@ -9,3 +9,5 @@ pub mod Held
 pub mod Forks
 pub mod Releases
 pub mod Copies
+pub mod Limbs
+pub mod LimbRows
