@@ -21,6 +21,9 @@
 //! behind BadSize (15). One version, one tower and one list of steps have one spelling ([`laws::one_spelling`]).
 #![tactic(auto)]
 
+mod bench;
+mod bench_reading;
+mod bench_writing;
 mod fault;
 mod file;
 pub mod laws;
@@ -30,6 +33,9 @@ mod tower;
 mod version;
 mod writing;
 
+pub use bench::BenchFile;
+pub use bench_reading::parse_bench;
+pub use bench_writing::print_bench;
 pub use fault::{FaultKind, FileFault};
 pub use file::TowerFile;
 pub use reading::parse;
