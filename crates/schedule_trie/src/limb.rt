@@ -1,7 +1,6 @@
 //! Limbs: what a file keeps of a branch.
 
 ghost use Rattle.std.specs.Prelude.{◌≡◌, ◌∷◌, [], ◌++◌, OnOk, IfErr};
-ghost use Rattle.std.specs.List.{list_any};
 ghost use Rattle.schedule_trie.specs.Limbs as spec;
 
 use crate::name::Name;
@@ -56,21 +55,6 @@ pub struct Limb {
     pub from: u32,
     pub shared: u32,
     pub steps: Steps,
-}
-
-/// Whether one of these limbs has a name.
-fn is_taken(limbs: &[Limb], name: &Name) -> bool
-    ensures { result ≡ list_any (spec.has_name name.now) limbs.now }
-{
-    limbs.iter().any(|limb| *name == limb.name)
-}
-
-/// Whether a name has the form of a branch's, and none of these limbs has it.
-pub fn is_new_name(limbs: &[Limb], name: &Name) -> bool
-    ensures { result ≡ spec.is_new_name limbs.now name.now }
-{
-    prove!(name.as_bytes().len() <= 16);
-    name.is_well_formed() && !is_taken(limbs, name)
 }
 
 /// Whether a limb may come behind these, as far as what it shares goes: nothing, or cells of which the last is an

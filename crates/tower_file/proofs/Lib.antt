@@ -7,3 +7,4 @@ pub mod BenchLimbs
 pub mod BenchSound
 pub mod BenchAgain
 pub mod BenchAnswers
+pub mod LimbNames

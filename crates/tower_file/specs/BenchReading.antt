@@ -16,6 +16,9 @@ use Rattle.tower_file.specs.Lines.{fitting_step, is_branch, branch_of}
 use Rattle.tower_file.specs.Reading.{◌>>=◌, has_header, first_odd, tower_of, reading_from}
 use Rattle.words.specs.Words.{words, after_next}
 
+abbrev pub limb_name : Limb → List ℕ
+limb_name l = l.name
+
 -- a step behind those of a limb, and behind those of the last limb
 abbrev pub with_step : Limb → Step → Limb
 with_step l s = record { name = l.name; from = l.from; shared = l.shared; steps = l.steps ++ s ∷ [] }

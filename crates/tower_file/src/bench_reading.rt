@@ -12,13 +12,13 @@ ghost use Rattle.words.specs.Words.{after_next};
 
 use crate::bench::BenchFile;
 use crate::fault::{FaultKind, FileFault};
+use crate::limbs::NamedLimbs;
 use crate::line::{branch_of, fitting_step, is_branch};
 use crate::reading::{fault, first_odd, line_at, tower_of};
 use crate::tower::TowerSpec;
 use crate::version::Version;
-use frames::types::Step;
-use schedule_trie::limb::{Limb, is_new_name, may_share};
-use std::alloc::{AllocError, Global};
+use schedule_trie::limb::Limb;
+use std::alloc::Global;
 use words::parts::Parts;
 use words::step::is;
 
@@ -31,35 +31,25 @@ fn has_header(lines: &mut Parts<'_>) -> bool
     !lines.is_end() && is(header, "bench 1")
 }
 
-/// Adds a step behind those of the last limb, if there is one.
-fn put_step(limbs: &mut Vec<Limb>, step: Step) -> Result<(), AllocError>
-    ensures { OnOk result (limbs.new.items ≡ spec.put_step limbs.old.items step) }
-{
-    if let Some(limb) = limbs.last_mut() {
-        limb.steps.push(step)?;
-    }
-    Ok(())
-}
-
 /// Adds the branch of the words behind the first of line `number`.
 fn add_branch(
     alloc: Global,
-    limbs: &mut Vec<Limb>,
+    limbs: &mut NamedLimbs,
     number: u64,
     words: &mut Parts<'_>,
 ) -> Result<(), FileFault>
     ensures read { Gives
-        (λ _. limbs.new.items) result (spec.then_branch number limbs.old.items words.old) }
+        (λ _. limbs.new) result (spec.then_branch number limbs.old words.old) }
     ensures memory { IfErr result (λ e. e.kind ≡ Memory
-        → IsOk (spec.then_branch number limbs.old.items words.old)) }
+        → IsOk (spec.then_branch number limbs.old words.old)) }
 {
     let Some(limb) = branch_of(alloc, words) else {
         return Err(fault(FaultKind::BadBranch, number));
     };
-    if !is_new_name(limbs, &limb.name) {
+    if !limbs.is_new_name(&limb.name) {
         return Err(fault(FaultKind::BadBranch, number));
     }
-    if !may_share(limbs, &limb) {
+    if !limbs.may_share(&limb) {
         return Err(fault(FaultKind::Tangled, number));
     }
     limbs.push(limb)?;
@@ -69,14 +59,14 @@ fn add_branch(
 /// Adds the step of line `number` to the last branch.
 fn add_step(
     tower: &TowerSpec,
-    limbs: &mut Vec<Limb>,
+    limbs: &mut NamedLimbs,
     number: u64,
     line: &[u8],
 ) -> Result<(), FileFault>
     ensures read { Gives
-        (λ _. limbs.new.items) result (spec.then_step tower.now number limbs.old.items line.now) }
+        (λ _. limbs.new) result (spec.then_step tower.now number limbs.old line.now) }
     ensures memory { IfErr result (λ e. e.kind ≡ Memory
-        → IsOk (spec.then_step tower.now number limbs.old.items line.now)) }
+        → IsOk (spec.then_step tower.now number limbs.old line.now)) }
 {
     if limbs.is_empty() {
         return Err(fault(FaultKind::BadBranch, number));
@@ -84,7 +74,7 @@ fn add_step(
     let Some(step) = fitting_step(Version::Two, tower, line) else {
         return Err(fault(FaultKind::BadStep, number));
     };
-    put_step(limbs, step)?;
+    limbs.push_step(step)?;
     Ok(())
 }
 
@@ -92,14 +82,14 @@ fn add_step(
 fn add_line(
     alloc: Global,
     tower: &TowerSpec,
-    limbs: &mut Vec<Limb>,
+    limbs: &mut NamedLimbs,
     number: u64,
     line: &[u8],
 ) -> Result<(), FileFault>
     ensures read { Gives
-        (λ _. limbs.new.items) result (spec.then_line tower.now number limbs.old.items line.now) }
+        (λ _. limbs.new) result (spec.then_line tower.now number limbs.old line.now) }
     ensures memory { IfErr result (λ e. e.kind ≡ Memory
-        → IsOk (spec.then_line tower.now number limbs.old.items line.now)) }
+        → IsOk (spec.then_line tower.now number limbs.old line.now)) }
 {
     let mut words = Parts::new(line, b' ');
     if is(words.next(), "branch") {
@@ -109,8 +99,8 @@ fn add_line(
 }
 
 /// These limbs, where line `number` is nothing, and the file's end.
-fn ended(limbs: Vec<Limb>, number: u64, rest: &[u8]) -> Result<Vec<Limb>, FileFault>
-    ensures read { Gives (λ limbs. limbs.items) result (spec.ended number limbs.items rest.now) }
+fn ended(limbs: NamedLimbs, number: u64, rest: &[u8]) -> Result<Vec<Limb>, FileFault>
+    ensures read { Gives (λ limbs. limbs.items) result (spec.ended number limbs rest.now) }
     ensures known { IfErr result (λ e. e.kind ≢ Memory) }
 {
     if is_branch(rest) || limbs.is_empty() {
@@ -119,7 +109,7 @@ fn ended(limbs: Vec<Limb>, number: u64, rest: &[u8]) -> Result<Vec<Limb>, FileFa
     if !rest.is_empty() {
         return Err(fault(FaultKind::BadStep, number));
     }
-    Ok(limbs)
+    Ok(limbs.into_limbs())
 }
 
 /// Reads the limbs: the lines that are left, of which the first is the file's third.
@@ -129,7 +119,7 @@ fn limbs_of(alloc: Global, tower: &TowerSpec, lines: &mut Parts<'_>) -> Result<V
         (λ limbs. limbs.items) result (spec.limbs_of tower.now 3 [] lines.old) }
     ensures memory { IfErr result (λ e. e.kind ≡ Memory → SpellsLimbs tower.now lines.old) }
 {
-    let mut limbs = Vec::new(alloc);
+    let mut limbs = NamedLimbs::new(alloc);
     let mut number = 3;
     'reading: loop {
         let line = lines.next();

@@ -27,6 +27,7 @@ mod bench_writing;
 mod fault;
 mod file;
 pub mod laws;
+mod limbs;
 mod line;
 mod reading;
 mod tower;

@@ -16,7 +16,7 @@ pub returns-then-is_end-clause-read : goal.returns-then-is_end-clause-read
 returns-then-is_end-clause-read c =
     let t = c.args.tower.now in
     let n = c.reading.number in
-    let limbs = c.reading.limbs.items in
+    let limbs = c.reading.limbs in
     let end : is_end (after_next c.reading.lines) ≡ true = search rules in
     let same : limbs_of t 3 [] c.args.lines.now ≡ ended n limbs c.next-line.result.now =
     sym c.reading.invariant.read ∙ at_end t n limbs c.reading.lines end ∙ ap (ended n limbs) (sym c.next-line.ensures.part) in
@@ -26,7 +26,7 @@ pub returns-in_err-add_line-clause-read : goal.returns-in_err-add_line-clause-re
 returns-in_err-add_line-clause-read c =
     let t = c.args.tower.now in
     let n = c.reading.number in
-    let limbs = c.reading.limbs.items in
+    let limbs = c.reading.limbs in
     let whole : is_end (after_next c.reading.lines) ≡ false = search rules in
     hands_on c.from_residual.result _ _ c.from_residual.ensures.0 c.from_residual.ensures.1 (λ x h. h) (λ limbs. limbs.items)
     (then_line t n limbs c.next-line.result.now) (limbs_of t 3 [] c.args.lines.now) c.in_err-add_line.ensures.read
@@ -36,7 +36,7 @@ pub returns-in_err-add_line-clause-memory : goal.returns-in_err-add_line-clause-
 returns-in_err-add_line-clause-memory c =
     let t = c.args.tower.now in
     let n = c.reading.number in
-    let limbs = c.reading.limbs.items in
+    let limbs = c.reading.limbs in
     let whole : is_end (after_next c.reading.lines) ≡ false = search rules in
     want_of_memory c.from_residual.result _ _ c.from_residual.ensures.0 c.from_residual.ensures.1 (λ x h. h) (SpellsLimbs t c.args.lines.now)
     (λ k. let more = ok_some (then_line t n limbs c.next-line.result.now) (c.in_err-add_line.ensures.memory k) in
@@ -47,8 +47,8 @@ pub reading-preserved : goal.reading-preserved
 reading-preserved c =
     let t = c.args.tower.now in
     let n = c.reading.number in
-    let limbs = c.reading.limbs.items in
-    let more = c.add_line.new.limbs.items in
+    let limbs = c.reading.limbs in
+    let more = c.add_line.new.limbs in
     let whole : is_end (after_next c.reading.lines) ≡ false = search rules in
     let said : then_line t n limbs (next c.reading.lines) ≡ Ok more = ap (then_line t n limbs) (sym c.next-line.ensures.part) ∙ c.in_ok-add_line.ensures.read in
     let left = c.next-line.ensures.left in
