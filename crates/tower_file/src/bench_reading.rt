@@ -157,7 +157,8 @@ pub fn parse_bench(alloc: Global, bytes: &[u8]) -> Result<BenchFile, FileFault>
     ensures only { (b : Bench) → SpellsBench bytes.now b → Gives (λ b. b) result (Ok b) }
     // Else the first fault is told, unless a growth is refused.
     ensures exact { Gives (λ b. b) result (spec.bench_reading bytes.now) }
-    ensures fault { IfErr result (λ e. e.kind ≢ Memory → (b : Bench) → SpellsBench bytes.now b → ⊥) }
+    ensures fault { IfErr result (λ e. e.kind ≢ Memory
+        → (b : Bench) → SpellsBench bytes.now b → ⊥) }
     // Want of memory is told only where there is no fault up to the line that wanted it.
     ensures memory { IfErr result (λ e. e.kind ≡ Memory → (e.line ≡ 0) × SpellsFront bytes.now) }
 {

@@ -20,6 +20,8 @@ pub fn one_spelling()
 pub fn one_bench_spelling()
     ensures spelling { (b : Bench) → IsLawfulBench b → SpellsBench (bench_spelling b) b }
     ensures bytes { (b : Bench) (x y : List ℕ) → SpellsBench x b → SpellsBench y b → x ≡ y }
-    ensures file { (bytes : List ℕ) (a b : Bench) → SpellsBench bytes a → SpellsBench bytes b → a ≡ b }
-    ensures reading { (bytes : List ℕ) (b : Bench) → (bench_reading bytes ≡ Ok b) ↔ SpellsBench bytes b }
+    ensures file { (bytes : List ℕ) (a b : Bench) → SpellsBench bytes a → SpellsBench bytes b
+        → a ≡ b }
+    ensures reading { (bytes : List ℕ) (b : Bench) → (bench_reading bytes ≡ Ok b)
+        ↔ SpellsBench bytes b }
 {}
