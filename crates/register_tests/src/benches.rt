@@ -1,6 +1,7 @@
 //! Bench files that are read, refused for their first fault, and printed as they were read.
 
 use std::alloc::Global;
+use std::io::Write;
 use std::process::Abort;
 use std::test::Fail;
 use tower_file::{FaultKind, FileFault, laws, parse_bench, print_bench};
@@ -62,6 +63,29 @@ fn printed_again(rt: HostRuntime) -> Result<(), Fail> {
     for bytes in &READ {
         assert_same(&rt, bytes)?;
     }
+    Ok(())
+}
+
+/// A branch of 100 cells, and so many more that share all of them and have one more each.
+fn many_branches(alloc: Global, count: u32) -> Result<Vec<u8>, Fail> {
+    let mut bytes = Vec::from_slice(alloc, b"bench 1\nsafe 0\nbranch main 0 0\n")?;
+    for _ in 0..100 {
+        bytes.extend_from_slice(b"r 1\n")?;
+    }
+    for number in 0..count {
+        writeln!(bytes, "branch b{number} 0 100")?;
+        bytes.extend_from_slice(b"x 0\n")?;
+    }
+    Ok(bytes)
+}
+
+#[test]
+fn printed_again_many(rt: HostRuntime) -> Result<(), Fail> {
+    let mut bytes = many_branches(rt.alloc(), 999)?;
+    assert_same(&rt, &bytes)?;
+    assert_eq!(rt; parse_bench(rt.alloc(), &bytes)?.limbs().len(), 1000);
+    bytes.extend_from_slice(b"branch b500 0 0\n")?;
+    assert_fault(&rt, &bytes, FaultKind::BadBranch, 2102);
     Ok(())
 }
 
