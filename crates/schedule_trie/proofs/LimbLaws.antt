@@ -8,7 +8,7 @@ use Rattle.frames.specs.declared.types.Step.{Step}
 use Rattle.schedule_trie.specs.declared.slot.Slot.{Slot}
 use Rattle.schedule_trie.specs.declared.limb.Limb.{Limb}
 use Rattle.schedule_trie.specs.Forest.{Forest, Branch, branch, numbered, slots_in, step_of, cell_in}
-use Rattle.schedule_trie.specs.Limbs.{has_slot, is_in, shared_with, first_with, limb_of, limbs_after, limbs, slots_on, grown, grow, no_branches, forest_of, length_of, is_own_of, is_new_name, may_share, are_lawful_after, IsLawful}
+use Rattle.schedule_trie.specs.Limbs.{has_slot, is_in, shared_with, first_with, limb_of, limbs_after, limbs, slots_on, grown, grow, no_branches, forest_of, length_of, cells_of, is_own_of, is_new_name, may_share, are_lawful_after, IsLawful}
 use Rattle.schedule_trie.proofs.LimbLists.{by_order, slot-append, slot_not_from, length-numbered, numbered_below, slice_get-front, slice_get-last, slice_get-within, slots_in-front, slots_in-last, slots_in-past, any_from, any_none, first_is, StopsAt, prefix_is, all_in, has_taken, cell_in-has, cell_in-taken, cell_in-own, steps-numbered, length-taken}
 
 -- a limb shares cells of which the last is an own one of the branch that it is from
@@ -205,3 +205,18 @@ limbs_more earlier f (l ∷ ls) h same lawful =
 -- saving what was loaded gives what was loaded
 pub limbs_again : (ls : List Limb) → IsLawful ls → limbs (forest_of ls) ≡ ls
 limbs_again ls lawful = limbs_more [] no_branches ls grown_none refl lawful
+
+-- how many cells are made, and how many branches there are
+grow_made : (f : Forest) (ls : List Limb) → (grow f ls).made ≡ f.made + cells_of ls
+grow_made f [] = omega arith
+grow_made f (l ∷ ls) = grow_made (grown f l) ls ∙ omega arith
+
+grow_count : (f : Forest) (ls : List Limb) → length (grow f ls).branches ≡ length f.branches + length ls
+grow_count f [] = omega arith
+grow_count f (l ∷ ls) = grow_count (grown f l) ls ∙ omega (arith, length-append f.branches (branch l.name (slots_on f l) ∷ []))
+
+pub forest_made : (ls : List Limb) → (forest_of ls).made ≡ cells_of ls
+forest_made ls = grow_made no_branches ls ∙ omega arith
+
+pub forest_count : (ls : List Limb) → length (forest_of ls).branches ≡ length ls
+forest_count ls = grow_count no_branches ls ∙ omega arith
