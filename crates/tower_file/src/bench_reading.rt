@@ -1,10 +1,10 @@
 //! Reading a bench file.
 
-ghost use Rattle.std.specs.Prelude.{◌≡◌, ◌≢◌, ◌∷◌, [], ◌++◌, ◌≤◌, ◌<◌, ◌^◌, IsOk, length, true, Ok, Err, OnOk, IfOk, IfErr};
+ghost use Rattle.std.specs.Prelude.{◌≡◌, ◌≢◌, [], ◌≤◌, ◌^◌, IsOk, length, Ok, IfOk, IfErr};
 ghost use Rattle.tower_file.specs.declared.fault.FaultKind.TheVariants.{Memory};
 ghost use Rattle.tower_file.specs.Faults as faults;
 ghost use Rattle.tower_file.specs.Faults.{Gives};
-ghost use Rattle.tower_file.specs.Benches.{Bench, bench_of};
+ghost use Rattle.tower_file.specs.Benches.{Bench};
 ghost use Rattle.tower_file.specs.BenchSpelling.{SpellsBench, SpellsFront, SpellsLimbs, bench_header};
 ghost use Rattle.tower_file.specs.BenchReading as spec;
 ghost use Rattle.tower_file.specs.Reading as reading;
