@@ -3,6 +3,8 @@
 #![tactic(auto)]
 
 #[cfg(test)]
+mod benches;
+#[cfg(test)]
 mod built_towers;
 #[cfg(test)]
 mod configurations;

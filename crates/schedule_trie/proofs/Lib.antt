@@ -38,3 +38,6 @@ pub mod Shared
 pub mod Lengths
 pub mod LengthSteps
 pub mod LengthsAfter
+pub mod LimbLists
+pub mod LimbLaws
+pub mod LimbsLawful

@@ -10,3 +10,5 @@ pub mod Held
 pub mod Forks
 pub mod Releases
 pub mod Copies
+pub mod Limbs
+pub mod LimbRows

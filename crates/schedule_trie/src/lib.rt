@@ -4,6 +4,8 @@
 //! with a common cell have the same cells up to it.
 #![tactic(auto)]
 
+pub mod laws;
+pub mod limb;
 pub mod limits;
 pub mod name;
 pub mod refusal;

@@ -37,7 +37,7 @@ pub record IsFew (t : TowerSpec) : Type 0 where
   pub values : values_of t ≤ MOST_VALUES
   pub processes : processes_of t ≤ MOST_PROCESSES
 
-few : (t : TowerSpec) → is_lawful_tower t ≡ true → IsFew t
+pub few : (t : TowerSpec) → is_lawful_tower t ≡ true → IsFew t
 few (Safe init) h = record { values = omega arith; processes = omega arith }
 few (Copies readers init) h = record { values = omega arith; processes = grind (arith, nat_tests) }
 few (Regular readers init) h = record { values = omega arith; processes = grind (arith, nat_tests) }
@@ -64,7 +64,7 @@ some_value (Matrix processes values last_tag last_stamp) who v h = grind (arith,
 
 -- ---- the tower's line
 
-tower_prints : (t : TowerSpec) → is_lawful_tower t ≡ true → list_all is_print (tower_text t) ≡ true
+pub tower_prints : (t : TowerSpec) → is_lawful_tower t ≡ true → list_all is_print (tower_text t) ≡ true
 tower_prints (Safe init) h =
     let a : init < 10 ^ 9 = grind (arith, nat_tests) in
     text_prints (codes "safe") (init ∷ []) refl (a, tt)
@@ -129,7 +129,7 @@ tower_again (Matrix processes values last_tag last_stamp) h =
 -- ---- the steps
 
 -- the numbers of a fitting step are short
-step_short : (t : TowerSpec) (s : Step) → IsFew t → fits t s ≡ true → HasShortNumbers s
+pub step_short : (t : TowerSpec) (s : Step) → IsFew t → fits t s ≡ true → HasShortNumbers s
 step_short t (step.Write p v) small h = (omega (arith, small.processes, some_process t p (op.Write v) h), omega (arith, small.values, some_value t p v h))
 step_short t (step.Read p) small h = omega (arith, small.processes, some_process t p op.Read h)
 step_short t (step.Go p c) small h =
@@ -141,7 +141,7 @@ step_short t (step.Stop p) small h = omega (arith, small.processes, ltb-true p (
 fits_tower : (v : Version) (t : TowerSpec) (s : Step) → may_have v t s ≡ true → fits t s ≡ true
 fits_tower v t s h = (and_parts (has_step v s) (fits t s) h).1
 
-step_prints : (s : Step) → HasShortNumbers s → list_all is_print (step_text s) ≡ true
+pub step_prints : (s : Step) → HasShortNumbers s → list_all is_print (step_text s) ≡ true
 step_prints (step.Write p v) h = text_prints (codes "w") (p ∷ v ∷ []) refl (h.0, (h.1, tt))
 step_prints (step.Read p) h = text_prints (codes "r") (p ∷ []) refl (h, tt)
 step_prints (step.Go p c) h = text_prints (codes "g") (p ∷ c ∷ []) refl (h.0, (h.1, tt))
@@ -153,7 +153,7 @@ all_fit v t (s ∷ ss) h =
     let a = and_parts (may_have v t s) (list_all (may_have v t) ss) h in
     and_from (fits t s) (list_all (fits t) ss) (fits_tower v t s a.0) (all_fit v t ss a.1)
 
-fitting_again : (v : Version) (t : TowerSpec) (s : Step) → IsFew t → may_have v t s ≡ true → fitting_step v t (step_text s) ≡ Some s
+pub fitting_again : (v : Version) (t : TowerSpec) (s : Step) → IsFew t → may_have v t s ≡ true → fitting_step v t (step_text s) ≡ Some s
 fitting_again v t s small h =
     ap (λ (o : Option Step). option_and_then (λ x. cond (may_have v t x) (Some x) None) o) (step_again s (step_short t s small (fits_tower v t s h))) ∙ ap (λ b. cond b (Some s) None) h
 
@@ -192,7 +192,7 @@ lines-steps v t (s ∷ ss) small h =
 
 -- ---- plain bytes
 
-line_plain : (xs : List ℕ) → list_all is_print xs ≡ true → list_all is_plain (line xs) ≡ true
+pub line_plain : (xs : List ℕ) → list_all is_print xs ≡ true → list_all is_plain (line xs) ≡ true
 line_plain xs h = all_append is_plain xs (10 ∷ []) (all_weaker is_print is_plain print_is_plain xs h) refl
 
 steps_plain : (v : Version) (t : TowerSpec) (ss : List Step) → IsFew t → list_all (may_have v t) ss ≡ true → list_all is_plain (steps_text ss) ≡ true
@@ -208,14 +208,14 @@ all_before (x ∷ xs) h =
     let rest = all_before xs a.1 in
     ap (λ b. cond (not (not b)) (1 + prefix_len (λ y. not (not (is_plain y))) xs) 0) a.0 ∙ omega (arith, rest)
 
-no_odd : (xs : List ℕ) → list_all is_plain xs ≡ true → first_odd xs ≡ None
+pub no_odd : (xs : List ℕ) → list_all is_plain xs ≡ true → first_odd xs ≡ None
 no_odd xs h =
     let n : ℕ = prefix_len (λ x. not (not (is_plain x))) xs in
     ap (λ b. cond b (Some n) None) (le-ltb n (length xs) (omega (arith, all_before xs h)))
 
 -- ---- files
 
-tower_of_lines : (t : TowerSpec) (ls : List (List ℕ)) → is_end ls ≡ false → is_lawful_tower t ≡ true → tower_of (tower_text t ∷ ls) ≡ Ok t
+pub tower_of_lines : (t : TowerSpec) (ls : List (List ℕ)) → is_end ls ≡ false → is_lawful_tower t ≡ true → tower_of (tower_text t ∷ ls) ≡ Ok t
 tower_of_lines t ls more h = ap (λ b. second_line b (words (tower_text t))) more ∙ tower_again t h
 
 header_prints : (v : Version) → list_all is_print (header v) ≡ true
@@ -252,7 +252,7 @@ file_again f lawful =
 
 reading-spelling : (f : File) → IsLawful f → reading (spelling f) ≡ Ok f
 reading-spelling f lawful =
-    ap (λ o. reading_from o (spelling f)) (no_odd (spelling f) (spelling_plain f lawful))
+    ap (λ o. reading_from file_of_lines o (spelling f)) (no_odd (spelling f) (spelling_plain f lawful))
     ∙ ap file_of_lines (lines-spelling f lawful)
     ∙ file_again f lawful
 

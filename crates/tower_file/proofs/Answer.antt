@@ -1,17 +1,17 @@
 -- What follows from what a call answers.
-use Rattle.std.proofs.Common.{◌≡◌, ◌≢◌, ℕ, ◌<◌, List, ◌∷◌, length, Option, Some, None, Result, Ok, Err, refl, sym, ap, ◌∙◌, subst, arith}
+use Rattle.std.proofs.Common.{◌≡◌, ◌≢◌, ℕ, List, ◌∷◌, Option, Some, None, Result, Ok, Err, refl, sym, ap, ◌∙◌, subst, arith}
 use Rattle.std.specs.Prelude.{IfOk, IfErr}
 use Rattle.std.specs.Option.{ok_or}
 use Rattle.frames.specs.declared.types.Step.{Step}
 use Rattle.tower_file.specs.declared.fault.FaultKind.{FaultKind}
-use Rattle.tower_file.specs.declared.fault.FaultKind.TheVariants.{NotAscii, BadHeader, UnknownTower, BadField, BadStep, BadSize, Memory}
+use Rattle.tower_file.specs.declared.fault.FaultKind.TheVariants.{NotAscii, BadHeader, UnknownTower, BadField, BadStep, BadSize, BadBranch, Tangled, Memory}
 use Rattle.tower_file.specs.declared.fault.FileFault.{FileFault}
 use Rattle.tower_file.specs.declared.tower.TowerSpec.{TowerSpec}
 use Rattle.tower_file.specs.declared.version.Version.{Version}
 use Rattle.tower_file.specs.Faults.{fault, Fails, Gives}
 use Rattle.tower_file.specs.Files.{File, file_of}
 use Rattle.tower_file.specs.Spelling.{Spells, SpellsSteps}
-use Rattle.tower_file.specs.Reading.{◌>>=◌, first_odd, version_of, tower_of, steps_of, HasStep, reading_from, reading}
+use Rattle.tower_file.specs.Reading.{◌>>=◌, first_odd, version_of, tower_of, steps_of, HasStep, file_of_lines, reading_from, reading}
 use Rattle.words.specs.Words.{lines, after_next}
 use Rattle.tower_file.proofs.Sound.{reading_is}
 use Rattle.tower_file.proofs.Again.{reading_again}
@@ -33,6 +33,8 @@ no_fault UnknownTower e f given other = cc
 no_fault BadField e f given other = cc
 no_fault BadStep e f given other = cc
 no_fault BadSize e f given other = cc
+no_fault BadBranch e f given other = cc
+no_fault Tangled e f given other = cc
 no_fault Memory e f given other = other refl
 
 pub spells_none : (bytes : List ℕ) (r : Result File FileFault) → Gives same r (reading bytes) → IfErr r (λ e. e.kind ≢ Memory → (f : File) → Spells bytes f → ⊥)
@@ -48,7 +50,7 @@ spells_steps bytes v t left plain version tower same h =
     record {
       file = file_of v t (h.0 ∷ h.1);
       spells = reading_is bytes (file_of v t (h.0 ∷ h.1))
-          (ap (λ (o : Option ℕ). reading_from o bytes) plain
+          (ap (λ (o : Option ℕ). reading_from file_of_lines o bytes) plain
           ∙ ap (λ (o : Option Version). ok_or o (fault BadHeader 1) >>= λ w. tower_of (after_next ls) >>= λ u. steps_of w u 3 behind >>= λ ss. Ok (file_of w u ss)) version
           ∙ ap (λ (r : Result TowerSpec FileFault). r >>= λ u. steps_of v u 3 behind >>= λ ss. Ok (file_of v u ss)) tower
           ∙ ap (λ (r : Result (List Step) FileFault). r >>= λ ss. Ok (file_of v t ss)) (ap (steps_of v t 3) (sym same) ∙ h.2));

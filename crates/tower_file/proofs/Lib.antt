@@ -3,3 +3,8 @@ pub mod Texts
 pub mod Sound
 pub mod Again
 pub mod Answer
+pub mod BenchLimbs
+pub mod BenchSound
+pub mod BenchAgain
+pub mod BenchAnswers
+pub mod LimbNames

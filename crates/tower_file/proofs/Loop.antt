@@ -1,5 +1,5 @@
 -- Reading steps one after the other, as a loop does.
-use Rattle.std.proofs.Common.{◌≡◌, ◌==◌, ℕ, ◌+◌, ◌<◌, ◌≤◌, ◌^◌, Bool, true, false, cond, List, [], ◌∷◌, ◌++◌, length, Option, Some, None, Result, Ok, Err, refl, sym, ap, ◌∙◌, subst, append_assoc, arith}
+use Rattle.std.proofs.Common.{◌≡◌, ◌==◌, ℕ, ◌+◌, ◌<◌, ◌≤◌, ◌^◌, true, false, cond, List, [], ◌∷◌, ◌++◌, length, Option, Some, None, Result, Ok, Err, refl, sym, ap, ◌∙◌, subst, append_assoc, arith}
 use Rattle.std.specs.Option.{ok_or}
 use Rattle.std.specs.Prelude.{IfErr}
 use Rattle.std.specs.Result.{IsErr, IsErrAnd}
@@ -12,7 +12,7 @@ use Rattle.tower_file.specs.declared.tower.TowerSpec.{TowerSpec}
 use Rattle.tower_file.specs.declared.fault.FaultKind.TheVariants.{BadStep, Memory}
 use Rattle.tower_file.specs.declared.fault.FileFault.{FileFault}
 use Rattle.tower_file.specs.Faults.{fault, Fails, Gives}
-use Rattle.words.specs.Words.{lines, next, after_next, is_end}
+use Rattle.words.specs.Words.{lines, after_next}
 use Rattle.tower_file.specs.Lines.{fitting_step}
 use Rattle.tower_file.specs.Reading.{◌>>=◌, next_step, steps_of, HasStep}
 

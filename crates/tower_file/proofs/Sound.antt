@@ -1,10 +1,10 @@
 -- What is read is spelled so.
-use Rattle.std.proofs.Common.{◌≡◌, ℕ, ◌+◌, Bool, true, false, cond, ◌==◌, List, [], ◌∷◌, ◌++◌, length, Option, Some, None, Result, Ok, Err, refl, sym, ap, ◌∙◌, subst, append_assoc}
+use Rattle.std.proofs.Common.{◌≡◌, ℕ, ◌+◌, Bool, true, false, cond, not, ◌==◌, List, [], ◌∷◌, ◌++◌, length, Option, Some, None, Result, Ok, Err, refl, sym, ap, ◌∙◌, subst, append_assoc}
 use Rattle.std.specs.Prelude.{codes}
 use Rattle.std.specs.Option.{ok_or}
 use Rattle.std.specs.List.{list_all, flat_map, join_with_byte}
 use Rattle.std.specs.Str.{bytes_eq}
-use Rattle.std.proofs.lemmas.Bool.{and_from, eqb-true, false≢true}
+use Rattle.std.proofs.lemmas.Bool.{and_parts, and_from, eqb-true, false≢true}
 use Rattle.std.proofs.lemmas.Option.{cond_some, same_Some}
 use Rattle.std.proofs.lemmas.List.{nil_from_length}
 use Rattle.std.proofs.lemmas.List.Splits.{join_with_byte-slice_split}
@@ -25,7 +25,7 @@ use Rattle.words.specs.Words.{words, lines, next, after_next, is_end, one_number
 use Rattle.words.specs.Steps.{step_of, step_text}
 use Rattle.tower_file.specs.Lines.{tower_name, fields_of, fitting_step}
 use Rattle.tower_file.specs.Spelling.{line, tower_text, spelling, Spells}
-use Rattle.tower_file.specs.Reading.{◌>>=◌, first_odd, version_of, sized, fields, second_line, tower_of, steps_of, file_of_lines, reading_from, reading}
+use Rattle.tower_file.specs.Reading.{◌>>=◌, first_odd, has_header, version_of, sized, fields, second_line, tower_of, steps_of, file_of_lines, reading_from, reading}
 use Rattle.words.proofs.Steps.{some_then, mapped, one_is, two_are, three_are, four_are, joined, is_word, step_is}
 
 -- ---- steps that did not fail
@@ -34,19 +34,19 @@ pub bind_ok : {A B : Type 0} (r : Result A FileFault) (f : A → Result B FileFa
 bind_ok (Ok x) f y e = (x, refl, e)
 bind_ok (Err d) f y e = absurd cc
 
-ok_or_ok : {A : Type 0} (o : Option A) (d : FileFault) (x : A) → ok_or o d ≡ Ok x → o ≡ Some x
+pub ok_or_ok : {A : Type 0} (o : Option A) (d : FileFault) (x : A) → ok_or o d ≡ Ok x → o ≡ Some x
 ok_or_ok None d x e = absurd cc
 ok_or_ok (Some y) d x e = cc
 
-when_ok : {A : Type 0} (b : Bool) (r : Result A FileFault) (d : FileFault) (y : A) → cond b r (Err d) ≡ Ok y → (b ≡ true) × (r ≡ Ok y)
+pub when_ok : {A : Type 0} (b : Bool) (r : Result A FileFault) (d : FileFault) (y : A) → cond b r (Err d) ≡ Ok y → (b ≡ true) × (r ≡ Ok y)
 when_ok true r d y e = (refl, e)
 when_ok false r d y e = absurd cc
 
-unless_ok : {A : Type 0} (b : Bool) (r : Result A FileFault) (d : FileFault) (y : A) → cond b (Err d) r ≡ Ok y → (b ≡ false) × (r ≡ Ok y)
+pub unless_ok : {A : Type 0} (b : Bool) (r : Result A FileFault) (d : FileFault) (y : A) → cond b (Err d) r ≡ Ok y → (b ≡ false) × (r ≡ Ok y)
 unless_ok true r d y e = absurd cc
 unless_ok false r d y e = (refl, e)
 
-ok_is : {A : Type 0} (x y : A) → (let r : Result A FileFault = Ok x in r) ≡ Ok y → x ≡ y
+pub ok_is : {A : Type 0} (x y : A) → (let r : Result A FileFault = Ok x in r) ≡ Ok y → x ≡ y
 ok_is x y e = cc
 
 -- ---- the tower's line
@@ -119,7 +119,7 @@ second_is is_cut (w ∷ ws) t h =
 
 -- ---- the steps
 
-fitting_is : (v : Version) (t : TowerSpec) (l : List ℕ) (s : Step) → fitting_step v t l ≡ Some s → (l ≡ step_text s) × (may_have v t s ≡ true)
+pub fitting_is : (v : Version) (t : TowerSpec) (l : List ℕ) (s : Step) → fitting_step v t l ≡ Some s → (l ≡ step_text s) × (may_have v t s ≡ true)
 fitting_is v t l s h =
     let a = some_then (step_of (words l)) (λ x. cond (may_have v t x) (Some x) None) s h in
     let b = cond_some (may_have v t a.0) a.0 s a.2 in
@@ -150,24 +150,27 @@ steps_are v t n (l ∷ k ∷ ls) ss h =
 
 -- ---- files
 
-some_unless : {A : Type 0} (b : Bool) (o : Option A) (x : A) → cond b None o ≡ Some x → (b ≡ false) × (o ≡ Some x)
-some_unless true o x e = absurd cc
-some_unless false o x e = (refl, e)
+pub header_is : (text : List ℕ) (ls : List (List ℕ)) → has_header text ls ≡ true → (next ls ≡ text) × (is_end (after_next ls) ≡ false)
+header_is text ls h =
+    let a = and_parts (not (is_end (after_next ls))) (bytes_eq (next ls) text) h in
+    (is_word (next ls) text a.1, is_false (is_end (after_next ls)) a.0)
+  where
+    is_false : (b : Bool) → not b ≡ true → b ≡ false
+    is_false true e = absurd cc
+    is_false false e = refl
 
 version_is : (ls : List (List ℕ)) (v : Version) → version_of ls ≡ Some v → (next ls ≡ header v) × (is_end (after_next ls) ≡ false)
 version_is ls v h =
-    let P : Version → Type 0 = λ x. next ls ≡ header x in
-    let a = some_unless (is_end (after_next ls)) _ v h in
-    let found = choose P (bytes_eq (next ls) (header One)) One v _ (is_word (next ls) (header One))
-    (choose P (bytes_eq (next ls) (header Two)) Two v None (is_word (next ls) (header Two)) (λ e. absurd cc)) a.1 in
-    (found, a.0)
+    let P : Version → Type 0 = λ x. (next ls ≡ header x) × (is_end (after_next ls) ≡ false) in
+    choose P (has_header (header One) ls) One v _ (header_is (header One) ls)
+    (choose P (has_header (header Two) ls) Two v None (header_is (header Two) ls) (λ e. absurd cc)) h
 
-tower_line : (ls : List (List ℕ)) (t : TowerSpec) → tower_of ls ≡ Ok t → IsTowerLine (is_end (after_next ls)) (next ls) t
+pub tower_line : (ls : List (List ℕ)) (t : TowerSpec) → tower_of ls ≡ Ok t → IsTowerLine (is_end (after_next ls)) (next ls) t
 tower_line ls t h =
     let c = second_is (is_end (after_next ls)) (words (next ls)) t h in
     record { whole = c.whole; spelled = sym (join_with_byte-slice_split 32 (next ls)) ∙ c.spelled; lawful = c.lawful }
 
-three_lines : (h t others : List ℕ) → h ++ 10 ∷ (t ++ 10 ∷ others) ≡ line h ++ line t ++ others
+pub three_lines : (h t others : List ℕ) → h ++ 10 ∷ (t ++ 10 ∷ others) ≡ line h ++ line t ++ others
 three_lines h t others = simp append_assoc
 
 whole_file : (ls : List (List ℕ)) (v : Version) (t : TowerSpec) (ss : List Step) → next ls ≡ header v → is_end (after_next ls) ≡ false
@@ -197,7 +200,7 @@ file_is ls f h =
       spelled = whole_file ls v a.0 b.0 first.0 first.1 tower steps;
     })
 
-from_is : (o : Option ℕ) (bytes : List ℕ) (f : File) → reading_from o bytes ≡ Ok f → Spells bytes f
+from_is : (o : Option ℕ) (bytes : List ℕ) (f : File) → reading_from file_of_lines o bytes ≡ Ok f → Spells bytes f
 from_is (Some k) bytes f h = absurd cc
 from_is None bytes f h = subst (λ (x : List ℕ). Spells x f) (join_with_byte-slice_split 10 bytes) (file_is (lines bytes) f h)
 

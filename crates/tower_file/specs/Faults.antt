@@ -1,7 +1,7 @@
 -- The faults: each has a number and a name.
 use Rattle.std.specs.Prelude.{◌≡◌, ℕ, List, Result, Ok, Err, codes}
 use Rattle.tower_file.specs.declared.fault.FaultKind.{FaultKind}
-use Rattle.tower_file.specs.declared.fault.FaultKind.TheVariants.{NotAscii, BadHeader, UnknownTower, BadField, BadStep, BadSize, Memory}
+use Rattle.tower_file.specs.declared.fault.FaultKind.TheVariants.{NotAscii, BadHeader, UnknownTower, BadField, BadStep, BadSize, BadBranch, Tangled, Memory}
 use Rattle.tower_file.specs.declared.fault.FileFault.{FileFault}
 
 abbrev pub number : FaultKind → ℕ
@@ -11,6 +11,8 @@ number UnknownTower = 12
 number BadField = 13
 number BadStep = 14
 number BadSize = 15
+number BadBranch = 16
+number Tangled = 17
 number Memory = 40
 
 abbrev pub name : FaultKind → List ℕ
@@ -20,6 +22,8 @@ name UnknownTower = codes "UnknownTower"
 name BadField = codes "BadField"
 name BadStep = codes "BadStep"
 name BadSize = codes "BadSize"
+name BadBranch = codes "BadBranch"
+name Tangled = codes "Tangled"
 name Memory = codes "Memory"
 
 -- a fault on a line

@@ -5,3 +5,7 @@ pub mod Files
 pub mod Lines
 pub mod Spelling
 pub mod Reading
+pub mod Benches
+pub mod BenchSpelling
+pub mod BenchReading
+pub mod BenchRows

@@ -1,5 +1,5 @@
--- What a line says: a tower or a step.
-use Rattle.std.specs.Prelude.{ℕ, List, Option, Some, None, codes, if◌then◌else◌}
+-- What a line says: a tower, a step or a branch.
+use Rattle.std.specs.Prelude.{ℕ, Bool, List, [], Option, Some, None, codes, if◌then◌else◌}
 use Rattle.std.specs.Option.{option_map}
 use Rattle.std.specs.Str.{bytes_eq}
 use Rattle.frames.specs.declared.types.Step.{Step}
@@ -7,7 +7,9 @@ use Rattle.tower_file.specs.declared.tower.TowerSpec.{TowerSpec}
 use Rattle.tower_file.specs.declared.tower.TowerSpec.TheVariants as tower
 use Rattle.tower_file.specs.declared.line.TowerName.{TowerName}
 use Rattle.tower_file.specs.declared.line.TowerName.TheVariants.{Safe, Copies, Regular, Unary, Stamped, Matrix}
-use Rattle.words.specs.Words.{◌>>=◌, words, one_number, two_numbers, three_numbers, four_numbers}
+use Rattle.schedule_trie.specs.declared.limb.Limb.{Limb}
+use Rattle.schedule_trie.specs.Names as names
+use Rattle.words.specs.Words.{◌>>=◌, words, next, after_next, one_number, two_numbers, three_numbers, four_numbers}
 use Rattle.words.specs.Steps.{step_of}
 use Rattle.tower_file.specs.declared.version.Version.{Version}
 use Rattle.tower_file.specs.Versions.{may_have}
@@ -37,3 +39,14 @@ abbrev pub fitting_step : Version → TowerSpec → List ℕ → Option Step
 fitting_step v t line = do
   s ← step_of (words line)
   if may_have v t s then Some s else None
+
+-- whether the first word of a line is `branch`
+abbrev pub is_branch : List ℕ → Bool
+is_branch line = bytes_eq (next (words line)) (codes "branch")
+
+-- the branch of the words behind that: a name, the branch that it is from, how many cells it shares, and no more. It has no steps yet
+abbrev pub branch_of : List (List ℕ) → Option Limb
+branch_of ws = do
+  name ← names.name (next ws)
+  numbers ← two_numbers (after_next ws)
+  Some (record { name = name; from = numbers.0; shared = numbers.1; steps = [] })

@@ -34,13 +34,16 @@ first_odd bytes = position (λ b. not (is_plain b)) bytes
 abbrev pub line_at : ℕ → List ℕ → ℕ
 line_at k bytes = count_by (λ b. b == 10) (take k bytes) + 1
 
--- the version whose header the first line is, with its line end: there is a part behind it
+-- whether the first line is this header, with its line end: there is a part behind it
+abbrev pub has_header : List ℕ → List (List ℕ) → Bool
+has_header text ls = not (is_end (after_next ls)) && bytes_eq (next ls) text
+
+-- the version whose header the first line is
 abbrev pub version_of : List (List ℕ) → Option Version
 version_of ls =
-    if is_end (after_next ls) then None
-    else (if bytes_eq (next ls) (header One) then Some One
-    else (if bytes_eq (next ls) (header Two) then Some Two
-    else None))
+    if has_header (header One) ls then Some One
+    else (if has_header (header Two) ls then Some Two
+    else None)
 
 -- a tower in its ranges
 abbrev pub sized : TowerSpec → Result TowerSpec FileFault
@@ -81,13 +84,13 @@ file_of_lines ls = do
   ss ← steps_of v t 3 (after_next (after_next ls))
   Ok (file_of v t ss)
 
--- the file, or the first fault: bytes that aren't plain come before all others
-abbrev pub reading_from : Option ℕ → List ℕ → Result File FileFault
-reading_from (Some k) bytes = Err (fault NotAscii (line_at k bytes))
-reading_from None bytes = file_of_lines (lines bytes)
+-- what lines say, or the first fault: bytes that aren't plain come before all others
+abbrev pub reading_from : {Y : Type 0} → (List (List ℕ) → Result Y FileFault) → Option ℕ → List ℕ → Result Y FileFault
+reading_from of_lines (Some k) bytes = Err (fault NotAscii (line_at k bytes))
+reading_from of_lines None bytes = of_lines (lines bytes)
 
 abbrev pub reading : List ℕ → Result File FileFault
-reading bytes = reading_from (first_odd bytes) bytes
+reading bytes = reading_from file_of_lines (first_odd bytes) bytes
 
 -- steps are read, and there is one: for steps alone is memory asked
 abbrev pub HasStep : Result (List Step) FileFault → Type 0

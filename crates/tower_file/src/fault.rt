@@ -1,4 +1,4 @@
-//! Why bytes are no tower file.
+//! Why bytes are no tower file, or no bench file.
 
 ghost use Rattle.std.specs.Prelude.{◌≡◌};
 ghost use Rattle.tower_file.specs.Faults as spec;
@@ -12,7 +12,7 @@ pub enum FaultKind {
     /// Some byte is neither a line end nor one of 0x20 to 0x7E.
     #[error("10 NotAscii")]
     NotAscii,
-    /// The first line isn't `tower 1` with its end.
+    /// The first line is no header with its end.
     #[error("11 BadHeader")]
     BadHeader,
     /// The first word of the second line names no tower.
@@ -21,12 +21,19 @@ pub enum FaultKind {
     /// The second line has not the fields of its tower, or no end.
     #[error("13 BadField")]
     BadField,
-    /// A line from the third on is no step that fits the tower, or has no end.
+    /// A line from the third on, in a bench file one behind a branch, is no step that fits the tower, or has no end.
     #[error("14 BadStep")]
     BadStep,
     /// A field of the tower is out of its range, or the tower is too large.
     #[error("15 BadSize")]
     BadSize,
+    /// A line of a bench file is no branch's where one has to be, or has no end, or its name is none, or an earlier
+    /// branch's.
+    #[error("16 BadBranch")]
+    BadBranch,
+    /// A branch of a bench file can't share so many cells with the branch that it is from.
+    #[error("17 Tangled")]
+    Tangled,
     /// A growth was refused.
     #[error("40 Memory")]
     Memory,
@@ -44,6 +51,8 @@ impl FaultKind {
             FaultKind::BadField => 13,
             FaultKind::BadStep => 14,
             FaultKind::BadSize => 15,
+            FaultKind::BadBranch => 16,
+            FaultKind::Tangled => 17,
             FaultKind::Memory => 40,
         }
     }
@@ -59,6 +68,8 @@ impl FaultKind {
             FaultKind::BadField => "BadField",
             FaultKind::BadStep => "BadStep",
             FaultKind::BadSize => "BadSize",
+            FaultKind::BadBranch => "BadBranch",
+            FaultKind::Tangled => "Tangled",
             FaultKind::Memory => "Memory",
         }
     }

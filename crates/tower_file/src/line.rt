@@ -1,4 +1,4 @@
-//! What a line says: a tower or a step.
+//! What a line says: a tower, a step or a branch.
 
 ghost use Rattle.std.specs.Prelude.{◌≡◌};
 ghost use Rattle.tower_file.specs.Lines as spec;
@@ -6,6 +6,9 @@ ghost use Rattle.tower_file.specs.Lines as spec;
 use crate::tower::TowerSpec;
 use crate::version::Version;
 use frames::types::Step;
+use schedule_trie::limb::{Limb, Steps};
+use schedule_trie::name::Name;
+use std::alloc::Global;
 use words::number::{four_numbers, one_number, three_numbers, two_numbers};
 use words::parts::Parts;
 use words::step::{is, step_of};
@@ -93,4 +96,27 @@ pub fn fitting_step(version: Version, tower: &TowerSpec, line: &[u8]) -> Option<
 {
     let step = step_of(&mut Parts::new(line, b' '))?;
     version.may_have(tower, step).then_some(step)
+}
+
+/// Whether the first word of a line is `branch`.
+pub fn is_branch(line: &[u8]) -> bool
+    ensures { result ≡ spec.is_branch line.now }
+{
+    let mut words = Parts::new(line, b' ');
+    is(words.next(), "branch")
+}
+
+/// Reads a branch of the words behind that, and no more: its name, the branch that it is from, and how many cells
+/// it shares. It has no steps yet. It takes no memory.
+pub fn branch_of(alloc: Global, words: &mut Parts<'_>) -> Option<Limb>
+    ensures { result ≡ spec.branch_of words.old }
+{
+    let name = Name::new(words.next())?;
+    let (from, shared) = two_numbers(words)?;
+    Some(Limb {
+        name,
+        from,
+        shared,
+        steps: Steps::new(Vec::new(alloc)),
+    })
 }

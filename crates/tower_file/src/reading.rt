@@ -21,7 +21,7 @@ use words::parts::Parts;
 use words::step::is;
 
 /// The place of the first byte that is neither a line end nor one of 0x20 to 0x7E.
-fn first_odd(bytes: &[u8]) -> Option<usize>
+pub(crate) fn first_odd(bytes: &[u8]) -> Option<usize>
     ensures { result ≡ spec.first_odd bytes.now }
 {
     bytes.iter().position(|b| !is_plain(*b))
@@ -35,7 +35,7 @@ fn is_plain(b: u8) -> bool
 }
 
 /// The line of the byte at a place.
-fn line_at(place: usize, bytes: &[u8]) -> u64
+pub(crate) fn line_at(place: usize, bytes: &[u8]) -> u64
     requires inside { place ≤ length bytes.now }
     ensures { result ≡ spec.line_at place bytes.now }
 {
@@ -43,7 +43,7 @@ fn line_at(place: usize, bytes: &[u8]) -> u64
 }
 
 /// A fault on a line.
-fn fault(kind: FaultKind, line: u64) -> FileFault
+pub(crate) fn fault(kind: FaultKind, line: u64) -> FileFault
     ensures { result ≡ faults.fault kind line }
 {
     FileFault { kind, line }
@@ -68,7 +68,7 @@ fn version_of(lines: &mut Parts<'_>) -> Option<Version>
 }
 
 /// Reads the line of the tower.
-fn tower_of(lines: &mut Parts<'_>) -> Result<TowerSpec, FileFault>
+pub(crate) fn tower_of(lines: &mut Parts<'_>) -> Result<TowerSpec, FileFault>
     ensures tower { result ≡ spec.tower_of lines.old }
     ensures lawful { IfOk result (λ tower. is_lawful_tower tower ≡ true) }
     ensures known { IfErr result (λ e. e.kind ≢ Memory) }

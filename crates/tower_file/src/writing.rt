@@ -24,7 +24,7 @@ pub fn print(alloc: Global, file: &TowerFile) -> Result<Vec<u8>, AllocError>
 }
 
 /// Adds the line of a tower.
-fn push_tower(out: &mut Vec<u8>, tower: &TowerSpec) -> Result<(), AllocError>
+pub(crate) fn push_tower(out: &mut Vec<u8>, tower: &TowerSpec) -> Result<(), AllocError>
     ensures { OnOk result (out.new.items ≡ out.old.items ++ line (tower_text tower.now)) }
 {
     match *tower {
@@ -47,7 +47,7 @@ fn push_tower(out: &mut Vec<u8>, tower: &TowerSpec) -> Result<(), AllocError>
 }
 
 /// Adds the line of a step.
-fn push_step_line(out: &mut Vec<u8>, step: Step) -> Result<(), AllocError>
+pub(crate) fn push_step_line(out: &mut Vec<u8>, step: Step) -> Result<(), AllocError>
     ensures { OnOk result (out.new.items ≡ out.old.items ++ line (step_text step)) }
 {
     push_step(out, step).map_err(|_| AllocError)?;
@@ -56,7 +56,7 @@ fn push_step_line(out: &mut Vec<u8>, step: Step) -> Result<(), AllocError>
 }
 
 /// Adds a line of a word and numbers.
-fn push_line(out: &mut Vec<u8>, word: &str, numbers: &[u32]) -> Result<(), AllocError>
+pub(crate) fn push_line(out: &mut Vec<u8>, word: &str, numbers: &[u32]) -> Result<(), AllocError>
     ensures { OnOk result (out.new.items ≡ out.old.items ++ line (text word.now numbers.now)) }
 {
     push_words(out, word, numbers).map_err(|_| AllocError)?;

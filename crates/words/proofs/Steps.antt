@@ -110,7 +110,7 @@ one_short (w ∷ ws) n h =
     let b = cond_some (is_end ws) a.0 n a.2 in
     subst (λ m. m < 10 ^ 9) b.1 (decimal-number w a.0 a.1).0
 
-two_short : (ws : List (List ℕ)) (n : ℕ × ℕ) → two_numbers ws ≡ Some n → (n.0 < 10 ^ 9) × (n.1 < 10 ^ 9)
+pub two_short : (ws : List (List ℕ)) (n : ℕ × ℕ) → two_numbers ws ≡ Some n → (n.0 < 10 ^ 9) × (n.1 < 10 ^ 9)
 two_short [] n h = absurd cc
 two_short (w ∷ ws) n h =
     let a = some_then (number w) (λ x. option_and_then (λ y. Some (x, y)) (one_number ws)) n h in

@@ -1,7 +1,5 @@
-use Rattle.std.proofs.Common.{rules, ◌≡◌, ◌+◌, ◌<◌, ◌++◌, ◌∷◌, [], true, false, length, List, Result, Ok, Err, Option, Some, None, sym, ap, ◌∙◌, arith, length-append}
+use Rattle.std.proofs.Common.{rules, ◌≡◌, ◌+◌, ◌++◌, ◌∷◌, [], true, false, length, List, Ok, Option, Some, sym, ap, ◌∙◌, arith, length-append}
 use Rattle.frames.specs.declared.types.Step.{Step}
-use Rattle.words.specs.Words.{after_next}
-use Rattle.tower_file.specs.declared.fault.FileFault.{FileFault}
 use Rattle.tower_file.specs.Reading.{next_step, steps_of, HasStep}
 use Rattle.tower_file.proofs.Loop.{with_front, more_lines, ends, fails, goes_on, some_step, given_fault, want_of_memory, bad_step_is_known}
 use Rattle.tower_file.proofs.reading.steps_of.Goals as goal

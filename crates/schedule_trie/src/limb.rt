@@ -1,0 +1,73 @@
+//! Limbs: what a file keeps of a branch.
+
+ghost use Rattle.std.specs.Prelude.{◌≡◌, ◌∷◌, [], ◌++◌, OnOk, IfErr};
+ghost use Rattle.schedule_trie.specs.Limbs as spec;
+
+use crate::name::Name;
+use frames::types::Step;
+use std::alloc::AllocError;
+use std::marker::Model;
+
+/// Steps in order. Contracts see the list of them, and nothing of the room that it has.
+#[derive(Debug, Drop)]
+pub struct Steps {
+    items: Vec<Step>,
+}
+
+impl Model for Steps {
+    ghost use Rattle.std.specs.Prelude.{List};
+    ghost use Rattle.frames.specs.declared.types.Step.{Step};
+
+    ghost Value = { List Step };
+
+    ghost view = { λ s. s.items.items };
+}
+
+impl Steps {
+    /// These steps. It takes no memory.
+    pub fn new(items: Vec<Step>) -> Steps
+        ensures { result ≡ items.items }
+    {
+        Steps { items }
+    }
+
+    /// Adds a step behind them.
+    pub fn push(&mut self, step: Step) -> Result<(), AllocError>
+        ensures pushed { OnOk result (self.new ≡ self.old ++ step ∷ []) }
+        ensures kept { IfErr result (λ _. self.new ≡ self.old) }
+    {
+        self.items.push(step)?;
+        Ok(())
+    }
+
+    /// The steps, in order.
+    pub fn as_slice(&self) -> &[Step]
+        ensures { result.now ≡ self.now }
+    {
+        &self.items
+    }
+}
+
+/// A branch: its name, the branch from which it has its first cells, how many it has from there, and the steps of its own cells.
+#[derive(Debug, Drop)]
+pub struct Limb {
+    pub name: Name,
+    pub from: u32,
+    pub shared: u32,
+    pub steps: Steps,
+}
+
+/// Whether a limb may come behind these, as far as what it shares goes: nothing, or cells of which the last is an
+/// own one of the branch that it is from.
+pub fn may_share(limbs: &[Limb], limb: &Limb) -> bool
+    ensures { result ≡ spec.may_share limbs.now limb.now }
+{
+    if limb.from == 0 && limb.shared == 0 {
+        return true;
+    }
+    let Some(parent) = limbs.get(limb.from as usize) else {
+        return false;
+    };
+    parent.shared < limb.shared
+        && (limb.shared - parent.shared) as usize <= parent.steps.as_slice().len()
+}

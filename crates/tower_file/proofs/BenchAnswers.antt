@@ -1,0 +1,155 @@
+-- Reading limbs line by line, as a loop does, and what follows from what a call answers.
+use Rattle.std.proofs.Common.{◌≡◌, ◌≢◌, ℕ, ◌+◌, ◌<◌, true, false, List, [], ◌∷◌, ◌++◌, length, None, Result, Ok, Err, refl, sym, ap, subst, ◌∙◌, true≢false, append_assoc, arith}
+use Rattle.std.specs.Prelude.{IsOk, IfOk, IfErr, ◌&&◌}
+use Rattle.std.specs.List.{join_with_byte}
+use Rattle.std.specs.Result.{IsErr, IsErrAnd}
+use Rattle.std.proofs.lemmas.Bool.{and_from}
+use Rattle.std.proofs.lemmas.List.Splits.{join_with_byte-slice_split}
+use Rattle.schedule_trie.specs.declared.limb.Limb.{Limb}
+use Rattle.tower_file.specs.declared.tower.TowerSpec.{TowerSpec}
+use Rattle.tower_file.specs.declared.fault.FaultKind.{FaultKind}
+use Rattle.tower_file.specs.declared.fault.FaultKind.TheVariants.{NotAscii, BadHeader, UnknownTower, BadField, BadStep, BadSize, BadBranch, Tangled, Memory}
+use Rattle.tower_file.specs.declared.fault.FileFault.{FileFault}
+use Rattle.tower_file.specs.Faults.{Fails, Gives}
+use Rattle.tower_file.specs.Towers.{is_lawful_tower}
+use Rattle.tower_file.specs.Benches.{Bench, IsLawfulBench, bench_of, is_some, are_lawful}
+use Rattle.tower_file.specs.Spelling.{line, tower_text}
+use Rattle.tower_file.specs.BenchSpelling.{bench_header, bench_spelling, SpellsBench, SpellsLimbs, SpellsFront}
+use Rattle.tower_file.specs.Reading.{◌>>=◌, has_header, first_odd, tower_of}
+use Rattle.tower_file.specs.BenchReading.{then_line, ended, limbs_of, bench_reading}
+use Rattle.words.specs.Words.{lines, next, after_next, is_end}
+use Rattle.tower_file.proofs.BenchLimbs.{limbs_text}
+use Rattle.tower_file.proofs.BenchSound.{line_goes_on, limbs_are, begun, bench_reading_is}
+use Rattle.tower_file.proofs.BenchAgain.{bench_reading_again}
+
+-- a line that has its end, and what is left behind it
+module _ (t : TowerSpec) (n : ℕ) (limbs : List Limb) (ls : List (List ℕ)) (whole : is_end (after_next ls) ≡ false) where
+  fewer_lines : (xs : List (List ℕ)) → is_end (after_next xs) ≡ false → length (after_next xs) < length xs
+  fewer_lines [] h = absurd (true≢false h)
+  fewer_lines (x ∷ xs) h = omega arith
+
+  pub fewer : length (after_next ls) < length ls
+  fewer = fewer_lines ls whole
+
+  by_line : (xs : List (List ℕ)) → is_end (after_next xs) ≡ false
+      → limbs_of t n limbs xs ≡ (then_line t n limbs (next xs) >>= λ more. limbs_of t (n + 1) more (after_next xs))
+  unfolding limbs_of
+  by_line [] h = absurd (true≢false h)
+  by_line (x ∷ []) h = absurd (true≢false h)
+  by_line (x ∷ y ∷ xs) h = refl
+
+  joined : (xs : List (List ℕ)) → is_end (after_next xs) ≡ false → join_with_byte 10 xs ≡ next xs ++ 10 ∷ join_with_byte 10 (after_next xs)
+  joined [] h = absurd (true≢false h)
+  joined (x ∷ []) h = absurd (true≢false h)
+  joined (x ∷ y ∷ xs) h = refl
+
+  pub goes_on : (more : List Limb) → then_line t n limbs (next ls) ≡ Ok more → limbs_of t (n + 1) more (after_next ls) ≡ limbs_of t n limbs ls
+  goes_on more e = sym (by_line ls whole ∙ ap (λ (r : Result (List Limb) FileFault). r >>= λ x. limbs_of t (n + 1) x (after_next ls)) e)
+
+  pub fails : (e : FileFault) → then_line t n limbs (next ls) ≡ Err e → limbs_of t n limbs ls ≡ Err e
+  fails e f = by_line ls whole ∙ ap (λ (r : Result (List Limb) FileFault). r >>= λ x. limbs_of t (n + 1) x (after_next ls)) f
+
+  pub text_goes_on : (more : List Limb) → then_line t n limbs (next ls) ≡ Ok more
+      → limbs_text more ++ join_with_byte 10 (after_next ls) ≡ limbs_text limbs ++ join_with_byte 10 ls
+  text_goes_on more e =
+      let said : List ℕ = next ls in
+      let rest : List ℕ = join_with_byte 10 (after_next ls) in
+      let regroup : (limbs_text limbs ++ line said) ++ rest ≡ limbs_text limbs ++ (said ++ 10 ∷ rest) = simp append_assoc in
+      ap (λ x. x ++ rest) (line_goes_on t n limbs said more e).spelled ∙ regroup ∙ ap (λ x. limbs_text limbs ++ x) (sym (joined ls whole))
+
+  -- what was read with this line, whatever comes behind it
+  pub front_read : (more : List Limb) (first : List (List ℕ)) → then_line t n limbs (next ls) ≡ Ok more → are_lawful t limbs ≡ true
+      → limbs_text limbs ++ join_with_byte 10 ls ≡ join_with_byte 10 first → SpellsLimbs t first
+  front_read more first e lawful so_far =
+      let g = line_goes_on t n limbs (next ls) more e in
+      record {
+        limbs = more;
+        rest = join_with_byte 10 (after_next ls);
+        some = g.some;
+        lawful = g.lawful lawful;
+        parts = sym so_far ∙ sym (text_goes_on more e);
+      }
+
+-- the last part, which has no line end behind it
+pub at_end : (t : TowerSpec) (n : ℕ) (limbs : List Limb) (ls : List (List ℕ)) → is_end (after_next ls) ≡ true → limbs_of t n limbs ls ≡ ended n limbs (next ls)
+unfolding limbs_of
+at_end t n limbs [] h = refl
+at_end t n limbs (x ∷ []) h = refl
+at_end t n limbs (x ∷ y ∷ xs) h = absurd (true≢false (sym h))
+
+-- ---- what is handed on
+
+pub ok_some : {X : Type 0} (r : Result X FileFault) → IsOk r → (x : X) × (r ≡ Ok x)
+ok_some (Ok x) h = (x, refl)
+ok_some (Err e) h = absurd (true≢false (sym h))
+
+-- a fault of a part that is one of the whole
+failed_too : {X Y : Type 0} (k : FaultKind) (e : FileFault) (part : Result X FileFault) (whole : Result Y FileFault) → Fails k e part → (part ≡ Err e → whole ≡ Err e) → Fails k e whole
+failed_too NotAscii e part whole h on = on h
+failed_too BadHeader e part whole h on = on h
+failed_too UnknownTower e part whole h on = on h
+failed_too BadField e part whole h on = on h
+failed_too BadStep e part whole h on = on h
+failed_too BadSize e part whole h on = on h
+failed_too BadBranch e part whole h on = on h
+failed_too Tangled e part whole h on = on h
+failed_too Memory e part whole h on = h
+
+module _ {X Y Z : Type 0} (r : Result X FileFault) (e : FileFault) (Is : FileFault → Type 0) (failed : IsErr r) (is : IsErrAnd r Is) (same : (x : FileFault) → Is x → x ≡ e) where
+  pub hands_on : (view : X → Z) (part : Result Y FileFault) (whole : Result Z FileFault) → Fails e.kind e part → (part ≡ Err e → whole ≡ Err e) → Gives view r whole
+  hands_on view part whole h on = by r failed is
+    where
+      by : (q : Result X FileFault) → IsErr q → IsErrAnd q Is → Gives view q whole
+      by (Ok x) f i = absurd i
+      by (Err x) f i = subst (λ (y : FileFault). Fails y.kind y whole) (sym (same x i)) (failed_too e.kind e part whole h on)
+
+-- ---- files
+
+pub bench_lawful : (t : TowerSpec) (n : ℕ) (left : List (List ℕ)) (limbs : List Limb) → is_lawful_tower t ≡ true → limbs_of t n [] left ≡ Ok limbs → IsLawfulBench (bench_of t limbs)
+bench_lawful t n left limbs lawful read =
+    let a = limbs_are t n [] left limbs read in
+    and_from (is_lawful_tower t && is_some limbs) (are_lawful t limbs) (and_from (is_lawful_tower t) (is_some limbs) lawful a.some) (a.lawful refl)
+
+-- bytes of which a front is read
+pub spells_front : (bytes : List ℕ) (t : TowerSpec) (left : List (List ℕ)) → first_odd bytes ≡ None → has_header bench_header (lines bytes) ≡ true → tower_of (after_next (lines bytes)) ≡ Ok t
+    → left ≡ after_next (after_next (lines bytes)) → SpellsLimbs t left → SpellsFront bytes
+spells_front bytes t left plain header tower same s =
+    let a = begun (lines bytes) t header tower in
+    let before : List ℕ = line bench_header ++ line (tower_text t) in
+    record {
+      front = bench_spelling (bench_of t s.limbs);
+      rest = s.rest;
+      bench = bench_of t s.limbs;
+      spells = record {
+        lawful = and_from (is_lawful_tower t && is_some s.limbs) (are_lawful t s.limbs) (and_from (is_lawful_tower t) (is_some s.limbs) a.lawful s.some) s.lawful;
+        spelled = refl;
+      };
+      parts = sym (join_with_byte-slice_split 10 bytes) ∙ a.spelled (limbs_text s.limbs ++ s.rest) (ap (join_with_byte 10) (sym same) ∙ s.parts)
+          ∙ sym (append_assoc before (limbs_text s.limbs) s.rest);
+      plain = plain;
+    }
+
+abbrev same_bench : Bench → Bench
+same_bench b = b
+
+pub bench_found : (bytes : List ℕ) (r : Result Bench FileFault) → Gives same_bench r (bench_reading bytes) → IfOk r (λ b. SpellsBench bytes b)
+bench_found bytes (Ok b) given = bench_reading_is bytes b given
+bench_found bytes (Err e) given = tt
+
+pub bench_read : (bytes : List ℕ) (r : Result Bench FileFault) → Gives same_bench r (bench_reading bytes) → (b : Bench) → SpellsBench bytes b → Gives same_bench r (Ok b)
+bench_read bytes r given b s = subst (λ (read : Result Bench FileFault). Gives same_bench r read) (bench_reading_again bytes b s) given
+
+no_bench_fault : (k : FaultKind) (e : FileFault) (b : Bench) → Fails k e (let r : Result Bench FileFault = Ok b in r) → k ≢ Memory → ⊥
+no_bench_fault NotAscii e b given other = cc
+no_bench_fault BadHeader e b given other = cc
+no_bench_fault UnknownTower e b given other = cc
+no_bench_fault BadField e b given other = cc
+no_bench_fault BadStep e b given other = cc
+no_bench_fault BadSize e b given other = cc
+no_bench_fault BadBranch e b given other = cc
+no_bench_fault Tangled e b given other = cc
+no_bench_fault Memory e b given other = other refl
+
+pub spells_no_bench : (bytes : List ℕ) (r : Result Bench FileFault) → Gives same_bench r (bench_reading bytes) → IfErr r (λ e. e.kind ≢ Memory → (b : Bench) → SpellsBench bytes b → ⊥)
+spells_no_bench bytes (Ok b) given = tt
+spells_no_bench bytes (Err e) given = λ other b s. no_bench_fault e.kind e b (bench_read bytes (Err e) given b s) other

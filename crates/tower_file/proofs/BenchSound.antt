@@ -1,0 +1,189 @@
+-- What is read as a bench file is spelled so.
+use Rattle.std.proofs.Common.{◌≡◌, ℕ, ◌+◌, ◌<◌, ◌^◌, Bool, true, false, cond, not, ◌&&◌, ◌==◌, nat_lt, nat_le, List, [], ◌∷◌, ◌++◌, length, Option, Some, None, Ok, Err, refl, sym, ap, ◌∙◌, subst, true≢false, append_assoc, append-nil, arith}
+use Rattle.std.specs.Prelude.{codes}
+use Rattle.std.specs.Option.{ok_or, option_and_then}
+use Rattle.std.specs.List.{join_with_byte}
+use Rattle.std.proofs.lemmas.Bool.{and_parts, and_from, eqb-true, lt-ltb}
+use Rattle.std.proofs.lemmas.Option.{cond_some, same_Some}
+use Rattle.std.proofs.lemmas.List.{nil_from_length}
+use Rattle.std.proofs.lemmas.List.Splits.{join_with_byte-slice_split}
+use Rattle.schedule_trie.specs.declared.limb.Limb.{Limb}
+use Rattle.schedule_trie.specs.Names as names
+use Rattle.schedule_trie.specs.Limbs.{is_new_name, may_share}
+use Rattle.tower_file.specs.declared.tower.TowerSpec.{TowerSpec}
+use Rattle.tower_file.specs.declared.fault.FaultKind.TheVariants.{BadHeader, BadBranch, BadStep, Tangled}
+use Rattle.tower_file.specs.declared.version.Version.TheVariants.{Two}
+use Rattle.tower_file.specs.Faults.{fault}
+use Rattle.tower_file.specs.Towers.{is_lawful_tower}
+use Rattle.tower_file.specs.Benches.{Bench, bench_of, is_some, has_fit, are_lawful}
+use Rattle.tower_file.specs.Lines.{fitting_step, is_branch, branch_of}
+use Rattle.tower_file.specs.Spelling.{line, tower_text}
+use Rattle.tower_file.specs.BenchSpelling.{bench_header, branch_text, SpellsBench}
+use Rattle.tower_file.specs.Reading.{◌>>=◌, has_header, first_odd, tower_of, reading_from}
+use Rattle.tower_file.specs.BenchReading.{put_step, put_limb, then_branch, then_step, then_line, cut_line, ended, limbs_of, bench_of_lines, bench_reading}
+use Rattle.words.specs.Words.{words, lines, next, after_next, is_end, two_numbers}
+use Rattle.words.specs.Steps.{text}
+use Rattle.words.proofs.Steps.{some_then, two_are, two_short, joined, is_word}
+use Rattle.tower_file.proofs.Sound.{bind_ok, ok_or_ok, when_ok, unless_ok, ok_is, fitting_is, IsTowerLine, tower_line, header_is, three_lines}
+use Rattle.tower_file.proofs.BenchLimbs.{limbs_text, put_step_text, put_limb_text, some_step, some_last, lawful_step, lawful_limb}
+
+-- ---- a line
+
+-- the words behind the first of a branch's line
+record IsBranch (ws : List (List ℕ)) (l : Limb) : Type 0 where
+  pub spelled : join_with_byte 32 ws ≡ text l.name (l.from ∷ l.shared ∷ [])
+  pub some : 0 < length ws
+  pub fit : (t : TowerSpec) → has_fit t l ≡ true
+  pub none : l.steps ≡ []
+
+branch_is : (ws : List (List ℕ)) (l : Limb) → branch_of ws ≡ Some l → IsBranch ws l
+branch_is [] l h = absurd cc
+branch_is (w ∷ ws) l h =
+    let a = some_then (names.name w) (λ x. option_and_then (λ n. Some (record { name = x; from = n.0; shared = n.1; steps = [] })) (two_numbers ws)) l h in
+    let b = some_then (two_numbers ws) (λ n. Some (record { name = a.0; from = n.0; shared = n.1; steps = [] })) l a.2 in
+    let name = cond_some (nat_le (length w) 16) w a.0 a.1 in
+    let small = two_short ws b.0 b.1 in
+    let from : nat_lt b.0.0 (10 ^ 9) ≡ true = lt-ltb b.0.0 (10 ^ 9) small.0 in
+    let shared : nat_lt b.0.1 (10 ^ 9) ≡ true = lt-ltb b.0.1 (10 ^ 9) small.1 in
+    subst (IsBranch (w ∷ ws)) (same_Some (record { name = a.0; from = b.0.0; shared = b.0.1; steps = [] }) l b.2)
+    (record {
+      spelled = joined w a.0 ws (b.0.0 ∷ b.0.1 ∷ []) name.1 (two_are ws b.0 b.1);
+      some = omega arith;
+      fit = λ t. and_from (nat_lt b.0.0 (10 ^ 9) && nat_lt b.0.1 (10 ^ 9)) true (and_from (nat_lt b.0.0 (10 ^ 9)) (nat_lt b.0.1 (10 ^ 9)) from shared) refl;
+      none = refl;
+    })
+
+branch_line : (ws : List (List ℕ)) (l : Limb) → next ws ≡ codes "branch" → IsBranch (after_next ws) l → join_with_byte 32 ws ≡ branch_text l
+branch_line [] l first h = absurd cc
+branch_line (w ∷ []) l first h = absurd (omega (arith, h.some))
+branch_line (w ∷ v ∷ vs) l first h = ap (λ x. x ++ 32 ∷ join_with_byte 32 (v ∷ vs)) first ∙ ap (λ x. codes "branch" ++ 32 ∷ x) h.spelled
+
+-- limbs grow by what a line says
+pub record GoOn (t : TowerSpec) (limbs : List Limb) (said : List ℕ) (more : List Limb) : Type 0 where
+  pub spelled : limbs_text more ≡ limbs_text limbs ++ line said
+  pub some : is_some more ≡ true
+  pub lawful : are_lawful t limbs ≡ true → are_lawful t more ≡ true
+
+branch_goes_on : (t : TowerSpec) (n : ℕ) (limbs : List Limb) (said : List ℕ) (more : List Limb) → is_branch said ≡ true
+    → then_branch n limbs (after_next (words said)) ≡ Ok more → GoOn t limbs said more
+branch_goes_on t n limbs said more first h =
+    let ws = words said in
+    let a = bind_ok (ok_or (branch_of (after_next ws)) (fault BadBranch n)) (put_limb n limbs) more h in
+    let l = a.0 in
+    let is = branch_is (after_next ws) l (ok_or_ok (branch_of (after_next ws)) (fault BadBranch n) l a.1) in
+    let b = unless_ok (not (is_new_name limbs l.name)) (cond (may_share limbs l) (Ok (limbs ++ l ∷ [])) (Err (fault Tangled n))) (fault BadBranch n) more a.2 in
+    let c = when_ok (may_share limbs l) (Ok (limbs ++ l ∷ [])) (fault Tangled n) more b.1 in
+    let spelled : said ≡ branch_text l = sym (join_with_byte-slice_split 32 said) ∙ branch_line ws l (is_word (next ws) (codes "branch") first) is in
+    subst (GoOn t limbs said) (ok_is (limbs ++ l ∷ []) more c.1)
+    (record {
+      spelled = put_limb_text limbs l is.none ∙ ap (λ x. limbs_text limbs ++ line x) (sym spelled);
+      some = some_last limbs l;
+      lawful = lawful_limb t limbs l (is_true (is_new_name limbs l.name) b.0) c.0 (is.fit t);
+    })
+  where
+    is_true : (b : Bool) → not b ≡ false → b ≡ true
+    is_true true e = refl
+    is_true false e = absurd (true≢false e)
+
+step_goes_on : (t : TowerSpec) (n : ℕ) (limbs : List Limb) (said : List ℕ) (more : List Limb) → then_step t n limbs said ≡ Ok more → GoOn t limbs said more
+step_goes_on t n limbs said more h =
+    let a = when_ok (is_some limbs) (ok_or (fitting_step Two t said) (fault BadStep n) >>= λ s. Ok (put_step limbs s)) (fault BadBranch n) more h in
+    let b = bind_ok (ok_or (fitting_step Two t said) (fault BadStep n)) (λ s. Ok (put_step limbs s)) more a.1 in
+    let s = b.0 in
+    let is = fitting_is Two t said s (ok_or_ok (fitting_step Two t said) (fault BadStep n) s b.1) in
+    subst (GoOn t limbs said) (ok_is (put_step limbs s) more b.2)
+    (record {
+      spelled = put_step_text limbs s a.0 ∙ ap (λ x. limbs_text limbs ++ line x) (sym is.0);
+      some = some_step limbs s a.0;
+      lawful = lawful_step t limbs s is.1;
+    })
+
+pub line_goes_on : (t : TowerSpec) (n : ℕ) (limbs : List Limb) (said : List ℕ) (more : List Limb) → then_line t n limbs said ≡ Ok more → GoOn t limbs said more
+line_goes_on t n limbs said more h = by (is_branch said) refl h
+  where
+    by : (b : Bool) → is_branch said ≡ b → cond b (then_branch n limbs (after_next (words said))) (then_step t n limbs said) ≡ Ok more → GoOn t limbs said more
+    by true first g = branch_goes_on t n limbs said more first g
+    by false first g = step_goes_on t n limbs said more g
+
+-- ---- all lines
+
+-- limbs grow to these by what lines say
+pub record AreLimbs (t : TowerSpec) (limbs : List Limb) (said : List ℕ) (all : List Limb) : Type 0 where
+  pub spelled : limbs_text limbs ++ said ≡ limbs_text all
+  pub some : is_some all ≡ true
+  pub lawful : are_lawful t limbs ≡ true → are_lawful t all ≡ true
+
+ended_is : (t : TowerSpec) (n : ℕ) (limbs : List Limb) (rest : List ℕ) (all : List Limb) → ended n limbs rest ≡ Ok all → AreLimbs t limbs rest all
+ended_is t n limbs rest all h =
+    let a = when_ok ((length rest == 0) && is_some limbs) (Ok limbs) (fault (cut_line limbs rest) n) all h in
+    let b = and_parts (length rest == 0) (is_some limbs) a.0 in
+    subst (AreLimbs t limbs rest) (ok_is limbs all a.1)
+    (record {
+      spelled = ap (λ x. limbs_text limbs ++ x) (nil_from_length rest (eqb-true (length rest) 0 b.0)) ∙ append-nil (limbs_text limbs);
+      some = b.1;
+      lawful = λ l. l;
+    })
+
+pub limbs_are : (t : TowerSpec) (n : ℕ) (limbs : List Limb) (ls : List (List ℕ)) (all : List Limb) → limbs_of t n limbs ls ≡ Ok all
+    → AreLimbs t limbs (join_with_byte 10 ls) all
+unfolding limbs_of
+limbs_are t n limbs [] all h = ended_is t n limbs [] all h
+limbs_are t n limbs (l ∷ []) all h = ended_is t n limbs l all h
+limbs_are t n limbs (l ∷ k ∷ ls) all h =
+    let a = bind_ok (then_line t n limbs l) (λ more. limbs_of t (n + 1) more (k ∷ ls)) all h in
+    let first = line_goes_on t n limbs l a.0 a.1 in
+    let others = limbs_are t (n + 1) a.0 (k ∷ ls) all a.2 in
+    let rest : List ℕ = join_with_byte 10 (k ∷ ls) in
+    let regroup : limbs_text limbs ++ (l ++ 10 ∷ rest) ≡ (limbs_text limbs ++ line l) ++ rest = simp append_assoc in
+    record {
+      spelled = regroup ∙ ap (λ x. x ++ rest) (sym first.spelled) ∙ others.spelled;
+      some = others.some;
+      lawful = λ g. others.lawful (first.lawful g);
+    }
+
+-- ---- files
+
+whole_bench : (ls : List (List ℕ)) (t : TowerSpec) (behind : List ℕ) → next ls ≡ bench_header → is_end (after_next ls) ≡ false
+    → IsTowerLine (is_end (after_next (after_next ls))) (next (after_next ls)) t → join_with_byte 10 (after_next (after_next ls)) ≡ behind
+    → join_with_byte 10 ls ≡ line bench_header ++ line (tower_text t) ++ behind
+whole_bench [] t behind e more tower same = absurd cc
+whole_bench (l ∷ []) t behind e more tower same = absurd cc
+whole_bench (l ∷ k ∷ []) t behind e more tower same = absurd (true≢false tower.whole)
+whole_bench (l ∷ k ∷ r ∷ rs) t behind e more tower same =
+    ap (λ x. x ++ 10 ∷ (k ++ 10 ∷ join_with_byte 10 (r ∷ rs))) e
+    ∙ ap (λ x. bench_header ++ 10 ∷ (x ++ 10 ∷ join_with_byte 10 (r ∷ rs))) tower.spelled
+    ∙ ap (λ x. bench_header ++ 10 ∷ (tower_text t ++ 10 ∷ x)) same
+    ∙ three_lines bench_header (tower_text t) behind
+
+-- what stands before a bench file's limbs
+pub record IsBegun (ls : List (List ℕ)) (t : TowerSpec) : Type 0 where
+  pub lawful : is_lawful_tower t ≡ true
+  pub spelled : (behind : List ℕ) → join_with_byte 10 (after_next (after_next ls)) ≡ behind → join_with_byte 10 ls ≡ line bench_header ++ line (tower_text t) ++ behind
+
+pub begun : (ls : List (List ℕ)) (t : TowerSpec) → has_header bench_header ls ≡ true → tower_of (after_next ls) ≡ Ok t → IsBegun ls t
+begun ls t header tower =
+    let first = header_is bench_header ls header in
+    let second = tower_line (after_next ls) t tower in
+    record { lawful = second.lawful; spelled = λ behind same. whole_bench ls t behind first.0 first.1 second same }
+
+bench_is : (ls : List (List ℕ)) (b : Bench) → bench_of_lines ls ≡ Ok b → SpellsBench (join_with_byte 10 ls) b
+bench_is ls b h =
+    let a = when_ok (has_header bench_header ls) (tower_of (after_next ls) >>= λ t. limbs_of t 3 [] (after_next (after_next ls)) >>= λ limbs. Ok (bench_of t limbs)) (fault BadHeader 1) b h in
+    let c = bind_ok (tower_of (after_next ls)) (λ t. limbs_of t 3 [] (after_next (after_next ls)) >>= λ limbs. Ok (bench_of t limbs)) b a.1 in
+    let t = c.0 in
+    let d = bind_ok (limbs_of t 3 [] (after_next (after_next ls))) (λ limbs. Ok (bench_of t limbs)) b c.2 in
+    let limbs = d.0 in
+    let front = begun ls t a.0 c.1 in
+    let behind = limbs_are t 3 [] (after_next (after_next ls)) limbs d.1 in
+    subst (SpellsBench (join_with_byte 10 ls)) (ok_is (bench_of t limbs) b d.2)
+    (record {
+      lawful = and_from (is_lawful_tower t && is_some limbs) (are_lawful t limbs) (and_from (is_lawful_tower t) (is_some limbs) front.lawful behind.some) (behind.lawful refl);
+      spelled = front.spelled (limbs_text limbs) behind.spelled;
+    })
+
+from_is : (o : Option ℕ) (bytes : List ℕ) (b : Bench) → reading_from bench_of_lines o bytes ≡ Ok b → SpellsBench bytes b
+from_is (Some k) bytes b h = absurd cc
+from_is None bytes b h = subst (λ (x : List ℕ). SpellsBench x b) (join_with_byte-slice_split 10 bytes) (bench_is (lines bytes) b h)
+
+pub bench_reading_is : (bytes : List ℕ) (b : Bench) → bench_reading bytes ≡ Ok b → SpellsBench bytes b
+bench_reading_is bytes b h = from_is (first_odd bytes) bytes b h

@@ -1,0 +1,73 @@
+-- What bytes say: a bench file, or their first fault.
+use Rattle.std.specs.Prelude.{ℕ, ◌+◌, ◌==◌, ◌&&◌, ◌||◌, not, List, [], ◌∷◌, ◌++◌, Result, Ok, Err, length, if◌then◌else◌}
+use Rattle.std.specs.Option.{ok_or}
+use Rattle.frames.specs.declared.types.Step.{Step}
+use Rattle.schedule_trie.specs.declared.limb.Limb.{Limb}
+use Rattle.schedule_trie.specs.Limbs.{is_new_name, may_share}
+use Rattle.tower_file.specs.declared.tower.TowerSpec.{TowerSpec}
+use Rattle.tower_file.specs.declared.fault.FaultKind.{FaultKind}
+use Rattle.tower_file.specs.declared.fault.FaultKind.TheVariants.{BadHeader, BadStep, BadBranch, Tangled}
+use Rattle.tower_file.specs.declared.fault.FileFault.{FileFault}
+use Rattle.tower_file.specs.declared.version.Version.TheVariants.{Two}
+use Rattle.tower_file.specs.Faults.{fault}
+use Rattle.tower_file.specs.Benches.{Bench, bench_of, is_some}
+use Rattle.tower_file.specs.BenchSpelling.{bench_header}
+use Rattle.tower_file.specs.Lines.{fitting_step, is_branch, branch_of}
+use Rattle.tower_file.specs.Reading.{◌>>=◌, has_header, first_odd, tower_of, reading_from}
+use Rattle.words.specs.Words.{words, after_next}
+
+abbrev pub limb_name : Limb → List ℕ
+limb_name l = l.name
+
+-- a step behind those of a limb, and behind those of the last limb
+abbrev pub with_step : Limb → Step → Limb
+with_step l s = record { name = l.name; from = l.from; shared = l.shared; steps = l.steps ++ s ∷ [] }
+
+abbrev pub put_step : List Limb → Step → List Limb
+put_step [] s = []
+put_step (l ∷ []) s = with_step l s ∷ []
+put_step (l ∷ k ∷ ls) s = l ∷ put_step (k ∷ ls) s
+
+-- limbs and one more, on line n, if it may come behind them
+abbrev pub put_limb : ℕ → List Limb → Limb → Result (List Limb) FileFault
+put_limb n limbs l =
+    if not (is_new_name limbs l.name) then Err (fault BadBranch n)
+    else (if may_share limbs l then Ok (limbs ++ l ∷ []) else Err (fault Tangled n))
+
+-- limbs, and then a branch of the words behind the first of line n
+abbrev pub then_branch : ℕ → List Limb → List (List ℕ) → Result (List Limb) FileFault
+then_branch n limbs ws = ok_or (branch_of ws) (fault BadBranch n) >>= put_limb n limbs
+
+-- limbs, of which there is one, and then a step of the last on line n
+abbrev pub then_step : TowerSpec → ℕ → List Limb → List ℕ → Result (List Limb) FileFault
+then_step t n limbs line =
+    if is_some limbs then (ok_or (fitting_step Two t line) (fault BadStep n) >>= λ s. Ok (put_step limbs s))
+    else Err (fault BadBranch n)
+
+-- limbs, and then what line n says
+abbrev pub then_line : TowerSpec → ℕ → List Limb → List ℕ → Result (List Limb) FileFault
+then_line t n limbs line = if is_branch line then then_branch n limbs (after_next (words line)) else then_step t n limbs line
+
+-- what is wrong with a line behind limbs that has no end
+abbrev pub cut_line : List Limb → List ℕ → FaultKind
+cut_line limbs line = if is_branch line || not (is_some limbs) then BadBranch else BadStep
+
+-- limbs, where line n is nothing and the file's end
+abbrev pub ended : ℕ → List Limb → List ℕ → Result (List Limb) FileFault
+ended n limbs rest = if length rest == 0 && is_some limbs then Ok limbs else Err (fault (cut_line limbs rest) n)
+
+-- The limbs, these and what the lines from line n on say. What stands behind the last line end has to be nothing.
+unfoldable pub limbs_of : TowerSpec → ℕ → List Limb → List (List ℕ) → Result (List Limb) FileFault
+limbs_of t n limbs [] = ended n limbs []
+limbs_of t n limbs (rest ∷ []) = ended n limbs rest
+limbs_of t n limbs (line ∷ other ∷ others) = then_line t n limbs line >>= λ more. limbs_of t (n + 1) more (other ∷ others)
+
+-- the bench file of plain bytes
+abbrev pub bench_of_lines : List (List ℕ) → Result Bench FileFault
+bench_of_lines ls =
+    if has_header bench_header ls
+    then (tower_of (after_next ls) >>= λ t. limbs_of t 3 [] (after_next (after_next ls)) >>= λ limbs. Ok (bench_of t limbs))
+    else Err (fault BadHeader 1)
+
+abbrev pub bench_reading : List ℕ → Result Bench FileFault
+bench_reading bytes = reading_from bench_of_lines (first_odd bytes) bytes

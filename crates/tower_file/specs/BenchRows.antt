@@ -1,0 +1,74 @@
+-- A bench file and its faults, computed by the definitions.
+use Rattle.std.specs.Prelude.{ℕ, List, [], ◌∷◌, ◌++◌, Ok, Err, codes, ◌≡◌, refl, true}
+use Rattle.frames.specs.declared.types.Step.TheVariants.{Read, Write, Go}
+use Rattle.tower_file.specs.declared.tower.TowerSpec.TheVariants.{Safe}
+use Rattle.tower_file.specs.declared.fault.FaultKind.TheVariants.{BadHeader, BadStep, BadBranch, Tangled}
+use Rattle.tower_file.specs.Faults.{fault}
+use Rattle.tower_file.specs.Benches.{Bench, is_lawful_bench}
+use Rattle.tower_file.specs.Spelling.{line}
+use Rattle.tower_file.specs.BenchReading.{limbs_of, bench_reading}
+
+abbrev bench : Bench
+bench =
+    record {
+      spec = Safe 0;
+      limbs =
+          record { name = codes "main"; from = 0; shared = 0; steps = Read 1 ∷ Write 0 1 ∷ [] }
+          ∷ record { name = codes "a"; from = 0; shared = 1; steps = Go 1 0 ∷ [] }
+          ∷ record { name = codes "b"; from = 1; shared = 2; steps = Go 1 1 ∷ [] } ∷ [];
+    }
+
+-- its first seven lines, and all of them with another line 8
+abbrev front : List ℕ
+front =
+    line (codes "bench 1") ++ line (codes "safe 0") ++ line (codes "branch main 0 0") ++ line (codes "r 1") ++ line (codes "w 0 1")
+    ++ line (codes "branch a 0 1") ++ line (codes "g 1 0")
+
+abbrev with_line_8 : List ℕ → List ℕ
+with_line_8 text = front ++ line text ++ line (codes "g 1 1")
+
+abbrev with_line_3 : List ℕ → List ℕ
+with_line_3 text = line (codes "bench 1") ++ line (codes "safe 0") ++ text
+
+lawful : is_lawful_bench bench ≡ true
+lawful = refl
+
+is_read : bench_reading (with_line_8 (codes "branch b 1 2")) ≡ Ok bench
+unfolding limbs_of
+is_read = refl
+
+not_its_own : bench_reading (with_line_8 (codes "branch b 1 1")) ≡ Err (fault Tangled 8)
+unfolding limbs_of
+not_its_own = refl
+
+too_long : bench_reading (with_line_8 (codes "branch b 0 3")) ≡ Err (fault Tangled 8)
+unfolding limbs_of
+too_long = refl
+
+same_name : bench_reading (with_line_8 (codes "branch a 1 2")) ≡ Err (fault BadBranch 8)
+unfolding limbs_of
+same_name = refl
+
+no_parent : bench_reading (with_line_3 (line (codes "branch main 0 1"))) ≡ Err (fault Tangled 3)
+unfolding limbs_of
+no_parent = refl
+
+no_branch : bench_reading (with_line_3 []) ≡ Err (fault BadBranch 3)
+unfolding limbs_of
+no_branch = refl
+
+step_first : bench_reading (with_line_3 (line (codes "r 1"))) ≡ Err (fault BadBranch 3)
+unfolding limbs_of
+step_first = refl
+
+no_line_end : bench_reading (front ++ codes "branch b 1 1") ≡ Err (fault BadBranch 8)
+unfolding limbs_of
+no_line_end = refl
+
+no_step : bench_reading (front ++ line (codes "r 0")) ≡ Err (fault BadStep 8)
+unfolding limbs_of
+no_step = refl
+
+of_a_tower : bench_reading (line (codes "tower 2") ++ line (codes "safe 0")) ≡ Err (fault BadHeader 1)
+unfolding limbs_of
+of_a_tower = refl

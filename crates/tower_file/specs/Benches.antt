@@ -1,0 +1,35 @@
+-- What a bench file says.
+use Rattle.std.specs.Prelude.{◌≡◌, ◌^◌, Bool, true, false, ◌&&◌, nat_lt, List, [], ◌∷◌}
+use Rattle.std.specs.List.{list_all}
+use Rattle.schedule_trie.specs.declared.limb.Limb.{Limb}
+use Rattle.schedule_trie.specs.Limbs.{are_lawful_after}
+use Rattle.tower_file.specs.declared.tower.TowerSpec.{TowerSpec}
+use Rattle.tower_file.specs.Towers.{is_lawful_tower, fits}
+
+-- a tower, and the limbs of a forest
+pub record Bench : Type 0 where
+  pub spec : TowerSpec
+  pub limbs : List Limb
+
+abbrev pub bench_of : TowerSpec → List Limb → Bench
+bench_of t limbs = record { spec = t; limbs = limbs }
+
+-- whether there is a limb
+abbrev pub is_some : List Limb → Bool
+is_some [] = false
+is_some (l ∷ ls) = true
+
+-- a limb's numbers are those that words write, and its steps fit the tower
+abbrev pub has_fit : TowerSpec → Limb → Bool
+has_fit t l = (nat_lt l.from (10 ^ 9) && nat_lt l.shared (10 ^ 9)) && list_all (fits t) l.steps
+
+-- limbs that a file has on a tower: they are lawful, and fit
+abbrev pub are_lawful : TowerSpec → List Limb → Bool
+are_lawful t limbs = are_lawful_after [] limbs && list_all (has_fit t) limbs
+
+-- the tower is lawful, and there are limbs that a file has on it
+abbrev pub is_lawful_bench : Bench → Bool
+is_lawful_bench b = (is_lawful_tower b.spec && is_some b.limbs) && are_lawful b.spec b.limbs
+
+abbrev pub IsLawfulBench : Bench → Type 0
+IsLawfulBench b = is_lawful_bench b ≡ true

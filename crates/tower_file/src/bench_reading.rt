@@ -1,0 +1,166 @@
+//! Reading a bench file.
+
+ghost use Rattle.std.specs.Prelude.{◌≡◌, ◌≢◌, [], ◌≤◌, ◌^◌, IsOk, length, Ok, IfOk, IfErr};
+ghost use Rattle.tower_file.specs.declared.fault.FaultKind.TheVariants.{Memory};
+ghost use Rattle.tower_file.specs.Faults as faults;
+ghost use Rattle.tower_file.specs.Faults.{Gives};
+ghost use Rattle.tower_file.specs.Benches.{Bench};
+ghost use Rattle.tower_file.specs.BenchSpelling.{SpellsBench, SpellsFront, SpellsLimbs, bench_header};
+ghost use Rattle.tower_file.specs.BenchReading as spec;
+ghost use Rattle.tower_file.specs.Reading as reading;
+ghost use Rattle.words.specs.Words.{after_next};
+
+use crate::bench::BenchFile;
+use crate::fault::{FaultKind, FileFault};
+use crate::limbs::NamedLimbs;
+use crate::line::{branch_of, fitting_step, is_branch};
+use crate::reading::{fault, first_odd, line_at, tower_of};
+use crate::tower::TowerSpec;
+use crate::version::Version;
+use schedule_trie::limb::Limb;
+use std::alloc::Global;
+use words::parts::Parts;
+use words::step::is;
+
+/// Whether the first line is a bench file's header, which is read.
+fn has_header(lines: &mut Parts<'_>) -> bool
+    ensures header { result ≡ reading.has_header bench_header lines.old }
+    ensures left { lines.new ≡ after_next lines.old }
+{
+    let header = lines.next();
+    !lines.is_end() && is(header, "bench 1")
+}
+
+/// Adds the branch of the words behind the first of line `number`.
+fn add_branch(
+    alloc: Global,
+    limbs: &mut NamedLimbs,
+    number: u64,
+    words: &mut Parts<'_>,
+) -> Result<(), FileFault>
+    ensures read { Gives
+        (λ _. limbs.new) result (spec.then_branch number limbs.old words.old) }
+    ensures memory { IfErr result (λ e. e.kind ≡ Memory
+        → IsOk (spec.then_branch number limbs.old words.old)) }
+{
+    let Some(limb) = branch_of(alloc, words) else {
+        return Err(fault(FaultKind::BadBranch, number));
+    };
+    if !limbs.is_new_name(&limb.name) {
+        return Err(fault(FaultKind::BadBranch, number));
+    }
+    if !limbs.may_share(&limb) {
+        return Err(fault(FaultKind::Tangled, number));
+    }
+    limbs.push(limb)?;
+    Ok(())
+}
+
+/// Adds the step of line `number` to the last branch.
+fn add_step(
+    tower: &TowerSpec,
+    limbs: &mut NamedLimbs,
+    number: u64,
+    line: &[u8],
+) -> Result<(), FileFault>
+    ensures read { Gives
+        (λ _. limbs.new) result (spec.then_step tower.now number limbs.old line.now) }
+    ensures memory { IfErr result (λ e. e.kind ≡ Memory
+        → IsOk (spec.then_step tower.now number limbs.old line.now)) }
+{
+    if limbs.is_empty() {
+        return Err(fault(FaultKind::BadBranch, number));
+    }
+    let Some(step) = fitting_step(Version::Two, tower, line) else {
+        return Err(fault(FaultKind::BadStep, number));
+    };
+    limbs.push_step(step)?;
+    Ok(())
+}
+
+/// Adds what line `number` says: a branch, or a step of the last one.
+fn add_line(
+    alloc: Global,
+    tower: &TowerSpec,
+    limbs: &mut NamedLimbs,
+    number: u64,
+    line: &[u8],
+) -> Result<(), FileFault>
+    ensures read { Gives
+        (λ _. limbs.new) result (spec.then_line tower.now number limbs.old line.now) }
+    ensures memory { IfErr result (λ e. e.kind ≡ Memory
+        → IsOk (spec.then_line tower.now number limbs.old line.now)) }
+{
+    let mut words = Parts::new(line, b' ');
+    if is(words.next(), "branch") {
+        return add_branch(alloc, limbs, number, &mut words);
+    }
+    add_step(tower, limbs, number, line)
+}
+
+/// These limbs, where line `number` is nothing, and the file's end.
+fn ended(limbs: NamedLimbs, number: u64, rest: &[u8]) -> Result<Vec<Limb>, FileFault>
+    ensures read { Gives (λ limbs. limbs.items) result (spec.ended number limbs rest.now) }
+    ensures known { IfErr result (λ e. e.kind ≢ Memory) }
+{
+    if is_branch(rest) || limbs.is_empty() {
+        return Err(fault(FaultKind::BadBranch, number));
+    }
+    if !rest.is_empty() {
+        return Err(fault(FaultKind::BadStep, number));
+    }
+    Ok(limbs.into_limbs())
+}
+
+/// Reads the limbs: the lines that are left, of which the first is the file's third.
+fn limbs_of(alloc: Global, tower: &TowerSpec, lines: &mut Parts<'_>) -> Result<Vec<Limb>, FileFault>
+    requires few { length lines.old ≤ 2 ^ 63 }
+    ensures read { Gives
+        (λ limbs. limbs.items) result (spec.limbs_of tower.now 3 [] lines.old) }
+    ensures memory { IfErr result (λ e. e.kind ≡ Memory → SpellsLimbs tower.now lines.old) }
+{
+    let mut limbs = NamedLimbs::new(alloc);
+    let mut number = 3;
+    'reading: loop {
+        let line = lines.next();
+        if lines.is_end() {
+            return ended(limbs, number, line);
+        }
+        add_line(alloc, tower, &mut limbs, number, line)?;
+        number += 1;
+    }
+}
+
+/// Reads a bench file.
+fn bench_of(alloc: Global, bytes: &[u8]) -> Result<BenchFile, FileFault>
+    ensures exact { Gives (λ b. b) result (spec.bench_reading bytes.now) }
+    ensures memory { IfErr result (λ e. e.kind ≡ Memory → SpellsFront bytes.now) }
+{
+    prove!(bytes.len() < 1 << 63);
+    if let Some(place) = first_odd(bytes) {
+        return Err(fault(FaultKind::NotAscii, line_at(place, bytes)));
+    }
+    let mut lines = Parts::new(bytes, b'\n');
+    if !has_header(&mut lines) {
+        return Err(fault(FaultKind::BadHeader, 1));
+    }
+    let tower = tower_of(&mut lines)?;
+    let limbs = limbs_of(alloc, &tower, &mut lines)?;
+    Ok(BenchFile::new(tower, limbs))
+}
+
+/// The bench file that the bytes spell, or their first fault.
+pub fn parse_bench(alloc: Global, bytes: &[u8]) -> Result<BenchFile, FileFault>
+    // What is read is spelled so.
+    ensures found { IfOk result (λ b. SpellsBench bytes.now b) }
+    // What is spelled so is read, unless a growth is refused.
+    ensures only { (b : Bench) → SpellsBench bytes.now b → Gives (λ b. b) result (Ok b) }
+    // Else the first fault is told, unless a growth is refused.
+    ensures exact { Gives (λ b. b) result (spec.bench_reading bytes.now) }
+    ensures fault { IfErr result (λ e. e.kind ≢ Memory
+        → (b : Bench) → SpellsBench bytes.now b → ⊥) }
+    // Want of memory is told only where there is no fault up to the line that wanted it.
+    ensures memory { IfErr result (λ e. e.kind ≡ Memory → (e.line ≡ 0) × SpellsFront bytes.now) }
+{
+    bench_of(alloc, bytes)
+}
