@@ -17,4 +17,4 @@ returns-clause-first g c =
 pub returns-clause-each : goal.returns-clause-each
 returns-clause-each g c i front back e =
     let t = c.self.inside in
-    c.above.ensures.each i front back (sym (keys_are t c.self.invariant i) ∙ ap (λ z. keys_in z.strands i) c.self.view_is ∙ e)
+    c.above.ensures.each i front back (sym (keys_are t c.self.invariant.held i) ∙ ap (λ z. keys_in z.strands i) c.self.view_is ∙ e)
