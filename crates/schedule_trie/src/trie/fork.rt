@@ -95,8 +95,8 @@ impl<T: Drop> Trie<T> {
         requires name { index_of (forest self.old).branches name ≡ None }
         requires room { length self.old.strands < self.old.limits.branches }
         ensures ok { OnOk result (IsForked self.old self.new index
-            (length (line (piece_at self.old.pieces) (keys_to (keys_in self.old.strands index) last)))
-            name) }
+            (length (line (piece_at self.old.pieces)
+            (keys_to (keys_in self.old.strands index) last))) name) }
         ensures err { OnErr result (self.new ≡ self.old) }
     {
         self.branches.reserve(1)?;
