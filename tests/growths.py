@@ -7,8 +7,10 @@ out of a script is
   growths were refused: the answers of the other lines are then those of a run of the script without
   these lines, which is run too;
 - a front of such answers, and the fault `towerbench: memory` with status 1;
-- nothing at all, and the fault of the file or of the opening, `40 Memory`, with status 1.
-Nothing else. Rows through the calls of the desk and of the chart are tried by the built tests of
+- nothing at all, and the fault of the file or of the opening, `40 Memory`, with status 1;
+- where the branches are saved, the whole answers, and the fault `towerbench: memory` with status 1.
+Nothing else. What is saved is what is saved with ample memory, unless a line was refused; where a run
+ends by a fault, the file is as it was. Rows through the calls of the desk and of the chart are tried by the built tests of
 their crates, which say themselves what may be answered.
 """
 import collections
@@ -25,6 +27,8 @@ ROWS = (
     "thousand-steps-filled",
     "thousand-steps-by-workers",
     "first-run-and-edits",
+    "bench-file",
+    "bench-file-a-branch-dropped",
     "breaks",
     "cells-full",
     "detach-replace",
@@ -36,8 +40,8 @@ ROWS = (
 NUMBERS_OF_WORKERS = (0, 4)
 # How many growths are refused in a row where it isn't one, and on which rows.
 MORE_IN_A_ROW = {
-    2: ("detach-replace", "shared-insert"),
-    6: ("breaks", "script-lines", "shared-insert", "thousand-steps-filled"),
+    2: ("bench-file", "detach-replace", "shared-insert"),
+    6: ("bench-file", "breaks", "script-lines", "shared-insert", "thousand-steps-filled"),
 }
 # A crate whose tests are tried where they are built, a test's name, and how many growths are refused
 # in a row: some make a call again that was refused memory, more often than that.
@@ -47,9 +51,12 @@ TESTS = (
     ("thread_tests", "desks::growths::thousand_steps_wanting_memory", (1, 2, 6)),
     ("thread_tests", "desks::growths::thousand_steps_by_four_wanting_memory", (1, 2, 6)),
     ("thread_tests", "desks::crossings::crossing_wanting_memory", (1, 2, 6)),
+    ("thread_tests", "desks::limbs::limbs_wanting_memory", (1, 2, 6)),
     ("branch_tests", "charts::growths::late_run_wanting_memory", (1, 2, 6)),
     ("branch_tests", "charts::growths::thousand_steps_wanting_memory", (1, 2, 6)),
 )
+# What stands at the path that is saved to before a run.
+KEPT = b"as it was\n"
 SOURCE = "tests/refuse_growth.c"
 # Past the last growth, so many runs in a row refuse none: threads may grow more or less often.
 RUNS_PAST_THE_LAST = 8
@@ -175,6 +182,21 @@ def fault_of_run(ran, answers, refused):
     return None
 
 
+def put_back(path):
+    with open(path, "wb") as file:
+        file.write(KEPT)
+
+
+def fault_of_save(case, ran):
+    """Returns how what a run saved isn't as it may be, or None."""
+    if not case.save:
+        return None
+    if ran.status != 0:
+        return None if cases.saved_by(case) == KEPT else "the file is not as it was"
+    is_ample = ran.output == case.output
+    return "something else is saved" if is_ample and cases.saved_by(case) != case.saved else None
+
+
 def fault_of_script(trial, program, refuse, scratch):
     """Refuses each growth of a case's run in turn; returns what is wrong, or None."""
     # (other trials of the case make its files side by side)
@@ -184,13 +206,16 @@ def fault_of_script(trial, program, refuse, scratch):
     ran = cases.run(program, words, case.script)
     if cases.difference(case, ran):
         return cases.difference(case, ran)
+    own = [it for it in case.words if it not in ("--save", case.save)]
     ample = Answers(
-        lambda script: cases.run(program, case.words, script).output, cases.read(case.script)
+        lambda script: cases.run(program, own, script).output, cases.read(case.script)
     )
 
     def work(number, environment, refused):
+        if case.save:
+            put_back(case.save)
         ran = cases.run(program, words, case.script, environment)
-        wrong = fault_of_run(ran, ample, refused())
+        wrong = fault_of_run(ran, ample, refused()) or fault_of_save(case, ran)
         if wrong:
             raise Odd(f"from growth {number} on, {refused()} refused: {wrong}: {said(ran)}")
         return ran.status == 0 and ran.output == case.output

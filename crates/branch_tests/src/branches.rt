@@ -3,6 +3,7 @@
 
 ghost use Rattle.std.specs.Prelude.{◌<◌, ◌≤◌};
 ghost use Rattle.schedule_trie.specs.Cut.{AreLimits};
+ghost use Rattle.schedule_trie.specs.declared.limits.TheConstants.{MOST_CELLS_MADE};
 
 use crate::given::{GO, READ, name, none_wrong};
 use frames::types::Step;
@@ -23,7 +24,7 @@ fn reads(alloc: Global, count: u32) -> Result<Vec<Step>, AllocError> {
 }
 
 fn limits(cells: u32) -> Limits
-    requires { 0 < cells × cells ≤ 16777216 }
+    requires { 0 < cells × cells ≤ MOST_CELLS_MADE }
     ensures { AreLimits result }
 {
     Limits {
@@ -201,7 +202,7 @@ fn told_behind(
 
 /// Why steps are refused where there is room for so many cells.
 fn refused(alloc: Global, cells: u32, steps: &[Step]) -> Option<Refusal>
-    requires { 0 < cells × cells ≤ 16777216 }
+    requires { 0 < cells × cells ≤ MOST_CELLS_MADE }
 {
     let trie: Result<Trie<u32>, Refusal> = Trie::new(alloc, limits(cells), steps);
     trie.err()

@@ -13,3 +13,5 @@ mod branches;
 mod charts;
 #[cfg(test)]
 mod given;
+#[cfg(test)]
+mod limbs;

@@ -18,7 +18,7 @@ use Rattle.cutoff.specs.Held.{StepsFit}
 use Rattle.cutoff.proofs.Edits.{FitAll, fits_everywhere, at_cell_fits, steps_numbered}
 
 -- a command that wasn't refused
-passed : (refused : Bool) (e : Refusal) (r : Result Forest Refusal) (g : Forest) → cond refused (Err e) r ≡ Ok g → r ≡ Ok g
+pub passed : (refused : Bool) (e : Refusal) (r : Result Forest Refusal) (g : Forest) → cond refused (Err e) r ≡ Ok g → r ≡ Ok g
 passed true e r g h = absurd (cc)
 passed false e r g h = h
 
@@ -27,7 +27,7 @@ found None command g h = absurd (cc)
 found (Some i) command g h = (i, h)
 
 module _ {P : Type 0} (b : Behaviour P) where
-  none_fit : FitAll b []
+  pub none_fit : FitAll b []
   none_fit = All-nil (λ s. fits_step b s ≡ true)
 
   fits_cons : (s : Slot) (slots : List Slot) → fits_step b s.step ≡ true → FitAll b slots → FitAll b (s ∷ slots)
@@ -36,10 +36,10 @@ module _ {P : Type 0} (b : Behaviour P) where
   fits_head : (s : Slot) (slots : List Slot) → FitAll b (s ∷ slots) → fits_step b s.step ≡ true
   fits_head s slots h = All-head (λ s. fits_step b s ≡ true) s.step (map step_of slots) h
 
-  fits_tail : (s : Slot) (slots : List Slot) → FitAll b (s ∷ slots) → FitAll b slots
+  pub fits_tail : (s : Slot) (slots : List Slot) → FitAll b (s ∷ slots) → FitAll b slots
   fits_tail s slots h = All-tail (λ s. fits_step b s ≡ true) s.step (map step_of slots) h
 
-  fits_both : (xs ys : List Slot) → FitAll b xs → FitAll b ys → FitAll b (xs ++ ys)
+  pub fits_both : (xs ys : List Slot) → FitAll b xs → FitAll b ys → FitAll b (xs ++ ys)
   fits_both xs ys h k = subst (AllFit b) (sym (map-append step_of xs ys)) (All-append (λ s. fits_step b s ≡ true) (map step_of xs) (map step_of ys) h k)
 
   fits_only_in : (g : List Slot → List Slot) → ((slots : List Slot) → FitAll b slots → FitAll b (g slots)) → (bs : List Branch) (i : ℕ)
@@ -73,12 +73,12 @@ module _ {P : Type 0} (b : Behaviour P) where
   fits_renumbered : (n : ℕ) (slots : List Slot) → FitAll b slots → FitAll b (renumbered n slots)
   fits_renumbered n slots fits = subst (AllFit b) (sym (steps_numbered b n (map step_of slots))) fits
 
-  fits_take : (n : ℕ) (slots : List Slot) → FitAll b slots → FitAll b (take n slots)
+  pub fits_take : (n : ℕ) (slots : List Slot) → FitAll b slots → FitAll b (take n slots)
   fits_take zero slots fits = none_fit
   fits_take (suc n) [] fits = none_fit
   fits_take (suc n) (s ∷ slots) fits = fits_cons s (take n slots) (fits_head s slots fits) (fits_take n slots (fits_tail s slots fits))
 
-  fits_one_more : (bs : List Branch) (c : Branch) → ((j : ℕ) → FitAll b (slots_in bs j)) → FitAll b c.slots → (j : ℕ) → FitAll b (slots_in (bs ++ c ∷ []) j)
+  pub fits_one_more : (bs : List Branch) (c : Branch) → ((j : ℕ) → FitAll b (slots_in bs j)) → FitAll b c.slots → (j : ℕ) → FitAll b (slots_in (bs ++ c ∷ []) j)
   fits_one_more [] c each h zero = h
   fits_one_more [] c each h (suc j) = none_fit
   fits_one_more (d ∷ bs) c each h zero = each 0

@@ -90,16 +90,15 @@ linked_kept E h next above c old new notes l =
     record { exits = l.exits; as_many = l.as_many; each = notes_kept (IsTold E h l.exits) (unnoted_told E h l.exits) old new notes l.each; came = l.came }
 
 -- a chart at first
-pub started : {R P : Type 0} (E : R → R → Bool) (is : R → Behaviour P) (register : R) (value : ℕ) (limits : Limits) (steps : List Step) (cut : Cut (StoredRun R P))
-    (start : Configuration R P) → value < (is register).values → AllFit (is register) steps → opened limits steps ≡ Ok (forest cut) → IsCut cut → IsBlank cut
-    → start ≡ initial_configuration (is register) register value
+pub started : {R P : Type 0} (E : R → R → Bool) (is : R → Behaviour P) (register : R) (value : ℕ) (cut : Cut (StoredRun R P)) (start : Configuration R P)
+    → value < (is register).values → StepsFit (is register) (forest cut) → IsCut cut → IsBlank cut → start ≡ initial_configuration (is register) register value
     → IsCharted E (is start.register) 0 (record { cut = cut; start = start; value = value })
-started {R} {P} E is register value limits steps cut start within fits at_first whole blank e =
+started {R} {P} E is register value cut start within fits whole blank e =
     let r : register ≡ start.register = sym (ap (λ c. c.register) e) in
     record {
       within = subst (λ x. value < (is x).values) r within;
       begins = subst (λ x. start ≡ initial_configuration (is x) x value) r e;
-      fits = subst (λ x. StepsFit (is x) (forest cut)) r (opened_fits (is register) limits steps (forest cut) fits at_first);
+      fits = subst (λ x. StepsFit (is x) (forest cut)) r fits;
       whole = whole;
       linked = record { exits = []; as_many = refl; each = λ k. unnoted_told E start.register [] (piece_at cut.pieces k) (blank k); came = tt };
     }

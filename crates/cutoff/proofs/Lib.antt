@@ -12,4 +12,5 @@ pub mod Plannings
 pub mod Chainings
 pub mod Commands
 pub mod Edited
+pub mod LimbFits
 pub mod EarlyCutoff

@@ -1,8 +1,10 @@
 -- What a chart keeps.
 use Rattle.std.specs.Prelude.{ℕ, ◌≡◌, ◌<◌, Bool, nat_lt, List, [], Option, None, Some, Result, Ok, Err, length, map, if◌then◌else◌}
+use Rattle.std.specs.List.{All}
 use Rattle.frames.specs.Behaviour.{Behaviour}
 use Rattle.frames.specs.Configuration.{Configuration, initial_configuration}
 use Rattle.frames.specs.Recorded.{AllFit}
+use Rattle.schedule_trie.specs.declared.limb.Limb.{Limb}
 use Rattle.schedule_trie.specs.declared.refusal.Refusal.{Refusal}
 use Rattle.schedule_trie.specs.declared.refusal.Refusal.TheVariants.{NoPlace}
 use Rattle.schedule_trie.specs.Forest.{Forest, slots_in, step_of, index_of, on_branch}
@@ -26,6 +28,10 @@ pub record IsCharted {R P : Type 0} (E : R → R → Bool) (b : Behaviour P) (ne
   pub fits : StepsFit b (forest c.cut)
   pub whole : IsCut c.cut
   pub linked : IsLinked E c.start.register next None (alone c.start) c.cut
+
+-- each own step of each limb fits
+abbrev pub LimbsFit : {P : Type 0} → Behaviour P → List Limb → Type 0
+LimbsFit b limbs = All (λ l. AllFit b l.steps) limbs
 
 -- the keys of the segments of the branch of a name
 abbrev pub keys_or : Option ℕ → List Strand → List ℕ

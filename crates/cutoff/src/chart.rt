@@ -13,6 +13,7 @@ ghost use Rattle.schedule_trie.specs.Cut.{AreLimits, IsCut, IsBlank, forest, if_
 
 mod chains;
 mod edits;
+mod limbs;
 
 use crate::chain::jobs_of;
 use crate::install::{Installation, fits_down, has_segment};

@@ -1,6 +1,7 @@
 -- What a book's calls do to the list behind the turn.
 use Rattle.std.proofs.Common.{◌≡◌, ◌⊎◌, ℕ, ◌≤◌, Bool, true, false, cond, nat_le, List, [], ◌∷◌, ◌++◌, length, Option, Some, Result, Ok, Err, IsOk, IfOk, OnOk, IfErr, IsSome, refl, sym, ap, subst, ◌∙◌, arith, inl, inr}
 use Rattle.std.specs.Global.{Vec}
+use Rattle.std.specs.Result.{IsErrAnd}
 use Rattle.frames.specs.Behaviour.{Behaviour}
 use Rattle.schedule_trie.specs.declared.refusal.Refusal.{Refusal}
 use Rattle.schedule_trie.specs.declared.refusal.Refusal.TheVariants.{LogFull, Memory}
@@ -23,7 +24,8 @@ use Rattle.desk.specs.declared.receipt.Receipt.{Receipt}
 use Rattle.desk.specs.declared.item.Item.{Item}
 use Rattle.desk.specs.declared.item.Item.TheVariants.{Call}
 use Rattle.desk.specs.Items.{made_under, as_items, items}
-use Rattle.desk.specs.Works.{IsAct, IsReading, IsLook, IsAnswer, IsPaged, PlansOf}
+use Rattle.desk.specs.declared.receipt.Saved.{Saved}
+use Rattle.desk.specs.Works.{IsAct, IsReading, IsLook, IsAnswer, IsPaged, IsSaving, PlansOf}
 use Rattle.desk.proofs.Lists.{items_more}
 use Rattle.desk.proofs.Logged.{put, logged_last}
 
@@ -34,6 +36,11 @@ pub answer_of : {P : Type 0} (w : World P) (query : Query) (r : Result Page Refu
     → IfErr r (IsRefused (looked w query)) → IsAnswer w query r
 answer_of w query (Ok page) shown found refused = (found, shown)
 answer_of w query (Err e) shown found refused = refused
+
+-- a save that is refused is refused as Memory, where its fault is
+pub wants_memory : {P : Type 0} (n : ℕ) (w : World P) (r : Result Saved Refusal) (Is : Refusal → Type 0) → IsErrAnd r Is → ((x : Refusal) → Is x → x ≡ Memory) → IsSaving n w r
+wants_memory n w (Ok saved) Is k same = absurd k
+wants_memory n w (Err x) Is k same = same x k
 
 -- the chart of a book is one of its world's branches
 plans : {R P : Type 0} (E : R → R → Bool) (is : R → Behaviour P) (h : Held R P) (branch : List ℕ) (most : ℕ) (r : Result (Vec (Chained R P)) Refusal)

@@ -20,9 +20,10 @@ use Rattle.desk.specs.declared.item.Item.{Item}
 use Rattle.desk.specs.declared.desk.Desk.{Desk}
 use Rattle.desk.specs.declared.receipt.Receipt.{Receipt}
 use Rattle.desk.specs.declared.receipt.Answer.{Answer}
+use Rattle.desk.specs.declared.receipt.Saved.{Saved}
 use Rattle.desk.specs.declared.report.Report.{Report}
 use Rattle.desk.specs.Histories.{IsHistory, seen, own}
-use Rattle.desk.specs.Works.{IsAnswer, NeedsBranch}
+use Rattle.desk.specs.Works.{IsAnswer, IsSaving, NeedsBranch}
 
 module _ {R P : Type 0} where
   -- the book of a desk as it opened
@@ -79,6 +80,10 @@ module _ {R P : Type 0} where
     -- a look answers of the world after the history that it found, and tells how long that is
     abbrev pub Looked : Query → View (Item R P) → View (Item R P) → Answer → Type 0
     Looked query v w answer = Reads (λ n world. (answer.at ≡ n) × IsAnswer world query answer.result) v w
+
+    -- a save is of the world after the history that it found, and tells how long that is
+    abbrev pub SavedFrom : View (Item R P) → View (Item R P) → Result Saved Refusal → Type 0
+    SavedFrom v w result = Reads (λ n world. IsSaving n world result) v w
 
     -- A fill reads at first whether its branch is there, and what was then seen stays
     abbrev pub Filled : List ℕ → View (Item R P) → View (Item R P) → Result Report Refusal → Type 0

@@ -21,10 +21,12 @@ use Rattle.sessions.specs.declared.log.Entry.{Entry}
 use Rattle.sessions.specs.declared.reply.Reply.TheVariants.{No}
 use Rattle.sessions.specs.World.{World}
 use Rattle.sessions.specs.Looks.{looked, shown_in}
+use Rattle.sessions.specs.Saves.{IsSaved}
 use Rattle.sessions.specs.Held.{Held, opening_of}
 use Rattle.sessions.specs.Logs.{IsLegal, entry, logged, world_after}
 use Rattle.desk.specs.declared.item.Item.{Item}
 use Rattle.desk.specs.declared.receipt.Receipt.{Receipt}
+use Rattle.desk.specs.declared.receipt.Saved.{Saved}
 use Rattle.desk.specs.Items.{items}
 
 -- the answer to a look at a world: its page, the first refusal, or Memory
@@ -41,6 +43,11 @@ IsPaged (Err r) result = result ≡ Err r
 abbrev pub NeedsBranch : {P A : Type 0} → List ℕ → World P → Result A Refusal → Type 0
 NeedsBranch branch w (Ok x) = IsSome (index_of w.forest.branches branch)
 NeedsBranch branch w (Err r) = if_lacks (index_of w.forest.branches branch) ≡ r
+
+-- what is saved of a world behind so many calls, or Memory
+abbrev pub IsSaving : {P : Type 0} → ℕ → World P → Result Saved Refusal → Type 0
+IsSaving n w (Ok saved) = (saved.at ≡ n) × IsSaved w saved.limbs.items
+IsSaving n w (Err r) = r ≡ Memory
 
 -- the run that a job came to, if it came to one
 abbrev pub run_in : {A : Type 0} → Outcome A → Option A

@@ -5,6 +5,8 @@ ghost use Rattle.frames.specs.Recorded.{AllFit};
 ghost use Rattle.schedule_trie.specs.Forest.{IsRefused, opened};
 ghost use Rattle.schedule_trie.specs.Forest as forests;
 ghost use Rattle.schedule_trie.specs.Cut.{AreLimits};
+ghost use Rattle.schedule_trie.specs.Limbs.{IsLawful, forest_of, loaded};
+ghost use Rattle.cutoff.specs.Held.{LimbsFit};
 ghost use Rattle.turn.specs.Shares.{HasAll, count, next_least};
 ghost use Rattle.turn.specs.Histories.{IsJoined, OwnsItsCalls, first_view, told_of, kept, handed};
 ghost use Rattle.turn.specs.Chairs.{view};
@@ -22,6 +24,7 @@ use crate::look::Look;
 use crate::receipt::{Answer, Receipt};
 use frames::register::Register;
 use frames::types::Step;
+use schedule_trie::limb::Limb;
 use schedule_trie::limits::Limits;
 use schedule_trie::refusal::Refusal;
 use sessions::book::Book;
@@ -72,6 +75,39 @@ impl<R: Register> Desk<R> {
         ensures err { IfErr result (IsRefused (opened limits steps.now)) }
     {
         let book = Book::new(alloc, register, value, limits, steps)?;
+        let first = Snapshot::of(&book);
+        let Ok((turn, chair)) = Turn::new(alloc, Journal::new(book)) else {
+            return Err(Refusal::Memory);
+        };
+        Ok((Desk { turn, first }, chair))
+    }
+
+    /// A desk before the first call, with one chair that holds all 16 shares: a register at a value, the limits, and the forest that
+    /// grows from limbs, of which there is one.
+    ///
+    /// # Errors
+    ///
+    /// Full where they bring more cells than may be made; TooManyBranches; Memory.
+    pub fn open_limbs(
+        alloc: Global,
+        register: R,
+        value: u32,
+        limits: Limits,
+        limbs: &[Limb],
+    ) -> Result<(Desk<R>, Chair<R>), Refusal>
+        requires value { value < (R.is register).values }
+        requires limits { AreLimits limits }
+        requires lawful { IsLawful limbs.now }
+        requires some { 0 < length limbs.now }
+        requires fits { LimbsFit (R.is register) limbs.now }
+        ensures chair { IfOk result (λ r. IsAt R.is r.0 r.1) }
+        ensures first { IfOk result (λ r. view r.1 ≡ first_view (items (book_at_first r.0) [])) }
+        ensures opening { let first = opening (R.is register) value limits (forest_of limbs.now) in
+            IfOk result (λ r. opening_of R.is (book_at_first r.0) ≡ first) }
+        ensures ok { OnOk result (loaded limits limbs.now ≡ Ok (forest_of limbs.now)) }
+        ensures err { IfErr result (IsRefused (loaded limits limbs.now)) }
+    {
+        let book = Book::load(alloc, register, value, limits, limbs)?;
         let first = Snapshot::of(&book);
         let Ok((turn, chair)) = Turn::new(alloc, Journal::new(book)) else {
             return Err(Refusal::Memory);

@@ -14,9 +14,10 @@ mod look;
 mod plan;
 mod receipt;
 mod report;
+mod save;
 
 pub use desk::{Chair, Desk};
 pub use item::Item;
 pub use journal::Journal;
-pub use receipt::{Answer, Receipt};
+pub use receipt::{Answer, Receipt, Saved};
 pub use report::Report;

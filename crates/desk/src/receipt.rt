@@ -1,5 +1,6 @@
 //! What a desk answers.
 
+use schedule_trie::limb::Limb;
 use schedule_trie::refusal::Refusal;
 use sessions::reply::Reply;
 use views::page::Page;
@@ -16,4 +17,11 @@ pub struct Receipt {
 pub struct Answer {
     pub at: u64,
     pub result: Result<Page, Refusal>,
+}
+
+/// What is saved: the limbs of the branches, in order of making, and how long the history was as the turn was given back.
+#[derive(Debug, Drop)]
+pub struct Saved {
+    pub at: u64,
+    pub limbs: Vec<Limb>,
 }

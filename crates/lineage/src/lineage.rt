@@ -1,6 +1,6 @@
 //! Paths of items, first to last.
 
-ghost use Rattle.std.specs.Prelude.{ℕ, ◌≡◌, List, ◌++◌, length, [], ◌∷◌, map, Some, None, IfOk, IsSome, slice_set, true, false};
+ghost use Rattle.std.specs.Prelude.{ℕ, ◌≡◌, ◌≤◌, List, ◌++◌, length, [], ◌∷◌, map, Some, None, IfOk, IsSome, slice_set, true, false};
 ghost use Rattle.std.specs.Option.{option_copied};
 ghost use Rattle.lineage.specs.Family.{item_at, path_in, last_of, EndsAlone, IsFamily};
 ghost use Rattle.lineage.specs.Climbs.{Ends};
@@ -60,6 +60,13 @@ impl<X: Drop> Lineage<X> {
         ensures { result ≡ length self.now.paths }
     {
         self.tips.len()
+    }
+
+    /// A number that is above the key of each item: for how many there is room.
+    pub fn room(&self) -> usize
+        ensures { (k : ℕ) → result ≤ k → item_at self.now k ≡ None }
+    {
+        self.nodes.capacity()
     }
 
     /// The item at a key; none where there is none.

@@ -9,6 +9,7 @@ use Rattle.schedule_trie.proofs.Once.{Once-from_linked, has-head, has-tail}
 use Rattle.schedule_trie.proofs.Climbs.{IsLast, IsStepUp, last_is, step_up}
 use Rattle.schedule_trie.proofs.Lines.{keys_are, line_fits}
 use Rattle.schedule_trie.proofs.Touched.{some_slots}
+use Rattle.schedule_trie.specs.declared.limits.TheConstants.{MOST_CELLS_MADE}
 
 module _ {T : Type 0} (t : Inside T) (c : Cut T) (seen : cut_of t ≡ c) (held : IsHeld t) (index : ℕ) where
   -- a path has each key once
@@ -29,12 +30,12 @@ module _ {T : Type 0} (t : Inside T) (c : Cut T) (seen : cut_of t ≡ c) (held :
       → ((i : ℕ) (front back : List ℕ) → path_in t.segments i ≡ front ++ key ∷ back → above ≡ last_of front) → IsStepUp (keys_in c.strands index) key above
   path_up key above h each = step_up (keys_in c.strands index) key above path_once h (λ front back e. each index front back (sym same ∙ e))
 
-  pub path_short : length (line (piece_at c.pieces) (keys_in c.strands index)) ≤ 16777216
+  pub path_short : length (line (piece_at c.pieces) (keys_in c.strands index)) ≤ MOST_CELLS_MADE
   path_short =
       let fits = line_fits t held index in
-      let most : length (line (piece_at (cut_of t).pieces) (keys_in (cut_of t).strands index)) ≤ 16777216 =
+      let most : length (line (piece_at (cut_of t).pieces) (keys_in (cut_of t).strands index)) ≤ MOST_CELLS_MADE =
       omega (arith, fits, held.whole.within.cells, held.whole.within.most_cells) in
-      subst (λ z. length (line (piece_at z.pieces) (keys_in z.strands index)) ≤ 16777216) seen most
+      subst (λ z. length (line (piece_at z.pieces) (keys_in z.strands index)) ≤ MOST_CELLS_MADE) seen most
 
 -- each segment has a cell
 few_keys : {T : Type 0} (at : ℕ → Option (Piece T)) (keys : List ℕ) → ((k : ℕ) → has k keys ≡ true → 0 < length (slots_of (at k))) → length keys ≤ length (line at keys)

@@ -17,7 +17,7 @@ use Rattle.schedule_trie.proofs.Changes.{nat_eq-turned}
 use Rattle.schedule_trie.proofs.Readings.{most, first_left, first_right, none_of, first_of, first_is, none_is}
 
 -- up to a key that comes once: those before it, and itself
-up_to-here : (key : ℕ) (front back : List ℕ) → has key front ≡ false → keys_up_to key (front ++ key ∷ back) ≡ front ++ key ∷ []
+pub up_to-here : (key : ℕ) (front back : List ℕ) → has key front ≡ false → keys_up_to key (front ++ key ∷ back) ≡ front ++ key ∷ []
 up_to-here key [] back h = ap (λ b. cond b (key ∷ []) (key ∷ keys_up_to key back)) (eq-eqb key key refl)
 up_to-here key (k ∷ front) back h = by (nat_eq key k) refl (up_to-here key front back)
   where
@@ -36,7 +36,7 @@ pub record IsLast (keys : List ℕ) (last : Option ℕ) : Type 0 where
   pub reached : IsReached keys last
   pub all : keys_to keys last ≡ keys
 
-last_some : (keys : List ℕ) (first key : ℕ) → (k : ℕ) × ((front : List ℕ) × ((last_from (Some first) keys ≡ Some k) × (first ∷ keys ≡ front ++ k ∷ [])))
+pub last_some : (keys : List ℕ) (first key : ℕ) → (k : ℕ) × ((front : List ℕ) × ((last_from (Some first) keys ≡ Some k) × (first ∷ keys ≡ front ++ k ∷ [])))
 last_some [] first key = (first, ([], (refl, refl)))
 last_some (j ∷ js) first key = let p = last_some js j key in (p.0, (first ∷ p.1.0, (p.1.1.0, ap (λ l. first ∷ l) p.1.1.1)))
 

@@ -17,6 +17,7 @@ use Rattle.schedule_trie.proofs.Strands.{keys_in-of, length-strands, strands-set
 use Rattle.schedule_trie.proofs.Released.{IsReleased, IsSoundBut, released_sound, released_branches, released_notes}
 use Rattle.schedule_trie.proofs.Renumbered.{AreCopied, HaveValues, copied_from}
 use Rattle.schedule_trie.proofs.Beside.{old_kept, new_notes, new_apart, sound_beside, only_renumbered}
+use Rattle.schedule_trie.specs.declared.limits.TheConstants.{MOST_CELLS_MADE}
 
 -- a list in which what comes before a key is one list has each key once
 once_from : (keys : List ℕ) → ((k : ℕ) (front back front2 back2 : List ℕ) → keys ≡ front ++ k ∷ back → keys ≡ front2 ++ k ∷ back2 → front ≡ front2) → Once keys
@@ -131,7 +132,7 @@ module _ {T : Type 0} (t u : Inside T) (index len : ℕ) (copies : List (Segment
         cells = subst (λ l. u.made ≤ l.cells) (sym limits) (subst (λ n. n ≤ t.limits.cells) (sym made) room);
         branches_fit = subst (λ l. length (cut_of u).strands ≤ l.branches) (sym limits) (subst (λ n. n ≤ t.limits.branches) (sym count) held.whole.within.branches_fit);
         some = subst (λ n. 0 < n) (sym count) held.whole.within.some;
-        most_cells = subst (λ l. l.cells ≤ 16777216) (sym limits) held.whole.within.most_cells;
+        most_cells = subst (λ l. l.cells ≤ MOST_CELLS_MADE) (sym limits) held.whole.within.most_cells;
         most_branches = subst (λ l. l.branches ≤ 1024) (sym limits) held.whole.within.most_branches;
       };
     };

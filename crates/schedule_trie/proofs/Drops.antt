@@ -11,6 +11,7 @@ use Rattle.schedule_trie.specs.Releases.{IsDropped}
 use Rattle.schedule_trie.proofs.Strands.{keys_in-of, length-strands, strands-remove}
 use Rattle.schedule_trie.proofs.StepSet.{piece_seen, cut_from_sound}
 use Rattle.schedule_trie.proofs.Released.{IsReleased, IsSoundBut, released_sound, released_branches, released_notes}
+use Rattle.schedule_trie.specs.declared.limits.TheConstants.{MOST_CELLS_MADE}
 
 -- the branches that are left are those that were there but one
 keys_left : (strands : List Strand) (index j : ℕ) → (i : ℕ) × (keys_in (remove strands index) j ≡ keys_in strands i)
@@ -83,7 +84,7 @@ module _ {T : Type 0} (t u : Inside T) (index : ℕ) (held : IsHeld t) (inside :
         cells = subst (λ l. u.made ≤ l.cells) (sym limits) (subst (λ n. n ≤ t.limits.cells) (sym made) held.whole.within.cells);
         branches_fit = subst (λ l. length (cut_of u).strands ≤ l.branches) (sym limits) (omega (arith, count, held.whole.within.branches_fit));
         some = omega (arith, count);
-        most_cells = subst (λ l. l.cells ≤ 16777216) (sym limits) held.whole.within.most_cells;
+        most_cells = subst (λ l. l.cells ≤ MOST_CELLS_MADE) (sym limits) held.whole.within.most_cells;
         most_branches = subst (λ l. l.branches ≤ 1024) (sym limits) held.whole.within.most_branches;
       };
     };

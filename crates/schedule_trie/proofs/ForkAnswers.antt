@@ -25,7 +25,7 @@ nat_lt-more : (a b : ℕ) → nat_lt (1 + a) (suc b) ≡ nat_lt a b
 nat_lt-more a b = grind (arith, nat_tests)
 
 -- a list has an element that passes where one is found
-any_or_none : {X : Type 0} (test : X → Bool) (xs : List X) → nat_lt (position_or_len test xs) (length xs) ≡ list_any test xs
+pub any_or_none : {X : Type 0} (test : X → Bool) (xs : List X) → nat_lt (position_or_len test xs) (length xs) ≡ list_any test xs
 any_or_none test [] = refl
 any_or_none test (x ∷ xs) = by (test x) (any_or_none test xs)
   where

@@ -12,7 +12,7 @@ use Rattle.schedule_trie.specs.Cut.{Cut, forest, piece_at, slots_of, branch_on, 
 use Rattle.schedule_trie.specs.Copies.{IsDetached}
 use Rattle.schedule_trie.specs.Forks.{IsForked}
 use Rattle.schedule_trie.specs.Releases.{IsDropped}
-use Rattle.schedule_trie.specs.Held.{names_of, cut_of, kept_in, AreLengths, IsHeld, IsKept}
+use Rattle.schedule_trie.specs.Held.{names_of, cut_of, kept_in, AreLengths, AreNames, IsHeld, IsKept}
 use Rattle.schedule_trie.proofs.Lengths.{relength_seen, relength_held, none_kept, same_lengths, length-everywhere, length-only_in, one_forgotten, lengths_left, lengths_more}
 use Rattle.schedule_trie.proofs.Lines.{index_is}
 use Rattle.schedule_trie.proofs.Renumbered.{length-renumbered}
@@ -62,12 +62,17 @@ forked_lengths t new entries index place name right free is told =
 
 -- no length is kept any more
 module _ {T : Type 0} (t u : Inside T) (names : names_of u ≡ names_of t) (segments : u.segments ≡ t.segments) (made : u.made ≡ t.made) (limits : u.limits ≡ t.limits) where
-  pub none_held : IsHeld t → ((i : ℕ) → kept_in (slice_get u.branches.entries i) ≡ None) → IsKept u
-  none_held held none = record { held = relength_held t u names segments made limits held; lengths = none_kept u.branches.entries (forest (cut_of u)).branches none }
+  pub none_held : IsHeld t → AreNames (names_of t) → ((i : ℕ) → kept_in (slice_get u.branches.entries i) ≡ None) → IsKept u
+  none_held held named none = record {
+    held = relength_held t u names segments made limits held;
+    lengths = none_kept u.branches.entries (forest (cut_of u)).branches none;
+    names = subst AreNames (sym names) named;
+  }
 
-  pub one_held : (es : List (List ℕ × Option ℕ)) → IsHeld t → AreLengths es (forest (cut_of t)).branches → u.branches.entries ≡ es → IsKept u
-  one_held es held right is = record {
+  pub one_held : (es : List (List ℕ × Option ℕ)) → IsHeld t → AreNames (names_of t) → AreLengths es (forest (cut_of t)).branches → u.branches.entries ≡ es → IsKept u
+  one_held es held named right is = record {
     held = relength_held t u names segments made limits held;
     lengths = subst (λ l. AreLengths l (forest (cut_of u)).branches) (sym is)
         (subst (λ c. AreLengths es (forest c).branches) (sym (relength_seen t u names segments made limits)) right);
+    names = subst AreNames (sym names) named;
   }

@@ -11,6 +11,7 @@ pub mod Whole
 pub mod PushSteps
 pub mod PushFresh
 pub mod Openings
+pub mod PushedAll
 pub mod Insertion
 pub mod Division
 pub mod DivisionSteps
@@ -36,8 +37,16 @@ pub mod Touched
 pub mod Apart
 pub mod Shared
 pub mod Lengths
+pub mod NamesKept
 pub mod LengthSteps
 pub mod LengthsAfter
 pub mod LimbLists
 pub mod LimbLaws
 pub mod LimbsLawful
+pub mod LimbCounts
+pub mod LoadSteps
+pub mod OwnParts
+pub mod MarkSteps
+pub mod LimbsTold
+pub mod LimbsSaved
+pub mod LimbsNear

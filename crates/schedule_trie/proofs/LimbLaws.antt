@@ -65,7 +65,7 @@ module _ (earlier : List Limb) (f : Forest) (l : Limb) (h : HasGrown earlier f) 
   abbrev stem : List Slot
   stem = slots_in bs l.from
 
-  short : l.shared ≤ length stem
+  pub short : l.shared ≤ length stem
   short = may_share_parts earlier l (l.shared ≤ length stem) may (λ n. omega (arith, n.shared))
       (λ s. let e = h.sizes l.from s.stem s.there in let w = s.within in omega arith)
 

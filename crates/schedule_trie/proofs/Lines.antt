@@ -15,6 +15,7 @@ use Rattle.lineage.specs.Family.{path_in}
 use Rattle.schedule_trie.specs.Held.{names_of, cut_of, IsHeld}
 use Rattle.schedule_trie.proofs.Strands.{names_on, length-strands, keys_in-of}
 use Rattle.schedule_trie.proofs.Once.{has-append, has-head, has-tail, Once-append, Once-bounded, has_not_from, Once-from_linked}
+use Rattle.schedule_trie.specs.declared.limits.TheConstants.{MOST_CELLS_MADE}
 
 module _ {T : Type 0} (at : ℕ → Option (Piece T)) where
   pub slots_in_on : (strands : List Strand) (i : ℕ) → slots_in (branches_on at strands) i ≡ line at (keys_in strands i)
@@ -93,7 +94,7 @@ module _ {T : Type 0} (t : Inside T) where
 
   -- what the keys of a branch promise
   pub keys_told : IsHeld t → (i : ℕ) (keys : List ℕ) → keys ≡ path_in t.segments i
-      → (keys ≡ keys_in (cut_of t).strands i) × (length (line (piece_at (cut_of t).pieces) keys) ≤ (cut_of t).made) × ((cut_of t).made ≤ 16777216)
+      → (keys ≡ keys_in (cut_of t).strands i) × (length (line (piece_at (cut_of t).pieces) keys) ≤ (cut_of t).made) × ((cut_of t).made ≤ MOST_CELLS_MADE)
   keys_told h i keys e =
       let same : keys_in (cut_of t).strands i ≡ keys = keys_are h i ∙ sym e in
       (sym same, subst (λ l. length (line (piece_at (cut_of t).pieces) l) ≤ t.made) same (line_fits h i), omega (arith, h.whole.within.cells, h.whole.within.most_cells))
@@ -182,9 +183,6 @@ module _ {T : Type 0} (at : ℕ → Option (Piece T)) where
       ∙ ap (λ l. done ++ l) (sym (map-append step_of (slots_of (at (get_or keys i 0))) (line at (drop (suc i) keys))) ∙ ap (map step_of) (sym (line-drop at keys i h)))
       ∙ sum
 
-  pub steps_all : (strands : List Strand) (index i : ℕ) (keys : List ℕ) (done : List Step) → length keys ≤ i
-      → done ++ map step_of (line at (drop i keys)) ≡ map step_of (line at keys) → keys ≡ keys_in strands index
-      → done ≡ map step_of (slots_in (branches_on at strands) index)
-  steps_all strands index i keys done past sum same =
-      sym (append-nil done) ∙ sym (ap (λ l. done ++ map step_of (line at l)) (drop_past i keys past)) ∙ sum
-      ∙ ap (λ l. map step_of (line at l)) same ∙ ap (map step_of) (sym (slots_in_on at strands index))
+  pub steps_all : (i : ℕ) (keys : List ℕ) (done : List Step) → length keys ≤ i
+      → done ++ map step_of (line at (drop i keys)) ≡ map step_of (line at keys) → done ≡ map step_of (line at keys)
+  steps_all i keys done past sum = sym (append-nil done) ∙ sym (ap (λ l. done ++ map step_of (line at l)) (drop_past i keys past)) ∙ sum

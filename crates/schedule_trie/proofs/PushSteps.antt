@@ -39,6 +39,7 @@ pub kept_held : {T : Type 0} (t : Inside T) (key : ℕ) (w : Segment T) → IsKe
 kept_held t key w kept same = record {
   held = record { whole = subst IsWhole (sym same) kept.held.whole; paths = kept.held.paths };
   lengths = subst (λ c. AreLengths t.branches.entries (forest c).branches) (sym same) kept.lengths;
+  names = kept.names;
 }
 
 -- in the last segment of a branch

@@ -14,6 +14,7 @@ use Rattle.schedule_trie.proofs.Changes.{Changes, piece_at_set}
 use Rattle.schedule_trie.proofs.Notes.{notes_at}
 use Rattle.schedule_trie.proofs.StepSet.{slice_get_some, piece_seen, key_within, cut_from_sound, command_at, the_cell}
 use Rattle.schedule_trie.proofs.Removals.{gone_everywhere, sound_within, gone_with_segment, sound_gone}
+use Rattle.schedule_trie.specs.declared.limits.TheConstants.{MOST_CELLS_MADE}
 
 -- a cell of a segment that has another one
 module _ {T : Type 0} (t : Inside T) (key offset : ℕ) (v w : Segment T) (held : IsHeld t) (there : item_at t.segments key ≡ Some v)
@@ -95,7 +96,7 @@ module _ {T : Type 0} (t u : Inside T) (key : ℕ) (held : IsHeld t) (one : leng
         cells = subst (λ l. u.made ≤ l.cells) (sym limits) (subst (λ n. n ≤ t.limits.cells) (sym made) held.whole.within.cells);
         branches_fit = subst (λ l. length (cut_of u).strands ≤ l.branches) (sym limits) (subst (λ n. n ≤ t.limits.branches) (sym count) held.whole.within.branches_fit);
         some = subst (λ n. 0 < n) (sym count) held.whole.within.some;
-        most_cells = subst (λ l. l.cells ≤ 16777216) (sym limits) held.whole.within.most_cells;
+        most_cells = subst (λ l. l.cells ≤ MOST_CELLS_MADE) (sym limits) held.whole.within.most_cells;
         most_branches = subst (λ l. l.branches ≤ 1024) (sym limits) held.whole.within.most_branches;
       };
     };

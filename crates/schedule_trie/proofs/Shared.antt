@@ -18,13 +18,13 @@ use Rattle.schedule_trie.proofs.Positions.{one_place, before_place}
 use Rattle.schedule_trie.proofs.Apart.{branches_apart}
 
 -- one more element is taken
-take_more : {X : Type 0} (xs : List X) (n : ℕ) (x : X) → slice_get xs n ≡ Some x → take (suc n) xs ≡ take n xs ++ x ∷ []
+pub take_more : {X : Type 0} (xs : List X) (n : ℕ) (x : X) → slice_get xs n ≡ Some x → take (suc n) xs ≡ take n xs ++ x ∷ []
 take_more [] n x e = absurd (cc)
 take_more (y ∷ xs) zero x e = let same : y ≡ x = cc in ap (λ z. z ∷ []) same
 take_more (y ∷ xs) (suc n) x e = ap (λ l. y ∷ l) (take_more xs n x e)
 
 -- paths with a common key have the same keys before it
-same_before : (above : ℕ → Option ℕ) (xs ys : List ℕ) (n k : ℕ) → Linked above None xs → Linked above None ys → slice_get xs n ≡ Some k
+pub same_before : (above : ℕ → Option ℕ) (xs ys : List ℕ) (n k : ℕ) → Linked above None xs → Linked above None ys → slice_get xs n ≡ Some k
     → slice_get ys n ≡ Some k → take n xs ≡ take n ys
 same_before above xs ys zero k a b e f = refl
 same_before above xs ys (suc n) k a b e f =

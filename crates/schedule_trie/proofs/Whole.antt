@@ -10,6 +10,7 @@ use Rattle.schedule_trie.proofs.Once.{has-append, has-head, has-tail, has_not_fr
 use Rattle.schedule_trie.proofs.Changes.{Changes}
 use Rattle.schedule_trie.proofs.StepSet.{cut_from_sound}
 use Rattle.schedule_trie.proofs.Pushes.{not_equal, line_pushed, only_pushed, segments_more, apart_more}
+use Rattle.schedule_trie.specs.declared.limits.TheConstants.{MOST_CELLS_MADE}
 
 -- the keys of branches, where one of them has others
 pub keys_in-set_same : (strands : List Strand) (i : ℕ) (keys : List ℕ) → i < length strands → keys_in (set_keys strands i keys) i ≡ keys
@@ -148,7 +149,7 @@ module _ {T : Type 0} (c d : Cut T) (index key : ℕ) (step : Step) (front : Lis
       cells = subst (λ l. d.made ≤ l.cells) (sym limits) (omega arith);
       branches_fit = subst (λ l. length d.strands ≤ l.branches) (sym limits) (subst (λ n. n ≤ c.limits.branches) (sym count) whole.within.branches_fit);
       some = subst (λ n. 0 < n) (sym count) whole.within.some;
-      most_cells = subst (λ l. l.cells ≤ 16777216) (sym limits) whole.within.most_cells;
+      most_cells = subst (λ l. l.cells ≤ MOST_CELLS_MADE) (sym limits) whole.within.most_cells;
       most_branches = subst (λ l. l.branches ≤ 1024) (sym limits) whole.within.most_branches;
     };
   }

@@ -7,7 +7,8 @@ use Rattle.schedule_trie.specs.declared.slot.Slot.{Slot}
 use Rattle.schedule_trie.specs.declared.refusal.Refusal.{Refusal}
 use Rattle.schedule_trie.specs.declared.refusal.Refusal.TheVariants.{NoBranch, Memory}
 use Rattle.schedule_trie.specs.declared.limits.Limits.{Limits}
-use Rattle.schedule_trie.specs.Forest.{Forest, Branch, branch, cell_of, cell_at, len_of, index_of, slot, slots_in, replaced, without, everywhere, only_in, put_last, put_before, inserted}
+use Rattle.schedule_trie.specs.Forest.{Forest, Branch, branch, cell_of, cell_at, len_of, index_of, slot, slots_in, replaced, without, everywhere, only_in, put_last, put_all, numbered, put_before, inserted}
+use Rattle.schedule_trie.specs.declared.limits.TheConstants.{MOST_CELLS_MADE}
 
 -- a segment: its cells, and what is noted at it
 pub record Piece (T : Type 0) : Type 0 where
@@ -106,7 +107,7 @@ pub record IsWithin (l : Limits) (made branches : ℕ) : Type 0 where
   pub cells : made ≤ l.cells
   pub branches_fit : branches ≤ l.branches
   pub some : 0 < branches
-  pub most_cells : l.cells ≤ 16777216
+  pub most_cells : l.cells ≤ MOST_CELLS_MADE
   pub most_branches : l.branches ≤ 1024
 
 -- a cut within its limits
@@ -117,7 +118,7 @@ pub record IsWhole {T : Type 0} (c : Cut T) : Type 0 where
 -- the limits lie in their ranges
 pub record AreLimits (l : Limits) : Type 0 where
   pub some_cells : 0 < l.cells
-  pub most_cells : l.cells ≤ 16777216
+  pub most_cells : l.cells ≤ MOST_CELLS_MADE
   pub some_branches : 0 < l.branches
   pub most_branches : l.branches ≤ 1024
   pub some_log : 0 < l.log
@@ -256,6 +257,15 @@ pub record IsPushed {T : Type 0} (old new : Cut T) (index : ℕ) (step : Step) :
   pub limits : new.limits ≡ old.limits
   pub notes : KeepsNotesBut old new (IsChangedEnd old new index)
   pub cut : IsCut new
+
+-- steps are put last in the branch at an index, as new cells
+pub record ArePushed {T : Type 0} (old new : Cut T) (index : ℕ) (steps : List Step) : Type 0 where
+  pub branches : (forest new).branches ≡ only_in index (put_all (numbered old.made steps)) (forest old).branches
+  pub made : new.made ≡ old.made + length steps
+  pub count : length new.strands ≡ length old.strands
+  pub limits : new.limits ≡ old.limits
+  pub blank : IsBlank old → IsBlank new
+  pub cut : IsCut old → IsCut new
 
 -- a new cell is put before a cell of a segment: so it is in each branch that holds that one
 pub record IsPutBefore {T : Type 0} (old new : Cut T) (key offset : ℕ) (step : Step) : Type 0 where

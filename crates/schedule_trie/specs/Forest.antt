@@ -44,6 +44,10 @@ numbered n (s ∷ ss) = slot n s ∷ numbered (suc n) ss
 abbrev pub opening : List Step → Forest
 opening steps = record { branches = branch (codes "main") (numbered 0 steps) ∷ []; made = length steps }
 
+-- one branch alone, of a name
+abbrev pub alone : List ℕ → List Step → Forest
+alone name steps = record { branches = branch name (numbered 0 steps) ∷ []; made = length steps }
+
 -- opening within limits
 abbrev pub opened : Limits → List Step → Result Forest Refusal
 opened limits steps = if nat_lt limits.cells (length steps) then Err Full else Ok (opening steps)
@@ -134,6 +138,9 @@ put_before x new slots = flat_map (before_cell x new) slots
 
 abbrev pub put_last : Slot → List Slot → List Slot
 put_last new slots = slots ++ new ∷ []
+
+abbrev pub put_all : List Slot → List Slot → List Slot
+put_all new slots = slots ++ new
 
 -- cell x is gone
 abbrev pub is_other : ℕ → Slot → Bool

@@ -1,10 +1,12 @@
 -- What a trie's fields hold: its cut.
-use Rattle.std.specs.Prelude.{ℕ, ◌≡◌, List, [], ◌∷◌, Option, Some, None, IfSome, length, map, slice_get}
+use Rattle.std.specs.Prelude.{ℕ, ◌≡◌, true, List, [], ◌∷◌, Option, Some, None, IfSome, length, map, slice_get}
+use Rattle.std.specs.List.{list_all}
 use Rattle.std.specs.Map.{keys_of}
 use Rattle.schedule_trie.specs.declared.segment.Segment.{Segment}
 use Rattle.schedule_trie.specs.declared.trie.Trie.TheInside.{Inside}
 use Rattle.schedule_trie.specs.Forest.{Branch, slots_in}
 use Rattle.schedule_trie.specs.Cut.{Cut, Piece, Strand, piece, strand, forest, IsWhole}
+use Rattle.schedule_trie.specs.Limbs.{is_name}
 
 module _ {T : Type 0} where
   abbrev pub piece_of : Option (Segment T) → Option (Piece T)
@@ -29,6 +31,10 @@ kept_in (Some entry) = entry.1
 abbrev pub AreLengths : List (List ℕ × Option ℕ) → List Branch → Type 0
 AreLengths entries branches = (i : ℕ) → IfSome (kept_in (slice_get entries i)) (λ n. n ≡ length (slots_in branches i))
 
+-- names have the form of a branch's
+abbrev pub AreNames : List (List ℕ) → Type 0
+AreNames names = list_all is_name names ≡ true
+
 module _ {T : Type 0} where
   abbrev pub names_of : Inside T → List (List ℕ)
   names_of t = keys_of t.branches.entries
@@ -41,7 +47,8 @@ module _ {T : Type 0} where
     pub whole : IsWhole (cut_of t)
     pub paths : length t.segments.paths ≡ length (names_of t)
 
-  -- and the lengths that are kept are right
+  -- and the lengths that are kept are right, and names have their form
   pub record IsKept (t : Inside T) : Type 0 where
     pub held : IsHeld t
     pub lengths : AreLengths t.branches.entries (forest (cut_of t)).branches
+    pub names : AreNames (names_of t)

@@ -12,3 +12,5 @@ pub mod Releases
 pub mod Copies
 pub mod Limbs
 pub mod LimbRows
+pub mod Loads
+pub mod Marks

@@ -1,6 +1,6 @@
 -- Limbs: what a file keeps of a forest.
-use Rattle.std.specs.Prelude.{ℕ, zero, suc, ◌≡◌, ◌+◌, Bool, true, false, not, ◌&&◌, ◌||◌, nat_eq, nat_le, nat_lt, List, [], ◌∷◌, ◌++◌, Option, Some, None, Result, Ok, Err, length, map, take, drop, slice_get, if◌then◌else◌}
-use Rattle.std.specs.List.{list_all, list_any, prefix_len, position_or_len}
+use Rattle.std.specs.Prelude.{ℕ, zero, suc, ◌≡◌, ◌<◌, ◌≤◌, ◌+◌, Bool, true, false, not, ◌&&◌, ◌||◌, nat_eq, nat_le, nat_lt, List, [], ◌∷◌, ◌++◌, Option, Some, None, Result, Ok, Err, length, map, take, drop, slice_get, if◌then◌else◌}
+use Rattle.std.specs.List.{All, list_all, list_any, prefix_len, position_or_len}
 use Rattle.std.specs.Cmp.Lexicographic.{pointwise}
 use Rattle.schedule_trie.specs.declared.slot.Slot.{Slot}
 use Rattle.schedule_trie.specs.declared.limb.Limb.{Limb}
@@ -102,6 +102,10 @@ are_lawful_after earlier (l ∷ ls) = is_new_name earlier l.name && (may_share e
 
 abbrev pub IsLawful : List Limb → Type 0
 IsLawful ls = are_lawful_after [] ls ≡ true
+
+-- limbs are from branches below the most that there may be, and share no more than the most cells
+abbrev pub FitLimits : Limits → List Limb → Type 0
+FitLimits limits ls = All (λ l. (l.from < limits.branches) × (l.shared ≤ limits.cells)) ls
 
 -- opening with limbs, within limits
 abbrev pub loaded : Limits → List Limb → Result Forest Refusal

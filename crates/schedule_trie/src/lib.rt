@@ -7,6 +7,7 @@
 pub mod laws;
 pub mod limb;
 pub mod limits;
+mod mark;
 pub mod name;
 pub mod refusal;
 mod segment;

@@ -1,6 +1,6 @@
 //! Limbs: what a file keeps of a branch.
 
-ghost use Rattle.std.specs.Prelude.{◌≡◌, ◌∷◌, [], ◌++◌, OnOk, IfErr};
+ghost use Rattle.std.specs.Prelude.{◌≡◌, ◌∷◌, [], ◌++◌, OnOk, IfErr, nat_lt};
 ghost use Rattle.schedule_trie.specs.Limbs as spec;
 
 use crate::name::Name;
@@ -70,4 +70,19 @@ pub fn may_share(limbs: &[Limb], limb: &Limb) -> bool
     };
     parent.shared < limb.shared
         && (limb.shared - parent.shared) as usize <= parent.steps.as_slice().len()
+}
+
+/// Whether limbs bring more cells than so many.
+pub(crate) fn bring_more(limbs: &[Limb], most: u32) -> bool
+    ensures { result ≡ nat_lt most (spec.cells_of limbs.now) }
+{
+    let mut room = most as usize;
+    for limb in limbs {
+        let count = limb.steps.as_slice().len();
+        if room < count {
+            return true;
+        }
+        room -= count;
+    }
+    false
 }

@@ -73,8 +73,8 @@ impl Hash for Name {
 }
 
 impl Name {
-    /// The name of the first branch.
-    pub(crate) fn main() -> Name
+    /// The name of the branch that is opened with steps alone.
+    pub fn main() -> Name
         ensures { result ≡ codes "main" }
     {
         Name {

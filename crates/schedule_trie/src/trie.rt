@@ -1,12 +1,14 @@
 //! The trie: segments that branches share.
 
-ghost use Rattle.std.specs.Prelude.{ℕ, List, ◌∷◌, ◌<◌, ◌≤◌, length, IfSome, IfNone, Ok, Err, OnOk, IfErr, OnErr, IfOk, false, [], Some, None, map, slice_get, ◌++◌, ◌≡◌};
+ghost use Rattle.std.specs.Prelude.{ℕ, List, ◌∷◌, ◌<◌, ◌≤◌, length, IfSome, IfNone, Ok, Err, OnOk, IfErr, OnErr, IfOk, true, false, [], Some, None, map, slice_get, ◌++◌, ◌≡◌};
 ghost use Rattle.std.specs.Option.{option_map, option_copied};
 ghost use Rattle.schedule_trie.specs.Climbs.{last_of};
 ghost use Rattle.std.specs.List.{position};
-ghost use Rattle.schedule_trie.specs.Forest.{path_of, step_of, cell_at, place_of, is_cell, opened, opening, IsRefused, index_of, slots_in, name_in, len_of, AreNamedApart, IsForest};
+ghost use Rattle.schedule_trie.specs.Forest.{path_of, step_of, cell_at, place_of, is_cell, opened, opening, alone, IsRefused, index_of, slots_in, name_in, len_of, AreNamedApart, IsForest};
 ghost use Rattle.schedule_trie.specs.Edits.{Replace, IsEdited, IsUnedited};
-ghost use Rattle.schedule_trie.specs.Cut.{IsBlank, IsNoted, above_of, before_key, keys_by, if_lacks, note_of, AreLimits, has, IsOwnEnd, IsPushed, LackedByOthers, forest, IsCut, IsStepSet, piece_at, slots_of, keys_in, line, StandsAt};
+ghost use Rattle.schedule_trie.specs.Limbs.{is_name, HaveNames};
+ghost use Rattle.schedule_trie.specs.Cut.{IsBlank, IsNoted, IsWhole, above_of, before_key, keys_by, if_lacks, note_of, AreLimits, has, IsOwnEnd, IsPushed, LackedByOthers, forest, IsCut, IsStepSet, piece_at, slots_of, keys_in, line, StandsAt};
+ghost use Rattle.schedule_trie.specs.declared.limits.TheConstants.{MOST_CELLS_MADE};
 
 mod climb;
 mod detach;
@@ -14,6 +16,8 @@ mod drops;
 mod fork;
 mod insert;
 mod lengths;
+mod limbs;
+mod load;
 mod push;
 mod remove;
 
@@ -67,37 +71,42 @@ impl<T: Drop> Trie<T> {
         if steps.len() > limits.cells as usize {
             return Err(Refusal::Full);
         }
-        Ok(Trie::with_steps(alloc, limits, steps)?)
+        Ok(Trie::with_steps(alloc, limits, Name::main(), steps)?)
     }
 
-    /// A trie of steps that fit.
-    fn with_steps(alloc: Global, limits: Limits, steps: &[Step]) -> Result<Trie<T>, AllocError>
+    /// A trie of steps that fit, on one branch of this name.
+    fn with_steps(
+        alloc: Global,
+        limits: Limits,
+        name: Name,
+        steps: &[Step],
+    ) -> Result<Trie<T>, AllocError>
         requires limits { AreLimits limits }
+        requires name { is_name name ≡ true }
         requires few { length steps.now ≤ limits.cells }
-        ensures forest { IfOk result (λ t. forest t ≡ opening steps.now) }
+        ensures forest { IfOk result (λ t. forest t ≡ alone name steps.now) }
         ensures limits { IfOk result (λ t. t.limits ≡ limits) }
         ensures cut { IfOk result IsCut }
         ensures blank { IfOk result IsBlank }
     {
-        let mut trie = Trie::empty(alloc, limits)?;
-        for step in steps {
-            trie.push_last(alloc, 0, *step)?;
-        }
+        let mut trie = Trie::alone(alloc, limits, name)?;
+        trie.push_all(alloc, 0, steps)?;
         trie.learn_len(0);
         Ok(trie)
     }
 
-    /// The branch `main` with no cells.
-    fn empty(alloc: Global, limits: Limits) -> Result<Trie<T>, AllocError>
-        requires { AreLimits limits }
-        ensures forest { IfOk result (λ t. forest t ≡ opening []) }
+    /// One branch, of this name, with no cells.
+    fn alone(alloc: Global, limits: Limits, name: Name) -> Result<Trie<T>, AllocError>
+        requires limits { AreLimits limits }
+        requires name { is_name name ≡ true }
+        ensures forest { IfOk result (λ t. forest t ≡ alone name []) }
         ensures limits { IfOk result (λ t. t.limits ≡ limits) }
         ensures count { IfOk result (λ t. length t.strands ≡ 1) }
         ensures cut { IfOk result IsCut }
         ensures blank { IfOk result IsBlank }
     {
         let mut branches = IndexMap::new(alloc);
-        branches.insert(Name::main(), None)?;
+        branches.insert(name, None)?;
         let mut segments = Lineage::new(alloc);
         segments.fork(None)?;
         Ok(Trie {
@@ -116,17 +125,21 @@ impl<T: Drop> Trie<T> {
         self.made
     }
 
-    /// How many branches there are. No two have the same name.
+    /// How many branches there are, at least one. No two have the same name.
     pub fn branches(&self) -> u32
         ensures count { result ≡ length (forest self.now).branches }
+        ensures some { 0 < result }
         ensures apart { AreNamedApart (forest self.now).branches }
     {
         self.branches.len() as u32
     }
 
-    /// What a trie keeps by its type: its branches are a forest. It does nothing: callers learn this by its contract.
+    /// What a trie keeps by its type: its branches are a forest, their names have a name's form, and it is within its limits. It
+    /// does nothing: callers learn this by its contract.
     pub fn held(&self)
-        ensures { IsForest (forest self.now) }
+        ensures forest { IsForest (forest self.now) }
+        ensures names { HaveNames (forest self.now).branches }
+        ensures whole { IsWhole self.now }
     {
         let _count = self.branches.len();
     }
@@ -187,8 +200,16 @@ impl<T: Drop> Trie<T> {
             (λ steps. steps.items ≡ map step_of (slots_in (forest self.now).branches index)) }
     {
         let keys = self.keys_at(alloc, index)?;
+        self.steps_of(alloc, &keys)
+    }
+
+    /// The steps of segments, in order.
+    fn steps_of(&self, alloc: Global, keys: &[SegKey]) -> Result<Vec<Step>, AllocError>
+        ensures { IfOk result
+            (λ steps. steps.items ≡ map step_of (line (piece_at self.now.pieces) keys.now)) }
+    {
         let mut steps = Vec::new(alloc);
-        for key in &keys {
+        for key in keys {
             push_steps(&mut steps, self.slots_at(*key))?;
         }
         Ok(steps)
@@ -283,7 +304,7 @@ impl<T: Drop> Trie<T> {
         ensures keys { IfOk result (λ keys. keys.items ≡ keys_in self.now.strands index) }
         ensures short { IfOk result
             (λ keys. length (line (piece_at self.now.pieces) keys.items) ≤ self.now.made) }
-        ensures made { self.now.made ≤ 16777216 }
+        ensures made { self.now.made ≤ MOST_CELLS_MADE }
     {
         self.segments.keys(alloc, index)
     }

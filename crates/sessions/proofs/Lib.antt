@@ -9,3 +9,4 @@ pub mod Looks
 pub mod Rows
 pub mod Standing
 pub mod EditAnswers
+pub mod Loads

@@ -29,6 +29,7 @@ use Rattle.sessions.specs.declared.cursor.Shift.TheVariants as shift
 use Rattle.sessions.specs.Edits.{moved_by, drops_occupied}
 use Rattle.sessions.specs.Bounds.{AreWithin}
 use Rattle.sessions.specs.Cursors.{AllStand, first_cursor, StandsIn, cursor_at, each_cursor, is_occupied, stands_on, cursor, acts_in, is_behind, shifted, shifted_place}
+use Rattle.schedule_trie.specs.declared.limits.TheConstants.{MOST_CELLS_MADE}
 
 lt_false : (a b : ℕ) → b ≤ a → nat_lt a b ≡ false
 lt_false a b h = grind (arith, nat_tests)
@@ -584,10 +585,10 @@ few_within f held j =
     let same : length (map cell_of slots) ≡ length slots = length-map slots cell_of in
     omega arith
 
-pub are_within : (f : Forest) (cursors : List (Option Cursor)) → IsForest f → f.made ≤ 16777216 → AllStand f cursors → AreWithin cursors
+pub are_within : (f : Forest) (cursors : List (Option Cursor)) → IsForest f → f.made ≤ MOST_CELLS_MADE → AllStand f cursors → AreWithin cursors
 are_within f cursors held few all who = by (cursor_at cursors who) (all who)
   where
-    by : (o : Option Cursor) → IfSome o (StandsIn f) → IfSome o (λ c. c.place ≤ 16777216)
+    by : (o : Option Cursor) → IfSome o (StandsIn f) → IfSome o (λ c. c.place ≤ MOST_CELLS_MADE)
     by None h = tt
     by (Some c) h = let s = stands f c h in omega (arith, s.within, few_within f held s.index, few)
 

@@ -3,6 +3,7 @@ use Rattle.std.specs.Prelude.{ℕ, ◌<◌, ◌≤◌, ◌^◌, List, Option, If
 use Rattle.sessions.specs.declared.cursor.Cursor.{Cursor}
 use Rattle.sessions.specs.Cursors.{cursor_at}
 use Rattle.sessions.specs.Held.{Staged}
+use Rattle.schedule_trie.specs.declared.limits.TheConstants.{MOST_CELLS_MADE}
 
 -- another command can be logged
 abbrev pub CanLog : {R P : Type 0} → Staged R P → Type 0
@@ -14,4 +15,4 @@ IsPlace place = place < 2 ^ 32
 
 -- no cursor stands behind more cells than can ever be made
 abbrev pub AreWithin : List (Option Cursor) → Type 0
-AreWithin cursors = (who : ℕ) → IfSome (cursor_at cursors who) (λ c. c.place ≤ 16777216)
+AreWithin cursors = (who : ℕ) → IfSome (cursor_at cursors who) (λ c. c.place ≤ MOST_CELLS_MADE)

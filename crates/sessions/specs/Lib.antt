@@ -9,3 +9,4 @@ pub mod Edits
 pub mod Held
 pub mod Bounds
 pub mod Looks
+pub mod Saves

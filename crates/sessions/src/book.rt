@@ -15,6 +15,7 @@ ghost use Rattle.sessions.specs.Looks.{looked, shown_in};
 ghost use Rattle.sessions.specs.Held.{Acts, IsHeld, TellsMemoryLast, Wants, opening_of, world_of};
 
 mod chains;
+mod limbs;
 
 use crate::command::Command;
 use crate::log::{Entry, Log};

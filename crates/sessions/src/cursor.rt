@@ -7,6 +7,7 @@ ghost use Rattle.schedule_trie.specs.Cut.{forest};
 ghost use Rattle.sessions.specs.Bounds.{AreWithin};
 ghost use Rattle.sessions.specs.Cursors as spec;
 ghost use Rattle.sessions.specs.Edits.{edit_of, moved_if};
+ghost use Rattle.schedule_trie.specs.declared.limits.TheConstants.{MOST_CELLS_MADE};
 
 use crate::command::Command;
 use cutoff::chart::Chart;
@@ -36,7 +37,7 @@ impl Shift {
     /// The place that a place behind an edit's goes to. No branch is so long that there is none.
     fn of(self, place: u32) -> u32
         requires behind { 0 < place }
-        requires within { place ≤ 16777216 }
+        requires within { place ≤ MOST_CELLS_MADE }
         ensures { result ≡ spec.shifted_place self place }
     {
         match self {
@@ -66,7 +67,7 @@ fn shifted_one<R: Register>(
     cursor: &Option<Cursor>,
 ) -> Option<Cursor>
     requires cell { cell ≡ cell_at (forest chart.now.cut) branch.now place }
-    requires within { IfSome cursor.now (λ c. c.place ≤ 16777216) }
+    requires within { IfSome cursor.now (λ c. c.place ≤ MOST_CELLS_MADE) }
     ensures { result
         ≡ option_map (spec.shifted shift (forest chart.now.cut) branch.now place) cursor.now }
 {

@@ -12,6 +12,7 @@ ghost use Rattle.sessions.specs.Bounds.{CanLog};
 
 mod cursors;
 mod edits;
+mod limbs;
 mod looks;
 
 use crate::breaks::Breaks;

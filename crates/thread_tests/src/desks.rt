@@ -12,6 +12,7 @@ mod crossings;
 mod fills;
 mod growths;
 mod guarded;
+mod limbs;
 mod measured;
 mod news;
 mod rows;

@@ -5,6 +5,7 @@ ghost use Rattle.std.specs.Cmp.Lexicographic.{pointwise};
 ghost use Rattle.indexmap.specs.IndexMap.{insert_entry, spare};
 ghost use Rattle.schedule_trie.specs.Edits.{Fork, IsEdited, IsUnedited};
 ghost use Rattle.schedule_trie.specs.Forest.{index_of, slots_in};
+ghost use Rattle.schedule_trie.specs.Limbs.{is_name};
 ghost use Rattle.schedule_trie.specs.Cut.{forest, has, keys_in, line, piece_at, slots_of};
 ghost use Rattle.schedule_trie.specs.Climbs.{keys_to, IsReached};
 ghost use Rattle.schedule_trie.specs.Forks.{IsForked};
@@ -40,6 +41,7 @@ impl<T: Drop> Trie<T> {
         if self.index(&name).is_some() {
             return Err(Refusal::NameTaken);
         }
+        prove!(name.as_bytes().len() <= 16);
         if !name.is_well_formed() {
             return Err(Refusal::BadName);
         }
@@ -56,7 +58,7 @@ impl<T: Drop> Trie<T> {
     }
 
     /// Makes a new last branch of the first cells of the branch at an index, with a name that no branch has.
-    fn fork_at(
+    pub(super) fn fork_at(
         &mut self,
         alloc: Global,
         index: usize,
@@ -65,6 +67,7 @@ impl<T: Drop> Trie<T> {
     ) -> Result<(), AllocError>
         requires place { place ≤ length (slots_in (forest self.old).branches index) }
         requires name { index_of (forest self.old).branches name ≡ None }
+        requires form { is_name name ≡ true }
         requires room { length self.old.strands < self.old.limits.branches }
         ensures ok { OnOk result (IsForked self.old self.new index place name) }
         ensures err { OnErr result (self.new ≡ self.old) }
@@ -93,6 +96,7 @@ impl<T: Drop> Trie<T> {
     ) -> Result<(), AllocError>
         requires last { IsReached (keys_in self.old.strands index) last }
         requires name { index_of (forest self.old).branches name ≡ None }
+        requires form { is_name name ≡ true }
         requires room { length self.old.strands < self.old.limits.branches }
         ensures ok { OnOk result (IsForked self.old self.new index
             (length (line (piece_at self.old.pieces)
@@ -119,6 +123,7 @@ impl<T: Drop> Trie<T> {
         requires some { 0 < count }
         requires inside { count < length (slots_of (piece_at self.old.pieces key)) }
         requires name { index_of (forest self.old).branches name ≡ None }
+        requires form { is_name name ≡ true }
         requires room { length self.old.strands < self.old.limits.branches }
         ensures ok { (front back : List ℕ) → keys_in self.old.strands index ≡ front ++ key ∷ back
             → OnOk result (IsForked self.old self.new index

@@ -1,7 +1,7 @@
 //! A new cell behind a branch.
 
-ghost use Rattle.std.specs.Prelude.{◌≡◌, ◌<◌, length, IfSome, OnOk, OnErr};
-ghost use Rattle.schedule_trie.specs.Cut.{IsOwnEnd, IsPushed};
+ghost use Rattle.std.specs.Prelude.{◌≡◌, ◌<◌, ◌≤◌, ◌+◌, length, IfSome, OnOk, OnErr};
+ghost use Rattle.schedule_trie.specs.Cut.{IsOwnEnd, IsPushed, ArePushed};
 
 use super::Trie;
 use super::lengths::set_length;
@@ -27,6 +27,24 @@ impl<T: Drop> Trie<T> {
             Some(key) => self.push_in(index, key, step),
             None => self.push_segment(alloc, index, step),
         }
+    }
+
+    /// Puts new cells of these steps last in the branch at an index, and in that branch alone. Where memory is refused some of
+    /// them are there.
+    pub(super) fn push_all(
+        &mut self,
+        alloc: Global,
+        index: usize,
+        steps: &[Step],
+    ) -> Result<(), AllocError>
+        requires index { index < length self.old.strands }
+        requires room { self.old.made + length steps.now ≤ self.old.limits.cells }
+        ensures { OnOk result (ArePushed self.old self.new index steps.now) }
+    {
+        for step in steps {
+            self.push_last(alloc, index, *step)?;
+        }
+        Ok(())
     }
 
     /// Puts a new cell last in the last segment of a branch, which no other branch has.

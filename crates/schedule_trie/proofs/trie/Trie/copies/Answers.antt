@@ -5,13 +5,14 @@ use Rattle.schedule_trie.specs.Copies.{AreCopies}
 use Rattle.schedule_trie.proofs.Lines.{slots_in_on}
 use Rattle.schedule_trie.proofs.Renumbered.{copies_more, cell_after, cell_below}
 use Rattle.schedule_trie.proofs.trie.Trie.copies.Goals as goal
+use Rattle.schedule_trie.specs.declared.limits.TheConstants.{MOST_CELLS_MADE}
 
 pub loop-key-init : goal.loop-key-init
 loop-key-init g c =
     let now = c.args.self.now in
     let at = piece_at now.pieces in
     let made : c.self.inside.made ≡ now.made = ap (λ z. z.made) c.self.view_is in
-    let most : now.limits.cells ≤ 16777216 = subst (λ z. z.limits.cells ≤ 16777216) c.self.view_is c.self.invariant.held.whole.within.most_cells in
+    let most : now.limits.cells ≤ MOST_CELLS_MADE = subst (λ z. z.limits.cells ≤ MOST_CELLS_MADE) c.self.view_is c.self.invariant.held.whole.within.most_cells in
     let len = ap length (slots_in_on at now.strands c.args.index ∙ ap (line at) (sym (c.deref-key-items.ensures.value ∙ c.in_ok-keys.ensures.keys))) in
     record {
       copies = subst (AreCopies at now.made []) (sym c.in_ok-copies.ensures.items) tt;

@@ -29,6 +29,7 @@ invariant_of-self-2 g c =
           (subst (λ z. c.args.index < length z.strands) (sym view) c.requires.index)
           (subst (λ z. AreCopies (piece_at z.pieces) z.made (keys_in z.strands c.args.index) c.in_ok-copies.copies.items) (sym view) c.in_ok-copies.ensures)
           c.in_ok-replace_path.ensures.ok c.held.ensures refl refl refl size);
+      names = c.self.invariant.names;
     }
 
 pub returns-clause-ok : goal.returns-clause-ok

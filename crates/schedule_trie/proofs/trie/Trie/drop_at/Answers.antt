@@ -1,5 +1,7 @@
 use Rattle.schedule_trie.specs.Cut.{forest}
-use Rattle.schedule_trie.specs.Held.{cut_of, AreLengths}
+use Rattle.schedule_trie.specs.Held.{cut_of, AreLengths, AreNames}
+use Rattle.std.specs.Map.{keys_of}
+use Rattle.schedule_trie.proofs.NamesKept.{names_left}
 use Rattle.std.proofs.Common.{◌<◌, length, refl, sym, subst}
 use Rattle.schedule_trie.proofs.Lines.{path_within}
 use Rattle.schedule_trie.proofs.Drops.{drop_held, drop_told}
@@ -23,6 +25,7 @@ invariant_of-self g c =
           (dropped_lengths (cut_of t) (cut_of u) t.branches.entries c.self.invariant.lengths c.args.index
           (drop_told t u c.args.index c.self.invariant.held index_in several
           c.shift_remove_index.ensures.entries c.drop_path.ensures.paths c.drop_path.ensures.items refl refl));
+      names = subst (λ es. AreNames (keys_of es)) (sym c.shift_remove_index.ensures.entries) (names_left t.branches.entries c.args.index c.self.invariant.names);
     }
 
 pub returns : goal.returns

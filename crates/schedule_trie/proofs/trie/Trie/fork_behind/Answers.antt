@@ -7,6 +7,7 @@ use Rattle.schedule_trie.specs.Cut.{forest, keys_in}
 use Rattle.schedule_trie.specs.Climbs.{IsReached}
 use Rattle.schedule_trie.proofs.ForkSteps.{reached_there, behind_held, behind_told}
 use Rattle.schedule_trie.proofs.LengthSteps.{forked_lengths}
+use Rattle.schedule_trie.proofs.NamesKept.{forked_names}
 use Rattle.schedule_trie.proofs.trie.Trie.fork_behind.Goals as goal
 
 pub fork-requires : goal.fork-requires
@@ -30,6 +31,8 @@ invariant_of-self-2 g c =
           (subst (λ z. length z.strands < z.limits.branches) (sym view) c.requires.room) (subst (λ z. index_of (forest z).branches c.args.name ≡ None) (sym view) c.requires.name)
           (subst (λ z. IsReached (keys_in z.strands c.args.index) c.args.last) (sym view) c.requires.last) c.in_ok-fork.ensures.ok
           (c.insert_reserved.ensures ∙ ap (λ es. insert_entry (pointwise nat_eq) es c.args.name None) c.in_ok-reserve.ensures.entries) refl refl);
+      names = forked_names t u.branches.entries c.args.name c.self.invariant.names c.requires.form
+          (subst (λ z. index_of (forest z).branches c.args.name ≡ None) (sym view) c.requires.name) entries;
     }
 
 pub returns-clause-ok : goal.returns-clause-ok

@@ -10,6 +10,7 @@ use Rattle.schedule_trie.proofs.ForkCutSteps.{cut_fork_held, cut_fork_told}
 use Rattle.schedule_trie.proofs.Partings.{parting}
 use Rattle.schedule_trie.proofs.StepSet.{held_there}
 use Rattle.schedule_trie.proofs.LengthSteps.{forked_lengths}
+use Rattle.schedule_trie.proofs.NamesKept.{forked_names}
 use Rattle.schedule_trie.proofs.trie.Trie.fork_within.Goals as goal
 
 pub item_mut-requires : goal.item_mut-requires
@@ -44,6 +45,8 @@ invariant_of-self-2 g c =
           (c.in_ok-above.ensures.first ∙ ap (take c.args.count) (c.slots_at.ensures ∙ ap (λ z. slots_of (piece_at z.pieces c.args.key)) (sym view)))
           (c.in_ok-above.ensures.rest ∙ ap (drop c.args.count) (c.slots_at.ensures ∙ ap (λ z. slots_of (piece_at z.pieces c.args.key)) (sym view)))
           (c.insert_reserved.ensures ∙ ap (λ es. insert_entry (pointwise nat_eq) es c.args.name None) c.in_ok-reserve.ensures.entries));
+      names = forked_names t u.branches.entries c.args.name c.self.invariant.names c.requires.form
+          (subst (λ z. index_of (forest z).branches c.args.name ≡ None) (sym view) c.requires.name) entries;
     }
 
 pub returns-clause-ok : goal.returns-clause-ok

@@ -3,6 +3,7 @@ use Rattle.lineage.specs.Family.{path_in}
 use Rattle.schedule_trie.specs.Cut.{line, piece_at, keys_in}
 use Rattle.schedule_trie.proofs.Lines.{if_ok, keys_told}
 use Rattle.schedule_trie.proofs.trie.Trie.keys_at.Goals as goal
+use Rattle.schedule_trie.specs.declared.limits.TheConstants.{MOST_CELLS_MADE}
 
 pub returns-clause-keys : goal.returns-clause-keys
 returns-clause-keys g c =
@@ -17,4 +18,4 @@ returns-clause-short g c =
 pub returns-clause-made : goal.returns-clause-made
 returns-clause-made g c =
     let w = c.self.invariant.held.whole.within in
-    subst (λ z. z.made ≤ 16777216) c.self.view_is (omega (arith, w.cells, w.most_cells))
+    subst (λ z. z.made ≤ MOST_CELLS_MADE) c.self.view_is (omega (arith, w.cells, w.most_cells))

@@ -38,6 +38,7 @@ invariant_of-self-2 g c =
     one_held p (record p { branches = c.set_length.new.branches }) names refl refl refl _
     (in_held t c.args.index c.args.key c.self.invariant.held end c.item_mut.result.now c.push.new.self c.item_mut.ensures.value c.args.step index_in room
     c.in_ok-push.ensures.slots c.in_ok-push.ensures.note)
+    c.self.invariant.names
     (pushed_lengths (cut_of t) (cut_of p) t.branches.entries c.self.invariant.lengths c.args.index c.args.step
     (in_pushed t c.args.index c.args.key c.self.invariant.held end c.item_mut.result.now c.push.new.self c.item_mut.ensures.value c.args.step index_in room
     c.in_ok-push.ensures.slots c.in_ok-push.ensures.note)) c.set_length.ensures

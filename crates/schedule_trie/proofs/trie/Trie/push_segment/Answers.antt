@@ -25,6 +25,7 @@ invariant_of-self-2 g c =
     one_held p (record p { branches = c.set_length.new.branches }) names refl refl refl _
     (segment_held t p c.args.index _ c.in_ok-segment.segment c.args.step c.self.invariant.held index_in room
     c.in_ok-push.ensures.item c.in_ok-push.ensures.paths refl refl refl c.in_ok-segment.ensures.slots c.in_ok-segment.ensures.note)
+    c.self.invariant.names
     (pushed_lengths (cut_of t) (cut_of p) t.branches.entries c.self.invariant.lengths c.args.index c.args.step
     (segment_pushed t p c.args.index _ c.in_ok-segment.segment c.args.step c.self.invariant.held index_in room
     c.in_ok-push.ensures.item c.in_ok-push.ensures.paths refl refl refl c.in_ok-segment.ensures.slots c.in_ok-segment.ensures.note)) c.set_length.ensures

@@ -16,7 +16,7 @@ invariant_of-self-2 g c =
     c.slots_at.result.now c.self.invariant.held c.slots_at.ensures c.in_ok-divide.ensures.item c.item_mut.ensures.value refl c.set_slots.ensures.slots c.set_slots.ensures.note
     c.in_ok-divide.ensures.paths refl refl refl
     c.requires.room c.requires.offset c.requires.full c.in_ok-above.ensures.parts c.in_ok-above.ensures.least c.in_ok-above.ensures.most)
-    c.forget_lengths.ensures.none
+    c.self.invariant.names c.forget_lengths.ensures.none
 
 pub returns-clause-ok : goal.returns-clause-ok
 returns-clause-ok g c =

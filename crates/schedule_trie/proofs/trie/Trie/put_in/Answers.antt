@@ -27,7 +27,7 @@ invariant_of-self-2 g c =
     (inside_from c.self.inside c.args.key c.args.offset c.item_mut.result.now c.args.self.now c.self.view_is c.item_mut.ensures.value c.requires.offset)
     (subst (λ l. length l < 128) (slots_seen c.self.inside c.args.key c.item_mut.result.now c.args.self.now c.self.view_is c.item_mut.ensures.value) c.requires.few)
     (subst (λ z. z.made < z.limits.cells) (sym c.self.view_is) c.requires.room)
-    c.in_ok-insert.ensures.slots c.in_ok-insert.ensures.note) c.forget_lengths.ensures.none
+    c.in_ok-insert.ensures.slots c.in_ok-insert.ensures.note) c.self.invariant.names c.forget_lengths.ensures.none
 
 pub returns-clause-ok : goal.returns-clause-ok
 returns-clause-ok g c =

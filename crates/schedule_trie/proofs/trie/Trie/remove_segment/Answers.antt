@@ -12,7 +12,7 @@ invariant_of-self g c =
     none_held p (record p { branches = c.forget_lengths.new.branches }) c.forget_lengths.ensures.names refl refl refl
     (gone_held c.self.inside (record c.self.inside { segments = c.take_out.new.self }) c.args.key c.self.invariant.held
     (subst (λ z. length (slots_of (piece_at z.pieces c.args.key)) ≡ 1) (sym c.self.view_is) c.requires)
-    c.take_out.ensures.gone c.take_out.ensures.others c.take_out.ensures.paths refl refl refl) c.forget_lengths.ensures.none
+    c.take_out.ensures.gone c.take_out.ensures.others c.take_out.ensures.paths refl refl refl) c.self.invariant.names c.forget_lengths.ensures.none
 
 pub returns : goal.returns
 returns g c =

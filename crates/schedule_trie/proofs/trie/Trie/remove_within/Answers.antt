@@ -14,7 +14,7 @@ invariant_of-self g c =
     (within_held c.self.inside c.args.key c.args.offset c.item_mut.result.now c.remove.new.self c.self.invariant.held c.item_mut.ensures.value
     (subst (λ z. c.args.offset < length (slots_of (piece_at z.pieces c.args.key))) (sym c.self.view_is) c.requires.offset)
     (subst (λ z. 1 < length (slots_of (piece_at z.pieces c.args.key))) (sym c.self.view_is) c.requires.more)
-    c.remove.ensures.slots c.remove.ensures.note) c.forget_lengths.ensures.none
+    c.remove.ensures.slots c.remove.ensures.note) c.self.invariant.names c.forget_lengths.ensures.none
 
 pub returns : goal.returns
 returns g c =

@@ -11,6 +11,7 @@ invariant_of-self g c =
       held = note_held t c.args.key c.item_mut.result.now c.set_note.new.self c.self.invariant.held c.item_mut.ensures.value c.set_note.ensures.slots;
       lengths = noted_lengths (cut_of t) (cut_of (record t { segments = with_item t.segments c.args.key c.set_note.new.self })) t.branches.entries c.self.invariant.lengths c.args.key c.args.note
           (note_told_as t c.args.key c.item_mut.result.now c.set_note.new.self c.self.invariant.held c.item_mut.ensures.value c.set_note.ensures.slots c.args.note c.set_note.ensures.note);
+      names = c.self.invariant.names;
     }
 
 pub returns : goal.returns

@@ -18,6 +18,7 @@ invariant_of-self g c =
           (inside_from t c.args.key c.args.offset c.item_mut.result.now c.args.self.now c.self.view_is c.item_mut.ensures.value c.requires)
           c.set_step.ensures.slots c.set_step.ensures.note)
           (subst (λ z. c.args.offset < length (slots_of (piece_at z.pieces c.args.key))) (sym c.self.view_is) c.requires);
+      names = c.self.invariant.names;
     }
 
 pub returns : goal.returns

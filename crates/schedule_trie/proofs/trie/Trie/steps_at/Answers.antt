@@ -1,17 +1,12 @@
-use Rattle.std.proofs.Common.{◌++◌, map, ap, ◌∙◌, arith}
-use Rattle.schedule_trie.specs.Forest.{step_of}
-use Rattle.schedule_trie.specs.Cut.{piece_at}
-use Rattle.schedule_trie.proofs.Lines.{steps_more, steps_all}
+use Rattle.std.proofs.Common.{◌≡◌, map, ap, ◌∙◌, sym}
+use Rattle.schedule_trie.specs.Forest.{step_of, slots_in}
+use Rattle.schedule_trie.specs.Cut.{piece_at, forest, line}
+use Rattle.schedule_trie.proofs.Lines.{slots_in_on, if_ok}
 use Rattle.schedule_trie.proofs.trie.Trie.steps_at.Goals as goal
-
-pub loop-key-preserved : goal.loop-key-preserved
-loop-key-preserved g c = (
-  steps_more (piece_at c.args.self.now.pieces) c.deref-key-items.result.now c.loop-key.key-index c.loop-key.steps.items c.push_steps.new.steps.items (omega arith)
-      c.loop-key.invariant.0 (c.in_ok-push_steps.ensures ∙ ap (λ l. c.loop-key.steps.items ++ map step_of l) c.slots_at.ensures),
-  c.loop-key.invariant.1,
-)
 
 pub returns : goal.returns
 returns g c =
-    steps_all (piece_at c.args.self.now.pieces) c.args.self.now.strands c.args.index c.loop-key.key-index c.deref-key-items.result.now c.loop-key.steps.items
-    (omega arith) c.loop-key.invariant.0 c.loop-key.invariant.1
+    let now = c.args.self.now in
+    if_ok c.steps_of.result (λ steps. steps.items ≡ map step_of (line (piece_at now.pieces) c.deref.result.now)) (λ steps. steps.items ≡ map step_of (slots_in (forest now).branches c.args.index))
+    (λ steps e. e ∙ ap (λ ks. map step_of (line (piece_at now.pieces) ks)) (c.deref.ensures.value ∙ c.in_ok-keys.ensures.keys)
+    ∙ ap (map step_of) (sym (slots_in_on (piece_at now.pieces) now.strands c.args.index))) c.steps_of.ensures

@@ -6,11 +6,12 @@ use Rattle.sessions.specs.Held.{Staged}
 use Rattle.sessions.proofs.Standing.{are_within}
 use Rattle.sessions.proofs.EditAnswers.{unchanged, staged_after, done_edit, not_held_up}
 use Rattle.sessions.proofs.stage.Stage.edit.Goals as goal
+use Rattle.schedule_trie.specs.declared.limits.TheConstants.{MOST_CELLS_MADE}
 
 pub moved-moved-requires-clause-within : goal.moved-moved-requires-clause-within
 moved-moved-requires-clause-within g c =
     let i = c.self.inside in
-    let few : (forest i.chart.cut).made ≤ 16777216 = omega (arith, c.self.invariant.few_cells, c.self.invariant.in_range.most_cells) in
+    let few : (forest i.chart.cut).made ≤ MOST_CELLS_MADE = omega (arith, c.self.invariant.few_cells, c.self.invariant.in_range.most_cells) in
     are_within (forest i.chart.cut) i.cursors c.held.ensures few c.self.invariant.stand
 
 pub invariant_of-self : goal.invariant_of-self

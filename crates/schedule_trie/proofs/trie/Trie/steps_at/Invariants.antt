@@ -1,9 +1,0 @@
-use Rattle.std.proofs.Common.{◌≡◌, ◌++◌, drop, map}
-use Rattle.schedule_trie.specs.Forest.{step_of}
-use Rattle.schedule_trie.specs.Cut.{line, piece_at, keys_in}
-use Rattle.schedule_trie.proofs.trie.Trie.steps_at.Given as goal
-
-abbrev pub invariant-loop-key : goal.invariant-loop-key
-invariant-loop-key g l =
-    (l.steps.items ++ map step_of (line (piece_at l.self.pieces) (drop l.key-index l.key-items)) ≡ map step_of (line (piece_at l.self.pieces) l.key-items))
-    × (l.key-items ≡ keys_in l.self.strands l.index)

@@ -1,0 +1,45 @@
+use Rattle.std.proofs.Common.{◌+◌, ◌≤◌, ◌≡◌, length, take, sym, subst, arith, ◌∙◌, ap}
+use Rattle.schedule_trie.specs.Forest.{alone}
+use Rattle.schedule_trie.specs.Cut.{forest}
+use Rattle.schedule_trie.specs.Limbs.{cells_of, forest_of}
+use Rattle.schedule_trie.proofs.LimbCounts.{taken_whole}
+use Rattle.schedule_trie.proofs.LoadSteps.{item_of_rest, rest_ends, first_grown, can_grow, grown_next}
+use Rattle.schedule_trie.proofs.trie.Trie.with_limbs.Goals as goal
+
+pub loop-limb-init : goal.loop-limb-init
+loop-limb-init g c =
+    let is : forest c.in_ok-trie.trie ≡ alone c.first-item.result.name c.first-item.result.steps = c.in_ok-trie.ensures.forest ∙ ap (alone c.first-item.result.name) c.as_slice.ensures in
+    let one : 1 ≡ 0 + 1 = omega arith in
+    record {
+      grown = subst (λ n. forest c.in_ok-trie.trie ≡ forest_of (take n c.args.limbs.now)) one
+          (first_grown c.args.limbs.now (forest c.in_ok-trie.trie) c.first-item.result c.requires.some (sym c.first-item.is) is);
+      limits = c.in_ok-trie.ensures.limits;
+      cut = c.in_ok-trie.ensures.cut;
+      blank = c.in_ok-trie.ensures.blank;
+    }
+
+pub grow-requires : goal.grow-requires
+grow-requires g c =
+    let i = c.loop-limb.invariant in
+    let ls = c.args.limbs.now in
+    let item = item_of_rest ls c.loop-limb.limb-index c.limb-item.result c.requires.some c.loop-limb-test.true c.limb-item.is in
+    can_grow ls c.requires.lawful (c.loop-limb.limb-index + 1) c.limb-item.result item.0 item.1 c.loop-limb.trie i.grown (omega arith)
+    (subst (λ l. cells_of ls ≤ l.cells) (sym i.limits) c.requires.cells) (subst (λ l. length ls ≤ l.branches) (sym i.limits) c.requires.count)
+
+pub loop-limb-preserved : goal.loop-limb-preserved
+loop-limb-preserved g c =
+    let i = c.loop-limb.invariant in
+    let ls = c.args.limbs.now in
+    let item = item_of_rest ls c.loop-limb.limb-index c.limb-item.result c.requires.some c.loop-limb-test.true c.limb-item.is in
+    let told = c.in_ok-grow.ensures in
+    record {
+      grown = grown_next ls c.requires.lawful (c.loop-limb.limb-index + 1) c.limb-item.result item.0 item.1 c.loop-limb.trie i.grown c.grow.new.self told;
+      limits = told.limits ∙ i.limits;
+      cut = told.cut;
+      blank = told.blank i.blank;
+    }
+
+pub returns-clause-forest : goal.returns-clause-forest
+returns-clause-forest g c =
+    let ls = c.args.limbs.now in
+    c.loop-limb.invariant.grown ∙ ap forest_of (taken_whole (c.loop-limb.limb-index + 1) ls (rest_ends ls c.loop-limb.limb-index c.requires.some c.loop-limb-test.false))

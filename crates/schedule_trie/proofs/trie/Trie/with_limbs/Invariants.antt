@@ -1,0 +1,12 @@
+use Rattle.std.proofs.Common.{◌≡◌, ◌+◌, take}
+use Rattle.schedule_trie.specs.Cut.{forest, IsBlank, IsCut}
+use Rattle.schedule_trie.specs.Limbs.{forest_of}
+use Rattle.schedule_trie.proofs.trie.Trie.with_limbs.Given as goal
+
+abbrev pub invariant-loop-limb : goal.invariant-loop-limb
+invariant-loop-limb g l = record {
+  grown : forest l.trie ≡ forest_of (take (l.limb-index + 1) l.limbs);
+  limits : l.trie.limits ≡ l.fn.limits;
+  cut : IsCut l.trie;
+  blank : IsBlank l.trie;
+}

@@ -1,0 +1,77 @@
+//! Tries made of limbs.
+
+ghost use Rattle.std.specs.Prelude.{◌≡◌, ◌<◌, ◌≤◌, length, Ok, OnOk, IfOk, IfErr};
+ghost use Rattle.schedule_trie.specs.Forest.{IsRefused};
+ghost use Rattle.schedule_trie.specs.Cut.{AreLimits, forest, IsBlank, IsCut};
+ghost use Rattle.schedule_trie.specs.Limbs.{IsLawful, cells_of, forest_of, loaded};
+ghost use Rattle.schedule_trie.specs.Loads.{CanGrow, IsGrown};
+
+use super::Trie;
+use crate::limb::{Limb, bring_more};
+use crate::limits::Limits;
+use crate::refusal::Refusal;
+use std::alloc::{AllocError, Global};
+
+impl<T: Drop> Trie<T> {
+    /// A trie of the forest that grows from limbs, of which there is one.
+    ///
+    /// # Errors
+    ///
+    /// Full where they bring more cells than may be made; TooManyBranches; Memory.
+    pub fn load(alloc: Global, limits: Limits, limbs: &[Limb]) -> Result<Trie<T>, Refusal>
+        requires limits { AreLimits limits }
+        requires lawful { IsLawful limbs.now }
+        requires some { 0 < length limbs.now }
+        ensures ok { IfOk result (λ t. loaded limits limbs.now ≡ Ok (forest t)) }
+        ensures limits { IfOk result (λ t. t.limits ≡ limits) }
+        ensures cut { IfOk result IsCut }
+        ensures blank { IfOk result IsBlank }
+        ensures err { IfErr result (IsRefused (loaded limits limbs.now)) }
+    {
+        if bring_more(limbs, limits.cells) {
+            return Err(Refusal::Full);
+        }
+        if limbs.len() > limits.branches as usize {
+            return Err(Refusal::TooManyBranches);
+        }
+        Ok(Trie::with_limbs(alloc, limits, limbs)?)
+    }
+
+    /// A trie of the forest that grows from limbs that fit.
+    fn with_limbs(alloc: Global, limits: Limits, limbs: &[Limb]) -> Result<Trie<T>, AllocError>
+        requires limits { AreLimits limits }
+        requires lawful { IsLawful limbs.now }
+        requires some { 0 < length limbs.now }
+        requires cells { cells_of limbs.now ≤ limits.cells }
+        requires count { length limbs.now ≤ limits.branches }
+        ensures forest { IfOk result (λ t. forest t ≡ forest_of limbs.now) }
+        ensures limits { IfOk result (λ t. t.limits ≡ limits) }
+        ensures cut { IfOk result IsCut }
+        ensures blank { IfOk result IsBlank }
+    {
+        let [first, rest @ ..] = limbs else {
+            unreachable!();
+        };
+        let mut trie = Trie::with_steps(alloc, limits, first.name, first.steps.as_slice())?;
+        for limb in rest {
+            trie.grow(alloc, limb)?;
+        }
+        Ok(trie)
+    }
+
+    /// Makes a new last branch of a limb. Where memory is refused it may be there with some of its steps.
+    fn grow(&mut self, alloc: Global, limb: &Limb) -> Result<(), AllocError>
+        requires { CanGrow self.old limb.now }
+        ensures { OnOk result (IsGrown self.old self.new limb.now) }
+    {
+        self.held();
+        let from = limb.from as usize;
+        self.learn_len(from);
+        let index = self.branches() as usize;
+        self.fork_at(alloc, from, limb.shared, limb.name)?;
+        let steps = limb.steps.as_slice();
+        self.push_all(alloc, index, steps)?;
+        self.keep_len(index, limb.shared + steps.len() as u32);
+        Ok(())
+    }
+}

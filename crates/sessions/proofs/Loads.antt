@@ -1,0 +1,35 @@
+-- What a book opens with where it is loaded, and what is saved of it.
+use Rattle.std.proofs.Common.{◌≡◌, ◌≤◌, Bool, true, false, cond, nat_lt, ◌<◌, List, length, Result, Ok, Err, IfOk, refl, sym, subst, arith}
+use Rattle.std.proofs.lemmas.Bool.Decides.{nat_tests}
+use Rattle.frames.specs.Behaviour.{Behaviour}
+use Rattle.schedule_trie.specs.declared.limb.Limb.{Limb}
+use Rattle.schedule_trie.specs.declared.limits.Limits.{Limits}
+use Rattle.schedule_trie.specs.declared.refusal.Refusal.TheVariants.{Full, TooManyBranches}
+use Rattle.schedule_trie.specs.Forest.{Forest}
+use Rattle.schedule_trie.specs.Cut.{forest}
+use Rattle.schedule_trie.specs.Limbs.{FitLimits, IsLawful, cells_of, forest_of, limbs, loaded}
+use Rattle.schedule_trie.proofs.LimbLaws.{forest_made}
+use Rattle.cutoff.specs.Held.{LimbsFit}
+use Rattle.sessions.specs.Held.{Staged, world_of}
+use Rattle.sessions.specs.Saves.{IsSaved}
+
+pub loaded_is : (limits : Limits) (ls : List Limb) (f : Forest) → loaded limits ls ≡ Ok f → (f ≡ forest_of ls) × (f.made ≤ limits.cells)
+loaded_is limits ls f e = by (nat_lt limits.cells (cells_of ls)) refl (nat_lt limits.branches (length ls)) e
+  where
+    by : (full : Bool) → nat_lt limits.cells (cells_of ls) ≡ full → (many : Bool) → cond full (Err Full) (cond many (Err TooManyBranches) (Ok (forest_of ls))) ≡ Ok f
+        → (f ≡ forest_of ls) × (f.made ≤ limits.cells)
+    by true t many h = absurd (cc)
+    by false t true h = absurd (cc)
+    by false t false h =
+        let same : forest_of ls ≡ f = cc in
+        let few : cells_of ls ≤ limits.cells = grind (arith, nat_tests) in
+        (sym same, subst (λ g. g.made ≤ limits.cells) same (subst (λ n. n ≤ limits.cells) (sym (forest_made ls)) few))
+
+-- what a chart tells of its limbs
+pub saved_so : {R P A E : Type 0} (is : R → Behaviour P) (s : Staged R P) (items : A → List Limb) (told : Result A E) → s.chart.cut.limits ≡ s.limits
+    → IfOk told (λ r. items r ≡ limbs (forest s.chart.cut)) → IfOk told (λ r. IsLawful (items r)) → IfOk told (λ r. 0 < length (items r))
+    → IfOk told (λ r. FitLimits s.chart.cut.limits (items r)) → IfOk told (λ r. LimbsFit (is s.chart.start.register) (items r))
+    → IfOk told (λ r. IsSaved (world_of is s) (items r))
+saved_so is s items (Ok r) limits same lawful some near fit =
+    record { same = same; lawful = lawful; some = some; fit = fit; near = subst (λ l. FitLimits l (items r)) limits near }
+saved_so is s items (Err e) limits same lawful some near fit = tt

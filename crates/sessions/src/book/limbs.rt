@@ -1,0 +1,69 @@
+//! Books made of limbs, and the limbs of a book.
+
+ghost use Rattle.std.specs.Prelude.{◌≡◌, ◌<◌, Ok, OnOk, IfOk, IfErr, [], length};
+ghost use Rattle.schedule_trie.specs.Forest.{IsRefused};
+ghost use Rattle.schedule_trie.specs.Cut.{AreLimits};
+ghost use Rattle.schedule_trie.specs.Limbs.{IsLawful, forest_of, loaded};
+ghost use Rattle.cutoff.specs.Held.{LimbsFit};
+ghost use Rattle.sessions.specs.World.{opening};
+ghost use Rattle.sessions.specs.Held.{opening_of, world_of};
+ghost use Rattle.sessions.specs.Saves.{IsSaved};
+
+use super::Book;
+use crate::stage::Stage;
+use cutoff::chart::Chart;
+use frames::register::Register;
+use schedule_trie::limb::Limb;
+use schedule_trie::limits::Limits;
+use schedule_trie::refusal::Refusal;
+use std::alloc::{AllocError, Global};
+use std::snapshot::Snapshot;
+
+impl<R: Register> Book<R> {
+    /// The book before the first command: a register at a value, the limits, and the forest that grows from limbs, of which there
+    /// is one.
+    ///
+    /// # Errors
+    ///
+    /// Full where they bring more cells than may be made; TooManyBranches; Memory.
+    pub fn load(
+        alloc: Global,
+        register: R,
+        value: u32,
+        limits: Limits,
+        limbs: &[Limb],
+    ) -> Result<Book<R>, Refusal>
+        requires value { value < (R.is register).values }
+        requires limits { AreLimits limits }
+        requires lawful { IsLawful limbs.now }
+        requires some { 0 < length limbs.now }
+        requires fits { LimbsFit (R.is register) limbs.now }
+        ensures world { let first = opening (R.is register) value limits (forest_of limbs.now)
+            in IfOk result (λ book. world_of R.is book.now ≡ first) }
+        ensures opening { let first = opening (R.is register) value limits (forest_of limbs.now)
+            in IfOk result (λ book. opening_of R.is book ≡ first) }
+        ensures log { IfOk result (λ book. book.log ≡ []) }
+        ensures ok { OnOk result (loaded limits limbs.now ≡ Ok (forest_of limbs.now)) }
+        ensures err { IfErr result (IsRefused (loaded limits limbs.now)) }
+    {
+        let chart = Chart::load(alloc, register, value, limits, limbs)?;
+        let first = Snapshot::of(&chart);
+        let stage = Stage::new(alloc, chart, limits)?;
+        Ok(Book {
+            first,
+            stage,
+            log: Vec::new(alloc),
+        })
+    }
+
+    /// The limbs of its branches, in order of making. A book can be loaded from them.
+    ///
+    /// # Errors
+    ///
+    /// Where there is no memory for them.
+    pub fn limbs(&self, alloc: Global) -> Result<Vec<Limb>, AllocError>
+        ensures { IfOk result (λ limbs. IsSaved (world_of R.is self.now.now) limbs.items) }
+    {
+        self.stage.limbs(alloc)
+    }
+}

@@ -1,0 +1,19 @@
+//! The limbs of a world's branches.
+
+ghost use Rattle.std.specs.Prelude.{IfOk};
+ghost use Rattle.sessions.specs.Held.{world_of};
+ghost use Rattle.sessions.specs.Saves.{IsSaved};
+
+use super::Stage;
+use frames::register::Register;
+use schedule_trie::limb::Limb;
+use std::alloc::{AllocError, Global};
+
+impl<R: Register> Stage<R> {
+    /// The limbs of the branches, in order of making.
+    pub(crate) fn limbs(&self, alloc: Global) -> Result<Vec<Limb>, AllocError>
+        ensures { IfOk result (λ limbs. IsSaved (world_of R.is self.now) limbs.items) }
+    {
+        self.chart.limbs(alloc)
+    }
+}

@@ -1,0 +1,123 @@
+//! Row `bench-file` by calls: a chart, a book and a desk that are loaded from limbs tell these again.
+
+ghost use Rattle.std.specs.Prelude.{◌≡◌, ◌<◌, Some, IfOk, length};
+ghost use Rattle.frames.specs.SafeBit.{safe_behaviour};
+ghost use Rattle.schedule_trie.specs.Names.{name};
+ghost use Rattle.schedule_trie.specs.Limbs.{IsLawful};
+ghost use Rattle.cutoff.specs.Held.{LimbsFit};
+
+use super::{READ, limits};
+use cutoff::chart::Chart;
+use desk::Desk;
+use frames::safe::Safe;
+use frames::types::Step;
+use schedule_trie::limb::{Limb, Steps};
+use schedule_trie::name::Name;
+use schedule_trie::refusal::Refusal;
+use sessions::book::Book;
+use std::alloc::{AllocError, Global};
+use std::process::Abort;
+use std::sync::Wait;
+
+/// A write of 1 by process 0.
+const WRITE: Step = Step::Write { p: 0, v: 1 };
+
+/// The next bit action of process 1, with choice 0, and with choice 1.
+const GO: Step = Step::Go { p: 1, c: 0 };
+
+const GO_ON: Step = Step::Go { p: 1, c: 1 };
+
+/// A limb of the branch with a name.
+fn limb(
+    rt: &impl Abort,
+    alloc: Global,
+    text: &[u8],
+    from: u32,
+    shared: u32,
+    steps: &[Step],
+) -> Result<Limb, AllocError>
+    ensures name { IfOk result (λ l. name text.now ≡ Some l.name) }
+    ensures shares { IfOk result (λ l. (l.from ≡ from) × (l.shared ≡ shared)) }
+    ensures steps { IfOk result (λ l. l.steps ≡ steps.now) }
+{
+    Ok(Limb {
+        name: Name::new(text).expect(rt, "a short name"),
+        from,
+        shared,
+        steps: Steps::new(Vec::from_slice(alloc, steps)?),
+    })
+}
+
+/// A read and a write on `main`; `a` shares the first of their cells, and `b` both of `a`.
+fn three_branches(rt: &impl Abort, alloc: Global) -> Result<Vec<Limb>, AllocError>
+    ensures lawful { IfOk result (λ r. IsLawful r.items) }
+    ensures some { IfOk result (λ r. 0 < length r.items) }
+    ensures fit { IfOk result (λ r. LimbsFit safe_behaviour r.items) }
+{
+    let mut limbs = Vec::new(alloc);
+    limbs.push(limb(rt, alloc, b"main", 0, 0, &[READ, WRITE])?)?;
+    limbs.push(limb(rt, alloc, b"a", 0, 1, &[GO])?)?;
+    limbs.push(limb(rt, alloc, b"b", 1, 2, &[GO_ON])?)?;
+    Ok(limbs)
+}
+
+/// Whether two limbs are the same.
+fn is_same(a: &Limb, b: &Limb) -> bool {
+    a.name == b.name
+        && (a.from, a.shared) == (b.from, b.shared)
+        && a.steps.as_slice() == b.steps.as_slice()
+}
+
+fn are_same(some: &[Limb], others: &[Limb]) -> bool {
+    some.len() == others.len() && some.iter().zip(others).all(|(a, b)| is_same(a, b))
+}
+
+/// Whether a chart that is loaded from limbs tells these.
+fn chart_keeps(alloc: Global, limbs: &[Limb]) -> Result<bool, Refusal>
+    requires lawful { IsLawful limbs.now }
+    requires some { 0 < length limbs.now }
+    requires fit { LimbsFit safe_behaviour limbs.now }
+{
+    let chart = Chart::load(alloc, Safe, 0, limits(1), limbs)?;
+    Ok(are_same(&chart.limbs(alloc)?, limbs))
+}
+
+/// Whether a book does.
+fn book_keeps(alloc: Global, limbs: &[Limb]) -> Result<bool, Refusal>
+    requires lawful { IsLawful limbs.now }
+    requires some { 0 < length limbs.now }
+    requires fit { LimbsFit safe_behaviour limbs.now }
+{
+    let book = Book::load(alloc, Safe, 0, limits(1), limbs)?;
+    Ok(are_same(&book.limbs(alloc)?, limbs))
+}
+
+/// Whether a desk does, behind no call.
+fn desk_keeps<R: Wait>(rt: &R, alloc: Global, limbs: &[Limb]) -> Result<bool, Refusal>
+    requires lawful { IsLawful limbs.now }
+    requires some { 0 < length limbs.now }
+    requires fit { LimbsFit safe_behaviour limbs.now }
+{
+    let (desk, mut chair) = Desk::open_limbs(alloc, Safe, 0, limits(1), limbs)?;
+    let saved = desk.limbs(rt, alloc, &mut chair)?;
+    Ok(saved.at == 0 && are_same(&saved.limbs, limbs))
+}
+
+/// Whether each of the three does.
+fn all_keep<R: Abort + Wait>(rt: &R, alloc: Global) -> Result<bool, Refusal> {
+    let limbs = three_branches(rt, alloc)?;
+    let told = chart_keeps(alloc, &limbs)? && book_keeps(alloc, &limbs)?;
+    Ok(told && desk_keeps(rt, alloc, &limbs)?)
+}
+
+#[test]
+fn limbs_are_told_again(rt: HostRuntime) {
+    assert_eq!(rt; all_keep(&rt, rt.alloc()), Ok(true));
+}
+
+/// Where a growth of memory is refused the answer is Memory, and nothing else is told.
+#[test]
+fn limbs_wanting_memory(rt: HostRuntime) {
+    let told = all_keep(&rt, rt.alloc());
+    assert!(rt; told == Ok(true) || told == Err(Refusal::Memory));
+}
