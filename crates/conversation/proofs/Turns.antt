@@ -7,7 +7,7 @@ use Rattle.std.specs.Prelude.{⊤, IfErr, OnOk, Result, Ok, Err}
 use Rattle.std.specs.Result.{IsErr, IsErrAnd}
 use Rattle.conversation.specs.declared.fault.StreamFault.{StreamFault}
 use Rattle.conversation.specs.Told.{Told, Reached, Finished}
-use Rattle.conversation.specs.Conversations.{IsAnswered, Breaks, IsFront}
+use Rattle.conversation.specs.Conversations.{Leaves, Breaks, IsFront}
 use Rattle.conversation.proofs.Tellings.{ToldAll, told_start, told_whole, told_first, told_all, behind}
 use Rattle.conversation.proofs.Known.{appends_none, appends_more, consumes_start, consumes_more, consumes_kept}
 use Rattle.conversation.specs.declared.limits.TheConstants.{KEPT_BYTES, MOST_BYTES}
@@ -127,14 +127,18 @@ module _ {W : Type 0} (define : Definition W) (start : W) where
       all : ToldAll define start r.seen new_world (lines + 1) (r.text ++ out)
       all = told_all define reads_front start r.seen world lines line r.text r.told new_world (r.text ++ out) onto
 
-      pub all_answered : (last : Option (List ℕ)) → Appends after last out → IsAnswered (answers_to define start) old now before last
+      pub all_answered : (last : Option (List ℕ)) → Appends after last out → Leaves define start new_world old now before last
       all_answered last w = record {
-        script = r.seen;
-        marks = all.marks;
-        read = r.read;
-        ended = ended;
-        short = omega (arith, r.counted);
-        wrote = subst (λ xs. Appends before last xs) all.same_text (appends_more before after last r.text out r.wrote w);
+        answered =
+            record {
+              script = r.seen;
+              marks = all.marks;
+              read = r.read;
+              ended = ended;
+              short = omega (arith, r.counted);
+              wrote = subst (λ xs. Appends before last xs) all.same_text (appends_more before after last r.text out r.wrote w);
+            };
+        left = all.same_world;
       }
 
       pub breaks_last : (last : Option (List ℕ)) (front : List ℕ) → IsFront front out → Appends after last front → Breaks (answers_to define start) Write old now before last
@@ -151,11 +155,11 @@ module _ {W : Type 0} (define : Definition W) (start : W) where
           }
 
   -- an end that went well or didn't, clause by clause
-  module _ (old now before after : Option (List ℕ)) where
+  module _ (old now before after : Option (List ℕ)) (left : W) where
     abbrev IsEnd : Result ⊤ StreamFault → Type 0
-    IsEnd r = record { done : OnOk r (IsAnswered (answers_to define start) old now before after); fault : IfErr r (λ e. Breaks (answers_to define start) e old now before after) }
+    IsEnd r = record { done : OnOk r (Leaves define start left old now before after); fault : IfErr r (λ e. Breaks (answers_to define start) e old now before after) }
 
-    pub finished : (r : Result ⊤ StreamFault) → Finished define start old now before after r → IsEnd r
+    pub finished : (r : Result ⊤ StreamFault) → Finished define start old now before after left r → IsEnd r
     finished (Ok done) h = record { done = h; fault = tt }
     finished (Err e) h = record { done = tt; fault = h }
 

@@ -4,7 +4,7 @@ use Rattle.std.specs.Io.KnownBytes.{Appends, Consumes, IsAtEnd}
 use Rattle.conversation.specs.declared.fault.StreamFault.{StreamFault}
 use Rattle.conversation.specs.declared.fault.StreamFault.TheVariants.{Read, Write, TooLong, Memory}
 use Rattle.conversation.specs.declared.limits.TheConstants.{MOST_BYTES}
-use Rattle.conversation.specs.Scripts.{Marks, lines_of, whole_lines}
+use Rattle.conversation.specs.Scripts.{Definition, Marks, after_lines, answers_to, lines_of, whole_lines}
 
 -- what lines answer, by their marks
 abbrev pub Answering : Type 0
@@ -26,6 +26,11 @@ pub record IsAnswered (answering : Answering) (old now before after : Option (Li
   pub ended : IsAtEnd now
   pub short : length script < MOST_BYTES
   pub wrote : Appends before after (answering (lines_of script) marks)
+
+-- It was, and its lines leave this world.
+pub record Leaves {W : Type 0} (define : Definition W) (start world : W) (old now before after : Option (List ℕ)) : Type 0 where
+  pub answered : IsAnswered (answers_to define start) old now before after
+  pub left : world ≡ (after_lines define start (lines_of answered.script) answered.marks).world
 
 -- What went out of the answers to what was read. After a read that failed or a script too long: those to its whole
 -- lines. After a want of memory: those to some of its first whole lines, each of them whole. After a write that failed:

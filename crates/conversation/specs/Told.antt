@@ -5,7 +5,7 @@ use Rattle.conversation.specs.declared.converse.Conversation.{Conversation}
 use Rattle.conversation.specs.declared.fault.StreamFault.{StreamFault}
 use Rattle.conversation.specs.declared.limits.TheConstants.{KEPT_BYTES}
 use Rattle.conversation.specs.Scripts.{Definition, Marks, lines_of, after_lines, answers_to}
-use Rattle.conversation.specs.Conversations.{IsAnswered, Breaks}
+use Rattle.conversation.specs.Conversations.{Leaves, Breaks}
 
 -- From an opening world on: of the bytes seen, the whole lines were answered by this text, some of them
 -- refused memory. Of the last line the front is kept, as much as a call has and one byte more.
@@ -44,7 +44,7 @@ Turned define start old now before after room count world lines line (Ok None) =
 Turned define start old now before after room count world lines line (Ok (Some n)) = Reached define start old now before after (count + n) world lines line × (n ≤ room)
 Turned define start old now before after room count world lines line (Err e) = Breaks (answers_to define start) e old now before after
 
--- What the end of a conversation comes to: the whole script is answered, or a fault came.
-abbrev pub Finished : {W : Type 0} → Definition W → W → Option (List ℕ) → Option (List ℕ) → Option (List ℕ) → Option (List ℕ) → Result ⊤ StreamFault → Type 0
-Finished define start old now before after (Ok done) = IsAnswered (answers_to define start) old now before after
-Finished define start old now before after (Err e) = Breaks (answers_to define start) e old now before after
+-- What the end of a conversation comes to: the whole script is answered and leaves this world, or a fault came.
+abbrev pub Finished : {W : Type 0} → Definition W → W → Option (List ℕ) → Option (List ℕ) → Option (List ℕ) → Option (List ℕ) → W → Result ⊤ StreamFault → Type 0
+Finished define start old now before after world (Ok done) = Leaves define start world old now before after
+Finished define start old now before after world (Err e) = Breaks (answers_to define start) e old now before after

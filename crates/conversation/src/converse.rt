@@ -5,7 +5,7 @@ ghost use Rattle.std.specs.Io.KnownBytes.{Appends, IsAtEnd};
 ghost use Rattle.conversation.specs.declared.limits.TheConstants.{KEPT_BYTES, MOST_BYTES};
 ghost use Rattle.conversation.specs.Scripts.{answers_to, AnswersBy, IsAnswer};
 ghost use Rattle.conversation.specs.Told.{kept_with, TellsOn, Reached, Turned, Finished};
-ghost use Rattle.conversation.specs.Conversations.{IsAnswered, Breaks, WroteFront};
+ghost use Rattle.conversation.specs.Conversations.{Leaves, Breaks, WroteFront};
 
 use crate::answering::Answers;
 use crate::fault::StreamFault;
@@ -197,7 +197,8 @@ impl Conversation {
             → count < MOST_BYTES → IsAtEnd now
             → Reached A.define start old now before (W.contents writer.old) count
             (A.world answers.old) self.old.lines self.old.line.items
-            → Finished A.define start old now before (W.contents writer.new) result }
+            → Finished A.define start old now before (W.contents writer.new)
+            (A.world answers.new) result }
     {
         let Ok(()) = self.end_line(answers, answer) else {
             return Err(StreamFault::Memory);
@@ -224,7 +225,7 @@ pub fn converse<
 ) -> Result<(), StreamFault>
     requires callable { F.IsAlwaysCallable answer.now }
     requires answers { AnswersBy A.define A.world (F.post answer.now) }
-    ensures done { OnOk result (IsAnswered (answers_to A.define (A.world answers.old))
+    ensures done { OnOk result (Leaves A.define (A.world answers.old) (A.world answers.new)
         (R.remaining reader.old) (R.remaining reader.new)
         (W.contents writer.old) (W.contents writer.new)) }
     ensures fault { IfErr result (λ e. Breaks (answers_to A.define (A.world answers.old)) e

@@ -51,11 +51,11 @@ returns-in_default g c =
     let few : so_far.0 + c.loop.room ≤ MOST_BYTES = omega (arith, so_far.1) in
     let short : so_far.0 < MOST_BYTES = omega (arith, so_far.1, c.loop.invariant.some) in
     let turned = rw (c.in_ok-taken.was, c.in_default.is) at (c.turn.ensures.turned _ _ _ so_far.0 few so_far.2) in
-    finished g.A.Answers.define _ _ _ _ _ c.finish.result (c.finish.ensures _ _ _ _ so_far.0 short turned.1 turned.0)
+    finished g.A.Answers.define _ _ _ _ _ _ c.finish.result (c.finish.ensures _ _ _ _ so_far.0 short turned.1 turned.0)
 
 pub returns-in_err-taken : goal.returns-in_err-taken
 returns-in_err-taken g c =
     let so_far = c.loop.invariant.reached in
     let few : so_far.0 + c.loop.room ≤ MOST_BYTES = omega (arith, so_far.1) in
     let turned = rw c.in_err-taken.was at (c.turn.ensures.turned _ _ _ so_far.0 few so_far.2) in
-    broken g.A.Answers.define _ _ _ _ _ c.from_residual.result _ _ c.from_residual.ensures.0 c.from_residual.ensures.1 (λ x h. h) turned
+    broken g.A.Answers.define _ _ _ _ _ (g.A.Answers.world c.turn.new.answers) c.from_residual.result _ _ c.from_residual.ensures.0 c.from_residual.ensures.1 (λ x h. h) turned
