@@ -2,6 +2,8 @@
 
 Beside NAME.script and NAME.expected, what standard output says, there may be
 - NAME.tower    the tower file, which is the first word of the command line
+- NAME.bench    the same, a bench file
+- NAME.saved    what is saved, to a path that is then named by `--save`
 - NAME.words    further words, parted as a shell parts them
 - NAME.status   the exit status, where it isn't 0
 - NAME.errors   what standard error says, where it says something
@@ -13,7 +15,7 @@ import os
 import shlex
 import subprocess
 
-KINDS = ("script", "expected", "tower", "words", "status", "errors")
+KINDS = ("script", "expected", "tower", "bench", "saved", "words", "status", "errors")
 MADE = ".make"
 NUMBERS_OF_WORKERS = (0, 1, 4)
 # Words that say themselves how many threads help, or with which nothing is filled.
@@ -23,8 +25,9 @@ MOST_SECONDS = 300
 BYTES_SHOWN = 100
 BYTES_SHOWN_BEFORE = 30
 
-# script: its path; words: those behind the program's name; output and errors: bytes
-Case = collections.namedtuple("Case", "script words output status errors")
+# script: its path; words: those behind the program's name; output, errors and saved: bytes; saved: None: nothing is;
+# save: the path that it is saved to
+Case = collections.namedtuple("Case", "script words output status errors saved save")
 Ran = collections.namedtuple("Ran", "output status errors")
 
 
@@ -79,12 +82,17 @@ def case_of(name, scratch):
     status = read(paths["status"]).strip() if paths["status"] else b"0"
     if not status.isdigit():
         raise Spoilt(f"{name}.status is no number")
+    save = f"{scratch}/{name.replace('/', '-')}.save" if paths["saved"] else None
     return Case(
         script=paths["script"],
-        words=[it for it in [paths["tower"]] if it] + shlex.split(more),
+        words=[it for it in (paths["tower"], paths["bench"]) if it]
+        + (["--save", save] if save else [])
+        + shlex.split(more),
         output=read(paths["expected"]),
         status=int(status),
         errors=read(paths["errors"]) if paths["errors"] else b"",
+        saved=read(paths["saved"]) if save else None,
+        save=save,
     )
 
 
@@ -119,9 +127,16 @@ def first_difference(wanted, got):
     return f"line {count + 1}: wanted {want}, got {has}"
 
 
+def saved_by(case):
+    """Returns what a run of a case has saved; None: nothing."""
+    return read(case.save) if case.save and os.path.exists(case.save) else None
+
+
 def difference(case, ran):
     """Returns in what a run isn't as its case wants it; None: it is."""
-    texts = (("", case.output, ran.output), ("standard error, ", case.errors, ran.errors))
+    texts = [("", case.output, ran.output), ("standard error, ", case.errors, ran.errors)]
+    if case.save:
+        texts.append(("saved, ", case.saved, saved_by(case) or b""))
     told = [(where, first_difference(wanted, got)) for where, wanted, got in texts]
     found = [where + it for where, it in told if it]
     if ran.status != case.status:
@@ -133,6 +148,8 @@ def fault_of(name, program, scratch):
     """Returns what is wrong with a case or with what the program makes of it; None: nothing."""
     case = case_of(name, scratch)
     for words in ways(case):
+        if saved_by(case) is not None:
+            os.remove(case.save)
         fault = difference(case, run(program, [*words, *case.words], case.script))
         if fault:
             return f"{' '.join(words)}{': ' * bool(words)}{fault}"

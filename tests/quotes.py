@@ -5,7 +5,7 @@ its answer.
 - The lines typed in all blocks of a NAME are the commands of NAME.script, in order, and each script
   has its blocks.
 - The lines below one of them stand in that command's answer in NAME.expected, in order.
-- The page says how the program is started on NAME.tower.
+- The page says how the program is started on NAME.tower, or on NAME.bench, also with `--save`.
 - A line of an answer that the page's text names, as `4 p1 return 0` does, is one of those quoted in
   its blocks.
 - A lesson's page is at most a screen long, and lessons/README.md links to each lesson, in order.
@@ -86,8 +86,9 @@ def page_faults(page):
             yield f"a block is marked `{mark}`, and its lines aren't looked at"
         transcripts.setdefault(name, []).extend(lines)
     for name, lines in sorted(transcripts.items()):
-        if f"`./towerbench {page.parent.relative_to(TOP)}/{name}.tower`" not in text:
-            yield f"it doesn't say how to start {name}.tower"
+        file = re.escape(f"{page.parent.relative_to(TOP)}/{name}.")
+        if not re.search(rf"`\./towerbench {file}(tower|bench)( --save [^`]*)?`", text):
+            yield f"it doesn't say how to start {name}.tower or {name}.bench"
         yield from quotes_faults(page, name, lines)
     quoted = {line.strip() for _, lines in blocks for line in lines if not is_command(line)}
     for named in NAMED.findall(text):

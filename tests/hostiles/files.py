@@ -1,4 +1,4 @@
-"""Tower files that are broken, too long, or no files."""
+"""Tower files and bench files that are broken, too long, or no files."""
 import collections
 import itertools
 import os
@@ -11,7 +11,7 @@ import threading
 import tower_reader
 from runs import SECONDS, Ended, ended, fault, good, program
 
-MOST_BYTES = 2**26
+MOST_BYTES = 2**32
 # A run over a file that is too long takes so much memory at most: what a file may have, and 16 MB.
 MOST_MEMORY = MOST_BYTES + 2**24
 NOBODY = 65534
@@ -29,12 +29,18 @@ ROWS = {
                             "w 1 0", *["g 1 0"] * 30),
     "stopped-writer": spelled("tower 2", "safe 0", "w 0 1", "g 0 0", "x 0", "g 0 0",
                               "r 1", "g 1 0", "g 1 1"),
+    "bench-file": spelled("bench 1", "safe 0", "branch main 0 0", "r 1", "w 0 1", "branch a 0 1", "g 1 0",
+                          "branch b 1 2", "g 1 1"),
+    "bench-of-four": spelled("bench 1", "unary 3 2 0", "branch c 0 0", "w 0 1", "branch a 0 0", "branch main 0 1",
+                             *["g 0 0"] * 11, "x 0", "branch b 2 12", "r 2", "g 2 1"),
 }
 
 
 def wanted(data):
     """Returns how a run of the reader's script over a file has to end, by the reader."""
     try:
+        if data.startswith(tower_reader.BENCH):
+            return good(tower_reader.bench_pages(tower_reader.read_bench(data)))
         return good(tower_reader.pages(tower_reader.read(data)))
     except tower_reader.Fault as first:
         return Ended(1, b"", first.line)
@@ -47,7 +53,8 @@ def cuts(data):
 
 def versions(data):
     for version in range(4):
-        yield f"version {version}", b"tower %d" % version + data[data.index(b"\n") :]
+        for header in (b"tower", b"bench"):
+            yield f"{header} {version}", b"%s %d" % (header, version) + data[data.index(b"\n") :]
 
 
 def next_digit(byte):
@@ -64,7 +71,7 @@ def replacements(data):
 
 
 # What bytes are put in, and how many files are changed at more than one place.
-BYTES = b"0123456789 \nwrgxtower"
+BYTES = b"0123456789 \nwrgxtowerbranch"
 MIXED = 300
 # Numbers at the limits of each tower's, and just past them.
 EDGES = {
@@ -113,8 +120,9 @@ def sized():
                 yield f"{version}, {tower}, {step}", spelled(version, tower, step)
 
 
-def over(path):
-    return ended([path], tower_reader.SCRIPT)
+def over(path, data):
+    is_bench = data.startswith(tower_reader.BENCH)
+    return ended([path], tower_reader.BENCH_SCRIPT if is_bench else tower_reader.SCRIPT)
 
 
 def broken(counts, room):
@@ -135,7 +143,7 @@ def hold(counts, row, changes, room):
             file.write(changed)
         want = wanted(changed)
         kinds[want.errors.split()[-1].decode() if want.errors else "read"] += 1
-        counts.same(name, over(path), want)
+        counts.same(name, over(path, changed), want)
     print(f"{row}: wanted: {', '.join(f'{count} {kind}' for kind, count in kinds.items())}")
     counts.end()
 
@@ -168,24 +176,13 @@ def sparse(path, length):
     return path
 
 
-def lawful(path, length):
-    """Makes a file that is lawful but for its length, and returns its path."""
-    steps = b"r 1\n" * 2**14
-    with open(path, "wb") as file:
-        left = length - file.write(b"tower 1\nsafe 0\n")
-        while left:
-            left -= file.write(steps[:left])
-    return path
-
-
 def long_files(counts, room):
     """Files that are as long as one may be, longer, and without an end."""
     counts.begin("files: long ones")
     too_long, path = fault("file too long"), f"{room}/long"
     not_ascii = fault("file line 1: 10 NotAscii")
-    counts.same("2^26 bytes of 0", ended([sparse(path, MOST_BYTES)]), not_ascii)
-    same_in_memory(counts, "2^26 + 1 bytes of 0", sparse(path, MOST_BYTES + 1), too_long)
-    same_in_memory(counts, "2^26 + 1 bytes of steps", lawful(path, MOST_BYTES + 1), too_long)
+    counts.same("2^32 bytes of 0", ended([sparse(path, MOST_BYTES)]), not_ascii)
+    same_in_memory(counts, "2^32 + 1 bytes of 0", sparse(path, MOST_BYTES + 1), too_long)
     same_in_memory(counts, "2^36 bytes of 0", sparse(path, 2**36), too_long)
     os.remove(path)
     same_in_memory(counts, "/dev/zero", "/dev/zero", too_long)
@@ -233,7 +230,8 @@ def pipes(counts, room):
         for name, pieces in (("whole", [data]), ("no bytes", []), ("half", [half]),
                              ("a byte a write", bytewise)):
             feeder = fed(pipe, pieces)
-            counts.same(f"{row}, {name}", over(pipe), wanted(b"".join(pieces)))
+            whole = b"".join(pieces)
+            counts.same(f"{row}, {name}", over(pipe, whole), wanted(whole))
             feeder.join(SECONDS)
     counts.end()
 
@@ -255,7 +253,7 @@ def is_run_by_nobody(path):
 
 
 def unreadable(counts, room):
-    """A file that its reader has no right to read, and a folder that it has no right to enter."""
+    """A file that its reader has no right to read, and a folder that it has no right to enter, to read from or to save to."""
     path, folder = f"{room}/locked", f"{room}/closed"
     names = {"a file without right to read": path, "one in such a folder": f"{folder}/x"}
     with open(path, "wb") as file:
@@ -273,6 +271,7 @@ def unreadable(counts, room):
             return
     for name, it in names.items():
         counts.same(name, ended([it], **how), fault("file unreadable"))
+        counts.same(f"saved to {name}", ended(["--save", it], **how), fault("save failed"))
 
 
 def no_files(counts, room):

@@ -1,10 +1,11 @@
-"""As much as the program's limits allow, and one more; and what memory it takes."""
+"""As much as the limits that it is given allow, and one more; and what memory it takes."""
 import re
 
 from watched import Stage, Watched
 
 # Generous: a stage takes seconds to a few minutes.
 SECONDS = 3600
+# (so many cells are tried: 2^28, which the program may have, take more memory than most machines have)
 MOST_CELLS, MOST_LOGGED, MOST_BRANCHES = 2**24, 2**20, 1024
 HEAD = b"tower 1\nsafe 0\n"
 STEP = b"r 1\n"

@@ -1,4 +1,4 @@
-"""A second reader of tower files, written from the documents alone, to hold the program's own to.
+"""A second reader of tower files and bench files, written from the documents alone, to hold the program's own to.
 
 It goes over a file once for each kind of fault, in the order in which the first one is told, and
 knows the pages of a tower on which no step was made.
@@ -9,11 +9,14 @@ import re
 NUMBERS = {
     "NotAscii": 10, "BadHeader": 11, "UnknownTower": 12,
     "BadField": 13, "BadStep": 14, "BadSize": 15,
+    "BadBranch": 16, "Tangled": 17,
 }
+BENCH = b"bench 1\n"
 HEADERS = {"tower 1\n": 1, "tower 2\n": 2}
 # How many numbers the second line has behind the tower's name.
 FIELDS = {"safe": 1, "copies": 2, "regular": 2, "unary": 3, "stamped": 2, "matrix": 4}
 NUMBER = re.compile(r"0|[1-9][0-9]{0,8}")
+NAME = re.compile(r"[a-z][a-z0-9]{0,15}")
 LINE = re.compile(r"[^\n]*\n|[^\n]+")
 # How many numbers a step has behind its letter.
 STEPS = {"w": 2, "r": 1, "g": 2, "x": 1}
@@ -21,6 +24,8 @@ STEPS = {"w": 2, "r": 1, "g": 2, "x": 1}
 # readers: how many there are behind process 0, or None where each process reads and writes.
 Roles = collections.namedtuple("Roles", "processes values readers")
 Tower = collections.namedtuple("Tower", "version kind numbers steps")
+# shared: how many of its steps stand in earlier branches; steps: all of them
+Branch = collections.namedtuple("Branch", "name shared steps")
 
 
 class Fault(Exception):
@@ -44,6 +49,43 @@ def read(data):
         if not (line.endswith("\n") and fits(tower, line[:-1].split(" "))):
             raise Fault("BadStep", place)
     return tower
+
+
+def read_bench(data):
+    """Returns the branches that a bench file's bytes spell, or raises their first fault."""
+    refuse_bytes(data)
+    lines = LINE.findall(data.decode("ascii"))
+    kind, numbers = tower_of(lines[1] if len(lines) > 1 else "")
+    tower, branches = Tower(2, kind, numbers, []), []
+    for place, line in enumerate(lines[2:], 3):
+        words, is_whole = line.rstrip("\n").split(" "), line.endswith("\n")
+        if words[0] == "branch":
+            branches.append(branch_of(words[1:] if is_whole else [], branches, place))
+        elif not branches:
+            raise Fault("BadBranch", place)
+        elif is_whole and fits(tower, words):
+            branches[-1].steps.append(line[:-1])
+        else:
+            raise Fault("BadStep", place)
+    if not branches:
+        raise Fault("BadBranch", 3)
+    return branches
+
+
+def branch_of(words, branches, place):
+    """Returns the branch that the words behind the first of a line begin, behind others."""
+    is_one = len(words) == 3 and NAME.fullmatch(words[0]) and all(map(NUMBER.fullmatch, words[1:]))
+    if not is_one or words[0] in [it.name for it in branches]:
+        raise Fault("BadBranch", place)
+    number, shared = int(words[1]), int(words[2])
+    if (number, shared) == (0, 0):
+        return Branch(words[0], 0, [])
+    if number >= len(branches):
+        raise Fault("Tangled", place)
+    parent = branches[number]
+    if not parent.shared < shared <= len(parent.steps):
+        raise Fault("Tangled", place)
+    return Branch(words[0], shared, parent.steps[:shared])
 
 
 def refuse_bytes(data):
@@ -153,4 +195,23 @@ def pages(tower):
     lines += ["  bits " + "".join(map(str, cells)), "  words " + (" ".join(map(str, words)) or "-")]
     lines += [f"0: steps main {len(tower.steps)}"]
     lines += [f"  {place} {step}" for place, step in enumerate(tower.steps)]
+    return "".join(f"{line}\n" for line in lines).encode()
+
+
+BENCH_NAMES = ("main", "a", "b", "c")
+BENCH_SCRIPT = "".join(["0 branches\n"] + [f"0 steps {name}\n" for name in BENCH_NAMES]).encode()
+
+
+def bench_pages(branches):
+    """Returns what BENCH_SCRIPT is answered over branches."""
+    made = sum(len(it.steps) - it.shared for it in branches)
+    lines = [f"0: branches {len(branches)} edits 0 made {made}"]
+    lines += [f"  {it.name} {len(it.steps)}" for it in branches]
+    named = {it.name: it.steps for it in branches}
+    for name in BENCH_NAMES:
+        if name in named:
+            lines.append(f"0: steps {name} {len(named[name])}")
+            lines += [f"  {place} {step}" for place, step in enumerate(named[name])]
+        else:
+            lines.append("0: refused 20 NoBranch")
     return "".join(f"{line}\n" for line in lines).encode()

@@ -15,6 +15,7 @@ use Rattle.clap.specs.declared.error.kind.ErrorKind.TheVariants.{DisplayHelp, Ou
 use Rattle.clap.proofs.CallerReads.{signed_reads}
 use Rattle.clap.proofs.WalkLemmas.{first_value-rows, one_text-rows, both}
 use Rattle.clap.proofs.OnLiterals.{clap_on_literals}
+use Rattle.schedule_trie.specs.declared.limits.TheConstants.{MOST_CELLS_MADE}
 use Rattle.command_line.specs.declared.options.Options.{Options}
 use Rattle.command_line.specs.declared.invocation.Invocation.{Invocation}
 use Rattle.command_line.specs.declared.invocation.Invocation.TheVariants.{Run, Help, Refused, Memory}
@@ -33,7 +34,7 @@ use Rattle.clap.specs.declared.parser.matches.ArgMatches.{ArgMatches}
 use Rattle.clap.specs.declared.parser.matches.Found.{Found}
 use Rattle.clap.specs.declared.parser.matches.MatchedArg.{MatchedArg}
 use Rattle.clap.proofs.CallerLemmas.{default_present, entry_by_id, same_rules_by_id}
-use Rattle.command_line.specs.CommandLine.{IsAskedBy, IsRunOf, Says, Tells, number_of, number_rule, workers_rule, cells_rule, branches_rule, default_options, faults_of, file_of, file_rule, options_of, program}
+use Rattle.command_line.specs.CommandLine.{IsAskedBy, IsRunOf, Says, Tells, number_of, number_rule, workers_rule, cells_rule, branches_rule, default_options, faults_of, file_of, file_rule, options_of, path_of, program, save_rule}
 
 -- the parser of a number
 abbrev number : ℕ → ℕ → ValueParser
@@ -164,7 +165,7 @@ some (x ∷ xs) lt = x
 -- ---- the options, each by its place among the arguments
 
 abbrev all_rules : List Rule
-all_rules = file_rule ∷ workers_rule ∷ cells_rule ∷ branches_rule ∷ []
+all_rules = file_rule ∷ workers_rule ∷ cells_rule ∷ branches_rule ∷ save_rule ∷ []
 
 -- the rule at a place
 abbrev rule_at : ℕ → Rule
@@ -179,14 +180,16 @@ all_simple zero lt = refl
 all_simple (suc zero) lt = refl
 all_simple (suc (suc zero)) lt = refl
 all_simple (suc (suc (suc zero))) lt = refl
-all_simple (suc (suc (suc (suc k)))) lt = absurd (omega (arith, lt))
+all_simple (suc (suc (suc (suc zero)))) lt = refl
+all_simple (suc (suc (suc (suc (suc k))))) lt = absurd (omega (arith, lt))
 
 all_first : (k : ℕ) → k < length all_rules → first_with (rule_at k).id ≡ Some k
 all_first zero lt = refl
 all_first (suc zero) lt = refl
 all_first (suc (suc zero)) lt = refl
 all_first (suc (suc (suc zero))) lt = refl
-all_first (suc (suc (suc (suc k)))) lt = absurd (omega (arith, lt))
+all_first (suc (suc (suc (suc zero)))) lt = refl
+all_first (suc (suc (suc (suc (suc k))))) lt = absurd (omega (arith, lt))
 
 -- one of the options: its place, and that its id is neither empty nor the help's or the version's
 pub record IsOption (id : Text) (least most : ℕ) : Type 0 where
@@ -202,7 +205,7 @@ pub record IsOption (id : Text) (least most : ℕ) : Type 0 where
 pub workers : IsOption (codes "workers") 0 4
 workers = record { place = 1; default = codes "0"; within = omega arith; rule = refl; named = omega arith; no_help = refl; no_version = refl; fits = omega arith }
 
-pub cells : IsOption (codes "cells") 1 16777216
+pub cells : IsOption (codes "cells") 1 MOST_CELLS_MADE
 cells = record { place = 2; default = codes "65536"; within = omega arith; rule = refl; named = omega arith; no_help = refl; no_version = refl; fits = omega arith }
 
 pub branches : IsOption (codes "branches") 1 1024
@@ -348,11 +351,11 @@ module _ (c : Command) (m : ArgMatches) (shape : app_of c ≡ program) (p : IsPa
         let is : n ≡ number_of id words = rw at number_is in
         (is, omega (arith, same, got.2), omega (arith, same, got.3))
 
-  pub says : (words : List Text) (file : Option Text) (n k l : ℕ) → HasMatchesOf (app_of c) words m → fault_of (app_of c) words ≡ []
-      → file ≡ first_value (found_of m) (codes "FILE")
+  pub says : (words : List Text) (file save : Option Text) (n k l : ℕ) → HasMatchesOf (app_of c) words m → fault_of (app_of c) words ≡ []
+      → file ≡ first_value (found_of m) (codes "FILE") → save ≡ first_value (found_of m) (codes "save")
       → Gives (codes "workers") (Some n) → Gives (codes "cells") (Some k) → Gives (codes "branches") (Some l)
-      → Says words file (record { workers = n; cells = k; branches = l })
-  says words file n k l has taken file_is gives_workers gives_cells gives_branches =
+      → Says words file (record { workers = n; cells = k; branches = l }) save
+  says words file save n k l has taken file_is save_is gives_workers gives_cells gives_branches =
       let workers_are = told workers words n has gives_workers in
       let cells_are = told cells words k has gives_cells in
       let branches_are = told branches words l has gives_branches in
@@ -360,6 +363,7 @@ module _ (c : Command) (m : ArgMatches) (shape : app_of c ≡ program) (p : IsPa
         taken = ap (λ (a : App). fault_of a words) (sym shape) ∙ taken;
         file_is = file_is ∙ first_value-rows (found_of m) (codes "FILE") ∙ ap (first_of (codes "FILE")) (rows words has);
         options_are = λ i. record { workers = workers_are.0 i; cells = cells_are.0 i; branches = branches_are.0 i };
+        save_is = save_is ∙ first_value-rows (found_of m) (codes "save") ∙ ap (first_of (codes "save")) (rows words has);
         limits = record {
           few_workers = workers_are.2;
           some_cells = cells_are.1;
@@ -372,7 +376,7 @@ module _ (c : Command) (m : ArgMatches) (shape : app_of c ≡ program) (p : IsPa
 -- ---- what is answered
 
 told_of : (words : List Text) (kinds : Kinds) (e : Error) (r : Invocation) → kinds ≡ faults_of words → HasKind kinds e → Tells (kind_of e) r → IsAskedBy words r
-told_of words kinds e (Run file options) same has h = absurd h
+told_of words kinds e (Run file options save) same has h = absurd h
 told_of words kinds e (Help text) same (inl lack) h =
     let bad : OutOfMemory ≡ DisplayHelp = sym lack ∙ h in
     cc
@@ -388,21 +392,23 @@ tells c words e r shape has h = told_of words (fault_of (app_of c) words) e r (a
 
 -- ---- no words
 
--- the words are taken, and ask for this FILE and these options
-record Asks (words : List Text) (file : Option Text) (options : Options) : Type 0 where
+-- the words are taken, and ask for this FILE, these options and this PATH
+record Asks (words : List Text) (file : Option Text) (options : Options) (save : Option Text) : Type 0 where
   pub taken : faults_of words ≡ []
   pub file_is : file_of words ≡ file
   pub options_are : options_of words ≡ options
+  pub save_is : path_of words ≡ save
 
-asks_bare : Asks [] None default_options
+asks_bare : Asks [] None default_options None
 unfolding clap_on_literals
-asks_bare = record { taken = refl; file_is = refl; options_are = refl }
+asks_bare = record { taken = refl; file_is = refl; options_are = refl; save_is = refl }
 
-runs_of : (words : List Text) (file : Option Text) (options : Options) (r : Invocation) → Asks words file options → IsAskedBy words r → IsRunOf file options r
-runs_of words file options (Run f o) asks h = (h.file_is ∙ asks.file_is, h.options_are ∙ asks.options_are)
-runs_of words file options (Help text) asks h = subst (λ ks. IsAmong DisplayHelp ks) asks.taken h
-runs_of words file options (Refused text) asks h = subst (λ ks. IsAmong h.0 ks) asks.taken h.1
-runs_of words file options Memory asks h = tt
+runs_of : (words : List Text) (file : Option Text) (options : Options) (save : Option Text) (r : Invocation) → Asks words file options save → IsAskedBy words r
+    → IsRunOf file options save r
+runs_of words file options save (Run f o s) asks h = (h.file_is ∙ asks.file_is, h.options_are ∙ asks.options_are, h.save_is ∙ asks.save_is)
+runs_of words file options save (Help text) asks h = subst (λ ks. IsAmong DisplayHelp ks) asks.taken h
+runs_of words file options save (Refused text) asks h = subst (λ ks. IsAmong h.0 ks) asks.taken h.1
+runs_of words file options save Memory asks h = tt
 
-pub bare : (words : List Text) (r : Invocation) → words ≡ [] → IsAskedBy words r → IsRunOf None default_options r
-bare words r empty h = runs_of [] None default_options r asks_bare (subst (λ ws. IsAskedBy ws r) empty h)
+pub bare : (words : List Text) (r : Invocation) → words ≡ [] → IsAskedBy words r → IsRunOf None default_options None r
+bare words r empty h = runs_of [] None default_options None r asks_bare (subst (λ ws. IsAskedBy ws r) empty h)

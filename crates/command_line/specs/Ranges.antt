@@ -1,5 +1,6 @@
 -- The ranges of a run's limits.
-use Rattle.std.specs.Prelude.{◌≤◌, ◌^◌}
+use Rattle.std.specs.Prelude.{◌≤◌}
+use Rattle.schedule_trie.specs.declared.limits.TheConstants.{MOST_CELLS_MADE}
 use Rattle.schedule_trie.specs.declared.limits.Limits.{Limits}
 use Rattle.command_line.specs.declared.options.Options.{Options}
 
@@ -7,7 +8,7 @@ use Rattle.command_line.specs.declared.options.Options.{Options}
 pub record AreLimits (o : Options) : Type 0 where
   pub few_workers : o.workers ≤ 4
   pub some_cells : 1 ≤ o.cells
-  pub few_cells : o.cells ≤ 2 ^ 24
+  pub few_cells : o.cells ≤ MOST_CELLS_MADE
   pub some_branches : 1 ≤ o.branches
   pub few_branches : o.branches ≤ 1024
 

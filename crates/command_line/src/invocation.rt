@@ -3,7 +3,7 @@
 ghost use Rattle.std.specs.Prelude.{◌≡◌, [], None, IfOk, false, map};
 ghost use Rattle.std.specs.String.{string_bytes};
 ghost use Rattle.clap.specs.Words.{app_of, kind_of, rule_of};
-ghost use Rattle.command_line.specs.CommandLine.{IsAskedBy, IsRunOf, Tells, option_rule, default_options, program};
+ghost use Rattle.command_line.specs.CommandLine.{IsAskedBy, IsRunOf, Tells, option_rule, path_rule, default_options, program};
 
 use crate::options::Options;
 use clap::builder::ValueParser;
@@ -23,13 +23,17 @@ const CELLS: &str = "cells";
 /// The id of the option that limits the branches.
 const BRANCHES: &str = "branches";
 
+/// The id of the option that names the file to which the branches are saved.
+const SAVE: &str = "save";
+
 /// What the words ask for.
 #[derive(Debug, Drop)]
 pub enum Invocation<'a> {
-    /// A run over the tower file that is named, if any.
+    /// A run over the file that is named, if any, and the path to which the branches are then saved, if any.
     Run {
         file: Option<&'a str>,
         options: Options,
+        save: Option<&'a str>,
     },
     /// The help, to be printed.
     Help(String),
@@ -42,7 +46,7 @@ pub enum Invocation<'a> {
 /// Reads the words behind the program's name.
 pub fn parse<'a>(alloc: Global, words: &'a [String]) -> Invocation<'a>
     ensures asked { IsAskedBy (map string_bytes words.entry.now) result }
-    ensures bare { words.entry.now ≡ [] → IsRunOf None default_options result }
+    ensures bare { words.entry.now ≡ [] → IsRunOf None default_options None result }
 {
     let Ok(command) = command(alloc) else {
         return Invocation::Memory;
@@ -67,6 +71,7 @@ pub fn parse<'a>(alloc: Global, words: &'a [String]) -> Invocation<'a>
             cells,
             branches,
         },
+        save: matches.get_str(SAVE),
     }
 }
 
@@ -74,7 +79,9 @@ pub fn parse<'a>(alloc: Global, words: &'a [String]) -> Invocation<'a>
 fn command<'a>(alloc: Global) -> Result<Command<'a>, AllocError>
     ensures { IfOk result (λ c. app_of c ≡ program) }
 {
-    let file = Arg::new(alloc, FILE).help("A tower and its steps; without it a safe bit");
+    let file = Arg::new(alloc, FILE).help(
+        "A tower and its steps, or its branches; without it a safe bit",
+    );
     let workers = number_option(
         alloc,
         WORKERS,
@@ -85,9 +92,9 @@ fn command<'a>(alloc: Global) -> Result<Command<'a>, AllocError>
     let cells = number_option(
         alloc,
         CELLS,
-        value_parser!(u32).range(1..=16777216),
+        value_parser!(u32).range(1..=268435456),
         "65536",
-        "The most cells that are ever made, 1 to 16777216",
+        "The most cells that are ever made, 1 to 268435456",
     );
     let branches = number_option(
         alloc,
@@ -95,6 +102,11 @@ fn command<'a>(alloc: Global) -> Result<Command<'a>, AllocError>
         value_parser!(u32).range(1..=1024),
         "64",
         "The most branches that there are at a time, 1 to 1024",
+    );
+    let save = path_option(
+        alloc,
+        SAVE,
+        "Where the branches are saved behind the script",
     );
     Command::new(alloc, "towerbench")
         .about(
@@ -104,7 +116,8 @@ fn command<'a>(alloc: Global) -> Result<Command<'a>, AllocError>
         .arg(file)?
         .arg(workers)?
         .arg(cells)?
-        .arg(branches)
+        .arg(branches)?
+        .arg(save)
 }
 
 /// An option that takes a number, and stands for `default` where it isn't used.
@@ -125,6 +138,18 @@ fn number_option<'a>(
         .help(help)
         .value_parser(number)
         .default_value(default)
+}
+
+/// An option that takes a path.
+fn path_option<'a>(alloc: Global, id: &'a str, help: &'a str) -> Arg<'a>
+    ensures rule { rule_of result ≡ path_rule id.now }
+    ensures own { result.global ≡ false }
+{
+    Arg::new(alloc, id)
+        .long(id)
+        .action(ArgAction::Set)
+        .value_name("PATH")
+        .help(help)
 }
 
 /// What is told of words that aren't taken.

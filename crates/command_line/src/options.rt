@@ -13,7 +13,7 @@ const MOST_LOGGED: u32 = 1 << 20;
 pub struct Options {
     /// Threads that help to fill, 0 to 4.
     pub workers: u32,
-    /// The most cells that are ever made, 1 to 2^24.
+    /// The most cells that are ever made, 1 to 2^28.
     pub cells: u32,
     /// The most branches, 1 to 1,024.
     pub branches: u32,

@@ -15,7 +15,7 @@ fn split(alloc: Global, line: &str) -> Result<Vec<String>, Fail> {
     Ok(words)
 }
 
-/// Asserts that a line asks for a run.
+/// Asserts that a line asks for a run that saves nothing.
 fn check_run(
     rt: &impl Abort,
     alloc: Global,
@@ -25,11 +25,37 @@ fn check_run(
 ) -> Result<(), Fail> {
     let words = split(alloc, line)?;
     match parse(alloc, words.as_slice()) {
-        Invocation::Run { file, options } => {
+        Invocation::Run {
+            file,
+            options,
+            save,
+        } => {
             assert_eq!(rt; file, want, "{line}");
             assert_eq!(rt; options, wanted, "{line}");
+            assert_eq!(rt; save, None, "{line}");
         }
         _ => panic!(rt; "{line}"),
+    }
+    Ok(())
+}
+
+#[test]
+fn saves(rt: HostRuntime) -> Result<(), Fail> {
+    for (line, named, path) in [
+        ("--save kept", None, "kept"),
+        ("--save=kept tower", Some("tower"), "kept"),
+        ("tower --save tower", Some("tower"), "tower"),
+        ("--workers 4 --save kept --cells 4", None, "kept"),
+        ("--save -", None, "-"),
+    ] {
+        let words = split(rt.alloc(), line)?;
+        match parse(rt.alloc(), words.as_slice()) {
+            Invocation::Run { file, save, .. } => {
+                assert_eq!(rt; file, named, "{line}");
+                assert_eq!(rt; save, Some(path), "{line}");
+            }
+            _ => panic!(rt; "{line}"),
+        }
     }
     Ok(())
 }
@@ -45,8 +71,8 @@ fn runs(rt: HostRuntime) -> Result<(), Fail> {
         ("--workers 4", None, 4, 65536, 64),
         ("tower --workers=4", Some("tower"), 4, 65536, 64),
         ("--cells 1", None, 0, 1, 64),
-        ("--cells 16777216", None, 0, 16777216, 64),
-        ("--cells=16777216", None, 0, 16777216, 64),
+        ("--cells 268435456", None, 0, 268435456, 64),
+        ("--cells=268435456", None, 0, 268435456, 64),
         ("--cells 65537 tower", Some("tower"), 0, 65537, 64),
         ("tower --cells 4", Some("tower"), 0, 4, 64),
         ("--cells=4 tower", Some("tower"), 0, 4, 64),
@@ -86,7 +112,7 @@ fn refusals(rt: HostRuntime) -> Result<(), Fail> {
         "--cells=",
         "tower --cells",
         "--cells 0",
-        "--cells 16777217",
+        "--cells 268435457",
         "--cells 99999999999999999999",
         "--cells -1",
         "--cells=-1",
@@ -115,6 +141,10 @@ fn refusals(rt: HostRuntime) -> Result<(), Fail> {
         "--branches x",
         "--branches 4 --branches 4",
         "--branches 4 one two",
+        "--save",
+        "tower --save",
+        "--save kept --save kept",
+        "--save one two three",
         "--version",
         "-V",
         "-x",
@@ -137,12 +167,13 @@ Answers the script on standard input: edits and looks over the runs of a registe
 Usage: towerbench [OPTIONS] [FILE]
 
 Arguments:
-  [FILE]  A tower and its steps; without it a safe bit
+  [FILE]  A tower and its steps, or its branches; without it a safe bit
 
 Options:
       --workers <N>   Threads that help to fill, 0 to 4 [default: 0]
-      --cells <N>     The most cells that are ever made, 1 to 16777216 [default: 65536]
+      --cells <N>     The most cells that are ever made, 1 to 268435456 [default: 65536]
       --branches <N>  The most branches that there are at a time, 1 to 1024 [default: 64]
+      --save <PATH>   Where the branches are saved behind the script
   -h, --help          Print help
 ";
 
@@ -192,7 +223,7 @@ fn what_is_wrong_is_named(rt: HostRuntime) -> Result<(), Fail> {
         ),
         (
             "--cells 0",
-            "error: invalid value '0' for '--cells <N>': 0 is not in 1..=16777216\n\n\
+            "error: invalid value '0' for '--cells <N>': 0 is not in 1..=268435456\n\n\
              For more information, try '--help'.\n",
         ),
         (

@@ -3,6 +3,7 @@
 mod cut;
 mod faults;
 mod files;
+mod saving;
 mod streams;
 
 use std::io;

@@ -1,5 +1,5 @@
 -- What bytes say: a bench file, or their first fault.
-use Rattle.std.specs.Prelude.{ℕ, ◌+◌, ◌==◌, ◌&&◌, ◌||◌, not, List, [], ◌∷◌, ◌++◌, Result, Ok, Err, length, if◌then◌else◌}
+use Rattle.std.specs.Prelude.{ℕ, Bool, ◌+◌, ◌==◌, ◌&&◌, ◌||◌, not, List, [], ◌∷◌, ◌++◌, Result, Ok, Err, length, if◌then◌else◌}
 use Rattle.std.specs.Option.{ok_or}
 use Rattle.frames.specs.declared.types.Step.{Step}
 use Rattle.schedule_trie.specs.declared.limb.Limb.{Limb}
@@ -14,7 +14,7 @@ use Rattle.tower_file.specs.Benches.{Bench, bench_of, is_some}
 use Rattle.tower_file.specs.BenchSpelling.{bench_header}
 use Rattle.tower_file.specs.Lines.{fitting_step, is_branch, branch_of}
 use Rattle.tower_file.specs.Reading.{◌>>=◌, has_header, first_odd, tower_of, reading_from}
-use Rattle.words.specs.Words.{words, after_next}
+use Rattle.words.specs.Words.{lines, words, after_next}
 
 abbrev pub limb_name : Limb → List ℕ
 limb_name l = l.name
@@ -61,6 +61,10 @@ unfoldable pub limbs_of : TowerSpec → ℕ → List Limb → List (List ℕ) �
 limbs_of t n limbs [] = ended n limbs []
 limbs_of t n limbs (rest ∷ []) = ended n limbs rest
 limbs_of t n limbs (line ∷ other ∷ others) = then_line t n limbs line >>= λ more. limbs_of t (n + 1) more (other ∷ others)
+
+-- bytes that are read as a bench file: their first line is its header, with its end
+abbrev pub is_bench : List ℕ → Bool
+is_bench bytes = has_header bench_header (lines bytes)
 
 -- the bench file of plain bytes
 abbrev pub bench_of_lines : List (List ℕ) → Result Bench FileFault

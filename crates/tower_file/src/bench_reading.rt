@@ -31,6 +31,14 @@ fn has_header(lines: &mut Parts<'_>) -> bool
     !lines.is_end() && is(header, "bench 1")
 }
 
+/// Whether bytes are to be read as a bench file: their first line is its header, with its end.
+pub fn is_bench(bytes: &[u8]) -> bool
+    ensures { result ≡ spec.is_bench bytes.now }
+{
+    let mut lines = Parts::new(bytes, b'\n');
+    has_header(&mut lines)
+}
+
 /// Adds the branch of the words behind the first of line `number`.
 fn add_branch(
     alloc: Global,

@@ -48,7 +48,7 @@ mod version;
 mod writing;
 
 pub use bench::BenchFile;
-pub use bench_reading::parse_bench;
+pub use bench_reading::{is_bench, parse_bench};
 pub use bench_writing::print_bench;
 pub use fault::{FaultKind, FileFault};
 pub use file::TowerFile;

@@ -1,52 +1,82 @@
 -- What the program comes to, from what its parts come to.
-use Rattle.std.proofs.Common.{◌≡◌, Bor, Bool, List, ℕ, Option, Some, None, Result, Ok, Err, OnOk, inl, inr, refl, sym, subst}
+use Rattle.std.proofs.Common.{◌≡◌, ◌≤◌, ◌⊎◌, Bor, Bool, true, List, ℕ, Option, Some, None, Result, Ok, Err, OnOk, inl, inr, refl, sym, subst}
 use Rattle.std.specs.Prelude.{⊤, IfErr, option_map}
 use Rattle.std.specs.Option.{is_some}
+use Rattle.std.specs.Result.{IsErrAnd}
 use Rattle.clap.specs.Words.{Text}
 use Rattle.schedule_trie.specs.declared.limits.Limits.{Limits}
 use Rattle.command_line.specs.declared.options.Options.{Options}
 use Rattle.command_line.specs.Ranges.{limits_of}
+use Rattle.towerbench.specs.declared.fault.ProgramFault.{ProgramFault}
 use Rattle.towerbench.specs.declared.fault.ProgramFault.TheVariants.{Source, Run, Help, Memory}
 use Rattle.towerbench.specs.declared.ending.Ending.{Ending}
 use Rattle.towerbench.specs.declared.ending.Ending.TheVariants.{Done, Refused, Faulted}
 use Rattle.command_line.specs.CommandLine.{Says, AsksHelp}
+use Rattle.tower_file.specs.Benches.{Bench}
 use Rattle.towerbench.specs.declared.fault.Fault.{Fault}
-use Rattle.towerbench.specs.Opening.{Ran, RanInto}
-use Rattle.towerbench.specs.Endings.{ending_of, RunsOver, WorksOut, RunsBy, IsPrinted, EndsBy}
+use Rattle.towerbench.specs.declared.fault.Fault.TheVariants as fault
+use Rattle.towerbench.specs.Opening.{opened, FailsOver, IsDone, IsUnopened}
+use Rattle.towerbench.specs.Endings.{ending_of, FailsBy, IsLacking, WorksOut, RunsBy, IsPrinted, EndsBy}
+use Rattle.towerbench.proofs.Opened.{over_open, unopened}
 
 is_named : (o : Option (Bor Text)) → is_some (option_map (λ p. p.now) o) ≡ is_some o
 is_named None = refl
 is_named (Some p) = refl
 
 module _ (old now before after : Option (List ℕ)) where
-  pub ran_over : (r : Result ⊤ Fault) (ending : Ending) (bytes : Option (List ℕ)) (limits : Limits) → ending ≡ ending_of r → OnOk r (Ran bytes limits old now before after)
-      → IfErr r (RanInto bytes limits old now before after) → RunsOver bytes limits old now before after ending
-  ran_over (Ok done) ending bytes limits e ran fault = subst (RunsOver bytes limits old now before after) (sym e) ran
-  ran_over (Err x) ending bytes limits e ran fault = subst (RunsOver bytes limits old now before after) (sym e) fault
+  module _ (saves : Bool) (bytes : Option (List ℕ)) (limits : Limits) (b : Bench) (is : opened bytes ≡ Ok b) where
+    -- a fault over what was opened
+    pub failed : (x : Fault) → FailsOver saves limits b old now before after x → FailsBy saves bytes limits old now before after x
+    failed (fault.File e) h = absurd h
+    failed (fault.Refused r) h = over_open saves bytes limits old now before after b is (fault.Refused r) h
+    failed (fault.Stream e) h = over_open saves bytes limits old now before after b is (fault.Stream e) h
+    failed fault.Save h = absurd h
+    failed fault.Memory h = (h.0, (b, (is, h.1)))
 
-  pub worked : (ending : Ending) (bytes : Option (List ℕ)) (named : Bool) (limits : Limits) → is_some bytes ≡ named → RunsOver bytes limits old now before after ending
-      → WorksOut named limits old now before after ending
-  worked Done bytes named limits e h = (bytes, e, h)
-  worked (Refused text) bytes named limits e h = absurd h
-  worked (Faulted (Source x)) bytes named limits e h = absurd h
-  worked (Faulted (Run x)) bytes named limits e h = (bytes, e, h)
-  worked (Faulted Help) bytes named limits e h = absurd h
-  worked (Faulted Memory) bytes named limits e h = absurd h
+    module _ (named : Bool) (read : is_some bytes ≡ named) where
+      -- a run that ended, and what it comes to
+      pub worked : (r : Result ⊤ Fault) (ending : Ending) → ending ≡ ending_of r → OnOk r (IsDone limits b old now before after)
+          → IfErr r (FailsBy saves bytes limits old now before after) → WorksOut named limits saves old now before after ending
+      worked (Ok done) ending e h f = subst (WorksOut named limits saves old now before after) (sym e) (bytes, read, (b, (is, h)))
+      worked (Err x) ending e h f = subst (WorksOut named limits saves old now before after) (sym e) (bytes, read, f)
+
+      -- what was saved behind a run that ended well, or wasn't
+      pub saved : (r : Result ⊤ Fault) (ending : Ending) → ending ≡ ending_of r → saves ≡ true → IsDone limits b old now before after
+          → IfErr r (λ x. (x ≡ fault.Save) ⊎ (x ≡ fault.Memory)) → WorksOut named limits saves old now before after ending
+      saved (Ok done) ending e s h f = subst (WorksOut named limits saves old now before after) (sym e) (bytes, read, (b, (is, h)))
+      saved (Err x) ending e s h (inl f) =
+          subst (WorksOut named limits saves old now before after) (sym e)
+          (bytes, read, subst (FailsBy saves bytes limits old now before after) (sym f) (s, (b, (is, h))))
+      saved (Err x) ending e s h (inr f) =
+          subst (WorksOut named limits saves old now before after) (sym e)
+          (bytes, read, subst (FailsBy saves bytes limits old now before after) (sym f) (s, (b, (is, h))))
 
   module _ (words : List Text) where
-    runs : (ending : Ending) (file : Option (Bor Text)) (options : Options) → Says words (option_map (λ p. p.now) file) options
-        → WorksOut (is_some file) (limits_of options) old now before after ending → RunsBy words old now before after ending
-    runs ending file options says h =
-        (option_map (λ p. p.now) file, (options, (says, subst (λ (b : Bool). WorksOut b (limits_of options) old now before after ending) (sym (is_named file)) h)))
+    runs : (ending : Ending) (file : Option (Bor Text)) (options : Options) (save : Option (Bor Text)) → Says words (option_map (λ p. p.now) file) options (option_map (λ p. p.now) save)
+        → WorksOut (is_some file) (limits_of options) (is_some save) old now before after ending → RunsBy words old now before after ending
+    runs ending file options save says h = (
+      option_map (λ p. p.now) file,
+      (
+        options,
+        (
+          option_map (λ p. p.now) save,
+          (
+            says,
+            subst (λ (b : Bool). WorksOut b (limits_of options) (is_some (option_map (λ p. p.now) save)) old now before after ending) (sym (is_named file))
+                (subst (λ (b : Bool). WorksOut (is_some file) (limits_of options) b old now before after ending) (sym (is_named save)) h),
+          ),
+        ),
+      ),
+    )
 
-    pub ended : (ending : Ending) (file : Option (Bor Text)) (options : Options) → Says words (option_map (λ p. p.now) file) options
-        → WorksOut (is_some file) (limits_of options) old now before after ending → EndsBy words old now before after ending
-    ended Done file options says h = inr (runs Done file options says h)
-    ended (Refused text) file options says h = absurd h
-    ended (Faulted (Source x)) file options says h = runs (Faulted (Source x)) file options says h
-    ended (Faulted (Run x)) file options says h = runs (Faulted (Run x)) file options says h
-    ended (Faulted Help) file options says h = absurd h
-    ended (Faulted Memory) file options says h = absurd h
+    pub ended : (ending : Ending) (file : Option (Bor Text)) (options : Options) (save : Option (Bor Text)) → Says words (option_map (λ p. p.now) file) options (option_map (λ p. p.now) save)
+        → WorksOut (is_some file) (limits_of options) (is_some save) old now before after ending → EndsBy words old now before after ending
+    ended Done file options save says h = inr (runs Done file options save says h)
+    ended (Refused text) file options save says h = absurd h
+    ended (Faulted (Source x)) file options save says h = runs (Faulted (Source x)) file options save says h
+    ended (Faulted (Run x)) file options save says h = runs (Faulted (Run x)) file options save says h
+    ended (Faulted Help) file options save says h = absurd h
+    ended (Faulted Memory) file options save says h = absurd h
 
     pub helped : (ending : Ending) → AsksHelp words → now ≡ old → IsPrinted before after ending → EndsBy words old now before after ending
     helped Done asks e h = inl (asks, e, h)
@@ -55,3 +85,24 @@ module _ (old now before after : Option (List ℕ)) where
     helped (Faulted (Run x)) asks e h = absurd h
     helped (Faulted Help) asks e h = (asks, e, h)
     helped (Faulted Memory) asks e h = absurd h
+
+-- where there is nothing to run over
+pub lacking : (named saves : Bool) (limits : Limits) (some : 1 ≤ limits.branches) (old before : Option (List ℕ)) (x : ProgramFault) → IsLacking named x
+    → WorksOut named limits saves old old before before (Faulted x)
+lacking named saves limits some old before (Source e) h = (h, (refl, refl))
+lacking named saves limits some old before (Run e) h = (h.0, h.1, by e h.2)
+  where
+    by : (e : Fault) → IsUnopened h.0 e → FailsBy saves h.0 limits old old before before e
+    by (fault.File e) h = unopened saves _ limits some old before (fault.File e) h
+    by (fault.Refused r) h = unopened saves _ limits some old before (fault.Refused r) h
+    by (fault.Stream e) h = absurd h
+    by fault.Save h = absurd h
+    by fault.Memory h = absurd h
+lacking named saves limits some old before Help h = absurd h
+lacking named saves limits some old before Memory h = absurd h
+
+-- a fault of what is opened, handed on
+pub lacks : (named : Bool) (bytes : Option (List ℕ)) (r : Result Bench ProgramFault) (Is : ProgramFault → Type 0) (e : Fault) → IsErrAnd r Is → ((x : ProgramFault) → Is x → x ≡ Run e)
+    → is_some bytes ≡ named → IsUnopened bytes e → IfErr r (IsLacking named)
+lacks named bytes (Ok b) Is e k same read h = tt
+lacks named bytes (Err x) Is e k same read h = subst (IsLacking named) (sym (same x k)) (bytes, read, h)

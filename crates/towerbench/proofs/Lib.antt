@@ -2,3 +2,5 @@ pub mod Opened
 pub mod Endings
 pub mod Shares
 pub mod Replies
+pub mod Grounds
+pub mod Benches

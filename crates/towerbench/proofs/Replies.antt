@@ -1,5 +1,5 @@
 -- What a desk's calls tell a chair that has every share.
-use Rattle.std.proofs.Common.{◌≡◌, ◌⊎◌, ◌∙◌, ℕ, List, Option, Result, Ok, Err, IfOk, OnOk, IfErr, sym, ap, subst, ⊎_elim, inl, inr}
+use Rattle.std.proofs.Common.{◌≡◌, ◌⊎◌, ◌∙◌, ℕ, List, length, Option, Result, Ok, Err, IfOk, OnOk, IfErr, sym, ap, subst, ⊎_elim, inl, inr}
 use Rattle.std.specs.Prelude.{Some}
 use Rattle.frames.specs.Behaviour.{Behaviour}
 use Rattle.schedule_trie.specs.declared.refusal.Refusal.{Refusal}
@@ -13,16 +13,18 @@ use Rattle.sessions.specs.World.{World}
 use Rattle.sessions.specs.Acts.{acted}
 use Rattle.sessions.specs.Held.{Held, opening_of}
 use Rattle.sessions.specs.Looks.{looked, shown_in}
+use Rattle.sessions.specs.Saves.{IsSaved}
 use Rattle.sessions.specs.Logs.{entry, logged, world_after}
 use Rattle.turn.specs.declared.view.View.{View}
 use Rattle.turn.specs.Shares.{HasAll, number}
 use Rattle.desk.specs.declared.item.Item.{Item}
 use Rattle.desk.specs.declared.receipt.Receipt.{Receipt}
 use Rattle.desk.specs.declared.receipt.Answer.{Answer}
+use Rattle.desk.specs.declared.receipt.Saved.{Saved}
 use Rattle.desk.specs.declared.report.Report.{Report}
-use Rattle.desk.specs.Chairs.{Received, Looked, Filled}
+use Rattle.desk.specs.Chairs.{Received, Looked, SavedFrom, Filled}
 use Rattle.desk.specs.Histories.{seen}
-use Rattle.desk.specs.Works.{IsAnswer, NeedsBranch}
+use Rattle.desk.specs.Works.{IsAnswer, IsSaving, NeedsBranch}
 
 module _ {P : Type 0} (w : World P) (query : Query) where
   pub shown : (r : Result Page Refusal) → IsAnswer w query r → IfOk r (λ page. Some page ≡ shown_in w query)
@@ -50,6 +52,16 @@ module _ {R P : Type 0} (is : R → Behaviour P) (first : Held R P) (v w : View 
   -- a look by such a chair answers of that world
   pub looked_answers : (query : Query) (answer : Answer) → Looked is first query v w answer → HasAll v.shares → IsAnswer (world_after (opening_of is first) (seen v)) query answer.result
   looked_answers query answer r all = subst (λ (before : List Entry). IsAnswer (world_after (opening_of is first) before) query answer.result) (r.finds.whole all) r.answers.1
+
+  -- a save by such a chair is of that world
+  pub saved_limbs : (result : Result Saved Refusal) → SavedFrom is first v w result → HasAll v.shares
+      → IfOk result (λ saved. IsSaved (world_after (opening_of is first) (seen v)) saved.limbs.items)
+  saved_limbs result r all = by (length r.found) result (subst (λ (before : List Entry). IsSaving (length r.found) (world_after (opening_of is first) before) result) (r.finds.whole all) r.answers)
+    where
+      by : (n : ℕ) (result : Result Saved Refusal) → IsSaving n (world_after (opening_of is first) (seen v)) result
+          → IfOk result (λ saved. IsSaved (world_after (opening_of is first) (seen v)) saved.limbs.items)
+      by n (Ok saved) h = h.1
+      by n (Err e) h = tt
 
   -- a fill by such a chair finds or lacks its branch in that world
   pub filled_answers : (branch : List ℕ) (result : Result Report Refusal) → Filled is first branch v w result → HasAll v.shares

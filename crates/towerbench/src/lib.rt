@@ -3,10 +3,12 @@
 #![tactic(auto)]
 
 pub mod answer;
+mod bench_source;
 pub mod ending;
 pub mod fault;
 pub mod opening;
 pub mod run;
+pub mod save;
 pub mod seat;
 pub mod serve;
 pub mod tool;

@@ -3,30 +3,35 @@
 ghost use Rattle.std.specs.Prelude.{◌≡◌};
 
 use command_line::options::Options;
-use frames::types::Step;
+use tower_file::BenchFile;
 
-/// A register at a value, steps on the branch `main`, and the limits.
+/// A tower and its branches, the limits, and whether what is left of the branches is told.
+#[derive(Drop)]
+pub struct Setup {
+    pub bench: BenchFile,
+    pub options: Options,
+    pub keeps: bool,
+}
+
+/// A tower's register and its initial value, with all else that a desk is opened with.
 #[derive(Drop)]
 pub struct Opening<R> {
     pub register: R,
     pub value: u32,
-    pub steps: Vec<Step>,
-    pub options: Options,
+    pub setup: Setup,
 }
 
 impl<R> Opening<R> {
     /// All that a desk is opened with.
-    pub(crate) fn new(register: R, value: u32, steps: Vec<Step>, options: Options) -> Opening<R>
+    pub(crate) fn new(register: R, value: u32, setup: Setup) -> Opening<R>
         ensures register { result.register ≡ register }
         ensures value { result.value ≡ value }
-        ensures steps { result.steps ≡ steps }
-        ensures options { result.options ≡ options }
+        ensures setup { result.setup ≡ setup }
     {
         Opening {
             register,
             value,
-            steps,
-            options,
+            setup,
         }
     }
 }

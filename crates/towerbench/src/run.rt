@@ -1,29 +1,38 @@
 //! A run: the script comes from a reader, the answers go to a writer.
 
-ghost use Rattle.std.specs.Prelude.{◌≡◌, Some, OnOk, IfErr};
+ghost use Rattle.std.specs.Prelude.{◌≡◌, ◌<◌, ◌≤◌, true, false, OnOk, IfOk, IfErr};
 ghost use Rattle.std.specs.Option.{option_map};
+ghost use Rattle.frames.specs.declared.types.Step.{Step};
+ghost use Rattle.frames.specs.Configuration.{fits_step};
+ghost use Rattle.schedule_trie.specs.declared.limits.TheConstants.{MOST_CELLS_MADE};
+ghost use Rattle.schedule_trie.specs.Limbs.{limbs};
+ghost use Rattle.tower_file.specs.Benches.{Bench, bench_of};
+ghost use Rattle.tower_file.specs.BenchSpelling.{SpellsBench};
+ghost use Rattle.tower_file.specs.Towers as towers;
 ghost use Rattle.command_line.specs.Ranges.{AreLimits, limits_of};
-ghost use Rattle.towerbench.specs.Opening.{answers_on, EndsOver, Ran, RanInto};
-ghost use Rattle.towerbench.specs.Openings.{CanOpen, EndsFrom};
+ghost use Rattle.towerbench.specs.Opening.{EndsOver, FailsOver, IsDone, IsLeft, Ran, RanInto};
+ghost use Rattle.towerbench.specs.Openings.{Builds, EndsFrom};
+ghost use Rattle.towerbench.specs.Seats.{world_at};
 
+use crate::bench_source::open_file;
 use crate::fault::Fault;
-use crate::opening::Opening;
+use crate::opening::{Opening, Setup};
 use crate::seat::Seat;
-use crate::serve::serve;
+use crate::serve::answer_all;
 use command_line::options::Options;
 use frames::register::{Behaves, Register};
 use frames::safe::Safe;
-use std::alloc::Global;
+use std::alloc::{AllocError, Global};
 use std::io::{Read, Write};
 use std::sync::Wait;
 use std::thread::Threads;
-use tower_file::{TowerFile, TowerSpec, parse};
+use tower_file::{BenchFile, TowerSpec, print_bench};
 use towers::{MatrixTower, StampedTower, copies, matrix, regular, stamped, unary};
 
-/// Answers a script, the lines of each read before the next one. It works on the tower and the steps of
+/// Answers a script, the lines of each read before the next one. It works on the tower and the branches of
 /// a file, or on a safe bit at 0 where there is none.
 ///
-/// A fault of the file or a refusal of its steps comes before anything is read or written. After a fault of
+/// A fault of the file or a refusal of its branches comes before anything is read or written. After a fault of
 /// the streams a front of the output has gone out: after a read that failed and after a script too long,
 /// the answers to the whole lines that were read.
 pub fn run<H: Threads + Wait + Sync, R: Read, W: Write>(
@@ -38,73 +47,96 @@ pub fn run<H: Threads + Wait + Sync, R: Read, W: Write>(
     ensures done { OnOk result (Ran (option_map (λ bytes. bytes.now) file.entry) (limits_of options)
         (R.remaining reader.old) (R.remaining reader.new)
         (W.contents writer.old) (W.contents writer.new)) }
-    ensures fault { IfErr result (RanInto
+    ensures fault { IfErr result (RanInto false
         (option_map (λ bytes. bytes.now) file.entry) (limits_of options)
         (R.remaining reader.old) (R.remaining reader.new)
         (W.contents writer.old) (W.contents writer.new)) }
 {
-    let Some(bytes) = file else {
-        let opening = Opening::new(Safe, 0, Vec::new(alloc), options);
-        return begin(rt, alloc, opening, reader, writer);
-    };
-    match parse(alloc, bytes) {
-        Ok(file) => run_file(rt, alloc, file, options, reader, writer),
-        Err(fault) => Err(Fault::File(fault)),
-    }
+    let bench = open_file(alloc, file)?;
+    run_bench(rt, alloc, bench, options, reader, writer)
 }
 
-/// Answers a script on the tower and the steps of a file whose bytes are let go before anything is read.
-pub fn run_read<H: Threads + Wait + Sync, R: Read, W: Write>(
+/// Answers a script on a tower and its branches, which are let go before anything is read.
+pub(crate) fn run_bench<H: Threads + Wait + Sync, R: Read, W: Write>(
     rt: &H,
     alloc: Global,
-    bytes: Vec<u8>,
+    bench: BenchFile,
     options: Options,
     reader: &mut R,
     writer: &mut W,
 ) -> Result<(), Fault>
     requires limits { AreLimits options }
-    ensures done { OnOk result (Ran (Some bytes.items) (limits_of options)
+    ensures done { OnOk result (IsDone (limits_of options) bench
         (R.remaining reader.old) (R.remaining reader.new)
         (W.contents writer.old) (W.contents writer.new)) }
-    ensures fault { IfErr result (RanInto (Some bytes.items) (limits_of options)
+    ensures fault { IfErr result (FailsOver false (limits_of options) bench
         (R.remaining reader.old) (R.remaining reader.new)
         (W.contents writer.old) (W.contents writer.new)) }
 {
-    let file = parse(alloc, bytes.as_slice());
-    drop(bytes);
-    match file {
-        Ok(file) => run_file(rt, alloc, file, options, reader, writer),
-        Err(fault) => Err(Fault::File(fault)),
-    }
+    let setup = Setup {
+        bench,
+        options,
+        keeps: false,
+    };
+    run_setup(rt, alloc, setup, reader, writer)?;
+    Ok(())
 }
 
-/// Answers a script on the tower and the steps of a file, which is let go before anything is read.
-fn run_file<H: Threads + Wait + Sync, R: Read, W: Write>(
+/// Answers a script, and gives the bytes that spell the branches that it left.
+pub(crate) fn run_leaving<H: Threads + Wait + Sync, R: Read, W: Write>(
     rt: &H,
     alloc: Global,
-    file: TowerFile,
+    bench: BenchFile,
     options: Options,
     reader: &mut R,
     writer: &mut W,
-) -> Result<(), Fault>
+) -> Result<Vec<u8>, Fault>
     requires limits { AreLimits options }
-    ensures { EndsOver (limits_of options) file.steps (answers_on file (limits_of options))
+    ensures done { IfOk result (λ bytes. (left : Bench) × IsLeft (limits_of options) bench left
+        (R.remaining reader.old) (R.remaining reader.new)
+        (W.contents writer.old) (W.contents writer.new) × SpellsBench bytes.items left) }
+    ensures fault { IfErr result (FailsOver true (limits_of options) bench
+        (R.remaining reader.old) (R.remaining reader.new)
+        (W.contents writer.old) (W.contents writer.new)) }
+{
+    let setup = Setup {
+        bench,
+        options,
+        keeps: true,
+    };
+    let Some(left) = run_setup(rt, alloc, setup, reader, writer)? else {
+        unreachable!();
+    };
+    match print_bench(alloc, &left) {
+        Ok(bytes) => Ok(bytes),
+        Err(AllocError) => Err(Fault::Memory),
+    }
+}
+
+/// Answers a script on a tower and its branches, and tells what it left where that is asked for.
+fn run_setup<H: Threads + Wait + Sync, R: Read, W: Write>(
+    rt: &H,
+    alloc: Global,
+    setup: Setup,
+    reader: &mut R,
+    writer: &mut W,
+) -> Result<Option<BenchFile>, Fault>
+    requires limits { AreLimits setup.options }
+    ensures { EndsFrom setup
         (R.remaining reader.old) (R.remaining reader.new)
         (W.contents writer.old) (W.contents writer.new) result }
 {
-    let spec = file.spec();
-    let steps = file.into_steps();
-    match spec {
+    match setup.bench.spec() {
         TowerSpec::Safe { init } => {
-            let opening = Opening::new(Safe, init, steps, options);
+            let opening = Opening::new(Safe, init, setup);
             begin(rt, alloc, opening, reader, writer)
         }
         TowerSpec::Copies { readers, init } => {
-            let opening = Opening::new(copies(readers), init, steps, options);
+            let opening = Opening::new(copies(readers), init, setup);
             begin(rt, alloc, opening, reader, writer)
         }
         TowerSpec::Regular { readers, init } => {
-            let opening = Opening::new(regular(readers), init, steps, options);
+            let opening = Opening::new(regular(readers), init, setup);
             begin(rt, alloc, opening, reader, writer)
         }
         TowerSpec::Unary {
@@ -112,11 +144,11 @@ fn run_file<H: Threads + Wait + Sync, R: Read, W: Write>(
             readers,
             init,
         } => {
-            let opening = Opening::new(unary(values, readers), init, steps, options);
+            let opening = Opening::new(unary(values, readers), init, setup);
             begin(rt, alloc, opening, reader, writer)
         }
         TowerSpec::Stamped { values, last } => {
-            let opening = Opening::new(stamped(values, last), 0, steps, options);
+            let opening = Opening::new(stamped(values, last), 0, setup);
             begin_stamped(rt, alloc, opening, reader, writer)
         }
         TowerSpec::Matrix {
@@ -129,8 +161,7 @@ fn run_file<H: Threads + Wait + Sync, R: Read, W: Write>(
             let opening = Opening {
                 register,
                 value: 0,
-                steps,
-                options,
+                setup,
             };
             begin_matrix(rt, alloc, opening, reader, writer)
         }
@@ -144,9 +175,12 @@ fn begin_stamped<H: Threads + Wait + Sync, R: Read, W: Write>(
     opening: Opening<StampedTower>,
     reader: &mut R,
     writer: &mut W,
-) -> Result<(), Fault>
-    requires { CanOpen ⟦<StampedTower as Behaves>⟧.is opening }
-    ensures { EndsFrom ⟦<StampedTower as Behaves>⟧.is opening
+) -> Result<Option<BenchFile>, Fault>
+    requires value { opening.value < (⟦<StampedTower as Behaves>⟧.is opening.register).values }
+    requires limits { AreLimits opening.setup.options }
+    requires builds { Builds ⟦<StampedTower as Behaves>⟧.is opening.register opening.value
+        opening.setup.bench.spec }
+    ensures { EndsFrom opening.setup
         (R.remaining reader.old) (R.remaining reader.new)
         (W.contents writer.old) (W.contents writer.new) result }
 {
@@ -160,31 +194,62 @@ fn begin_matrix<H: Threads + Wait + Sync, R: Read, W: Write>(
     opening: Opening<MatrixTower>,
     reader: &mut R,
     writer: &mut W,
-) -> Result<(), Fault>
-    requires { CanOpen ⟦<MatrixTower as Behaves>⟧.is opening }
-    ensures { EndsFrom ⟦<MatrixTower as Behaves>⟧.is opening
+) -> Result<Option<BenchFile>, Fault>
+    requires value { opening.value < (⟦<MatrixTower as Behaves>⟧.is opening.register).values }
+    requires limits { AreLimits opening.setup.options }
+    requires builds { Builds ⟦<MatrixTower as Behaves>⟧.is opening.register opening.value
+        opening.setup.bench.spec }
+    ensures { EndsFrom opening.setup
         (R.remaining reader.old) (R.remaining reader.new)
         (W.contents writer.old) (W.contents writer.new) result }
 {
     begin(rt, alloc, opening, reader, writer)
 }
 
-/// Answers a script at a desk that is opened for it. The steps are let go before anything is read.
+/// Answers a script at a desk that is opened for it. The limbs are let go before anything is read.
 fn begin<B: Register + Send + Sync, H: Threads + Wait + Sync, R: Read, W: Write>(
     rt: &H,
     alloc: Global,
     opening: Opening<B>,
     reader: &mut R,
     writer: &mut W,
-) -> Result<(), Fault>
+) -> Result<Option<BenchFile>, Fault>
 where
     B::Pending: Send + Sync,
-    requires { CanOpen B.is opening }
-    ensures { EndsFrom B.is opening
+    requires value { opening.value < (B.is opening.register).values }
+    requires limits { AreLimits opening.setup.options }
+    requires builds { Builds B.is opening.register opening.value opening.setup.bench.spec }
+    ensures { EndsFrom opening.setup
         (R.remaining reader.old) (R.remaining reader.new)
         (W.contents writer.old) (W.contents writer.new) result }
 {
-    let seat = Seat::open(rt, alloc, opening)?;
-    serve(alloc, seat, reader, writer)?;
-    Ok(())
+    let keeps = opening.setup.keeps;
+    let tower = opening.setup.bench.spec();
+    let mut seat = Seat::open(rt, alloc, opening)?;
+    answer_all(alloc, &mut seat, reader, writer)?;
+    if !keeps {
+        return Ok(None);
+    }
+    match left_at(alloc, &mut seat, tower) {
+        Ok(left) => Ok(Some(left)),
+        Err(AllocError) => Err(Fault::Memory),
+    }
+}
+
+/// The tower that a seat's register is, and the branches as they are at the seat.
+fn left_at<B: Register, H: Wait>(
+    alloc: Global,
+    seat: &mut Seat<'_, B, H>,
+    tower: TowerSpec,
+) -> Result<BenchFile, AllocError>
+    requires lawful { towers.is_lawful_tower tower ≡ true }
+    requires alike { (s : Step)
+        → towers.fits tower s ≡ fits_step (world_at B.is seat.old).tower s }
+    requires cells { (world_at B.is seat.old).limits.cells ≤ MOST_CELLS_MADE }
+    requires branches { (world_at B.is seat.old).limits.branches ≤ 1024 }
+    ensures { IfOk result (λ left.
+        left ≡ bench_of tower (limbs (world_at B.is seat.old).forest)) }
+{
+    let limbs = seat.limbs(alloc)?;
+    Ok(BenchFile::new(tower, limbs))
 }

@@ -1,9 +1,11 @@
 //! A seat at a desk: where a script's lines are answered.
 
-ghost use Rattle.std.specs.Prelude.{◌≡◌, ◌≤◌, ◌⊎◌, length, Some, Ok, OnOk, IfOk, IfErr, Err};
-ghost use Rattle.schedule_trie.specs.Forest.{opened, IsRefused};
+ghost use Rattle.std.specs.Prelude.{◌≡◌, ◌⊎◌, Some, Ok, OnOk, IfOk, IfErr, Err};
+ghost use Rattle.schedule_trie.specs.Forest.{IsRefused};
+ghost use Rattle.schedule_trie.specs.Limbs.{forest_of, loaded};
 ghost use Rattle.sessions.specs.Acts.{acted};
 ghost use Rattle.sessions.specs.Looks.{looked, shown_in};
+ghost use Rattle.sessions.specs.Saves.{IsSaved};
 ghost use Rattle.desk.specs.Works.{NeedsBranch};
 ghost use Rattle.command_line.specs.Ranges.{limits_of};
 ghost use Rattle.towerbench.specs.Openings.{CanOpen, opening_world};
@@ -12,6 +14,7 @@ ghost use Rattle.towerbench.specs.Seats.{world_at};
 use crate::opening::Opening;
 use desk::{Chair, Desk, Item, Journal, Report};
 use frames::register::Register;
+use schedule_trie::limb::Limb;
 use schedule_trie::name::Name;
 use schedule_trie::refusal::Refusal;
 use sessions::command::Command;
@@ -59,25 +62,27 @@ where
 }
 
 impl<'a, R: Register, W> Seat<'a, R, W> {
-    /// Opens a desk, and takes the seat of its one chair. The steps are let go.
+    /// Opens a desk, and takes the seat of its one chair. The limbs are let go.
     ///
     /// # Errors
     ///
-    /// Full where there are more steps than cells may be made; Memory.
+    /// Full where they bring more cells than may be made; TooManyBranches; Memory.
     pub fn open(rt: &'a W, alloc: Global, opening: Opening<R>) -> Result<Seat<'a, R, W>, Refusal>
         requires { CanOpen R.is opening }
         ensures opens { IfOk result (λ seat. world_at R.is seat ≡ opening_world R.is opening) }
-        ensures room { OnOk result (length opening.steps.items ≤ opening.options.cells) }
-        ensures err { let limits = limits_of opening.options in
-            IfErr result (IsRefused (opened limits opening.steps.items)) }
+        ensures room { let limbs = opening.setup.bench.limbs in
+            OnOk result (loaded (limits_of opening.setup.options) limbs ≡ Ok (forest_of limbs)) }
+        ensures err { let limits = limits_of opening.setup.options in
+            IfErr result (IsRefused (loaded limits opening.setup.bench.limbs)) }
     {
         let Opening {
             register,
             value,
-            steps,
-            options,
+            setup,
         } = opening;
-        let (desk, chair) = Desk::open(alloc, register, value, options.limits(), &steps)?;
+        let options = setup.options;
+        let limbs = setup.bench.limbs();
+        let (desk, chair) = Desk::open_limbs(alloc, register, value, options.limits(), limbs)?;
         Ok(Seat {
             rt,
             desk,
@@ -130,6 +135,20 @@ impl<R: Register, W: Wait> Seat<'_, R, W> {
             .look(self.rt, alloc, &mut self.chair, &mut lens, query);
         self.lens = Some(lens);
         answer.result
+    }
+
+    /// The limbs of the branches, in order of making.
+    ///
+    /// # Errors
+    ///
+    /// Where there is no memory for them.
+    pub(crate) fn limbs(&mut self, alloc: Global) -> Result<Vec<Limb>, AllocError>
+        ensures { IfOk result (λ limbs. IsSaved (world_at R.is self.old) limbs.items) }
+    {
+        let Ok(saved) = self.desk.limbs(self.rt, alloc, &mut self.chair) else {
+            return Err(AllocError);
+        };
+        Ok(saved.limbs)
     }
 }
 

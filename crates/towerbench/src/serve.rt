@@ -1,7 +1,7 @@
 //! Serving a script at a desk.
 
 ghost use Rattle.std.specs.Prelude.{◌≡◌, Bool, OnOk, IfOk, IfErr};
-ghost use Rattle.conversation.specs.Conversations.{IsAnswered, Breaks};
+ghost use Rattle.conversation.specs.Conversations.{IsAnswered, Leaves, Breaks};
 ghost use Rattle.conversation.specs.Scripts.{answers_to};
 ghost use Rattle.script.specs.Answers.{answer_line};
 ghost use Rattle.towerbench.specs.Seats.{world_at};
@@ -33,10 +33,29 @@ where
         (W.contents writer.old) (W.contents writer.new)) }
 {
     let mut seat = seat;
+    answer_all(alloc, &mut seat, reader, writer)
+}
+
+/// Answers a script at a seat, which stays.
+pub(crate) fn answer_all<B: Register + Send + Sync, H: Threads + Wait + Sync, R: Read, W: Write>(
+    alloc: Global,
+    seat: &mut Seat<'_, B, H>,
+    reader: &mut R,
+    writer: &mut W,
+) -> Result<(), StreamFault>
+where
+    B::Pending: Send + Sync,
+    ensures done { OnOk result (Leaves answer_line (world_at B.is seat.old) (world_at B.is seat.new)
+        (R.remaining reader.old) (R.remaining reader.new)
+        (W.contents writer.old) (W.contents writer.new)) }
+    ensures fault { IfErr result (λ e. Breaks (answers_to answer_line (world_at B.is seat.old)) e
+        (R.remaining reader.old) (R.remaining reader.new)
+        (W.contents writer.old) (W.contents writer.new)) }
+{
     let answering = |seat: &mut Seat<'_, B, H>, number: u32, line: &[u8]| -> LineAnswer
         ensures { IfOk result (λ text. (memory : Bool)
             × (answer_line memory number line.now (world_at B.is seat.old)
             ≡ record { world = world_at B.is seat.new; text = text.items })) }
     { answer(alloc, seat, number, line) };
-    converse(alloc, &mut seat, &answering, reader, writer)
+    converse(alloc, seat, &answering, reader, writer)
 }

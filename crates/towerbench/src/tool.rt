@@ -1,17 +1,19 @@
 //! What the program does with its words and its streams.
 
-ghost use Rattle.std.specs.Prelude.{◌≡◌, ◌≢◌, ◌≤◌, IfOk, IfErr, OnErr, map};
+ghost use Rattle.std.specs.Prelude.{◌≡◌, ◌≢◌, ◌≤◌, ℕ, List, Option, Ok, IfOk, IfErr, OnErr, map};
 ghost use Rattle.std.specs.IoError.{error_kind};
 ghost use Rattle.std.specs.Option.{is_some};
 ghost use Rattle.std.specs.String.{string_bytes};
 ghost use Rattle.command_line.specs.Ranges.{AreLimits, limits_of};
 ghost use Rattle.towerbench.specs.declared.ending.Ending.{Ending};
-ghost use Rattle.towerbench.specs.Opening.{IsUntouched};
-ghost use Rattle.towerbench.specs.Endings.{IsPrinted, EndsBy, WorksOut, ending_of, status_of};
+ghost use Rattle.towerbench.specs.Opening.{IsUntouched, opened};
+ghost use Rattle.towerbench.specs.Endings.{IsLacking, IsPrinted, IsRead, EndsBy, WorksOut, ending_of, status_of};
 
+use crate::bench_source::open_file;
 use crate::ending::Ending;
 use crate::fault::{Fault, ProgramFault};
-use crate::run::{run, run_read};
+use crate::run::{run_bench, run_leaving};
+use crate::save::save_at;
 use crate::tower_source::read_file;
 use command_line::invocation::{Invocation, parse};
 use command_line::options::Options;
@@ -21,6 +23,7 @@ use std::io::{ErrorKind, Read, Write};
 use std::rt::Files;
 use std::sync::Wait;
 use std::thread::Threads;
+use tower_file::BenchFile;
 
 /// Does the program's work, and answers its exit status: 0 at the end of the script or after the
 /// help, 1 after a fault, 2 where the words are refused.
@@ -80,33 +83,58 @@ fn follow<F: Files + AllocGlobal + Threads + Wait + Sync, R: Read, W: Write>(
         (W.contents writer.old) (W.contents writer.new) result }
 {
     match parse(files.alloc(), words) {
-        Invocation::Run { file, options } => work(files, file, options, reader, writer),
+        Invocation::Run {
+            file,
+            options,
+            save,
+        } => work(files, file, options, save, reader, writer),
         Invocation::Help(text) => print(writer, &text),
         Invocation::Refused(text) => Ending::Refused(text),
         Invocation::Memory => Ending::Faulted(ProgramFault::Memory),
     }
 }
 
-/// Reads the tower file, if one is named, and answers the script.
+/// Opens the file that is named, if any, answers the script, and saves the branches that it left where a path is named.
 fn work<F: Files + AllocGlobal + Threads + Wait + Sync, R: Read, W: Write>(
     files: &F,
     file: Option<&str>,
     options: Options,
+    save: Option<&str>,
     reader: &mut R,
     writer: &mut W,
 ) -> Ending
     requires limits { AreLimits options }
-    ensures { WorksOut (is_some file.entry) (limits_of options)
+    ensures { WorksOut (is_some file.entry) (limits_of options) (is_some save.entry)
         (R.remaining reader.old) (R.remaining reader.new)
         (W.contents writer.old) (W.contents writer.new) result }
 {
-    let Some(path) = file else {
-        return ending_of(run(files, files.alloc(), None, options, reader, writer));
+    let bench = match bench_at(files, file) {
+        Ok(bench) => bench,
+        Err(fault) => return Ending::Faulted(fault),
     };
-    match read_file(files, path) {
-        Ok(bytes) => ending_of(run_read(files, files.alloc(), bytes, options, reader, writer)),
-        Err(fault) => Ending::Faulted(ProgramFault::Source(fault)),
+    let Some(path) = save else {
+        return ending_of(run_bench(files, files.alloc(), bench, options, reader, writer));
+    };
+    match run_leaving(files, files.alloc(), bench, options, reader, writer) {
+        Ok(bytes) => ending_of(save_at(files, path, &bytes)),
+        Err(fault) => ending_of(Err(fault)),
     }
+}
+
+/// The tower and the branches of the file at a path, if one is named, or else what a run without one opens with.
+fn bench_at<F: Files + AllocGlobal>(
+    files: &F,
+    file: Option<&str>,
+) -> Result<BenchFile, ProgramFault>
+    ensures ok { IfOk result (λ bench. (bytes : Option (List ℕ))
+        × IsRead (is_some file.entry) bytes × (opened bytes ≡ Ok bench)) }
+    ensures err { IfErr result (IsLacking (is_some file.entry)) }
+{
+    let Some(path) = file else {
+        return Ok(open_file(files.alloc(), None)?);
+    };
+    let bytes = read_file(files, path)?;
+    Ok(open_file(files.alloc(), Some(&bytes))?)
 }
 
 /// What the program comes to by a run.

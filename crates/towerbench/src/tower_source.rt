@@ -1,4 +1,4 @@
-//! Reading the bytes of a tower file.
+//! Reading the bytes of a file.
 
 ghost use Rattle.std.specs.Prelude.{◌≡◌, ◌<◌, ◌≤◌, IfOk, IfSome, Err, length};
 ghost use Rattle.std.specs.Io.KnownBytes.{IsAtEnd};
@@ -10,13 +10,13 @@ use std::io::{ErrorKind, Read};
 use std::rt::Files;
 use thiserror::Error;
 
-/// The most bytes of a tower file.
-pub const MOST_BYTES: usize = 1 << 26;
+/// The most bytes of a file: more than the branches of any run are saved as.
+pub const MOST_BYTES: usize = 1 << 32;
 
 /// The most bytes of one read.
 const PIECE_BYTES: usize = 4096;
 
-/// Why the bytes of a tower file aren't had.
+/// Why the bytes of a file aren't had.
 #[derive(Clone, Copy, Debug, PartialEq, Eq, Error)]
 pub enum SourceFault {
     /// It can't be opened, or a read of it failed.

@@ -34,7 +34,7 @@ const TALK: [(&str, &str); 7] = [
 ];
 
 /// More than the script's bytes, and than those of its answers.
-const ALL: usize = 1 << 10;
+pub(super) const ALL: usize = 1 << 10;
 
 /// What a reader does behind its bytes, at each read.
 #[derive(Clone, Copy)]
@@ -68,10 +68,21 @@ impl Read for Cut<'_> {
 
 /// Takes at most so many bytes a write, and fails where there is no room left.
 #[derive(Drop)]
-struct Narrow {
+pub(super) struct Narrow {
     piece: usize,
     room: usize,
-    taken: Vec<u8>,
+    pub(super) taken: Vec<u8>,
+}
+
+impl Narrow {
+    /// One that takes so many bytes in all.
+    pub(super) fn new(alloc: Global, room: usize) -> Narrow {
+        Narrow {
+            piece: ALL,
+            room,
+            taken: Vec::new(alloc),
+        }
+    }
 }
 
 impl Write for Narrow {

@@ -7,7 +7,7 @@ use tower_file::{FaultKind, FileFault};
 use towerbench::fault::{Fault, ProgramFault};
 use towerbench::tower_source::SourceFault;
 
-/// Want of memory, by where it came, and the help that can't be written.
+/// Want of memory, by where it came, and what can't be saved or written.
 #[test]
 fn memory_told(rt: HostRuntime) -> Result<(), Fail> {
     let file = FileFault {
@@ -27,6 +27,8 @@ fn memory_told(rt: HostRuntime) -> Result<(), Fail> {
             ProgramFault::Run(Fault::Stream(StreamFault::Memory)),
             "memory",
         ),
+        (ProgramFault::Run(Fault::Memory), "memory"),
+        (ProgramFault::Run(Fault::Save), "save failed"),
         (ProgramFault::Memory, "memory"),
         (ProgramFault::Help, "write failed"),
     ] {

@@ -2,7 +2,8 @@
 
 use super::Slow;
 use std::alloc::Global;
-use std::io::ErrorKind;
+use std::io;
+use std::io::{ErrorKind, Read};
 use std::process::Abort;
 use std::test::Fail;
 use towerbench::tower_source::{SourceFault, read_all};
@@ -52,6 +53,35 @@ fn limits(rt: HostRuntime) -> Result<(), Fail> {
         check(&rt, rt.alloc(), count, limit, fits)?;
     }
     Ok(())
+}
+
+/// Gives so many bytes, all of them spaces.
+#[derive(Drop)]
+struct Blank {
+    left: usize,
+}
+
+impl Read for Blank {
+    fn read(&mut self, buf: &mut [u8]) -> io::Result<usize> {
+        let count = self.left.min(buf.len());
+        buf[..count].fill(b' ');
+        self.left -= count;
+        Ok(count)
+    }
+}
+
+/// A limit of 2^26 bytes: a reader of so many is read to its end, one of a byte more is not.
+#[test]
+fn sixty_four_mebibytes(rt: HostRuntime) {
+    let limit = 1 << 26;
+    let mut whole = Blank { left: limit };
+    match read_all(rt.alloc(), &mut whole, limit) {
+        Ok(bytes) => assert_eq!(rt; bytes.len(), limit),
+        Err(fault) => panic!(rt; "{fault}"),
+    }
+    let mut longer = Blank { left: limit + 1 };
+    let read = read_all(rt.alloc(), &mut longer, limit);
+    assert!(rt; matches!(&read, Err(SourceFault::TooLong)));
 }
 
 /// Any read that fails makes a file unreadable, and no read is tried again.

@@ -6,6 +6,7 @@ use Rattle.std.specs.Prelude.{pos}
 use Rattle.clap.specs.declared.builder.arg.Arg.{Arg}
 use Rattle.clap.specs.declared.builder.value_parser.ValueParser.{ValueParser}
 use Rattle.clap.specs.declared.builder.value_parser.ValueParser.TheVariants as value_parser
+use Rattle.schedule_trie.specs.declared.limits.TheConstants.{MOST_CELLS_MADE}
 use Rattle.command_line.specs.CommandLine.{branches_rule, cells_rule, file_rule, number_rule, option_rule, workers_rule}
 use Rattle.command_line.proofs.invocation.command.Goals as goal
 
@@ -19,12 +20,12 @@ returns c =
     let file_is : rule_of c.help-file.result ≡ file_rule = ap rule_of c.help-file.ensures ∙ c.new.ensures.rule in
     let workers_parser : c.range.result ≡ value_parser.Signed (pos 0) (pos 4) =
     rw (c.value_parser.ensures, c.new-2.ensures.start, c.new-2.ensures.end) at c.range.ensures in
-    let cells_parser : c.range-2.result ≡ value_parser.Signed (pos 1) (pos 16777216) =
+    let cells_parser : c.range-2.result ≡ value_parser.Signed (pos 1) (pos MOST_CELLS_MADE) =
     rw (c.value_parser-2.ensures, c.new-3.ensures.start, c.new-3.ensures.end) at c.range-2.ensures in
     let branches_parser : c.range-3.result ≡ value_parser.Signed (pos 1) (pos 1024) =
     rw (c.value_parser-3.ensures, c.new-4.ensures.start, c.new-4.ensures.end) at c.range-3.ensures in
     let workers_are : rule_of c.number_option-workers.result ≡ workers_rule = numbered _ 0 4 _ _ _ c.number_option-workers.ensures.rule workers_parser in
-    let cells_are : rule_of c.number_option-cells.result ≡ cells_rule = numbered _ 1 16777216 _ _ _ c.number_option-cells.ensures.rule cells_parser in
+    let cells_are : rule_of c.number_option-cells.result ≡ cells_rule = numbered _ 1 MOST_CELLS_MADE _ _ _ c.number_option-cells.ensures.rule cells_parser in
     let branches_are : rule_of c.number_option-branches.result ≡ branches_rule = numbered _ 1 1024 _ _ _ c.number_option-branches.ensures.rule branches_parser in
     let described : app_of c.about.result ≡ app_of c.new-5.result = ap app_of_fields c.about.ensures in
     let bare : app_of c.no_binary_name.result ≡ on_top (λ s. record s { no_binary_name = true }) (app_of c.about.result) =
@@ -34,4 +35,5 @@ returns c =
     let with_file = c.in_ok-arg.ensures.shape (ap (λ (a : Arg). a.global) c.help-file.ensures ∙ c.new.ensures.optional.1) ∙ ap₂ with_rule first file_is in
     let with_workers = c.in_ok-arg-2.ensures.shape c.number_option-workers.ensures.own ∙ ap₂ with_rule with_file workers_are in
     let with_cells = c.in_ok-arg-3.ensures.shape c.number_option-cells.ensures.own ∙ ap₂ with_rule with_workers cells_are in
-    IfOk-weaker c.arg-4.result _ _ (λ r h. h.shape c.number_option-branches.ensures.own ∙ ap₂ with_rule with_cells branches_are) c.arg-4.ensures
+    let with_branches = c.in_ok-arg-4.ensures.shape c.number_option-branches.ensures.own ∙ ap₂ with_rule with_cells branches_are in
+    IfOk-weaker c.arg-5.result _ _ (λ r h. h.shape c.path_option-save.ensures.own ∙ ap₂ with_rule with_branches c.path_option-save.ensures.rule) c.arg-5.ensures

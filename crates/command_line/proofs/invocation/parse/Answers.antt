@@ -29,8 +29,8 @@ pub returns : goal.returns
 returns c =
     let words = map string_bytes c.args.words.now in
     let parse = c.in-Ok-try_get_matches_from in
-    let run = Run c.get_str.result (record { workers = c.in-Some.workers; cells = c.in-Some-get_one.cells; branches = c.in-Some-get_one-2.branches }) in
+    let run = Run c.get_str.result (record { workers = c.in-Some.workers; cells = c.in-Some-get_one.cells; branches = c.in-Some-get_one-2.branches }) c.get_str-2.result in
     let asked = says c.in-Ok.command parse.matches c.in-Ok.ensures parse.ensures.parsed
-    words _ c.in-Some.workers c.in-Some-get_one.cells c.in-Some-get_one-2.branches parse.ensures.matches (parse.ensures.kinds (free c.in-Ok.command c.in-Ok.ensures)) c.get_str.ensures
+    words _ _ c.in-Some.workers c.in-Some-get_one.cells c.in-Some-get_one-2.branches parse.ensures.matches (parse.ensures.kinds (free c.in-Ok.command c.in-Ok.ensures)) c.get_str.ensures c.get_str-2.ensures
     c.in-Some.ensures.value c.in-Some-get_one.ensures.value c.in-Some-get_one-2.ensures.value in
     record { asked = asked; bare = λ none. bare words run (ap (map string_bytes) none) asked }

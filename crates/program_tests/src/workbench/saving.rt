@@ -1,0 +1,113 @@
+//! Row `bench-file` by `run_saving`: what its saver takes, also where that fails behind each byte.
+
+ghost use Rattle.command_line.specs.Ranges.{AreLimits};
+
+use super::cut::{ALL, Narrow};
+use command_line::options::Options;
+use conversation::fault::StreamFault;
+use schedule_trie::refusal::Refusal;
+use std::process::Abort;
+use std::sync::Wait;
+use std::thread::Threads;
+use towerbench::fault::Fault;
+use towerbench::save::run_saving;
+
+const FILE: &[u8] = b"bench 1\nsafe 0\nbranch main 0 0\nr 1\nw 0 1\n\
+    branch a 0 1\ng 1 0\nbranch b 1 2\ng 1 1\n";
+
+const SCRIPT: &[u8] = b"0 insert a 1 w 0 0\n0 branches\n";
+
+const ANSWERS: &[u8] = b"0: edit 1\n0: branches 3 edits 1 made 5\n  main 2\n  a 3\n  b 4\n";
+
+const SAVED: &[u8] = b"bench 1\nsafe 0\nbranch main 0 0\nr 1\nw 0 1\n\
+    branch a 0 1\nw 0 0\ng 1 0\nbranch b 1 3\ng 1 1\n";
+
+fn options() -> Options
+    ensures { AreLimits result }
+{
+    Options {
+        workers: 0,
+        cells: 64,
+        branches: 4,
+    }
+}
+
+/// What a run over the file comes to with these limits, where its writer and its saver take so many bytes in all, and
+/// what they then have.
+fn ended<H: AllocGlobal + Threads + Wait + Sync>(
+    rt: &H,
+    options: Options,
+    answers: usize,
+    saved: usize,
+) -> (Option<Fault>, Vec<u8>, Vec<u8>)
+    requires { AreLimits options }
+{
+    let mut reader = SCRIPT;
+    let mut writer = Narrow::new(rt.alloc(), answers);
+    let mut saver = Narrow::new(rt.alloc(), saved);
+    let ran = run_saving(
+        rt,
+        Some(FILE),
+        options,
+        &mut reader,
+        &mut writer,
+        &mut saver,
+    );
+    (ran.err(), writer.taken, saver.taken)
+}
+
+/// A saver that fails behind each byte: a front of the file was saved, and the answers are whole.
+#[test]
+fn a_saver_fails_behind_each_byte(rt: HostRuntime) {
+    for room in 0..=SAVED.len() {
+        let (told, answers, saved) = ended(&rt, options(), ALL, room);
+        let fault = if room < SAVED.len() {
+            Some(Fault::Save)
+        } else {
+            None
+        };
+        assert_eq!(rt; told, fault, "{room}");
+        assert!(rt; answers.as_slice() == ANSWERS, "{room}");
+        assert!(rt; saved.as_slice() == &SAVED[..room], "{room}");
+    }
+}
+
+/// Behind a script that ended by a fault nothing is saved.
+#[test]
+fn a_write_fails_before_the_save(rt: HostRuntime) {
+    for room in 0..ANSWERS.len() {
+        let (told, answers, saved) = ended(&rt, options(), room, ALL);
+        assert_eq!(rt; told, Some(Fault::Stream(StreamFault::Write)), "{room}");
+        assert!(rt; answers.as_slice() == &ANSWERS[..room], "{room}");
+        assert!(rt; saved.is_empty(), "{room}");
+    }
+}
+
+/// Asserts that branches are refused: nothing is answered, and nothing saved.
+fn check_refused<H: Abort + AllocGlobal + Threads + Wait + Sync>(
+    rt: &H,
+    options: Options,
+    refusal: Refusal,
+)
+    requires { AreLimits options }
+{
+    let (told, answers, saved) = ended(rt, options, ALL, ALL);
+    assert_eq!(rt; told, Some(Fault::Refused(refusal)));
+    assert!(rt; answers.is_empty() && saved.is_empty());
+}
+
+#[test]
+fn refused_branches(rt: HostRuntime) {
+    let fewer_cells = Options {
+        workers: 0,
+        cells: 3,
+        branches: 4,
+    };
+    check_refused(&rt, fewer_cells, Refusal::Full);
+    let fewer_branches = Options {
+        workers: 0,
+        cells: 64,
+        branches: 2,
+    };
+    check_refused(&rt, fewer_branches, Refusal::TooManyBranches);
+}

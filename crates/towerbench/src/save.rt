@@ -1,0 +1,73 @@
+//! A run that saves the branches that its script left.
+
+ghost use Rattle.std.specs.Prelude.{◌≡◌, ◌⊎◌, OnOk, OnErr, IfErr};
+ghost use Rattle.std.specs.Option.{option_map};
+ghost use Rattle.std.specs.Io.KnownBytes.{Appends};
+ghost use Rattle.conversation.specs.Conversations.{WroteFront};
+ghost use Rattle.command_line.specs.Ranges.{AreLimits, limits_of};
+ghost use Rattle.towerbench.specs.Opening.{RanSaving, SavesInto};
+
+use crate::bench_source::open_file;
+use crate::fault::Fault;
+use crate::run::run_leaving;
+use command_line::options::Options;
+use conversation::streams::write_whole;
+use std::fs;
+use std::io::{ErrorKind, Read, Write};
+use std::rt::Files;
+use std::sync::Wait;
+use std::thread::Threads;
+
+/// Answers a script as `run` does, and where that ended well writes the bench file of the branches that it left to a saver.
+///
+/// Nothing is saved before the script has ended well. After a write to the saver that failed a front of the file was written.
+pub fn run_saving<H: AllocGlobal + Threads + Wait + Sync, R: Read, W: Write, S: Write>(
+    rt: &H,
+    file: Option<&[u8]>,
+    options: Options,
+    reader: &mut R,
+    writer: &mut W,
+    saver: &mut S,
+) -> Result<(), Fault>
+    requires limits { AreLimits options }
+    ensures done { OnOk result (RanSaving
+        (option_map (λ bytes. bytes.now) file.entry) (limits_of options)
+        (R.remaining reader.old) (R.remaining reader.new)
+        (W.contents writer.old) (W.contents writer.new)
+        (S.contents saver.old) (S.contents saver.new)) }
+    ensures fault { IfErr result (SavesInto
+        (option_map (λ bytes. bytes.now) file.entry) (limits_of options)
+        (R.remaining reader.old) (R.remaining reader.new)
+        (W.contents writer.old) (W.contents writer.new)
+        (S.contents saver.old) (S.contents saver.new)) }
+{
+    let alloc = rt.alloc();
+    let bench = open_file(alloc, file)?;
+    let bytes = run_leaving(rt, alloc, bench, options, reader, writer)?;
+    save(saver, &bytes)
+}
+
+/// Opens and empties the file at a path, and writes bytes to it.
+pub(crate) fn save_at<F: Files>(files: &F, path: &str, bytes: &[u8]) -> Result<(), Fault>
+    ensures { IfErr result (λ e. (e ≡ Fault.Save) ⊎ (e ≡ Fault.Memory)) }
+{
+    match fs::create(files, path) {
+        Ok(mut file) => save(&mut file, bytes),
+        Err(e) if e.kind() == ErrorKind::OutOfMemory => Err(Fault::Memory),
+        Err(_) => Err(Fault::Save),
+    }
+}
+
+/// Writes all bytes; where a write fails, or takes none, a front of them was written.
+fn save<S: Write>(saver: &mut S, bytes: &[u8]) -> Result<(), Fault>
+    ensures written { OnOk result
+        (Appends (S.contents saver.old) (S.contents saver.new) bytes.now) }
+    ensures front { OnErr result
+        (WroteFront (S.contents saver.old) (S.contents saver.new) bytes.now) }
+    ensures fault { IfErr result (λ e. e ≡ Fault.Save) }
+{
+    match write_whole(saver, bytes) {
+        Ok(()) => Ok(()),
+        Err(_) => Err(Fault::Save),
+    }
+}

@@ -1,1 +1,0 @@
-head -c 67108864 /dev/zero | tr '\0' '\n'

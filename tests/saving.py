@@ -1,0 +1,89 @@
+"""Branches that are saved behind a script, and loaded again.
+
+Of each row, example and lesson that ends well:
+- the answers are the same with `--save`;
+- what is saved, loaded and saved again is the same, byte for byte;
+- the branches that are loaded show the pages that they showed behind the script: states, bits, pending
+  operations, histories and verdicts, at their ends and halfway.
+Where a script ends by a fault, the file at the path is as it was.
+"""
+import os
+import shutil
+import tempfile
+
+import cases
+
+LOOKS = ("state", "bits", "pending", "history", "verdict")
+KEPT = b"as it was\n"
+# A script of so many bytes is too long.
+SCRIPT_BYTES = 2**24
+SAVE = "--save"
+
+
+def options_of(words):
+    """Returns the words that stand behind a file's path."""
+    return words[1:] if words and not words[0].startswith("-") else words
+
+
+def looks_at(program, words):
+    """Returns the lines that look at all branches of a file, at their ends and halfway."""
+    page = cases.run(program, words, b"0 branches\n").output.decode().splitlines()
+    lines = []
+    for name, length in (line.split() for line in page[1:]):
+        for place in dict.fromkeys((int(length), int(length) // 2)):
+            lines += [f"0 {look} {name} {place}\n" for look in LOOKS]
+    return "".join(lines).encode()
+
+
+def fault_of_saving(case, words, program, room):
+    """Returns what is wrong with the branches that a case's run saves, or nothing."""
+    first, second = f"{room}/first", f"{room}/second"
+    fault = cases.difference(case, cases.run(program, [*words, SAVE, first], case.script))
+    if fault:
+        return f"with {SAVE}: {fault}"
+    loaded = [first, *options_of(words)]
+    again = cases.run(program, [*loaded, SAVE, second], b"")
+    if again.status != 0 or again.output:
+        return f"loaded again: status {again.status}, {again.errors!r}"
+    fault = cases.first_difference(cases.read(first), cases.read(second))
+    if fault:
+        return f"saved again: {fault}"
+    looks = looks_at(program, loaded)
+    script = cases.read(case.script) + b"\n" + looks
+    if len(script) >= SCRIPT_BYTES:
+        return None
+    pages = cases.run(program, loaded, looks).output
+    here = cases.run(program, words, script).output
+    if not here.startswith(case.output):
+        return "more lines change what came before"
+    fault = cases.first_difference(here[len(case.output) :], pages)
+    return f"loaded: {fault}" if fault else None
+
+
+def fault_of(name, program, scratch):
+    """Returns what is wrong with saving behind a case, or nothing."""
+    room = tempfile.mkdtemp(dir=scratch)
+    case = cases.case_of(name, room)
+    if case.status == cases.REFUSED_WORDS or {SAVE, "--help"} & set(case.words):
+        return None
+    if case.status == 0:
+        return fault_of_saving(case, case.words, program, room)
+    path = f"{room}/kept"
+    with open(path, "wb") as file:
+        file.write(KEPT)
+    fault = cases.difference(case, cases.run(program, [*case.words, SAVE, path], case.script))
+    if fault:
+        return f"with {SAVE}: {fault}"
+    return None if cases.read(path) == KEPT else "the file is not as it was"
+
+
+def fault_of_place(name, program, scratch):
+    """Returns what is wrong with saving over the file that was read, or nothing."""
+    room = tempfile.mkdtemp(dir=scratch)
+    case = cases.case_of(name, room)
+    path = f"{room}/lesson.bench"
+    shutil.copyfile(case.words[0], path)
+    ran = cases.run(program, [path, SAVE, path], case.script)
+    if ran.status != 0 or ran.output != case.output:
+        return f"status {ran.status}, {ran.errors!r}"
+    return cases.first_difference(case.saved, cases.read(path))
