@@ -54,6 +54,7 @@ TESTS = (
     ("thread_tests", "desks::limbs::limbs_wanting_memory", (1, 2, 6)),
     ("branch_tests", "charts::growths::late_run_wanting_memory", (1, 2, 6)),
     ("branch_tests", "charts::growths::thousand_steps_wanting_memory", (1, 2, 6)),
+    ("branch_tests", "charts::growths::last_run_of_thousand_steps_wanting_memory", (1, 2, 6)),
 )
 # What stands at the path that is saved to before a run.
 KEPT = b"as it was\n"

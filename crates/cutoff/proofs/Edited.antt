@@ -1,5 +1,5 @@
 -- A chart after an edit.
-use Rattle.std.proofs.Common.{◌≡◌, ℕ, Bool, true, None, Result, Ok, Err, OnOk, IfErr, sym, subst}
+use Rattle.std.proofs.Common.{◌≡◌, ℕ, Bool, true, Option, None, Result, Ok, Err, OnOk, IfErr, sym, subst}
 use Rattle.frames.specs.Behaviour.{Behaviour}
 use Rattle.frames.specs.Configuration.{fits_step}
 use Rattle.schedule_trie.specs.declared.limits.Limits.{Limits}
@@ -13,6 +13,7 @@ use Rattle.cutoff.specs.Held.{Charted, IsCharted, StepsFit}
 use Rattle.cutoff.specs.Edits.{IsUneditedChart}
 use Rattle.cutoff.proofs.Commands.{insert_fits, remove_fits, fork_fits, detach_fits, drop_fits}
 use Rattle.cutoff.proofs.Edits.{replace_fits, linked_kept}
+use Rattle.cutoff.proofs.Kept.{charted_marked}
 
 -- the step that an edit brings, if any, fits
 abbrev pub Brings : {P : Type 0} → Behaviour P → Edit → Type 0
@@ -40,19 +41,20 @@ notes_by (Detach name) old new h = h.0
 notes_by (Drop name) old new h = h.0
 
 -- what a chart keeps, after an edit of its trie that was made or refused
-pub charted : {R P Y : Type 0} (E : R → R → Bool) (b : Behaviour P) (next : ℕ) (c : Charted R P) (new : Cut (StoredRun R P)) (edit : Edit) (result : Result Y Refusal)
-    → IsCharted E b next c → Brings b edit → OnOk result (IsEdited c.cut new edit) → IfErr result (IsUnedited c.cut new edit)
-    → IsCharted E b next (record { cut = new; start = c.start; value = c.value })
-charted E b next c new edit (Ok y) was brings ok err =
+pub charted : {R P Y : Type 0} (E : R → R → Bool) (is : R → Behaviour P) (next : ℕ) (mark : Option ℕ) (c : Charted R P) (new : Cut (StoredRun R P)) (edit : Edit) (result : Result Y Refusal)
+    → IsCharted E is next mark c → Brings (is c.start.register) edit → OnOk result (IsEdited c.cut new edit) → IfErr result (IsUnedited c.cut new edit)
+    → IsCharted E is next None (record { cut = new; start = c.start; value = c.value })
+charted E is next mark c new edit (Ok y) was brings ok err =
     record {
       within = was.within;
       begins = was.begins;
-      fits = edited_fits b c.cut.limits (forest c.cut) (forest new) edit brings was.fits ok.forest;
+      fits = edited_fits (is c.start.register) c.cut.limits (forest c.cut) (forest new) edit brings was.fits ok.forest;
       whole = ok.cut;
       linked = linked_kept E c.start.register next None (alone c.start) c.cut new (notes_by edit c.cut new ok.notes) was.linked;
+      marked = tt;
     }
-charted E b next c new edit (Err e) was brings ok err =
-    subst (λ d. IsCharted E b next (record { cut = d; start = c.start; value = c.value })) (sym err.unchanged) was
+charted E is next mark c new edit (Err e) was brings ok err =
+    subst (λ d. IsCharted E is next None (record { cut = d; start = c.start; value = c.value })) (sym err.unchanged) (charted_marked E is next mark None c tt was)
 
 -- a refused edit of the trie is one of the chart
 pub chart_unedited : {R P Y : Type 0} (c d : Charted R P) (new : Cut (StoredRun R P)) (edit : Edit) (result : Result Y Refusal) → c ≡ d

@@ -40,16 +40,16 @@ module _ {R P : Type 0} (E : R → R → Bool) (b : Behaviour P) where
     runs = λ k. inr tt;
   }
 
-  pub charted_installed : (next after : ℕ) (c : Charted R P) (new : Cut (StoredRun R P)) (key : ℕ) (s : StoredRun R P) (run seen : SegmentRun R P) (keys : List ℕ) (id : Option ℕ)
-      → IsCharted E b next c → FitsDown E b c.cut key seen c.start keys → seen ≡ run → s.run ≡ run → s.id ≡ id → (above : Option ℕ) → s.link ≡ above
-      → (IsLinked E c.start.register next None (alone c.start) c.cut → IsLinked E c.start.register next above (alone seen.entry) c.cut) → IsNoted c.cut new key (Some s)
-      → ((id ≡ None) × (after ≡ next)) ⊎ ((id ≡ Some next) × (after ≡ next + 1))
-      → IsCharted E b after (record { cut = new; start = c.start; value = c.value })
-  charted_installed next after c new key s run seen keys id was fits same is_run number above link moved noted given =
-      let owns = down_owns c.cut key s.run c.start keys (subst (λ r. FitsDown E b c.cut key r c.start keys) (same ∙ sym is_run) fits) in
-      let linked =
-      new_linked E c.start.register c.cut new key next above s.run.entry
-      (subst (λ (r : SegmentRun R P). IsLinked E c.start.register next above (alone r.entry) c.cut) (same ∙ sym is_run) (moved was.linked)) s noted after
-      owns.0 owns.1 link refl (subst (λ n. ((n ≡ None) × (after ≡ next)) ⊎ ((n ≡ Some next) × (after ≡ next + 1))) (sym number) given) in
-      charted_kept E b next after c new (λ k. Unit {0}) (noted_keeps c.cut new key s noted)
-      (linked_none E c.start.register after s.id (alone s.run.exit) (alone c.start) new linked) was
+pub charted_installed : {R P : Type 0} (E : R → R → Bool) (is : R → Behaviour P) (next after : ℕ) (mark : Option ℕ) (c : Charted R P) (new : Cut (StoredRun R P)) (key : ℕ) (s : StoredRun R P) (run seen : SegmentRun R P) (keys : List ℕ) (id : Option ℕ)
+    → IsCharted E is next mark c → FitsDown E (is c.start.register) c.cut key seen c.start keys → seen ≡ run → s.run ≡ run → s.id ≡ id → (above : Option ℕ) → s.link ≡ above
+    → (IsLinked E c.start.register next None (alone c.start) c.cut → IsLinked E c.start.register next above (alone seen.entry) c.cut) → IsNoted c.cut new key (Some s)
+    → ((id ≡ None) × (after ≡ next)) ⊎ ((id ≡ Some next) × (after ≡ next + 1))
+    → IsCharted E is after None (record { cut = new; start = c.start; value = c.value })
+charted_installed {R} {P} E is next after mark c new key s run seen keys id was fits same is_run number above link moved noted given =
+    let owns = down_owns E (is c.start.register) c.cut key s.run c.start keys (subst (λ r. FitsDown E (is c.start.register) c.cut key r c.start keys) (same ∙ sym is_run) fits) in
+    let linked =
+    new_linked E c.start.register c.cut new key next above s.run.entry
+    (subst (λ (r : SegmentRun R P). IsLinked E c.start.register next above (alone r.entry) c.cut) (same ∙ sym is_run) (moved was.linked)) s noted after
+    owns.0 owns.1 link refl (subst (λ n. ((n ≡ None) × (after ≡ next)) ⊎ ((n ≡ Some next) × (after ≡ next + 1))) (sym number) given) in
+    charted_kept E is next after mark c new (λ k. Unit {0}) (noted_keeps E (is c.start.register) c.cut new key s noted)
+    (linked_none E c.start.register after s.id (alone s.run.exit) (alone c.start) new linked) was

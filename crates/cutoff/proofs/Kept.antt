@@ -11,6 +11,7 @@ use Rattle.schedule_trie.specs.Cut.{Cut, Piece, piece_at, line, forest, has, key
 use Rattle.schedule_trie.proofs.Lines.{slots_in_on}
 use Rattle.cutoff.specs.Fitting.{StoredRun, KeepsRuns}
 use Rattle.cutoff.specs.Links.{alone, IsLinked}
+use Rattle.cutoff.specs.Prefixes.{IsMarked}
 use Rattle.cutoff.specs.Held.{Charted, IsCharted, StepsFit, keys_or, keys_named, looked_at, look}
 
 -- the same cells at each key
@@ -37,15 +38,28 @@ cut_kept old new Missed kept cut = record {
   shares = subst SharesAbove (sym kept.strands) cut.shares;
 }
 
-pub charted_kept : {R P : Type 0} (E : R → R → Bool) (b : Behaviour P) (next after : ℕ) (c : Charted R P) (new : Cut (StoredRun R P)) (Missed : ℕ → Type 0)
-    → KeepsRuns c.cut new Missed → IsLinked E c.start.register after None (alone c.start) new → IsCharted E b next c
-    → IsCharted E b after (record { cut = new; start = c.start; value = c.value })
-charted_kept E b next after c new Missed kept linked was = record {
+pub charted_kept : {R P : Type 0} (E : R → R → Bool) (is : R → Behaviour P) (next after : ℕ) (mark : Option ℕ) (c : Charted R P) (new : Cut (StoredRun R P)) (Missed : ℕ → Type 0)
+    → KeepsRuns c.cut new Missed → IsLinked E c.start.register after None (alone c.start) new → IsCharted E is next mark c
+    → IsCharted E is after None (record { cut = new; start = c.start; value = c.value })
+charted_kept E is next after mark c new Missed kept linked was = record {
   within = was.within;
   begins = was.begins;
-  fits = subst (StepsFit b) (sym kept.forest_kept) was.fits;
+  fits = subst (StepsFit (is c.start.register)) (sym kept.forest_kept) was.fits;
   whole = cut_kept c.cut new Missed kept was.whole;
   linked = linked;
+  marked = tt;
+}
+
+-- another mark, or none
+pub charted_marked : {R P : Type 0} (E : R → R → Bool) (is : R → Behaviour P) (next : ℕ) (mark other : Option ℕ) (c : Charted R P) → IsMarked E is c.cut c.start other
+    → IsCharted E is next mark c → IsCharted E is next other c
+charted_marked E is next mark other c marked was = record {
+  within = was.within;
+  begins = was.begins;
+  fits = was.fits;
+  whole = was.whole;
+  linked = was.linked;
+  marked = marked;
 }
 
 -- the branch of a name, where it is there

@@ -7,6 +7,9 @@ pub mod Kept
 pub mod Descents
 pub mod Climbs
 pub mod Paths
+pub mod Prefixes
+pub mod Rests
+pub mod Lasts
 pub mod Installed
 pub mod Plannings
 pub mod Chainings

@@ -307,7 +307,7 @@ module _ {R P : Type 0} (E : R → R → Bool) (equal : IsEquivalence E) (per : 
         work_short (inl f) = let z = f.2 in omega arith
         work_short (inr m) = let z = m.1 in omega arith
 
-drop_past : (n : ℕ) (xs : List ℕ) → length xs ≤ n → drop n xs ≡ []
+pub drop_past : (n : ℕ) (xs : List ℕ) → length xs ≤ n → drop n xs ≡ []
 drop_past zero [] h = refl
 drop_past zero (x ∷ xs) h = absurd (omega arith)
 drop_past (suc n) [] h = refl

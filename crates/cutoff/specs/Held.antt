@@ -1,5 +1,5 @@
 -- What a chart keeps.
-use Rattle.std.specs.Prelude.{ℕ, ◌≡◌, ◌<◌, Bool, nat_lt, List, [], Option, None, Some, Result, Ok, Err, length, map, if◌then◌else◌}
+use Rattle.std.specs.Prelude.{ℕ, ◌≡◌, ◌<◌, Bool, nat_lt, List, [], ◌∷◌, Option, None, Some, Result, Ok, Err, length, map, if◌then◌else◌}
 use Rattle.std.specs.List.{All}
 use Rattle.frames.specs.Behaviour.{Behaviour}
 use Rattle.frames.specs.Configuration.{Configuration, initial_configuration}
@@ -11,6 +11,7 @@ use Rattle.schedule_trie.specs.Forest.{Forest, slots_in, step_of, index_of, on_b
 use Rattle.schedule_trie.specs.Cut.{Cut, Strand, IsCut, forest, keys_in}
 use Rattle.cutoff.specs.Fitting.{StoredRun, RunPart, reached, Settles, KeepsRuns, IsFilled, counted}
 use Rattle.cutoff.specs.Links.{alone, IsLinked}
+use Rattle.cutoff.specs.Prefixes.{IsMarked}
 
 -- a forest cut into segments with their stored runs, the initial configuration, and its value
 pub record Charted (R P : Type 0) : Type 0 where
@@ -22,12 +23,14 @@ pub record Charted (R P : Type 0) : Type 0 where
 abbrev pub StepsFit : {P : Type 0} → Behaviour P → Forest → Type 0
 StepsFit b f = (i : ℕ) → AllFit b (map step_of (slots_in f.branches i))
 
-pub record IsCharted {R P : Type 0} (E : R → R → Bool) (b : Behaviour P) (next : ℕ) (c : Charted R P) : Type 0 where
-  pub within : c.value < b.values
-  pub begins : c.start ≡ initial_configuration b c.start.register c.value
-  pub fits : StepsFit b (forest c.cut)
+-- what a chart keeps: the numbers below `next` are given out, and stored runs fit down to the mark
+pub record IsCharted {R P : Type 0} (E : R → R → Bool) (is : R → Behaviour P) (next : ℕ) (mark : Option ℕ) (c : Charted R P) : Type 0 where
+  pub within : c.value < (is c.start.register).values
+  pub begins : c.start ≡ initial_configuration (is c.start.register) c.start.register c.value
+  pub fits : StepsFit (is c.start.register) (forest c.cut)
   pub whole : IsCut c.cut
   pub linked : IsLinked E c.start.register next None (alone c.start) c.cut
+  pub marked : IsMarked E is c.cut c.start mark
 
 -- each own step of each limb fits
 abbrev pub LimbsFit : {P : Type 0} → Behaviour P → List Limb → Type 0
@@ -62,3 +65,13 @@ KeepsOrFills E is old new name place =
 pub record IsSettled {R P : Type 0} (E : R → R → Bool) (b : Behaviour P) (old new : Charted R P) (name : List ℕ) (place : ℕ) (parts : List (RunPart R P)) (n : ℕ) : Type 0 where
   pub settles : Settles E b old.cut new.cut old.start place (reached_by old.cut name place) parts n
   pub sum : counted parts ≡ place
+
+-- the last of some parts, if there are any
+abbrev pub last_part : {R P : Type 0} → List (RunPart R P) → Option (RunPart R P)
+last_part [] = None
+last_part (part ∷ []) = Some part
+last_part (part ∷ next ∷ parts) = last_part (next ∷ parts)
+
+-- what a settle of the first `place` cells of a branch answers of the last of its runs alone
+abbrev pub IsSettledLast : {R P : Type 0} → (R → R → Bool) → Behaviour P → Charted R P → Charted R P → List ℕ → ℕ → Option (RunPart R P) → ℕ → Type 0
+IsSettledLast {R} {P} E b old new name place last n = (parts : List (RunPart R P)) × IsSettled E b old new name place parts n × (last_part parts ≡ last)

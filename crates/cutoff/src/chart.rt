@@ -1,6 +1,6 @@
 //! The chart: branches of a schedule, with stored runs of their segments.
 
-ghost use Rattle.std.specs.Prelude.{◌≡◌, ◌<◌, Some, IsSome, length, map, IfOk, IfErr, OnOk, Ok, Err};
+ghost use Rattle.std.specs.Prelude.{ℕ, ◌≡◌, ◌<◌, ◌≤◌, Some, IsSome, length, map, IfOk, IfErr, OnOk, Ok, Err};
 ghost use Rattle.frames.specs.Configuration.{initial_configuration};
 ghost use Rattle.frames.specs.Recorded.{AllFit};
 ghost use Rattle.schedule_trie.specs.Forest.{index_of, opened, IsRefused, len_of, name_in, cell_at, place_of, path_of, AreNamedApart, IsForest};
@@ -13,6 +13,7 @@ ghost use Rattle.schedule_trie.specs.Cut.{AreLimits, IsCut, IsBlank, forest, if_
 
 mod chains;
 mod edits;
+mod last;
 mod limbs;
 
 use crate::chain::jobs_of;
@@ -28,18 +29,19 @@ use schedule_trie::limits::Limits;
 use schedule_trie::name::Name;
 use schedule_trie::refusal::Refusal;
 use schedule_trie::trie::{SegKey, Trie};
-use std::alloc::Global;
+use std::alloc::{AllocError, Global};
 use std::marker::Model;
 use std::sync::Arc;
 
 /// Branches of a schedule on a register, each segment with a stored run or none, and the configuration that they all begin
-/// from.
+/// from. Down to the segment that is marked, if one is, stored runs are known to fit.
 #[derive(Drop)]
 pub struct Chart<R: Register> {
     trie: Trie<Stored<R>>,
     start: Config<R>,
     value: u32,
     next: u64,
+    mark: Option<SegKey>,
 }
 
 impl<R: Register> Model for Chart<R> {
@@ -49,7 +51,7 @@ impl<R: Register> Model for Chart<R> {
 
     ghost view = { λ c. record { cut = c.trie; start = c.start; value = c.value } };
 
-    ghost invariant = { λ c. IsCharted R.PartialEq.eq (R.is c.start.register) c.next (record { cut = c.trie; start = c.start; value = c.value }) };
+    ghost invariant = { λ c. IsCharted R.PartialEq.eq R.is c.next c.mark (record { cut = c.trie; start = c.start; value = c.value }) };
 }
 
 impl<R: Register> Chart<R> {
@@ -78,12 +80,32 @@ impl<R: Register> Chart<R> {
         ensures err { IfErr result (IsRefused (opened limits steps.now)) }
     {
         let trie = Trie::new(alloc, limits, steps)?;
+        Ok(Chart::over(alloc, trie, register, value)?)
+    }
+
+    /// A chart of a trie at which nothing is noted yet, from the register's initial configuration at a value.
+    fn over(
+        alloc: Global,
+        trie: Trie<Stored<R>>,
+        register: R,
+        value: u32,
+    ) -> Result<Chart<R>, AllocError>
+        requires value { value < (R.is register).values }
+        requires fits { StepsFit (R.is register) (forest trie) }
+        requires cut { IsCut trie }
+        requires blank { IsBlank trie }
+        ensures cut { IfOk result (λ c. c.cut ≡ trie) }
+        ensures start { let initial = initial_configuration (R.is register) register value in
+            IfOk result (λ c. c.start ≡ initial) }
+        ensures value { IfOk result (λ c. c.value ≡ value) }
+    {
         let start = Config::initial(alloc, register, value)?;
         Ok(Chart {
             trie,
             start,
             value,
             next: 0,
+            mark: None,
         })
     }
 
@@ -195,13 +217,9 @@ impl<R: Register> Chart<R> {
         ensures start { self.new.start ≡ self.old.start }
         ensures value { self.new.value ≡ self.old.value }
     {
-        let Some(len) = self.trie.len(branch) else {
-            return Err(Refusal::NoBranch);
-        };
-        if len < place {
-            return Err(Refusal::NoPlace);
-        }
+        has_place(&self.trie, branch, place)?;
         let keys = self.trie.segments(alloc, branch)?;
+        self.mark = None;
         let spot = settle_along(
             alloc,
             &mut self.trie,
@@ -245,8 +263,28 @@ impl<R: Register> Chart<R> {
         if !fits {
             return Installation::Stale;
         }
+        self.mark = None;
         let id = take_number(&mut self.next);
         self.trie.set_note(key, Some(Stored::new(run, id, above)));
         Installation::Installed
     }
+}
+
+/// Looks whether a branch has so many cells.
+///
+/// # Errors
+///
+/// NoBranch; NoPlace where it has fewer.
+fn has_place<T: Drop>(trie: &Trie<T>, branch: &Name, place: u32) -> Result<(), Refusal>
+    ensures ok { OnOk result ((len : ℕ) × (Some len ≡ len_of (forest trie.now) branch.now)
+        × (place ≤ len) × (len ≤ 4294967295)) }
+    ensures err { IfErr result (IsRefused (look (forest trie.now) branch.now place)) }
+{
+    let Some(len) = trie.len(branch) else {
+        return Err(Refusal::NoBranch);
+    };
+    if len < place {
+        return Err(Refusal::NoPlace);
+    }
+    Ok(())
 }

@@ -32,6 +32,22 @@ pub(crate) struct Settled<R: Register> {
     replayed: u32,
 }
 
+impl<R: Register> Settled<R> {
+    /// The run.
+    pub(crate) fn run(&self) -> &Run<R>
+        ensures { result.now ≡ arc_value self.now.run }
+    {
+        &self.run
+    }
+
+    /// How many steps were replayed.
+    pub(crate) fn replayed(&self) -> u32
+        ensures { result ≡ self.now.replayed }
+    {
+        self.replayed
+    }
+}
+
 /// The stored run of a segment, if it fits where a walk has come to a configuration; `above` is the number of the run that
 /// came to it, if it has one.
 pub(crate) fn fitting<'a, R: Register>(

@@ -108,6 +108,13 @@ impl<R: Register> Stored<R> {
         is_behind(self.link, above) || *self.run.entry() == *config
     }
 
+    /// Whether its number is the one that a run was found behind.
+    pub(crate) fn is_before(&self, link: Option<u64>) -> bool
+        ensures { Decides result ((a : ℕ) × (link ≡ Some a) × (self.now.id ≡ Some a)) }
+    {
+        is_behind(link, self.id)
+    }
+
     /// Whether it comes to a configuration. A run that was found behind the run with the number `link` begins from that.
     pub(crate) fn ends(&self, config: &Config<R>, link: Option<u64>) -> bool
         requires linked { (a : ℕ) → link ≡ Some a → self.now.id ≡ Some a

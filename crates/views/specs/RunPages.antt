@@ -1,5 +1,5 @@
 -- Pages of what runs come to.
-use Rattle.std.specs.Prelude.{⊤, List}
+use Rattle.std.specs.Prelude.{⊤, ◌≡◌, List}
 use Rattle.frames.specs.Behaviour.{Behaviour}
 use Rattle.frames.specs.Configuration.{Configuration}
 use Rattle.frames.specs.Recorded.{indexed}
@@ -23,3 +23,7 @@ IsOfConfig Bits = ⊤
 IsOfConfig Pending = ⊤
 IsOfConfig History = ⊥
 IsOfConfig (Verdict value) = ⊥
+
+-- parts that show on a page of a kind what others do, whatever they begin from
+abbrev pub ShowAlike : {R P : Type 0} → (R → Behaviour P) → PlaceKind → List (RunPart R P) → List (RunPart R P) → Type 0
+ShowAlike {R} {P} is kind parts others = (head : Head) (first : Configuration R P) → run_page is kind head first others ≡ run_page is kind head first parts

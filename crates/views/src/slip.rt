@@ -1,14 +1,16 @@
 //! Slips: what a look found, from which its page is made later.
 
-ghost use Rattle.std.specs.Prelude.{◌≡◌, ◌<◌, Some, true, Ok, IfOk, OnOk, IfErr, map};
+ghost use Rattle.std.specs.Prelude.{◌≡◌, ◌<◌, List, Some, true, false, Ok, IfOk, OnOk, IfErr, map};
 ghost use Rattle.schedule_trie.specs.Forest.{IsRefused};
 ghost use Rattle.schedule_trie.specs.Cut.{forest};
-ghost use Rattle.cutoff.specs.Fitting.{part_of};
+ghost use Rattle.cutoff.specs.Fitting.{RunPart, part_of};
 ghost use Rattle.cutoff.specs.Held.{look};
 ghost use Rattle.views.specs.Looks as spec;
 ghost use Rattle.views.specs.Looks.{looked, steps_in, IsKept};
 ghost use Rattle.views.specs.ChartLooks.{shown_by, page_in, steps_page, IsSpotIn};
+ghost use Rattle.views.specs.RunPages.{IsOfConfig, ShowAlike};
 ghost use Rattle.views.specs.Slips.{IsReady};
+ghost use Rattle.views.specs.Spots.{listed};
 ghost use Rattle.frames.specs.Recorded.{AllFit};
 ghost use Rattle.frames.specs.Regularity.{NeverStray};
 ghost use Rattle.views.specs.Strays.{Judges, JudgesSome, JudgesFrom, ShowsNoStray};
@@ -19,14 +21,15 @@ use crate::page::Page;
 use crate::page::head::Head;
 use crate::page::steps::StepsPage;
 use crate::query::{PlaceKind, Query};
+use checkpoints::run::Run;
 use cutoff::chart::Chart;
-use cutoff::settle::Spot;
 use frames::register::Register;
 use frames::types::Op;
 use schedule_trie::name::Name;
 use schedule_trie::refusal::Refusal;
 use std::alloc::{AllocError, Global};
 use std::marker::Model;
+use std::sync::Arc;
 
 mod content;
 
@@ -159,12 +162,11 @@ fn place_slip<R: Register>(
     ensures kept { IsKept chart.old chart.new }
     ensures judges { IfOk result (Judges (R.is chart.old.start.register)) }
 {
-    let (len, spot) = settled(alloc, chart, &branch, place)?;
+    let (len, runs) = settled(alloc, chart, kind, &branch, place)?;
     let Ok(first) = chart.initial().copy(alloc) else {
         return Err(Refusal::Memory);
     };
     let head = Head { branch, place, len };
-    let runs = spot.runs;
     let content = Content::Place(PlaceSlip {
         kind,
         head,
@@ -174,15 +176,18 @@ fn place_slip<R: Register>(
     Ok(Slip { content })
 }
 
-/// Settles a place of a branch: the branch's length, and the runs that come to the place.
+/// Settles a place of a branch: the branch's length, and the runs that come to the place; where a page of this kind shows no
+/// events, the last of them alone.
 fn settled<R: Register>(
     alloc: Global,
     chart: &mut Chart<R>,
+    kind: PlaceKind,
     branch: &Name,
     place: u32,
-) -> Result<(u32, Spot<R>), Refusal>
-    ensures spot { IfOk result (λ s. IsSpotIn R.is chart.old branch.now place s.0
-        (map part_of s.1.runs.items)) }
+) -> Result<(u32, Vec<(Arc<Run<R>>, u32)>), Refusal>
+    ensures spot { IfOk result (λ s. (parts : List (RunPart R R.Pending))
+        × IsSpotIn R.is chart.old branch.now place s.0 parts
+        × ShowAlike R.is kind parts (map part_of s.1.items)) }
     ensures found { OnOk result (look (forest chart.old.cut) branch.now place
         ≡ Ok (forest chart.old.cut)) }
     ensures err { IfErr result (IsRefused (look (forest chart.old.cut) branch.now place)) }
@@ -195,8 +200,34 @@ fn settled<R: Register>(
     let Some(len) = chart.len(branch) else {
         return Err(Refusal::NoBranch);
     };
-    let spot = chart.settle(alloc, branch, place)?;
-    Ok((len, spot))
+    if shows_events(kind) {
+        let spot = chart.settle(alloc, branch, place)?;
+        return Ok((len, spot.runs));
+    }
+    let last = chart.settle_last(alloc, branch, place)?;
+    let runs = listed(alloc, last.part)?;
+    Ok((len, runs))
+}
+
+/// Whether a page of a kind shows events, and so more than a configuration.
+fn shows_events(kind: PlaceKind) -> bool
+    ensures { result ≡ false → IsOfConfig kind }
+{
+    match kind {
+        PlaceKind::History | PlaceKind::Verdict(_) => true,
+        PlaceKind::State | PlaceKind::Process(_) | PlaceKind::Bits | PlaceKind::Pending => false,
+    }
+}
+
+/// An item as a list of it alone, or of none.
+fn listed<T: Drop>(alloc: Global, item: Option<T>) -> Result<Vec<T>, AllocError>
+    ensures { IfOk result (λ list. list.items ≡ listed item) }
+{
+    let mut list = Vec::new(alloc);
+    if let Some(item) = item {
+        list.push(item)?;
+    }
+    Ok(list)
 }
 
 /// Looks at the steps of a branch.

@@ -4,7 +4,9 @@
 ghost use Rattle.frames.specs.SafeBit.{safe_behaviour};
 ghost use Rattle.frames.specs.Recorded.{AllFit};
 
-use super::rows::{Ask, Bench, Branch, Kind, LATE, Row, bench_of, name_of, step_of, told, writes};
+use super::rows::{
+    Ask, Bench, Branch, Kind, LATE, Row, Wanted, bench_of, name_of, step_of, told, writes,
+};
 use crate::given::none_wrong;
 use frames::types::Step;
 use schedule_trie::name::Name;
@@ -55,12 +57,13 @@ fn tried(
     rt: &impl Abort,
     alloc: Global,
     steps: &[Step],
+    wanted: Wanted,
     rows: &[Row],
 ) -> Result<Option<usize>, Refusal>
     requires { AllFit safe_behaviour steps.now }
 {
     let calls = Cell::new(0);
-    match bench_of(alloc, &calls, steps) {
+    match bench_of(alloc, &calls, steps, wanted) {
         Ok(mut bench) => first_wrong_again(rt, alloc, &mut bench, rows),
         Err(Refusal::Memory) => Ok(None),
         Err(refusal) => Err(refusal),
@@ -72,7 +75,8 @@ fn late_run_wanting_memory(rt: HostRuntime) {
     let mut rows = LATE;
     // (the settle may have stored the run before it was refused memory)
     rows[2] = (Branch::Main, Ask::Settle(1, 0, 1));
-    none_wrong(&rt, tried(&rt, rt.alloc(), &[step_of(Kind::Read)], &rows));
+    let steps = [step_of(Kind::Read)];
+    none_wrong(&rt, tried(&rt, rt.alloc(), &steps, Wanted::All, &rows));
 }
 
 /// A settle, one behind an edit, which may have stored runs before it was refused memory, and a plan
@@ -86,10 +90,19 @@ const SETTLES: [Row; 6] = [
     (Branch::Main, Ask::Left(0)),
 ];
 
-#[test]
-fn thousand_steps_wanting_memory(rt: HostRuntime) {
-    let Ok(steps) = writes(rt.alloc()) else {
+fn settles_again(rt: &impl Abort, alloc: Global, wanted: Wanted) {
+    let Ok(steps) = writes(alloc) else {
         return;
     };
-    none_wrong(&rt, tried(&rt, rt.alloc(), &steps, &SETTLES));
+    none_wrong(rt, tried(rt, alloc, &steps, wanted, &SETTLES));
+}
+
+#[test]
+fn thousand_steps_wanting_memory(rt: HostRuntime) {
+    settles_again(&rt, rt.alloc(), Wanted::All);
+}
+
+#[test]
+fn last_run_of_thousand_steps_wanting_memory(rt: HostRuntime) {
+    settles_again(&rt, rt.alloc(), Wanted::Last);
 }

@@ -113,10 +113,18 @@ pub(super) enum Ask {
 /// A run, and the key of its segment.
 type Kept<'a> = (SegKey, Arc<Run<Counting<'a>>>);
 
+/// What a settle is asked for: all runs, or the last one alone. It replays the same steps.
+#[derive(Clone, Copy)]
+pub(super) enum Wanted {
+    All,
+    Last,
+}
+
 /// A chart on a register that counts calls, and runs that were made elsewhere.
 #[derive(Drop)]
 pub(super) struct Bench<'a> {
     calls: &'a Cell<u32>,
+    wanted: Wanted,
     chart: Chart<Counting<'a>>,
     runs: Vec<Kept<'a>>,
 }
@@ -124,11 +132,14 @@ pub(super) struct Bench<'a> {
 /// What a settle tells that it replayed.
 fn replayed(
     alloc: Global,
-    chart: &mut Chart<Counting<'_>>,
+    bench: &mut Bench<'_>,
     branch: &Name,
     place: u32,
 ) -> Result<u32, Refusal> {
-    Ok(chart.settle(alloc, branch, place)?.replayed)
+    match bench.wanted {
+        Wanted::All => Ok(bench.chart.settle(alloc, branch, place)?.replayed),
+        Wanted::Last => Ok(bench.chart.settle_last(alloc, branch, place)?.replayed),
+    }
 }
 
 /// How many jobs there are.
@@ -213,7 +224,7 @@ pub(super) fn told(
 ) -> Result<(bool, u32), Refusal> {
     match ask {
         Ask::Settle(place, least, most) => {
-            let steps = replayed(alloc, &mut bench.chart, branch, place)?;
+            let steps = replayed(alloc, bench, branch, place)?;
             Ok((least <= steps && steps <= most, steps))
         }
         Ask::Plan(kind) => Ok((keeps_run(alloc, bench, branch, kind)?, 1)),
@@ -252,17 +263,19 @@ pub(super) fn bench_of<'a>(
     alloc: Global,
     calls: &'a Cell<u32>,
     steps: &[Step],
+    wanted: Wanted,
 ) -> Result<Bench<'a>, Refusal>
     requires { AllFit safe_behaviour steps.now }
 {
     Ok(Bench {
         calls,
+        wanted,
         chart: Chart::new(alloc, Counting::new(calls), 0, limits(), steps)?,
         runs: Vec::new(alloc),
     })
 }
 
-/// The first row that goes wrong in a chart of these steps.
+/// The first row that goes wrong in a chart of these steps, whether all runs are wanted or the last one.
 fn first_wrong(
     rt: &impl Abort,
     alloc: Global,
@@ -271,9 +284,15 @@ fn first_wrong(
 ) -> Result<Option<usize>, Refusal>
     requires { AllFit safe_behaviour steps.now }
 {
-    let calls = Cell::new(0);
-    let mut bench = bench_of(alloc, &calls, steps)?;
-    first_wrong_at(rt, alloc, &mut bench, rows)
+    for wanted in [Wanted::All, Wanted::Last] {
+        let calls = Cell::new(0);
+        let mut bench = bench_of(alloc, &calls, steps, wanted)?;
+        let wrong = first_wrong_at(rt, alloc, &mut bench, rows)?;
+        if wrong.is_some() {
+            return Ok(wrong);
+        }
+    }
+    Ok(None)
 }
 
 /// The first row that goes wrong in a chart of 1,000 steps.

@@ -1,4 +1,5 @@
-//! Edits of a chart: those of its branches. Each keeps the stored run of every segment that it neither changes nor cuts.
+//! Edits of a chart: those of its branches. Each keeps the stored run of every segment that it neither changes nor cuts, and
+//! forgets the mark.
 
 ghost use Rattle.std.specs.Prelude.{◌≡◌, true, OnOk, IfErr};
 ghost use Rattle.frames.specs.Configuration.{fits_step};
@@ -34,6 +35,7 @@ impl<R: Register> Chart<R> {
             (IsUneditedChart self.old self.new (Insert branch.now place step)) }
         ensures keeps { KeepsBeginning self.old self.new }
     {
+        self.mark = None;
         self.trie.insert(alloc, branch, place, step)
     }
 
@@ -47,6 +49,7 @@ impl<R: Register> Chart<R> {
         ensures err { IfErr result (IsUneditedChart self.old self.new (Remove branch.now place)) }
         ensures keeps { KeepsBeginning self.old self.new }
     {
+        self.mark = None;
         self.trie.remove(branch, place)
     }
 
@@ -64,6 +67,7 @@ impl<R: Register> Chart<R> {
             (IsUneditedChart self.old self.new (Replace branch.now place step)) }
         ensures keeps { KeepsBeginning self.old self.new }
     {
+        self.mark = None;
         self.trie.replace(branch, place, step)
     }
 
@@ -85,6 +89,7 @@ impl<R: Register> Chart<R> {
             (IsUneditedChart self.old self.new (Fork branch.now place name)) }
         ensures keeps { KeepsBeginning self.old self.new }
     {
+        self.mark = None;
         self.trie.fork(alloc, branch, place, name)
     }
 
@@ -98,6 +103,7 @@ impl<R: Register> Chart<R> {
         ensures err { IfErr result (IsUneditedChart self.old self.new (Detach branch.now)) }
         ensures keeps { KeepsBeginning self.old self.new }
     {
+        self.mark = None;
         self.trie.detach(alloc, branch)
     }
 
@@ -111,6 +117,7 @@ impl<R: Register> Chart<R> {
         ensures err { IfErr result (IsUneditedChart self.old self.new (Drop branch.now)) }
         ensures keeps { KeepsBeginning self.old self.new }
     {
+        self.mark = None;
         self.trie.drop_branch(branch)
     }
 }

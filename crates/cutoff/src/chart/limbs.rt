@@ -8,7 +8,6 @@ ghost use Rattle.schedule_trie.specs.Limbs.{FitLimits, IsLawful, limbs, loaded};
 ghost use Rattle.cutoff.specs.Held.{LimbsFit};
 
 use super::Chart;
-use frames::config::Config;
 use frames::register::Register;
 use schedule_trie::limb::Limb;
 use schedule_trie::limits::Limits;
@@ -45,13 +44,7 @@ impl<R: Register> Chart<R> {
         ensures err { IfErr result (IsRefused (loaded limits limbs.now)) }
     {
         let trie = Trie::load(alloc, limits, limbs)?;
-        let start = Config::initial(alloc, register, value)?;
-        Ok(Chart {
-            trie,
-            start,
-            value,
-            next: 0,
-        })
+        Ok(Chart::over(alloc, trie, register, value)?)
     }
 
     /// The limbs of its forest, in order of making. A chart can be loaded from them.

@@ -7,8 +7,7 @@ use Rattle.cutoff.proofs.chart.Chart.replace.Goals as goal
 
 pub invariant_of-self : goal.invariant_of-self
 invariant_of-self g c =
-    let b = g.R.Behaves.is c.self.inside.start.register in
-    charted g.R.PartialEq.eq b c.self.inside.next _ c.replace.new.self (Replace c.args.branch.now c.args.place c.args.step) c.replace.result c.self.invariant
+    charted g.R.PartialEq.eq g.R.Behaves.is c.self.inside.next c.self.inside.mark _ c.replace.new.self (Replace c.args.branch.now c.args.place c.args.step) c.replace.result c.self.invariant
     (subst (λ v. fits_step (g.R.Behaves.is v.start.register) c.args.step ≡ true) (sym c.self.view_is) c.requires) c.replace.ensures.ok c.replace.ensures.err
 
 pub returns-clause-ok : goal.returns-clause-ok

@@ -1,0 +1,48 @@
+use Rattle.std.proofs.Common.{◌≡◌, ◌⊎◌, ◌++◌, ◌∷◌, [], ℕ, true, Some, None, length, reverse, inl, inr, sym, ap, subst, ◌∙◌, arith, append_assoc}
+use Rattle.std.proofs.lemmas.List.{reverse-append}
+use Rattle.schedule_trie.specs.Cut.{has, keys_in}
+use Rattle.schedule_trie.specs.Climbs.{keys_to, IsReached}
+use Rattle.schedule_trie.proofs.Climbs.{IsStepUp, step_up}
+use Rattle.cutoff.proofs.Climbs.{path_once, few_to, past_first, shorter}
+use Rattle.cutoff.proofs.Prefixes.{same_key}
+use Rattle.cutoff.proofs.prefix.keys_behind.Goals as goal
+use Rattle.cutoff.proofs.prefix.keys_behind.Goals.{else-loop-test, then-loop-test+then-eq, then-loop-test+else-eq+in_default}
+
+pub loop-preserved : goal.loop-preserved
+loop-preserved g c =
+    let trie = c.args.trie.now in
+    let was = c.loop.invariant in
+    let step : (i : ℕ) → has c.args.key (keys_in trie.strands i) ≡ true → IsStepUp (keys_in trie.strands i) c.in-Some.key c.above-at.result =
+    λ i h. step_up (keys_in trie.strands i) c.in-Some.key c.above-at.result (path_once trie c.requires.cut i)
+    (subst (IsReached (keys_in trie.strands i)) c.in-Some.is (was.reached i h)) (λ front back e. c.above-at.ensures.each i front back e) in
+    record {
+      reached = λ i h. (step i h).reached;
+      path = λ i h.
+          let keys = keys_in trie.strands i in
+          was.path i h ∙ ap (λ o. keys_to keys o ++ reverse c.loop.keys.items) c.in-Some.is ∙ ap (λ l. l ++ reverse c.loop.keys.items) (step i h).is
+          ∙ append_assoc (keys_to keys c.above-at.result) (c.in-Some.key ∷ []) (reverse c.loop.keys.items)
+          ∙ ap (λ l. keys_to keys c.above-at.result ++ l) (sym (ap reverse c.in_ok-push.ensures.items ∙ reverse-append c.loop.keys.items (c.in-Some.key ∷ [])));
+      short = λ i h.
+          let keys = keys_in trie.strands i in
+          let up = shorter keys c.in-Some.key c.above-at.result (step i h) in
+          let at = ap (λ o. length (keys_to keys o)) c.in-Some.is in
+          let old = was.short i h in
+          omega (arith, up, at, old);
+    }
+
+pub returns : goal.returns
+returns g c =
+    let trie = c.args.trie.now in
+    let was = c.loop.invariant in
+    let first = c.requires.there in
+    let ends : (c.loop.at ≡ c.args.front) ⊎ (c.loop.at ≡ None) =
+    elim c.loop-test.branch [
+      | else-loop-test w ↦
+          let few = few_to (keys_in trie.strands first.0) (Some c.args.key) first.1 in
+          let made = c.made-end.ensures.few first.0 in
+          inr (past_first (keys_in trie.strands first.0) c.loop.at c.loop.counter (length (keys_to (keys_in trie.strands first.0) (Some c.args.key))) (was.reached first.0 first.1)
+          (was.short first.0 first.1) (omega (arith, few, made, w.loop-test.false)))
+      | then-loop-test+then-eq w ↦ inl (same_key c.loop.at c.args.front (sym w.if-eq.ensures))
+      | then-loop-test+else-eq+in_default w ↦ inr w.in_default.is
+    ] in
+    (ends, λ i h. (was.reached i h, was.path i h ∙ ap (λ l. keys_to (keys_in trie.strands i) c.loop.at ++ l) (sym c.reverse.ensures.items)))

@@ -1,0 +1,204 @@
+//! The last stored run of a branch's first cells. Segments down to which stored runs are known to fit aren't gone over again.
+
+ghost use Rattle.std.specs.Prelude.{◌≡◌, ◌≤◌, ℕ, None, Some, true, IfOk, OnOk, OnErr, length};
+ghost use Rattle.std.specs.Arc.{arc_value};
+ghost use Rattle.std.specs.Option.{option_map};
+ghost use Rattle.checkpoints.specs.Segment.{SegmentRun, IsRun};
+ghost use Rattle.frames.specs.Recorded.{AllFit};
+ghost use Rattle.schedule_trie.specs.Cut.{forest, keys_in, line, piece_at, IsCut};
+ghost use Rattle.cutoff.specs.Fitting.{IsSegmentSettled, IsFilled, KeepsRuns, reached, run_at, steps_at};
+ghost use Rattle.cutoff.specs.Held.{StepsFit};
+ghost use Rattle.cutoff.specs.Links.{IsLinked, alone};
+ghost use Rattle.cutoff.specs.Prefixes.{IsMarked, IsPlaceIn, IsRest, SettlesTo, come_to, exit_or, run_named};
+
+use crate::prefix::rest_to;
+use crate::settle::{fitting, settle_segment};
+use crate::stored::Stored;
+use checkpoints::run::Run;
+use frames::config::Config;
+use frames::register::Register;
+use schedule_trie::trie::{SegKey, Trie};
+use std::alloc::{AllocError, Global};
+use std::sync::Arc;
+
+/// The last of the stored runs of a branch's first cells, if there are any, with how many of its steps count; and how many
+/// steps were replayed to have it.
+#[derive(Drop)]
+pub struct Last<R: Register> {
+    pub part: Option<(Arc<Run<R>>, u32)>,
+    pub replayed: u32,
+}
+
+/// The run that is stored at a segment, if a segment is named and has one.
+fn run_named<R: Register>(
+    trie: &Trie<Stored<R>>,
+    key: Option<SegKey>,
+) -> Result<Option<Arc<Run<R>>>, AllocError>
+    ensures { IfOk result (λ run. option_map arc_value run ≡ run_named trie.now key) }
+{
+    let Some(key) = key else {
+        return Ok(None);
+    };
+    match trie.note(key) {
+        Some(stored) => Ok(Some(Arc::try_clone(stored.run())?)),
+        None => Ok(None),
+    }
+}
+
+/// What the run that is stored at a segment comes to, and its number, if it has one. What all branches begin from, if no
+/// segment is named or no run is stored there.
+fn exit_named<'a, R: Register>(
+    trie: &'a Trie<Stored<R>>,
+    start: &'a Config<R>,
+    key: Option<SegKey>,
+) -> (&'a Config<R>, Option<u64>)
+    requires linked { (next : ℕ) × IsLinked R.PartialEq.eq start.now.register next None
+        (alone start.now) trie.now }
+    ensures exit { result.0.now ≡ come_to trie.now start.now key }
+    ensures own { R.PartialEq.eq result.0.now.register start.now.register ≡ true }
+    ensures moved { (next : ℕ) → IsLinked R.PartialEq.eq start.now.register next None
+        (alone start.now) trie.now → IsLinked R.PartialEq.eq result.0.now.register next result.1
+        (alone result.0.now) trie.now }
+{
+    let Some(key) = key else {
+        return (start, None);
+    };
+    match trie.note(key) {
+        Some(stored) => (stored.exit(), stored.id()),
+        None => (start, None),
+    }
+}
+
+/// What a run comes to; where there is none, this configuration.
+fn exit_or<'a, R: Register>(config: &'a Config<R>, run: &'a Option<Arc<Run<R>>>) -> &'a Config<R>
+    ensures { result.now ≡ exit_or config.now (option_map arc_value run.now) }
+{
+    match run {
+        Some(run) => run.exit(),
+        None => config,
+    }
+}
+
+/// Whether a segment's stored run is known to fit behind the one that is stored above it, if a segment is named.
+fn is_known_behind<R: Register>(
+    trie: &Trie<Stored<R>>,
+    start: &Config<R>,
+    above: Option<SegKey>,
+    key: SegKey,
+) -> bool
+    requires linked { (next : ℕ) × IsLinked R.PartialEq.eq start.now.register next None
+        (alone start.now) trie.now }
+    ensures { result ≡ true → (run : SegmentRun R R.Pending)
+        × IsSegmentSettled R.PartialEq.eq trie.now trie.now (come_to trie.now start.now above) key
+        run 0 × IsRun (R.is run.entry.register) run }
+{
+    let (config, number) = exit_named(trie, start, above);
+    match fitting(trie, key, config, number) {
+        Some(stored) => {
+            let _exit = stored.exit();
+            stored.is_as_found(number)
+        }
+        None => false,
+    }
+}
+
+/// Settles a segment behind the run that is stored above it, if a segment is named. How many steps were replayed.
+fn settle_behind<R: Register>(
+    alloc: Global,
+    trie: &mut Trie<Stored<R>>,
+    next: &mut u64,
+    start: &Config<R>,
+    above: Option<SegKey>,
+    key: SegKey,
+) -> Result<u32, AllocError>
+    requires linked { IsLinked R.PartialEq.eq start.now.register next.old None
+        (alone start.now) trie.old }
+    requires short { length (steps_at trie.old key) ≤ 128 }
+    requires fits { AllFit (R.is start.now.register) (steps_at trie.old key) }
+    ensures settled { IfOk result (λ n. (run : SegmentRun R R.Pending)
+        × IsSegmentSettled R.PartialEq.eq trie.old trie.new (come_to trie.old start.now above) key
+        run n × IsRun (R.is run.entry.register) run) }
+    ensures linked { IsLinked R.PartialEq.eq start.now.register next.new None
+        (alone start.now) trie.new }
+    ensures unchanged { OnErr result (trie.new ≡ trie.old) }
+{
+    if is_known_behind(trie, start, above, key) {
+        return Ok(0);
+    }
+    let (_, number) = exit_named(trie, start, above);
+    let run = run_named(trie, above)?;
+    let config = exit_or(start, &run);
+    let settled = settle_segment(alloc, trie, next, key, config, number)?;
+    let _steps = settled.run().steps();
+    Ok(settled.replayed())
+}
+
+/// Settles segments one behind the other, the first behind one down to which stored runs fit, if one is named. How many steps
+/// were replayed.
+fn settle_rest<R: Register>(
+    alloc: Global,
+    trie: &mut Trie<Stored<R>>,
+    next: &mut u64,
+    start: &Config<R>,
+    front: Option<SegKey>,
+    keys: &[SegKey],
+) -> Result<u32, AllocError>
+    requires linked { IsLinked R.PartialEq.eq start.now.register next.old None
+        (alone start.now) trie.old }
+    requires cut { IsCut trie.old }
+    requires rest { (i : ℕ) × (key : ℕ) × (count : ℕ) × (place : ℕ)
+        × IsRest R.PartialEq.eq R.is trie.old start.now front keys.now key count place i
+        × (length (line (piece_at trie.old.pieces) (keys_in trie.old.strands i)) ≤ 4294967295) }
+    ensures settles { IfOk result (λ n. (i key count place : ℕ)
+        → IsRest R.PartialEq.eq R.is trie.old start.now front keys.now key count place i
+        → SettlesTo R.PartialEq.eq R.is trie.old trie.new start.now key count place i n) }
+    ensures keeps { (i key count place : ℕ)
+        → IsRest R.PartialEq.eq R.is trie.old start.now front keys.now key count place i
+        → KeepsRuns trie.old trie.new (IsFilled R.PartialEq.eq (R.is start.now.register)
+        trie.old trie.new start.now (reached trie.old place (keys_in trie.old.strands i))) }
+    ensures linked { IsLinked R.PartialEq.eq start.now.register next.new None
+        (alone start.now) trie.new }
+{
+    let mut replayed = 0;
+    let mut above = front;
+    for key in keys {
+        replayed += settle_behind(alloc, trie, next, start, above, *key)?;
+        above = Some(*key);
+    }
+    Ok(replayed)
+}
+
+/// Settles the segments of a branch down to one, of which stored runs are known to fit down to the mark. The last run, and how
+/// many steps were replayed.
+pub(crate) fn settle_to<R: Register>(
+    alloc: Global,
+    trie: &mut Trie<Stored<R>>,
+    next: &mut u64,
+    start: &Config<R>,
+    mark: Option<SegKey>,
+    key: SegKey,
+) -> Result<(Arc<Run<R>>, u32), AllocError>
+    requires linked { IsLinked R.PartialEq.eq start.now.register next.old None
+        (alone start.now) trie.old }
+    requires cut { IsCut trie.old }
+    requires marked { IsMarked R.PartialEq.eq R.is trie.old start.now mark }
+    requires fits { StepsFit (R.is start.now.register) (forest trie.old) }
+    requires there { (i : ℕ) × (count : ℕ) × (place : ℕ) × IsPlaceIn trie.old key count place i
+        × (length (line (piece_at trie.old.pieces) (keys_in trie.old.strands i)) ≤ 4294967295) }
+    ensures run { IfOk result (λ r. Some (arc_value r.0) ≡ run_at trie.new key) }
+    ensures settles { IfOk result (λ r. (i count place : ℕ) → IsPlaceIn trie.old key count place i
+        → SettlesTo R.PartialEq.eq R.is trie.old trie.new start.now key count place i r.1) }
+    ensures marked { OnOk result (IsMarked R.PartialEq.eq R.is trie.new start.now (Some key)) }
+    ensures keeps { (i count place : ℕ) → IsPlaceIn trie.old key count place i
+        → KeepsRuns trie.old trie.new (IsFilled R.PartialEq.eq (R.is start.now.register)
+        trie.old trie.new start.now (reached trie.old place (keys_in trie.old.strands i))) }
+    ensures linked { IsLinked R.PartialEq.eq start.now.register next.new None
+        (alone start.now) trie.new }
+{
+    let (front, keys) = rest_to(alloc, trie, start, mark, key)?;
+    let replayed = settle_rest(alloc, trie, next, start, front, &keys)?;
+    let Some(run) = run_named(trie, Some(key))? else {
+        unreachable!()
+    };
+    Ok((run, replayed))
+}
