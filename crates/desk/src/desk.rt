@@ -4,6 +4,7 @@ ghost use Rattle.std.specs.Prelude.{◌≡◌, ◌≤◌, ◌<◌, ◌+◌, [], 
 ghost use Rattle.frames.specs.Recorded.{AllFit};
 ghost use Rattle.schedule_trie.specs.Forest.{IsRefused, opened};
 ghost use Rattle.schedule_trie.specs.Forest as forests;
+ghost use Rattle.schedule_trie.specs.declared.refusal.Refusal.TheVariants.{Memory};
 ghost use Rattle.schedule_trie.specs.Cut.{AreLimits};
 ghost use Rattle.schedule_trie.specs.Limbs.{IsLawful, forest_of, loaded};
 ghost use Rattle.cutoff.specs.Held.{LimbsFit};
@@ -75,6 +76,17 @@ impl<R: Register> Desk<R> {
         ensures err { IfErr result (IsRefused (opened limits steps.now)) }
     {
         let book = Book::new(alloc, register, value, limits, steps)?;
+        Desk::over(alloc, book)
+    }
+
+    /// A desk before the first call, with one chair that holds all 16 shares, and the book that it begins from.
+    fn over(alloc: Global, book: Book<R>) -> Result<(Desk<R>, Chair<R>), Refusal>
+        requires { book.log ≡ [] }
+        ensures chair { IfOk result (λ r. IsAt R.is r.0 r.1) }
+        ensures first { IfOk result (λ r. view r.1 ≡ first_view (items (book_at_first r.0) [])) }
+        ensures book { IfOk result (λ r. book_at_first r.0 ≡ book) }
+        ensures err { IfErr result (λ e. e ≡ Memory) }
+    {
         let first = Snapshot::of(&book);
         let Ok((turn, chair)) = Turn::new(alloc, Journal::new(book)) else {
             return Err(Refusal::Memory);
@@ -108,11 +120,7 @@ impl<R: Register> Desk<R> {
         ensures err { IfErr result (IsRefused (loaded limits limbs.now)) }
     {
         let book = Book::load(alloc, register, value, limits, limbs)?;
-        let first = Snapshot::of(&book);
-        let Ok((turn, chair)) = Turn::new(alloc, Journal::new(book)) else {
-            return Err(Refusal::Memory);
-        };
-        Ok((Desk { turn, first }, chair))
+        Desk::over(alloc, book)
     }
 
     /// Waits for the turn, and answers a session's command under the chair's number and its guard.

@@ -1,13 +1,27 @@
 //! What the program does with its words, its file and its streams, and readers and writers that fail on the way.
 
+ghost use Rattle.command_line.specs.Ranges.{AreLimits};
+
 mod cut;
 mod faults;
 mod files;
 mod saving;
 mod streams;
 
+use command_line::options::Options;
 use std::io;
 use std::io::{ErrorKind, Read, Write};
+
+/// No worker, and room for what the scripts here make.
+fn options() -> Options
+    ensures { AreLimits result }
+{
+    Options {
+        workers: 0,
+        cells: 64,
+        branches: 4,
+    }
+}
 
 /// Gives its bytes one by one, each behind so many interrupted reads, and at the end the fault, if any. A
 /// second read behind a fault comes to the end.

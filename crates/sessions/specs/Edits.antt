@@ -1,8 +1,9 @@
 -- Commands that edit: what each makes of the branches and of the cursors.
-use Rattle.std.specs.Prelude.{Bool, false, ◌&&◌, nat_lt, List, Option, Some, None, is_some, length}
+use Rattle.std.specs.Prelude.{ℕ, ◌≡◌, Bool, false, ◌&&◌, nat_lt, List, Option, Some, None, is_some, length}
 use Rattle.schedule_trie.specs.Forest.{Forest, len_of}
 use Rattle.schedule_trie.specs.Edits.{Edit, Insert, Remove, Replace, Fork, Detach, Drop}
 use Rattle.sessions.specs.declared.cursor.Cursor.{Cursor}
+use Rattle.sessions.specs.declared.cursor.Shift.{Shift}
 use Rattle.sessions.specs.declared.cursor.Shift.TheVariants as shift
 use Rattle.sessions.specs.declared.command.Command.{Command}
 use Rattle.sessions.specs.declared.command.Command.TheVariants as command
@@ -38,3 +39,8 @@ is_held_up edit f cursors = false
 abbrev pub moved_if : Option Edit → Forest → List (Option Cursor) → List (Option Cursor)
 moved_if (Some edit) f cursors = moved_by edit f cursors
 moved_if None f cursors = cursors
+
+-- whether these are the branch, the place and the way by which an edit moves cursors, if it moves any
+abbrev pub IsShift : Option Edit → Option (List ℕ × ℕ × Shift) → Type 0
+IsShift edit None = (f : Forest) (cursors : List (Option Cursor)) → moved_if edit f cursors ≡ cursors
+IsShift edit (Some at) = (f : Forest) (cursors : List (Option Cursor)) → moved_if edit f cursors ≡ each_cursor (shifted at.2 f at.0 at.1) cursors

@@ -66,6 +66,10 @@ pub record Held (R P : Type 0) : Type 0 where
 abbrev pub opening_of : {R P : Type 0} → (R → Behaviour P) → Held R P → World P
 opening_of is h = opening (is h.first.start.register) h.first.value h.now.limits (forest h.first.cut)
 
+-- the world of a chart within these limits before the first command
+abbrev pub opening_over : {R P : Type 0} → (R → Behaviour P) → Charted R P → Limits → World P
+opening_over is chart limits = opening (is chart.start.register) chart.value limits (forest chart.cut)
+
 -- the log is legal from the opening on, the world is the one after it, and its entries are counted
 pub record IsHeld {R P : Type 0} (is : R → Behaviour P) (h : Held R P) : Type 0 where
   pub legal : IsLegal (opening_of is h) h.log

@@ -1,6 +1,6 @@
 //! The book: the world of a desk, and the log that tells how it came to be.
 
-ghost use Rattle.std.specs.Prelude.{◌≡◌, ◌<◌, ◌⊎◌, Some, Ok, OnOk, IfOk, IfErr, IsSome, [], ◌∷◌, ◌++◌, length, vec_capacity};
+ghost use Rattle.std.specs.Prelude.{◌≡◌, ◌<◌, ◌≤◌, ◌⊎◌, Some, Ok, OnOk, IfOk, IfErr, IsSome, [], ◌∷◌, ◌++◌, length, vec_capacity};
 ghost use Rattle.std.specs.Arc.{arc_value};
 ghost use Rattle.frames.specs.Recorded.{AllFit};
 ghost use Rattle.schedule_trie.specs.Forest.{IsRefused, index_of, opened};
@@ -12,7 +12,7 @@ ghost use Rattle.sessions.specs.World.{opening};
 ghost use Rattle.sessions.specs.Logs.{IsLegal};
 ghost use Rattle.sessions.specs.Logs as spec;
 ghost use Rattle.sessions.specs.Looks.{looked, shown_in};
-ghost use Rattle.sessions.specs.Held.{Acts, IsHeld, TellsMemoryLast, Wants, opening_of, world_of};
+ghost use Rattle.sessions.specs.Held.{Acts, IsHeld, TellsMemoryLast, Wants, opening_of, opening_over, world_of};
 
 mod chains;
 mod limbs;
@@ -31,7 +31,7 @@ use schedule_trie::limits::Limits;
 use schedule_trie::name::Name;
 use schedule_trie::refusal::Refusal;
 use schedule_trie::trie::SegKey;
-use std::alloc::Global;
+use std::alloc::{AllocError, Global};
 use std::marker::Model;
 use std::snapshot::Snapshot;
 use std::sync::Arc;
@@ -82,6 +82,20 @@ impl<R: Register> Book<R> {
         ensures err { IfErr result (IsRefused (opened limits steps.now)) }
     {
         let chart = Chart::new(alloc, register, value, limits, steps)?;
+        Ok(Book::over(alloc, chart, limits)?)
+    }
+
+    /// The book before the first command, of a chart within these limits.
+    fn over(alloc: Global, chart: Chart<R>, limits: Limits) -> Result<Book<R>, AllocError>
+        requires limits { AreLimits limits }
+        requires same_limits { chart.cut.limits ≡ limits }
+        requires few_cells { (forest chart.cut).made ≤ limits.cells }
+        ensures world { let first = opening_over R.is chart limits
+            in IfOk result (λ book. world_of R.is book.now ≡ first) }
+        ensures opening { let first = opening_over R.is chart limits
+            in IfOk result (λ book. opening_of R.is book ≡ first) }
+        ensures log { IfOk result (λ book. book.log ≡ []) }
+    {
         let first = Snapshot::of(&chart);
         let stage = Stage::new(alloc, chart, limits)?;
         Ok(Book {

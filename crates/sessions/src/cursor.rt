@@ -1,12 +1,12 @@
 //! Cursors of sessions.
 
 ghost use Rattle.std.specs.Prelude.{◌≡◌, ◌<◌, ◌≤◌, IfSome, length};
-ghost use Rattle.std.specs.Option.{option_map, unwrap_or};
+ghost use Rattle.std.specs.Option.{option_map};
 ghost use Rattle.schedule_trie.specs.Forest.{cell_at};
 ghost use Rattle.schedule_trie.specs.Cut.{forest};
 ghost use Rattle.sessions.specs.Bounds.{AreWithin};
 ghost use Rattle.sessions.specs.Cursors as spec;
-ghost use Rattle.sessions.specs.Edits.{edit_of, moved_if};
+ghost use Rattle.sessions.specs.Edits.{edit_of, IsShift};
 ghost use Rattle.schedule_trie.specs.declared.limits.TheConstants.{MOST_CELLS_MADE};
 
 use crate::command::Command;
@@ -84,7 +84,7 @@ fn shifted_one<R: Register>(
 }
 
 /// Where the cursors stand behind an edit at a place of a branch.
-fn shifted<R: Register>(
+pub(crate) fn shifted<R: Register>(
     chart: &Chart<R>,
     cursors: &[Option<Cursor>],
     branch: &Name,
@@ -105,24 +105,13 @@ fn shifted<R: Register>(
     moved
 }
 
-/// Where the cursors stand behind a command, by its edit; none where they stay.
-pub(crate) fn moved<R: Register>(
-    chart: &Chart<R>,
-    cursors: &[Option<Cursor>],
-    command: &Command,
-) -> Option<[Option<Cursor>; SESSIONS]>
-    requires sessions { length cursors.now ≡ 16 }
-    requires within { AreWithin cursors.now }
-    ensures { unwrap_or result cursors.now
-        ≡ moved_if (edit_of command.now) (forest chart.now.cut) cursors.now }
+/// Where a command's edit moves cursors that stand behind a place of a branch, and how; none where it moves none.
+pub(crate) fn shift_of(command: &Command) -> Option<(Name, u32, Shift)>
+    ensures { IsShift (edit_of command.now) result }
 {
     match command {
-        Command::Insert { branch, place, .. } => {
-            Some(shifted(chart, cursors, branch, *place, Shift::Up))
-        }
-        Command::Remove { branch, place } => {
-            Some(shifted(chart, cursors, branch, *place, Shift::Down))
-        }
+        Command::Insert { branch, place, .. } => Some((*branch, *place, Shift::Up)),
+        Command::Remove { branch, place } => Some((*branch, *place, Shift::Down)),
         _ => None,
     }
 }

@@ -1,8 +1,6 @@
 //! Streams that fail behind each byte of a script or of its answers, and what then has gone out.
 
-ghost use Rattle.command_line.specs.Ranges.{AreLimits};
-
-use command_line::options::Options;
+use super::options;
 use conversation::fault::StreamFault;
 use std::alloc::{AllocError, Global};
 use std::io;
@@ -109,16 +107,6 @@ struct Way {
     behind: Behind,
     write: usize,
     room: usize,
-}
-
-fn options() -> Options
-    ensures { AreLimits result }
-{
-    Options {
-        workers: 0,
-        cells: 64,
-        branches: 4,
-    }
 }
 
 /// What a run over a script comes to, and what it has written.

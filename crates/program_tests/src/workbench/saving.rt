@@ -3,6 +3,7 @@
 ghost use Rattle.command_line.specs.Ranges.{AreLimits};
 
 use super::cut::{ALL, Narrow};
+use super::options;
 use command_line::options::Options;
 use conversation::fault::StreamFault;
 use schedule_trie::refusal::Refusal;
@@ -21,16 +22,6 @@ const ANSWERS: &[u8] = b"0: edit 1\n0: branches 3 edits 1 made 5\n  main 2\n  a 
 
 const SAVED: &[u8] = b"bench 1\nsafe 0\nbranch main 0 0\nr 1\nw 0 1\n\
     branch a 0 1\nw 0 0\ng 1 0\nbranch b 1 3\ng 1 1\n";
-
-fn options() -> Options
-    ensures { AreLimits result }
-{
-    Options {
-        workers: 0,
-        cells: 64,
-        branches: 4,
-    }
-}
 
 /// What a run over the file comes to with these limits, where its writer and its saver take so many bytes in all, and
 /// what they then have.

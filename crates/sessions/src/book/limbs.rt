@@ -10,14 +10,12 @@ ghost use Rattle.sessions.specs.Held.{opening_of, world_of};
 ghost use Rattle.sessions.specs.Saves.{IsSaved};
 
 use super::Book;
-use crate::stage::Stage;
 use cutoff::chart::Chart;
 use frames::register::Register;
 use schedule_trie::limb::Limb;
 use schedule_trie::limits::Limits;
 use schedule_trie::refusal::Refusal;
 use std::alloc::{AllocError, Global};
-use std::snapshot::Snapshot;
 
 impl<R: Register> Book<R> {
     /// The book before the first command: a register at a value, the limits, and the forest that grows from limbs, of which there
@@ -47,13 +45,7 @@ impl<R: Register> Book<R> {
         ensures err { IfErr result (IsRefused (loaded limits limbs.now)) }
     {
         let chart = Chart::load(alloc, register, value, limits, limbs)?;
-        let first = Snapshot::of(&chart);
-        let stage = Stage::new(alloc, chart, limits)?;
-        Ok(Book {
-            first,
-            stage,
-            log: Vec::new(alloc),
-        })
+        Ok(Book::over(alloc, chart, limits)?)
     }
 
     /// The limbs of its branches, in order of making. A book can be loaded from them.

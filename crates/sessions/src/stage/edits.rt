@@ -1,16 +1,15 @@
 //! Edits of a world's branches, each of which is counted.
 
-ghost use Rattle.std.specs.Prelude.{◌≡◌, ℕ, true, IsSome};
-ghost use Rattle.std.specs.Option.{unwrap_or};
+ghost use Rattle.std.specs.Prelude.{◌≡◌, ℕ, true, IsSome, OnOk, OnErr};
 ghost use Rattle.sessions.specs.Acts.{fits_command};
-ghost use Rattle.sessions.specs.Bounds.{CanLog};
-ghost use Rattle.sessions.specs.Edits.{edit_of, is_held_up};
+ghost use Rattle.sessions.specs.Bounds.{AreWithin, CanLog};
+ghost use Rattle.sessions.specs.Edits.{edit_of, is_held_up, moved_if};
 ghost use Rattle.sessions.specs.Held.{Does, Changes};
 ghost use Rattle.schedule_trie.specs.Cut.{forest};
 
 use super::Stage;
 use crate::command::Command;
-use crate::cursor::{Cursor, SESSIONS, is_occupied, moved};
+use crate::cursor::{Cursor, SESSIONS, is_occupied, shift_of, shifted};
 use crate::reply::Reply;
 use cutoff::chart::Chart;
 use frames::register::Register;
@@ -33,10 +32,8 @@ impl<R: Register> Stage<R> {
             return Err(Refusal::Occupied);
         }
         self.chart.held();
-        let moved = moved(&self.chart, &self.cursors, command);
-        change(alloc, &mut self.chart, command)?;
+        change_and_move(alloc, &mut self.chart, &mut self.cursors, command)?;
         self.chart.held();
-        put(&mut self.cursors, moved);
         self.edits += 1;
         self.logged += 1;
         Ok(Reply::Edited(self.edits))
@@ -55,13 +52,31 @@ impl<R: Register> Stage<R> {
     }
 }
 
-/// Puts the cursors where they stand now; none where they stay.
-fn put(cursors: &mut [Option<Cursor>; SESSIONS], moved: Option<[Option<Cursor>; SESSIONS]>)
-    ensures { cursors.new ≡ unwrap_or moved cursors.old }
+/// Makes the edit of a command in a chart, and puts the cursors behind it where they then stand; another command changes nothing.
+///
+/// # Errors
+///
+/// Those of the edit. Then nothing is changed.
+fn change_and_move<R: Register>(
+    alloc: Global,
+    chart: &mut Chart<R>,
+    cursors: &mut [Option<Cursor>; SESSIONS],
+    command: &Command,
+) -> Result<(), Refusal>
+    requires fits { fits_command (R.is chart.old.start.register) command.now ≡ true }
+    requires within { AreWithin cursors.old }
+    ensures chart { Changes (edit_of command.now) chart.old chart.new result }
+    ensures moved { OnOk result (cursors.new
+        ≡ moved_if (edit_of command.now) (forest chart.old.cut) cursors.old) }
+    ensures kept { OnErr result (cursors.new ≡ cursors.old) }
 {
-    if let Some(moved) = moved {
-        *cursors = moved;
-    }
+    let Some((branch, place, shift)) = shift_of(command) else {
+        return change(alloc, chart, command);
+    };
+    let moved = shifted(chart, cursors, &branch, place, shift);
+    change(alloc, chart, command)?;
+    *cursors = moved;
+    Ok(())
 }
 
 /// Makes the edit of a command in a chart; another command changes nothing.

@@ -1,4 +1,4 @@
-use Rattle.std.proofs.Common.{◌≤◌, ◌∙◌, sym, subst, arith}
+use Rattle.std.proofs.Common.{◌≤◌, sym, subst, arith}
 use Rattle.schedule_trie.specs.Cut.{forest}
 use Rattle.sessions.specs.Bounds.{CanLog}
 use Rattle.sessions.specs.Edits.{edit_of}
@@ -8,8 +8,8 @@ use Rattle.sessions.proofs.EditAnswers.{unchanged, staged_after, done_edit, not_
 use Rattle.sessions.proofs.stage.Stage.edit.Goals as goal
 use Rattle.schedule_trie.specs.declared.limits.TheConstants.{MOST_CELLS_MADE}
 
-pub moved-moved-requires-clause-within : goal.moved-moved-requires-clause-within
-moved-moved-requires-clause-within g c =
+pub change_and_move-requires-clause-within : goal.change_and_move-requires-clause-within
+change_and_move-requires-clause-within g c =
     let i = c.self.inside in
     let few : (forest i.chart.cut).made ≤ MOST_CELLS_MADE = omega (arith, c.self.invariant.few_cells, c.self.invariant.in_range.most_cells) in
     are_within (forest i.chart.cut) i.cursors c.held.ensures few c.self.invariant.stand
@@ -18,19 +18,19 @@ pub invariant_of-self : goal.invariant_of-self
 invariant_of-self g c =
     let i = c.self.inside in
     let old : Staged g.row.R.Denot g.row.R-Pending.Denot = record { chart = i.chart; limits = i.limits; cursors = i.cursors; breaks = i.breaks.items; edits = i.edits; logged = i.logged } in
-    rw (unchanged g.R.Behaves.is old c.change.new.chart i.cursors c.self.invariant (edit_of c.args.command.now) c.in_err-change.field-0.0 c.requires.edits c.in_err-change.ensures) c.self.invariant
+    rw (c.in_err-change_and_move.ensures.kept, unchanged g.R.Behaves.is old c.change_and_move.new.chart i.cursors c.self.invariant (edit_of c.args.command.now) c.in_err-change_and_move.field-0.0 c.requires.edits c.in_err-change_and_move.ensures.chart) c.self.invariant
 
 pub invariant_of-self-2 : goal.invariant_of-self-2
 invariant_of-self-2 g c =
     let i = c.self.inside in
     let old : Staged g.row.R.Denot g.row.R-Pending.Denot = record { chart = i.chart; limits = i.limits; cursors = i.cursors; breaks = i.breaks.items; edits = i.edits; logged = i.logged } in
-    staged_after g.R.Behaves.is old c.change.new.chart c.put.new.cursors c.self.invariant c.held.ensures c.held-2.ensures (subst CanLog (sym c.self.view_is) c.requires.room) (edit_of c.args.command.now)
-    c.in_ok-change.field-0 c.requires.edits (not_held_up (edit_of c.args.command.now) _ _ c.is_held_up.result c.self.view_is c.is_held_up.ensures c.if-is_held_up.false) c.in_ok-change.ensures (c.put.ensures ∙ c.moved-moved.ensures)
+    staged_after g.R.Behaves.is old c.change_and_move.new.chart c.change_and_move.new.cursors c.self.invariant c.held.ensures c.held-2.ensures (subst CanLog (sym c.self.view_is) c.requires.room) (edit_of c.args.command.now)
+    c.in_ok-change_and_move.field-0 c.requires.edits (not_held_up (edit_of c.args.command.now) _ _ c.is_held_up.result c.self.view_is c.is_held_up.ensures c.if-is_held_up.false) c.in_ok-change_and_move.ensures.chart c.in_ok-change_and_move.ensures.moved
 
 pub returns : goal.returns
 returns g c = λ who.
     let i = c.self.inside in
     let old : Staged g.row.R.Denot g.row.R-Pending.Denot = record { chart = i.chart; limits = i.limits; cursors = i.cursors; breaks = i.breaks.items; edits = i.edits; logged = i.logged } in
     rw (← c.self.view_is)
-    (done_edit g.R.Behaves.is old c.change.new.chart c.put.new.cursors c.self.invariant who c.args.command.now c.in_ok-change.field-0 c.requires.edits
-    (not_held_up (edit_of c.args.command.now) _ _ c.is_held_up.result c.self.view_is c.is_held_up.ensures c.if-is_held_up.false) c.in_ok-change.ensures (c.put.ensures ∙ c.moved-moved.ensures))
+    (done_edit g.R.Behaves.is old c.change_and_move.new.chart c.change_and_move.new.cursors c.self.invariant who c.args.command.now c.in_ok-change_and_move.field-0 c.requires.edits
+    (not_held_up (edit_of c.args.command.now) _ _ c.is_held_up.result c.self.view_is c.is_held_up.ensures c.if-is_held_up.false) c.in_ok-change_and_move.ensures.chart c.in_ok-change_and_move.ensures.moved)
