@@ -1,6 +1,6 @@
 -- Where a text is cut that goes on by a byte.
-use Rattle.std.proofs.Common.{◌≡◌, ℕ, Bool, true, false, cond, List, [], ◌∷◌, ◌++◌, refl, ap, ◌∙◌}
-use Rattle.std.specs.List.{slice_split, onto_first}
+use Rattle.std.proofs.Common.{◌≡◌, ℕ, suc, Bool, true, false, cond, List, [], ◌∷◌, ◌++◌, refl, sym, ap, ◌∙◌, arith, append_assoc, append-nil}
+use Rattle.std.specs.List.{slice_split, onto_first, All}
 use Rattle.std.proofs.lemmas.List.Splits.{slice_split-cons_yes, slice_split-cons_no}
 
 -- whether there is no part
@@ -67,3 +67,11 @@ module _ (p : ℕ → Bool) where
   -- a text that goes on by another byte has it at the end of its last part
   pub split-push : (xs : List ℕ) (y : ℕ) (whole : List (List ℕ)) (rest : List ℕ) → p y ≡ false → slice_split p xs ≡ whole ++ rest ∷ [] → slice_split p (xs ++ y ∷ []) ≡ whole ++ (rest ++ y ∷ []) ∷ []
   split-push xs y whole rest h e = split-push_last xs y h ∙ ap (onto_last y) e ∙ onto_last-append whole rest y
+
+  -- and by more bytes at which it isn't cut
+  pub split-append : (xs ys : List ℕ) (whole : List (List ℕ)) (rest : List ℕ) → All (λ y. p y ≡ false) ys → slice_split p xs ≡ whole ++ rest ∷ [] → slice_split p (xs ++ ys) ≡ whole ++ (rest ++ ys) ∷ []
+  split-append xs [] whole rest h e = ap (slice_split p) (append-nil xs) ∙ e ∙ ap (λ r. whole ++ r ∷ []) (sym (append-nil rest))
+  split-append xs (y ∷ ys) whole rest h e =
+      ap (slice_split p) (sym (append_assoc xs (y ∷ []) ys))
+      ∙ split-append (xs ++ y ∷ []) ys whole (rest ++ y ∷ []) (λ n d lt. h (suc n) d (omega (arith, lt))) (split-push xs y whole rest (h 0 0 (omega arith)) e)
+      ∙ ap (λ r. whole ++ r ∷ []) (append_assoc rest (y ∷ []) ys)

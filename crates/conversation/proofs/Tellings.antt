@@ -1,12 +1,12 @@
 -- What was told of a script, one byte at a time.
-use Rattle.std.proofs.Common.{Result, Ok, Err, OnOk, ◌≡◌, ℕ, ◌+◌, ◌<◌, ◌≤◌, Bool, true, false, cond, nat_eq, nat_lt, List, [], ◌∷◌, ◌++◌, length, take, refl, sym, ap, ◌∙◌, arith, append_assoc, append-nil, eq-eqb}
+use Rattle.std.proofs.Common.{◌≡◌, ℕ, ◌+◌, ◌<◌, ◌≤◌, Bool, true, false, cond, nat_eq, List, [], ◌∷◌, ◌++◌, length, take, refl, sym, ap, ◌∙◌, arith, append_assoc, append-nil, eq-eqb}
 use Rattle.std.proofs.lemmas.Bool.Decides.{nat_tests}
 use Rattle.std.specs.List.{fold}
 use Rattle.std.proofs.lemmas.List.Sums.{fold_push}
 use Rattle.conversation.specs.Scripts.{Definition, Marks, Progress, beginning, further, next_line, after_lines, answers_to, lines_of, all_but_last, whole_lines, is_line_end, IsAnswer}
-use Rattle.conversation.specs.Told.{Told}
-use Rattle.conversation.proofs.Splits.{split-push, split-push_cut}
-use Rattle.conversation.proofs.Fronts.{front_push}
+use Rattle.conversation.specs.Told.{Told, HasNoEnd, kept_with}
+use Rattle.conversation.proofs.Splits.{split-push, split-push_cut, split-append}
+use Rattle.conversation.proofs.Fronts.{front_more}
 use Rattle.conversation.specs.declared.limits.TheConstants.{KEPT_BYTES}
 
 -- the marks, with line n marked so
@@ -97,16 +97,16 @@ module _ {W : Type 0} (define : Definition W) where
             let on = go_on seen more t.whole t.rest t.cut in
             t.same_text ∙ ap (λ ls. answers_to define start ls t.marks) (sym (ap (λ ls. take (length t.whole) (all_but_last ls)) on.same ∙ first_lines t.whole on.next on.others))
 
-        pub told_other : (b : ℕ) (new_world : W) (new_lines : ℕ) (new_line new_text : List ℕ) → is_line_end b ≡ false
-            → new_world ≡ world → new_lines ≡ lines → new_line ≡ cond (nat_lt (length line) KEPT_BYTES) (line ++ b ∷ []) line → new_text ≡ text
-            → Told define start (seen ++ b ∷ []) new_world new_lines new_line new_text
-        told_other b new_world new_lines new_line new_text h w n l same = record {
+        -- of bytes more, in which no line ends
+        pub told_on : (bytes : List ℕ) (new_lines : ℕ) (new_line new_text : List ℕ) → HasNoEnd bytes
+            → new_lines ≡ lines → new_line ≡ kept_with line bytes → new_text ≡ text → Told define start (seen ++ bytes) world new_lines new_line new_text
+        told_on bytes new_lines new_line new_text h n l same = record {
           marks = t.marks;
           whole = t.whole;
-          rest = t.rest ++ b ∷ [];
-          cut = split-push is_line_end seen b t.whole t.rest h t.cut;
-          kept = front_push line t.rest new_line b t.kept l;
-          same_world = w ∙ t.same_world;
+          rest = t.rest ++ bytes;
+          cut = split-append is_line_end seen bytes t.whole t.rest h t.cut;
+          kept = l ∙ front_more line t.rest bytes t.kept;
+          same_world = t.same_world;
           same_lines = n ∙ t.same_lines;
           same_text = same ∙ t.same_text;
         }
@@ -178,11 +178,3 @@ pub behind : {W : Type 0} (define : Definition W) (number : ℕ) (line : List �
     → IsAnswer define number line old new before after → IsAnswer define number line old new (front ++ before) (front ++ after)
 behind define number line old new before after front a =
     record { memory = a.memory; text = a.text; answered = a.answered; added = ap (λ xs. front ++ xs) a.added ∙ sym (append_assoc front before a.text) }
-
-pub not_line_end : (b : ℕ) → (b ≡ 10 → ⊥) → is_line_end b ≡ false
-not_line_end b h = grind (arith, nat_tests)
-
--- two facts of one success
-pub on_ok_both : {T E P Q S : Type 0} (r : Result T E) → (P → Q → S) → OnOk r P → OnOk r Q → OnOk r S
-on_ok_both (Ok x) f p q = f p q
-on_ok_both (Err e) f p q = tt

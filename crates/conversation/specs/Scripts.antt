@@ -1,5 +1,5 @@
 -- A script and what goes out for it, over whatever answers its lines.
-use Rattle.std.specs.Prelude.{ℕ, ◌+◌, ◌++◌, ◌==◌, ◌≡◌, Bool, List, [], ◌∷◌, Result, Ok}
+use Rattle.std.specs.Prelude.{ℕ, ◌+◌, ◌++◌, ◌==◌, ◌≡◌, ⊤, Bool, List, [], ◌∷◌, Result, Ok}
 use Rattle.std.specs.Global.{Vec}
 use denote.Ref.{Bor, MutBor}
 use Rattle.std.specs.declared.alloc.AllocError.{AllocError}
@@ -65,7 +65,7 @@ pub record IsAnswer {W : Type 0} (define : Definition W) (number : ℕ) (line : 
   pub answered : define memory number line old ≡ record { world = new; text = text }
   pub added : after ≡ before ++ text
 
--- Calls answer lines as they are defined: one that ends well gives a line's text, refused memory or not, and leaves the world that it leaves
-abbrev pub AnswersBy : {A W : Type 0} → Definition W → (A → W) → (MutBor A → ℕ → Bor (List ℕ) → Result (Vec ℕ) AllocError → MutBor A → Type 0) → Type 0
-AnswersBy {A} define world post = (state : MutBor A) (number : ℕ) (line : Bor (List ℕ)) (text : Vec ℕ) (left : MutBor A) → post state number line (Ok text) left
-    → (memory : Bool) × (define memory number line.now (world state.now) ≡ record { world = world left.now; text = text.items })
+-- Calls answer lines as they are defined: one that ends well adds a line's text, refused memory or not, and leaves the world that it leaves
+abbrev pub AnswersBy : {A W : Type 0} → Definition W → (A → W) → (MutBor A → ℕ → Bor (List ℕ) → MutBor (Vec ℕ) → Result ⊤ AllocError → MutBor A → MutBor (Vec ℕ) → Type 0) → Type 0
+AnswersBy {A} define world post = (state : MutBor A) (number : ℕ) (line : Bor (List ℕ)) (out : MutBor (Vec ℕ)) (left : MutBor A) (told : MutBor (Vec ℕ)) → post state number line out (Ok tt) left told
+    → IsAnswer define number line.now (world state.now) (world left.now) out.now.items told.now.items

@@ -1,10 +1,10 @@
 -- How far a conversation has come.
-use Rattle.std.specs.Prelude.{ℕ, ◌≡◌, ◌+◌, ◌≤◌, List, ◌∷◌, [], ◌++◌, Option, Some, None, Result, Ok, Err, ⊤, take, length, nat_lt, if◌then◌else◌}
+use Rattle.std.specs.Prelude.{ℕ, ◌≡◌, ◌+◌, ◌-◌, ◌≤◌, List, ◌∷◌, [], ◌++◌, Option, Some, None, Result, Ok, Err, ⊤, All, false, take, length}
 use Rattle.std.specs.Io.KnownBytes.{Appends, Consumes, IsAtEnd}
 use Rattle.conversation.specs.declared.converse.Conversation.{Conversation}
 use Rattle.conversation.specs.declared.fault.StreamFault.{StreamFault}
 use Rattle.conversation.specs.declared.limits.TheConstants.{KEPT_BYTES}
-use Rattle.conversation.specs.Scripts.{Definition, Marks, lines_of, after_lines, answers_to}
+use Rattle.conversation.specs.Scripts.{Definition, Marks, lines_of, after_lines, answers_to, is_line_end}
 use Rattle.conversation.specs.Conversations.{Leaves, Breaks}
 
 -- From an opening world on: of the bytes seen, the whole lines were answered by this text, some of them
@@ -25,9 +25,13 @@ TellsOn {W} define old before new after piece = (start : W) (seen front : List �
     → Told define start seen old before.lines before.line.items (front ++ before.out.items)
     → Told define start (seen ++ piece) new after.lines after.line.items (front ++ after.out.items)
 
--- what is kept of a line with a byte more
-abbrev pub kept_with : List ℕ → ℕ → List ℕ
-kept_with line byte = if nat_lt (length line) KEPT_BYTES then line ++ byte ∷ [] else line
+-- no line ends in these bytes
+abbrev pub HasNoEnd : List ℕ → Type 0
+HasNoEnd bytes = All (λ b. is_line_end b ≡ false) bytes
+
+-- what is kept of a line with more bytes
+abbrev pub kept_with : List ℕ → List ℕ → List ℕ
+kept_with line bytes = line ++ take (KEPT_BYTES - length line) bytes
 
 -- The reader, which had `old` left, gave so many bytes, and the writer, which held `before`, took the answers to their whole lines.
 pub record Reached {W : Type 0} (define : Definition W) (start : W) (old now before after : Option (List ℕ)) (count : ℕ) (world : W) (lines : ℕ) (line : List ℕ) : Type 0 where

@@ -1,21 +1,25 @@
 //! A conversation: the script comes in by pieces, and the answers to each piece go out together.
 
-ghost use Rattle.std.specs.Prelude.{◌≡◌, ◌++◌, ◌∷◌, [], ◌<◌, ◌≤◌, ◌+◌, ◌^◌, ℕ, List, Option, OnOk, OnErr, IfOk, IfErr, IfSome, length, nat_lt, if◌then◌else◌};
+ghost use Rattle.std.specs.Prelude.{◌≡◌, ◌++◌, ◌∷◌, [], ◌<◌, ◌≤◌, ◌+◌, ◌^◌, ℕ, List, Option, OnOk, OnErr, IfOk, IfErr, IfSome, MatchOption, length};
 ghost use Rattle.std.specs.Io.KnownBytes.{Appends, IsAtEnd};
 ghost use Rattle.conversation.specs.declared.limits.TheConstants.{KEPT_BYTES, MOST_BYTES};
 ghost use Rattle.conversation.specs.Scripts.{answers_to, AnswersBy, IsAnswer};
-ghost use Rattle.conversation.specs.Told.{kept_with, TellsOn, Reached, Turned, Finished};
+ghost use Rattle.conversation.specs.Told.{HasNoEnd, kept_with, TellsOn, Reached, Turned, Finished};
 ghost use Rattle.conversation.specs.Conversations.{Leaves, Breaks, WroteFront};
 
 use crate::answering::Answers;
 use crate::fault::StreamFault;
 use crate::limits::{KEPT_BYTES, MOST_BYTES, MOST_READS};
 use crate::streams::{read_piece, write_whole};
+use memchr::memchr;
 use std::alloc::{AllocError, Global};
 use std::io::{Read, Write};
 
 /// The most bytes of one read.
 const PIECE_BYTES: usize = 4096;
+
+/// What ends a line.
+const LINE_END: u8 = b'\n';
 
 /// The line that has not ended yet, how many lines have, and the answers that have not gone out.
 #[derive(Drop)]
@@ -40,7 +44,7 @@ impl Conversation {
     }
 
     /// Takes a piece of the script, and adds the answers to the lines that end in it.
-    fn take<A: Answers, F: Fn(&mut A, u32, &[u8]) -> Result<Vec<u8>, AllocError>>(
+    fn take<A: Answers, F: Fn(&mut A, u32, &[u8], &mut Vec<u8>) -> Result<(), AllocError>>(
         &mut self,
         answers: &mut A,
         answer: &F,
@@ -53,34 +57,17 @@ impl Conversation {
             (A.world answers.new) self.new piece.now) }
         ensures lines { self.new.lines ≤ self.old.lines + length piece.now }
     {
-        for byte in piece {
-            self.take_byte(answers, answer, *byte)?;
+        let mut rest = piece;
+        'lines: while let Some((end, behind)) = first_line(rest) {
+            self.keep(end)?;
+            self.end_line(answers, answer)?;
+            rest = behind;
         }
-        Ok(())
-    }
-
-    /// Takes a byte of the script, and adds the answer to the line that it ends.
-    fn take_byte<A: Answers, F: Fn(&mut A, u32, &[u8]) -> Result<Vec<u8>, AllocError>>(
-        &mut self,
-        answers: &mut A,
-        answer: &F,
-        byte: u8,
-    ) -> Result<(), AllocError>
-        requires few { self.old.lines + 1 < 2 ^ 32 }
-        requires callable { F.IsAlwaysCallable answer.now }
-        requires answers { AnswersBy A.define A.world (F.post answer.now) }
-        ensures told { OnOk result (TellsOn A.define (A.world answers.old) self.old
-            (A.world answers.new) self.new (byte ∷ [])) }
-        ensures lines { self.new.lines ≤ self.old.lines + 1 }
-    {
-        if byte == b'\n' {
-            return self.end_line(answers, answer);
-        }
-        self.keep(byte)
+        self.keep(rest)
     }
 
     /// Adds the answer to the line, which ends here.
-    fn end_line<A: Answers, F: Fn(&mut A, u32, &[u8]) -> Result<Vec<u8>, AllocError>>(
+    fn end_line<A: Answers, F: Fn(&mut A, u32, &[u8], &mut Vec<u8>) -> Result<(), AllocError>>(
         &mut self,
         answers: &mut A,
         answer: &F,
@@ -94,22 +81,20 @@ impl Conversation {
             (A.world answers.old) (A.world answers.new) self.old.out.items self.new.out.items) }
     {
         self.lines += 1;
-        let text = answer(answers, self.lines, &self.line)?;
-        self.out.extend_from_slice(&text)?;
+        answer(answers, self.lines, &self.line, &mut self.out)?;
         self.line.clear();
         Ok(())
     }
 
-    /// Adds a byte to the line, unless the line is longer than a call.
-    fn keep(&mut self, byte: u8) -> Result<(), AllocError>
+    /// Adds bytes to the line, as far as it isn't longer than a call.
+    fn keep(&mut self, bytes: &[u8]) -> Result<(), AllocError>
         ensures out { self.new.out ≡ self.old.out }
         ensures lines { self.new.lines ≡ self.old.lines }
-        ensures line { OnOk result (self.new.line.items ≡ kept_with self.old.line.items byte) }
+        ensures line { OnOk result (self.new.line.items ≡ kept_with self.old.line.items bytes.now) }
     {
-        if self.line.len() < KEPT_BYTES {
-            self.line.push(byte)?;
-        }
-        Ok(())
+        let room = KEPT_BYTES.saturating_sub(self.line.len());
+        let most = bytes.len().min(room);
+        self.line.extend_from_slice(&bytes[..most])
     }
 
     /// Sends the answers out, in one write where the writer takes them all. With none there is nothing to write.
@@ -138,7 +123,7 @@ impl Conversation {
     /// at the end; else how many bytes were read, 0 where the read was interrupted.
     fn turn<
         A: Answers,
-        F: Fn(&mut A, u32, &[u8]) -> Result<Vec<u8>, AllocError>,
+        F: Fn(&mut A, u32, &[u8], &mut Vec<u8>) -> Result<(), AllocError>,
         R: Read,
         W: Write,
     >(
@@ -183,12 +168,11 @@ impl Conversation {
     }
 
     /// Answers the last line, if the script doesn't end with a line's end.
-    fn finish<A: Answers, F: Fn(&mut A, u32, &[u8]) -> Result<Vec<u8>, AllocError>, W: Write>(
-        &mut self,
-        answers: &mut A,
-        answer: &F,
-        writer: &mut W,
-    ) -> Result<(), StreamFault>
+    fn finish<
+        A: Answers,
+        F: Fn(&mut A, u32, &[u8], &mut Vec<u8>) -> Result<(), AllocError>,
+        W: Write,
+    >(&mut self, answers: &mut A, answer: &F, writer: &mut W) -> Result<(), StreamFault>
         requires few { self.old.lines + 1 < 2 ^ 32 }
         requires sent { self.old.out.items ≡ [] }
         requires callable { F.IsAlwaysCallable answer.now }
@@ -210,10 +194,20 @@ impl Conversation {
     }
 }
 
+/// The bytes before the first line's end of a text, and those behind it; none where no line ends in it.
+fn first_line(text: &[u8]) -> Option<(&[u8], &[u8])>
+    ensures { MatchOption result (HasNoEnd text.now) (λ r. HasNoEnd r.0.now
+        × (text.now ≡ r.0.now ++ LINE_END ∷ r.1.now)) }
+{
+    let end = memchr(LINE_END, text)?;
+    let (line, behind) = text.split_at(end);
+    Some((line, &behind[1..]))
+}
+
 /// Answers a script by what is called for each line, the lines of each read before the next one.
 pub fn converse<
     A: Answers,
-    F: Fn(&mut A, u32, &[u8]) -> Result<Vec<u8>, AllocError>,
+    F: Fn(&mut A, u32, &[u8], &mut Vec<u8>) -> Result<(), AllocError>,
     R: Read,
     W: Write,
 >(

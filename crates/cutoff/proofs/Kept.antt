@@ -7,7 +7,7 @@ use Rattle.frames.specs.Recorded.{AllFit}
 use Rattle.schedule_trie.specs.declared.slot.Slot.{Slot}
 use Rattle.schedule_trie.specs.declared.refusal.Refusal.TheVariants.{NoPlace}
 use Rattle.schedule_trie.specs.Forest.{slots_in, step_of, index_of, on_found}
-use Rattle.schedule_trie.specs.Cut.{Cut, Piece, piece_at, line, forest, has, keys_in, keys_by, SharesAbove, IsCut}
+use Rattle.schedule_trie.specs.Cut.{Cut, Piece, piece_at, line, forest, has, keys_in, SharesAbove, IsCut}
 use Rattle.schedule_trie.proofs.Lines.{slots_in_on}
 use Rattle.cutoff.specs.Fitting.{StoredRun, KeepsRuns}
 use Rattle.cutoff.specs.Links.{alone, IsLinked}
@@ -62,37 +62,25 @@ charted_marked E is next mark other c marked was = record {
   marked = marked;
 }
 
--- the branch of a name, where it is there
-module _ {R P : Type 0} (b : Behaviour P) (cut : Cut (StoredRun R P)) (name keys : List ℕ) (len : ℕ)
-    (found : Some len ≡ option_map (λ i. length (slots_in (forest cut).branches i)) (index_of (forest cut).branches name))
-    (are : keys_by (index_of (forest cut).branches name) cut.strands ≡ Some keys) where
-  pub index_there : (i : ℕ) × (index_of (forest cut).branches name ≡ Some i) × (keys ≡ keys_in cut.strands i) × (length (slots_in (forest cut).branches i) ≡ len)
-  index_there = by (index_of (forest cut).branches name) refl found are
-    where
-      by : (o : Option ℕ) → index_of (forest cut).branches name ≡ o → Some len ≡ option_map (λ i. length (slots_in (forest cut).branches i)) o → keys_by o cut.strands ≡ Some keys
-          → (i : ℕ) × (index_of (forest cut).branches name ≡ Some i) × (keys ≡ keys_in cut.strands i) × (length (slots_in (forest cut).branches i) ≡ len)
-      by None e f k = cc
-      by (Some i) e f k = (i, e, cc, cc)
+-- the branch of a name, where it stands in order of making
+module _ {R P : Type 0} (b : Behaviour P) (cut : Cut (StoredRun R P)) (name : List ℕ) (index len : ℕ) (at : index_of (forest cut).branches name ≡ Some index)
+    (long : len ≡ length (slots_in (forest cut).branches index)) where
+  line_there : slots_in (forest cut).branches index ≡ line (piece_at cut.pieces) (keys_in cut.strands index)
+  line_there = slots_in_on (piece_at cut.pieces) cut.strands index
 
-  pub branch_there : (i : ℕ) × (keys ≡ keys_in cut.strands i)
-  branch_there = (index_there.0, index_there.2)
+  pub len_there : length (line (piece_at cut.pieces) (keys_in cut.strands index)) ≡ len
+  len_there = ap length (sym line_there) ∙ sym long
 
-  pub line_there : slots_in (forest cut).branches index_there.0 ≡ line (piece_at cut.pieces) keys
-  line_there = slots_in_on (piece_at cut.pieces) cut.strands index_there.0 ∙ ap (line (piece_at cut.pieces)) (sym index_there.2)
+  pub fits_there : StepsFit b (forest cut) → AllFit b (map step_of (line (piece_at cut.pieces) (keys_in cut.strands index)))
+  fits_there fits = subst (λ l. AllFit b (map step_of l)) line_there (fits index)
 
-  pub len_there : length (line (piece_at cut.pieces) keys) ≡ len
-  len_there = ap length (sym line_there) ∙ index_there.3
-
-  pub fits_there : StepsFit b (forest cut) → AllFit b (map step_of (line (piece_at cut.pieces) keys))
-  fits_there fits = subst (λ l. AllFit b (map step_of l)) line_there (fits index_there.0)
-
-  pub keys_there : keys_named cut name ≡ keys
-  keys_there = ap (λ o. keys_or o cut.strands) index_there.1 ∙ sym index_there.2
+  pub keys_there : keys_named cut name ≡ keys_in cut.strands index
+  keys_there = ap (λ o. keys_or o cut.strands) at
 
   pub look_there : (place : ℕ) → place ≤ len → look (forest cut) name place ≡ Ok (forest cut)
   look_there place within =
-      ap (λ o. on_found o (looked_at (forest cut) place)) index_there.1
-      ∙ ap (λ t. cond t (Err NoPlace) (Ok (forest cut))) (not_behind (length (slots_in (forest cut).branches index_there.0)) index_there.3)
+      ap (λ o. on_found o (looked_at (forest cut) place)) at
+      ∙ ap (λ t. cond t (Err NoPlace) (Ok (forest cut))) (not_behind (length (slots_in (forest cut).branches index)) (sym long))
     where
       not_behind : (n : ℕ) → n ≡ len → nat_lt n place ≡ false
       not_behind n e = grind (arith, nat_tests)

@@ -17,6 +17,7 @@ use Rattle.schedule_trie.proofs.Partings.{parting, has-in}
 use Rattle.cutoff.specs.Fitting.{StoredRun, run_of, RunPart, Settles, reached, run_at, part_of, KeepsRuns, IsFilled}
 use Rattle.cutoff.specs.Prefixes.{RunsTo, IsKnown, IsMarked, IsPlaceIn, IsRest, SettlesTo}
 use Rattle.cutoff.specs.Held.{Charted, StepsFit, IsSettledLast, keys_or, keys_named, reached_by, last_part}
+use Rattle.cutoff.proofs.Walks.{reached_none}
 
 last_of_parts : {R P : Type 0} (before : List (RunPart R P)) (p : RunPart R P) → last_part (before ++ p ∷ []) ≡ Some p
 last_of_parts [] p = refl
@@ -75,17 +76,13 @@ place_found cut i place key offset lies positive = record {
     some_more zero positive b = absurd (positive refl)
     some_more (suc n) positive b = omega (arith, b)
 
-none_reached : {R P : Type 0} (cut : Cut (StoredRun R P)) (ks : List ℕ) → reached cut 0 ks ≡ []
-none_reached cut [] = refl
-none_reached cut (k ∷ ks) = refl
-
 -- nothing is wanted
 pub none_settled : {R P : Type 0} (E : R → R → Bool) (b : Behaviour P) (c : Charted R P) (name : List ℕ) (place : ℕ) → place ≡ 0 → IsSettledLast E b c c name place None 0
 none_settled {R} {P} E b c name place none = (
   [],
   record {
     settles = subst (λ p. Settles E b c.cut c.cut c.start p (reached c.cut p (keys_named c.cut name)) [] 0) (sym none)
-        (subst (λ ks. Settles E b c.cut c.cut c.start 0 ks [] 0) (sym (none_reached c.cut (keys_named c.cut name))) (refl, refl));
+        (subst (λ ks. Settles E b c.cut c.cut c.start 0 ks [] 0) (sym (reached_none c.cut (keys_named c.cut name))) (refl, refl));
     sum = sym none;
   },
   refl,

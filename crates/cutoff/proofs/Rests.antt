@@ -25,7 +25,7 @@ use Rattle.cutoff.proofs.Fits.{register_kept, same_symm, run_fits_alike, fits_to
 use Rattle.cutoff.proofs.Links.{linked_none}
 use Rattle.cutoff.proofs.Prefixes.{down_same, down_more}
 use Rattle.cutoff.proofs.Segments.{noted_still}
-use Rattle.cutoff.proofs.Walks.{IsWalking, drop_past, walk_starts, walk_on, fits_here, linked_home, exit_of-last}
+use Rattle.cutoff.proofs.Walks.{reached_none, IsWalking, drop_past, walk_starts, walk_on, fits_here, linked_home, exit_of-last}
 
 -- what is stored after a note
 noted_at : {T : Type 0} (s : T) (o p : Option (Piece T)) → p ≡ option_map (with_note (Some s)) o → IsSome o → note_of p ≡ Some s
@@ -294,7 +294,7 @@ module _ {R P : Type 0} (E : R → R → Bool) (is : R → Behaviour P) (old cut
       let none : n + 0 ≡ n = omega arith in
       let sum = g.walk.count in
       let last = end.0 in
-      let past : reached old g.rest ([] ++ back) ≡ [] = ap (λ r. reached old r back) end.0 ∙ reached_none back in
+      let past : reached old g.rest ([] ++ back) ≡ [] = ap (λ r. reached old r back) end.0 ∙ reached_none old back in
       record {
         parts = g.parts;
         settles = subst (Settles E (is start.register) old cut start place (reached old place keys) g.parts) none
@@ -305,10 +305,6 @@ module _ {R P : Type 0} (E : R → R → Bool) (is : R → Behaviour P) (old cut
         down = subst (λ o. RunsDown E is cut (is start.register) start (keys_up_to key keys) (come_to cut start o)) end.1
             (subst (λ l. RunsDown E is cut (is start.register) start l (come_to cut start above)) (sym (g.path ∙ append-nil g.done)) g.down);
       }
-    where
-      reached_none : (ks : List ℕ) → reached old 0 ks ≡ []
-      reached_none [] = refl
-      reached_none (k ∷ ks) = refl
 
 -- where it stands, by the index of the next key
 module _ {R P : Type 0} (E : R → R → Bool) (equal : IsEquivalence E) (per : IsPartialEquivalence E) (is : R → Behaviour P) (alike : (x y : R) → E x y ≡ true → is x ≡ is y)

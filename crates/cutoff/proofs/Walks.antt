@@ -23,6 +23,11 @@ use Rattle.cutoff.proofs.Edits.{all_left, all_right}
 use Rattle.cutoff.proofs.Fits.{register_kept, same_symm, run_fits_alike, fits_alike, exit_same}
 
 module _ {R P : Type 0} where
+  -- no key is reached of no cells
+  pub reached_none : (cut : Cut (StoredRun R P)) (ks : List ℕ) → reached cut 0 ks ≡ []
+  reached_none cut [] = refl
+  reached_none cut (k ∷ ks) = refl
+
   abbrev pub part : SegmentRun R P → ℕ → RunPart R P
   part run count = record { run = run; count = count }
 
@@ -328,13 +333,9 @@ module _ {R P : Type 0} (E : R → R → Bool) (b : Behaviour P) (old cut : Cut 
       (subst (λ l. Settles E b old cut start place (reached old place keys) l (n + 0)) (append-nil parts)
       (w.settles cut [] 0 (λ k h. refl) (subst (λ l. Settles E b old cut w.at rest l [] 0) (sym (done end)) (refl, refl))))
     where
-      reached_none : (ks : List ℕ) → reached old 0 ks ≡ []
-      reached_none [] = refl
-      reached_none (k ∷ ks) = refl
-
       done : (length keys ≤ i) ⊎ (rest ≡ 0) → reached old rest (drop i keys) ≡ []
       done (inl past) = ap (reached old rest) (drop_past i keys past)
-      done (inr e) = ap (λ r. reached old r (drop i keys)) e ∙ reached_none (drop i keys)
+      done (inr e) = ap (λ r. reached old r (drop i keys)) e ∙ reached_none old (drop i keys)
 
   pub walk_counts : (length keys ≤ i) ⊎ (rest ≡ 0) → counted parts ≡ place
   walk_counts end = let none = gone end in let c = w.count in omega arith

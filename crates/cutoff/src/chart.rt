@@ -3,7 +3,7 @@
 ghost use Rattle.std.specs.Prelude.{ℕ, ◌≡◌, ◌<◌, ◌≤◌, Some, IsSome, length, map, IfOk, IfErr, OnOk, Ok, Err};
 ghost use Rattle.frames.specs.Configuration.{initial_configuration};
 ghost use Rattle.frames.specs.Recorded.{AllFit};
-ghost use Rattle.schedule_trie.specs.Forest.{index_of, opened, IsRefused, len_of, name_in, cell_at, place_of, path_of, AreNamedApart, IsForest};
+ghost use Rattle.schedule_trie.specs.Forest.{index_of, opened, IsRefused, slots_in, len_of, name_in, cell_at, place_of, path_of, AreNamedApart, IsForest};
 ghost use Rattle.std.specs.Arc.{arc_value};
 ghost use Rattle.cutoff.specs.Plans.{IsPlan};
 ghost use Rattle.cutoff.specs.Installs.{Installs};
@@ -210,6 +210,8 @@ impl<R: Register> Chart<R> {
             branch.now place (map part_of spot.runs.items) spot.replayed) }
         ensures found { OnOk result (look (forest self.old.cut) branch.now place
             ≡ Ok (forest self.new.cut)) }
+        ensures len { IfOk result (λ spot.
+            len_of (forest self.old.cut) branch.now ≡ Some spot.len) }
         ensures err { IfErr result (IsRefused (look (forest self.old.cut) branch.now place)) }
         ensures keeps { KeepsOrFills R.PartialEq.eq R.is self.old self.new branch.now place }
         ensures begins { self.old.start ≡ initial_configuration
@@ -217,10 +219,10 @@ impl<R: Register> Chart<R> {
         ensures start { self.new.start ≡ self.old.start }
         ensures value { self.new.value ≡ self.old.value }
     {
-        has_place(&self.trie, branch, place)?;
-        let keys = self.trie.segments(alloc, branch)?;
+        let (index, len) = branch_to(&self.trie, branch, place)?;
+        let keys = self.trie.keys_at(alloc, index)?;
         self.mark = None;
-        let spot = settle_along(
+        let (runs, replayed) = settle_along(
             alloc,
             &mut self.trie,
             &mut self.next,
@@ -228,7 +230,11 @@ impl<R: Register> Chart<R> {
             &keys,
             place,
         )?;
-        Ok(spot)
+        Ok(Spot {
+            len,
+            runs,
+            replayed,
+        })
     }
 
     /// The segments that no stored run fits where their branch comes to them: the first of the named branch, and that of each
@@ -270,21 +276,24 @@ impl<R: Register> Chart<R> {
     }
 }
 
-/// Looks whether a branch has so many cells.
+/// Where a branch stands in order of making, and its length, if it has so many cells.
 ///
 /// # Errors
 ///
 /// NoBranch; NoPlace where it has fewer.
-fn has_place<T: Drop>(trie: &Trie<T>, branch: &Name, place: u32) -> Result<(), Refusal>
-    ensures ok { OnOk result ((len : ℕ) × (Some len ≡ len_of (forest trie.now) branch.now)
-        × (place ≤ len) × (len ≤ 4294967295)) }
+fn branch_to<T: Drop>(trie: &Trie<T>, branch: &Name, place: u32) -> Result<(usize, u32), Refusal>
+    ensures index { IfOk result (λ r. index_of (forest trie.now).branches branch.now ≡ Some r.0) }
+    ensures len { IfOk result (λ r. len_of (forest trie.now) branch.now ≡ Some r.1) }
+    ensures long { IfOk result (λ r. r.1 ≡ length (slots_in (forest trie.now).branches r.0)) }
+    ensures within { IfOk result (λ r. place ≤ r.1) }
     ensures err { IfErr result (IsRefused (look (forest trie.now) branch.now place)) }
 {
-    let Some(len) = trie.len(branch) else {
+    let Some(index) = trie.index(branch) else {
         return Err(Refusal::NoBranch);
     };
+    let len = trie.len_at(index);
     if len < place {
         return Err(Refusal::NoPlace);
     }
-    Ok(())
+    Ok((index, len))
 }

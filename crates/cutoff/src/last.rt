@@ -21,10 +21,11 @@ use schedule_trie::trie::{SegKey, Trie};
 use std::alloc::{AllocError, Global};
 use std::sync::Arc;
 
-/// The last of the stored runs of a branch's first cells, if there are any, with how many of its steps count; and how many
-/// steps were replayed to have it.
+/// The length of a branch; the last of the stored runs of its first cells, if there are any, with how many of its steps count;
+/// and how many steps were replayed to have it.
 #[derive(Drop)]
 pub struct Last<R: Register> {
+    pub len: u32,
     pub part: Option<(Arc<Run<R>>, u32)>,
     pub replayed: u32,
 }

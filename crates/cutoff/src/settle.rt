@@ -17,12 +17,17 @@ use schedule_trie::trie::{SegKey, Trie};
 use std::alloc::{AllocError, Global};
 use std::sync::Arc;
 
-/// Stored runs one after the other, each with how many of its steps count, and how many steps were replayed to have them.
+/// The length of a branch; the stored runs of its first cells, one after the other, each with how many of its steps count; and
+/// how many steps were replayed to have them.
 #[derive(Drop)]
 pub struct Spot<R: Register> {
+    pub len: u32,
     pub runs: Vec<(Arc<Run<R>>, u32)>,
     pub replayed: u32,
 }
+
+/// The runs of segments, each with how many of its steps count, and how many steps were replayed.
+type Runs<R> = (Vec<(Arc<Run<R>>, u32)>, u32);
 
 /// The run of a settled segment, its number if it has one, and how many steps were replayed.
 #[derive(Drop)]
@@ -184,7 +189,8 @@ fn come_to<'a, R: Register>(start: &'a Config<R>, runs: &'a [(Arc<Run<R>>, u32)]
     }
 }
 
-/// Settles the segments with these keys, as far as they hold one of the first `place` cells.
+/// Settles the segments with these keys, as far as they hold one of the first `place` cells: their runs, each with how many of its
+/// steps count, and how many steps were replayed.
 pub(crate) fn settle_along<R: Register>(
     alloc: Global,
     trie: &mut Trie<Stored<R>>,
@@ -192,7 +198,7 @@ pub(crate) fn settle_along<R: Register>(
     start: &Config<R>,
     keys: &[SegKey],
     place: u32,
-) -> Result<Spot<R>, AllocError>
+) -> Result<Runs<R>, AllocError>
     requires linked { IsLinked R.PartialEq.eq start.now.register next.old None
         (alone start.now) trie.old }
     requires cut { IsCut trie.old }
@@ -202,9 +208,9 @@ pub(crate) fn settle_along<R: Register>(
     requires within { place ≤ length (line (piece_at trie.old.pieces) keys.now) }
     requires few { length (line (piece_at trie.old.pieces) keys.now) ≤ 4294967295 }
     ensures settles { IfOk result
-        (λ spot. Settles R.PartialEq.eq (R.is start.now.register) trie.old trie.new start.now place
-        (reached trie.old place keys.now) (map part_of spot.runs.items) spot.replayed) }
-    ensures counted { IfOk result (λ spot. counted (map part_of spot.runs.items) ≡ place) }
+        (λ r. Settles R.PartialEq.eq (R.is start.now.register) trie.old trie.new start.now place
+        (reached trie.old place keys.now) (map part_of r.0.items) r.1) }
+    ensures counted { IfOk result (λ r. counted (map part_of r.0.items) ≡ place) }
     ensures keeps { KeepsRuns trie.old trie.new (IsFilled R.PartialEq.eq
         (R.is start.now.register) trie.old trie.new start.now (reached trie.old place keys.now)) }
     ensures linked { IsLinked R.PartialEq.eq start.now.register next.new None
@@ -225,5 +231,5 @@ pub(crate) fn settle_along<R: Register>(
         above = settled.id;
         runs.push((settled.run, count))?;
     }
-    Ok(Spot { runs, replayed })
+    Ok((runs, replayed))
 }

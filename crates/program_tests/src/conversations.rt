@@ -1,6 +1,6 @@
 //! When answers go out and when a conversation ends, by readers and writers that count.
 
-ghost use Rattle.std.specs.Prelude.{◌≡◌, IfOk, codes};
+ghost use Rattle.std.specs.Prelude.{◌≡◌, ◌++◌, OnOk, codes};
 
 use conversation::answering::Answers;
 use conversation::converse::converse;
@@ -27,14 +27,14 @@ impl Answers for Nodding {
     ghost reads_front = { λ memory number line w. refl };
 }
 
-/// Answers each line alike, but that of one number, for which there is no memory.
-fn nod(alloc: Global, refused: u32, number: u32) -> Result<Vec<u8>, AllocError>
-    ensures { IfOk result (λ text. text.items ≡ codes "yes") }
+/// Adds the answer to each line alike, but to that of one number, for which there is no memory.
+fn nod(refused: u32, number: u32, out: &mut Vec<u8>) -> Result<(), AllocError>
+    ensures { OnOk result (out.new.items ≡ out.old.items ++ codes "yes") }
 {
     if number == refused {
         return Err(AllocError);
     }
-    Vec::from_slice(alloc, "yes".as_bytes())
+    out.extend_from_slice("yes".as_bytes())
 }
 
 /// Answers a script line by line, each alike, but that of one number, for which there is no memory.
@@ -44,7 +44,9 @@ fn nod_to<R: Read, W: Write>(
     reader: &mut R,
     writer: &mut W,
 ) -> Option<StreamFault> {
-    let nodding = |_: &mut Nodding, number: u32, _: &[u8]| nod(alloc, refused, number);
+    let nodding = |_: &mut Nodding, number: u32, _: &[u8], out: &mut Vec<u8>| nod(
+        refused, number, out,
+    );
     converse(alloc, &mut Nodding, &nodding, reader, writer).err()
 }
 

@@ -139,10 +139,6 @@ pub record LiesIn {T : Type 0} (at : ℕ → Option (Piece T)) (keys : List ℕ)
   pub before : length (line at front) + spot.1 ≡ place
   pub within : spot.1 < length (slots_of (at spot.0))
 
--- the same, on the branch of a name
-abbrev pub LiesOn : {T : Type 0} → Cut T → List ℕ → ℕ → ℕ × ℕ → Type 0
-LiesOn c name place spot = (i : ℕ) × (index_of (forest c).branches name ≡ Some i) × LiesIn (piece_at c.pieces) (keys_in c.strands i) place spot
-
 -- how segments are cut: each has 1 to 128 cells, is in a branch, and branches that share one share all above it
 pub record IsCut {T : Type 0} (c : Cut T) : Type 0 where
   pub held : (i k : ℕ) → has k (keys_in c.strands i) ≡ true → IsSome (piece_at c.pieces k)

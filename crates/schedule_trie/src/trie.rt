@@ -7,7 +7,7 @@ ghost use Rattle.std.specs.List.{position};
 ghost use Rattle.schedule_trie.specs.Forest.{path_of, step_of, cell_at, place_of, is_cell, opened, opening, alone, IsRefused, index_of, slots_in, name_in, len_of, AreNamedApart, IsForest};
 ghost use Rattle.schedule_trie.specs.Edits.{Replace, IsEdited, IsUnedited};
 ghost use Rattle.schedule_trie.specs.Limbs.{is_name, HaveNames};
-ghost use Rattle.schedule_trie.specs.Cut.{IsBlank, IsNoted, IsWhole, above_of, before_key, keys_by, if_lacks, note_of, AreLimits, has, IsOwnEnd, IsPushed, LackedByOthers, forest, IsCut, IsStepSet, piece_at, slots_of, keys_in, line, StandsAt, LiesOn};
+ghost use Rattle.schedule_trie.specs.Cut.{IsBlank, IsNoted, IsWhole, above_of, before_key, keys_by, if_lacks, note_of, AreLimits, has, IsOwnEnd, IsPushed, LackedByOthers, forest, IsCut, IsStepSet, piece_at, slots_of, keys_in, line, StandsAt};
 ghost use Rattle.schedule_trie.specs.declared.limits.TheConstants.{MOST_CELLS_MADE};
 
 mod climb;
@@ -170,16 +170,6 @@ impl<T: Drop> Trie<T> {
         Some(slot.cell)
     }
 
-    /// The segment with the cell at a place of a branch, and where in it the cell lies; none where there is no such branch or
-    /// cell.
-    pub fn find(&self, branch: &Name, place: u32) -> Option<(SegKey, usize)>
-        ensures found { IfSome result (LiesOn self.now branch.now place) }
-        ensures none { IfNone result (IfSome (len_of (forest self.now) branch.now)
-            (λ len. len ≤ place)) }
-    {
-        self.find_cell(self.index(branch)?, place)
-    }
-
     /// The place of a cell on a branch; none where there is no such branch, or it hasn't the cell.
     pub fn place_of(&self, branch: &Name, cell: u32) -> Option<u32>
         ensures { result ≡ place_of (forest self.now) branch.now cell }
@@ -301,8 +291,8 @@ impl<T: Drop> Trie<T> {
         Ok(())
     }
 
-    /// Where a branch stands in order of making.
-    fn index(&self, branch: &Name) -> Option<usize>
+    /// Where a branch stands in order of making; none where there is no such branch.
+    pub fn index(&self, branch: &Name) -> Option<usize>
         ensures index { result ≡ index_of (forest self.now).branches branch.now }
         ensures within { IfSome result (λ i. i < length self.now.strands) }
     {

@@ -1,11 +1,12 @@
 //! Answers to the lines of a script, at a desk.
 
-ghost use Rattle.std.specs.Prelude.{◌≡◌, ◌⊎◌, Bool, Ok, Err, OnOk, IfOk, IfErr, []};
+ghost use Rattle.std.specs.Prelude.{◌≡◌, ◌⊎◌, ◌++◌, Bool, Ok, Err, OnOk, IfOk, IfErr};
 ghost use Rattle.schedule_trie.specs.Forest.{index_of};
 ghost use Rattle.sessions.specs.Looks.{looked};
 ghost use Rattle.script.specs.Answers.{page_of};
 ghost use Rattle.script.specs.Answers as spec;
-ghost use Rattle.towerbench.specs.Seats.{world_at};
+ghost use Rattle.conversation.specs.Scripts.{IsAnswer};
+ghost use Rattle.towerbench.specs.Seats.{AddsAnswer, world_at};
 
 use crate::seat::Seat;
 use conversation::answering::Answers;
@@ -37,41 +38,21 @@ impl<R: Register, W: Wait> Answers for Seat<'_, R, W> {
     ghost reads_front = { answer_line-front };
 }
 
-/// A line's answer, unless there is no memory for a line of it.
-pub type LineAnswer = Result<Vec<u8>, AllocError>;
+/// Whether a line's answer was added, or there was no memory for a line of it.
+pub type LineAnswer = Result<(), AllocError>;
 
-/// Answers line `number`.
+/// Adds the answer to line `number`.
 pub fn answer<R: Register + Send + Sync, W: Threads + Wait + Sync>(
     alloc: Global,
     seat: &mut Seat<'_, R, W>,
     number: u32,
     line: &[u8],
+    out: &mut Vec<u8>,
 ) -> LineAnswer
 where
     R::Pending: Send + Sync,
-    ensures { IfOk result (λ text. (memory : Bool)
-        × (spec.answer_line memory number line.now (world_at R.is seat.old)
-        ≡ record { world = world_at R.is seat.new; text = text.items })) }
-{
-    let mut text = Vec::new(alloc);
-    push_answer(&mut text, alloc, seat, number, line)?;
-    Ok(text)
-}
-
-/// Answers line `number`, where nothing is written yet.
-fn push_answer<R: Register + Send + Sync, W: Threads + Wait + Sync>(
-    out: &mut Vec<u8>,
-    alloc: Global,
-    seat: &mut Seat<'_, R, W>,
-    number: u32,
-    line: &[u8],
-) -> Result<(), AllocError>
-where
-    R::Pending: Send + Sync,
-    requires empty { out.old.items ≡ [] }
-    ensures { OnOk result ((memory : Bool)
-        × (spec.answer_line memory number line.now (world_at R.is seat.old)
-        ≡ record { world = world_at R.is seat.new; text = out.new.items })) }
+    ensures { OnOk result (IsAnswer spec.answer_line number line.now (world_at R.is seat.old)
+        (world_at R.is seat.new) out.old.items out.new.items) }
 {
     match read_line(line) {
         Line::Blank => Ok(()),
@@ -89,10 +70,9 @@ fn answer_call<R: Register + Send + Sync, W: Threads + Wait + Sync>(
 ) -> Result<(), AllocError>
 where
     R::Pending: Send + Sync,
-    requires empty { out.old.items ≡ [] }
-    ensures { OnOk result ((memory : Bool)
-        × (spec.answer_call memory call.now (world_at R.is seat.old)
-        ≡ record { world = world_at R.is seat.new; text = out.new.items })) }
+    ensures { let w = world_at R.is seat.old in OnOk result (AddsAnswer
+        (λ memory. spec.answer_call memory call.now w)
+        (world_at R.is seat.new) out.old.items out.new.items) }
 {
     let session = call.session;
     match &call.request {
@@ -113,10 +93,9 @@ fn answer_look<R: Register, W: Wait>(
     session: u32,
     query: Query,
 ) -> Result<(), AllocError>
-    requires empty { out.old.items ≡ [] }
     ensures text { let w = world_at R.is seat.old in OnOk result ((memory : Bool)
-        × (out.new.items
-        ≡ spec.look_text memory session (looked w query) (page_of session query w))) }
+        × (out.new.items ≡ out.old.items
+        ++ spec.look_text memory session (looked w query) (page_of session query w))) }
     ensures kept { world_at R.is seat.new ≡ world_at R.is seat.old }
 {
     match page_in(alloc, seat, session, query) {
@@ -156,10 +135,9 @@ fn answer_fill<R: Register + Send + Sync, W: Threads + Wait + Sync>(
 ) -> Result<(), AllocError>
 where
     R::Pending: Send + Sync,
-    requires empty { out.old.items ≡ [] }
     ensures text { let w = world_at R.is seat.old in OnOk result ((memory : Bool)
-        × (out.new.items
-        ≡ spec.fill_text memory session (index_of w.forest.branches branch.now))) }
+        × (out.new.items ≡ out.old.items
+        ++ spec.fill_text memory session (index_of w.forest.branches branch.now))) }
     ensures kept { world_at R.is seat.new ≡ world_at R.is seat.old }
 {
     match seat.fill(alloc, branch) {

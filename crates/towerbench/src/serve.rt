@@ -1,8 +1,8 @@
 //! Serving a script at a desk.
 
-ghost use Rattle.std.specs.Prelude.{◌≡◌, Bool, OnOk, IfOk, IfErr};
+ghost use Rattle.std.specs.Prelude.{◌≡◌, OnOk, IfErr};
 ghost use Rattle.conversation.specs.Conversations.{IsAnswered, Leaves, Breaks};
-ghost use Rattle.conversation.specs.Scripts.{answers_to};
+ghost use Rattle.conversation.specs.Scripts.{answers_to, IsAnswer};
 ghost use Rattle.script.specs.Answers.{answer_line};
 ghost use Rattle.towerbench.specs.Seats.{world_at};
 
@@ -52,10 +52,10 @@ where
         (R.remaining reader.old) (R.remaining reader.new)
         (W.contents writer.old) (W.contents writer.new)) }
 {
-    let answering = |seat: &mut Seat<'_, B, H>, number: u32, line: &[u8]| -> LineAnswer
-        ensures { IfOk result (λ text. (memory : Bool)
-            × (answer_line memory number line.now (world_at B.is seat.old)
-            ≡ record { world = world_at B.is seat.new; text = text.items })) }
-    { answer(alloc, seat, number, line) };
+    let answering =
+        |seat: &mut Seat<'_, B, H>, number: u32, line: &[u8], out: &mut Vec<u8>| -> LineAnswer
+        ensures { OnOk result (IsAnswer answer_line number line.now (world_at B.is seat.old)
+            (world_at B.is seat.new) out.old.items out.new.items) }
+    { answer(alloc, seat, number, line, out) };
     converse(alloc, seat, &answering, reader, writer)
 }

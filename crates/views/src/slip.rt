@@ -197,16 +197,13 @@ fn settled<R: Register>(
     ensures within { chart.old.value < (R.is chart.old.start.register).values }
 {
     chart.steps_fit();
-    let Some(len) = chart.len(branch) else {
-        return Err(Refusal::NoBranch);
-    };
     if shows_events(kind) {
         let spot = chart.settle(alloc, branch, place)?;
-        return Ok((len, spot.runs));
+        return Ok((spot.len, spot.runs));
     }
     let last = chart.settle_last(alloc, branch, place)?;
     let runs = listed(alloc, last.part)?;
-    Ok((len, runs))
+    Ok((last.len, runs))
 }
 
 /// Whether a page of a kind shows events, and so more than a configuration.

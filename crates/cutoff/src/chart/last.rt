@@ -1,14 +1,14 @@
 //! A look at a place of a chart, of which the last run is wanted alone.
 
-ghost use Rattle.std.specs.Prelude.{◌≡◌, Ok, IfOk, OnOk, IfErr};
+ghost use Rattle.std.specs.Prelude.{◌≡◌, Ok, Some, IfOk, OnOk, IfErr};
 ghost use Rattle.std.specs.Option.{option_map};
 ghost use Rattle.frames.specs.Configuration.{initial_configuration};
-ghost use Rattle.schedule_trie.specs.Forest.{IsRefused};
+ghost use Rattle.schedule_trie.specs.Forest.{IsRefused, len_of};
 ghost use Rattle.schedule_trie.specs.Cut.{forest};
 ghost use Rattle.cutoff.specs.Fitting.{part_of};
 ghost use Rattle.cutoff.specs.Held.{IsSettledLast, KeepsOrFills, look};
 
-use super::{Chart, has_place};
+use super::{Chart, branch_to};
 use crate::last::{Last, settle_to};
 use frames::register::Register;
 use schedule_trie::name::Name;
@@ -16,8 +16,8 @@ use schedule_trie::refusal::Refusal;
 use std::alloc::Global;
 
 impl<R: Register> Chart<R> {
-    /// The last of the stored runs of a branch's first `place` cells, which are settled as `settle` does it. Where nothing was
-    /// edited since it was last asked for, it goes over no segment above the one that holds the last of them.
+    /// The last of the stored runs of a branch's first `place` cells, which are settled as `settle` does it. Asked for the same
+    /// place again, with no edit, install and `settle` between, it goes over no segment but the one that holds the last of them.
     ///
     /// # Errors
     ///
@@ -34,6 +34,8 @@ impl<R: Register> Chart<R> {
             branch.now place (option_map part_of last.part) last.replayed) }
         ensures found { OnOk result (look (forest self.old.cut) branch.now place
             ≡ Ok (forest self.new.cut)) }
+        ensures len { IfOk result (λ last.
+            len_of (forest self.old.cut) branch.now ≡ Some last.len) }
         ensures err { IfErr result (IsRefused (look (forest self.old.cut) branch.now place)) }
         ensures keeps { KeepsOrFills R.PartialEq.eq R.is self.old self.new branch.now place }
         ensures begins { self.old.start ≡ initial_configuration
@@ -41,14 +43,15 @@ impl<R: Register> Chart<R> {
         ensures start { self.new.start ≡ self.old.start }
         ensures value { self.new.value ≡ self.old.value }
     {
-        has_place(&self.trie, branch, place)?;
+        let (index, len) = branch_to(&self.trie, branch, place)?;
         if place == 0 {
             return Ok(Last {
+                len,
                 part: None,
                 replayed: 0,
             });
         }
-        let Some((key, offset)) = self.trie.find(branch, place - 1) else {
+        let Some((key, offset)) = self.trie.find_cell(index, place - 1) else {
             unreachable!()
         };
         let mark = self.mark;
@@ -63,6 +66,10 @@ impl<R: Register> Chart<R> {
         )?;
         self.mark = Some(key);
         let part = Some((run, offset as u32 + 1));
-        Ok(Last { part, replayed })
+        Ok(Last {
+            len,
+            part,
+            replayed,
+        })
     }
 }

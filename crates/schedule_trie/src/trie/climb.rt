@@ -14,7 +14,7 @@ use crate::slot::Slot;
 
 impl<T: Drop> Trie<T> {
     /// How many cells the branch at an index has.
-    pub(super) fn len_at(&self, index: usize) -> u32
+    pub fn len_at(&self, index: usize) -> u32
         ensures len { result ≡ length (slots_in (forest self.now).branches index) }
         ensures whole { IsWhole self.now }
     {
@@ -41,7 +41,7 @@ impl<T: Drop> Trie<T> {
 
     /// The segment with the cell at a place of a branch, and where in it the cell lies; none where the branch has no cell
     /// there.
-    pub(super) fn find_cell(&self, index: usize, place: u32) -> Option<(SegKey, usize)>
+    pub fn find_cell(&self, index: usize, place: u32) -> Option<(SegKey, usize)>
         ensures found { IfSome result (StandsAt (piece_at self.now.pieces)
             (keys_in self.now.strands index) place) }
         ensures lies { IfSome result (LiesIn (piece_at self.now.pieces)

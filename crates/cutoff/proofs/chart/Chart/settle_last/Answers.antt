@@ -1,5 +1,5 @@
 use Rattle.std.proofs.Common.{◌≡◌, ◌+◌, Some, None, Ok, length, sym, ap, subst, ◌∙◌, arith}
-use Rattle.schedule_trie.specs.Cut.{line, piece_at, keys_in, keys_by, forest}
+use Rattle.schedule_trie.specs.Cut.{line, piece_at, keys_in, forest}
 use Rattle.cutoff.specs.Fitting.{part_of}
 use Rattle.cutoff.specs.Held.{IsSettledLast, look}
 use Rattle.cutoff.proofs.Kept.{charted_kept, charted_marked, len_there, look_there}
@@ -12,54 +12,55 @@ returns-then-place-eq0-clause-ok g c =
 
 pub settle_to-requires-clause-there : goal.settle_to-requires-clause-there
 settle_to-requires-clause-there g c =
-    let found = c.in-Some.ensures.found in
-    let few : length (line (piece_at c.self.inside.trie.pieces) (keys_in c.self.inside.trie.strands found.0)) ≡ c.in_ok-has_place.ensures.ok.0 =
-    len_there (g.R.Behaves.is c.self.inside.start.register) c.self.inside.trie c.args.branch.now (keys_in c.self.inside.trie.strands found.0) c.in_ok-has_place.ensures.ok.0 c.in_ok-has_place.ensures.ok.1 (ap (λ o. keys_by o c.self.inside.trie.strands) found.1) in
-    let small = c.in_ok-has_place.ensures.ok.3 in
-    (found.0, c.in-Some.offset + 1, c.args.place, place_found c.self.inside.trie found.0 c.args.place c.in-Some.key c.in-Some.offset found.2 c.if-place-eq0.false, omega (arith, few, small))
+    let found = c.in_ok-index.ensures in
+    let index = c.in_ok-index.index in
+    let few : length (line (piece_at c.self.inside.trie.pieces) (keys_in c.self.inside.trie.strands index)) ≡ c.in_ok-index.len =
+    len_there (g.R.Behaves.is c.self.inside.start.register) c.self.inside.trie c.args.branch.now index c.in_ok-index.len found.index found.long in
+    (index, c.in-Some.offset + 1, c.args.place, place_found c.self.inside.trie index c.args.place c.in-Some.key c.in-Some.offset c.in-Some.ensures.lies c.if-place-eq0.false, omega (arith, few))
 
 pub invariant_of-self : goal.invariant_of-self
 invariant_of-self g c =
-    let found = c.in-Some.ensures.found in
-    let lies = place_found c.self.inside.trie found.0 c.args.place c.in-Some.key c.in-Some.offset found.2 c.if-place-eq0.false in
-    let keeps = c.settle_to.ensures.keeps found.0 (c.in-Some.offset + 1) c.args.place lies in
+    let index = c.in_ok-index.index in
+    let lies = place_found c.self.inside.trie index c.args.place c.in-Some.key c.in-Some.offset c.in-Some.ensures.lies c.if-place-eq0.false in
+    let keeps = c.settle_to.ensures.keeps index (c.in-Some.offset + 1) c.args.place lies in
     charted_kept g.R.PartialEq.eq g.R.Behaves.is c.self.inside.next c.settle_to.new.next c.self.inside.mark _ c.settle_to.new.trie _ keeps c.settle_to.ensures.linked c.self.invariant
 
 pub returns-in_err-run-clause-keeps : goal.returns-in_err-run-clause-keeps
 returns-in_err-run-clause-keeps g c =
-    let found = c.in-Some.ensures.found in
-    let lies = place_found c.self.inside.trie found.0 c.args.place c.in-Some.key c.in-Some.offset found.2 c.if-place-eq0.false in
-    let keeps = c.settle_to.ensures.keeps found.0 (c.in-Some.offset + 1) c.args.place lies in
-    keeps_named g.R.PartialEq.eq g.R.Behaves.is c.args.self.now c.self.inside.trie c.settle_to.new.trie c.self.inside.start c.self.inside.value c.self.view_is c.args.branch.now c.args.place found.0 found.1 keeps
+    let index = c.in_ok-index.index in
+    let lies = place_found c.self.inside.trie index c.args.place c.in-Some.key c.in-Some.offset c.in-Some.ensures.lies c.if-place-eq0.false in
+    let keeps = c.settle_to.ensures.keeps index (c.in-Some.offset + 1) c.args.place lies in
+    keeps_named g.R.PartialEq.eq g.R.Behaves.is c.args.self.now c.self.inside.trie c.settle_to.new.trie c.self.inside.start c.self.inside.value c.self.view_is c.args.branch.now c.args.place index c.in_ok-index.ensures.index keeps
 
 pub invariant_of-self-2 : goal.invariant_of-self-2
 invariant_of-self-2 g c =
-    let found = c.in-Some.ensures.found in
-    let lies = place_found c.self.inside.trie found.0 c.args.place c.in-Some.key c.in-Some.offset found.2 c.if-place-eq0.false in
-    let keeps = c.settle_to.ensures.keeps found.0 (c.in-Some.offset + 1) c.args.place lies in
+    let index = c.in_ok-index.index in
+    let lies = place_found c.self.inside.trie index c.args.place c.in-Some.key c.in-Some.offset c.in-Some.ensures.lies c.if-place-eq0.false in
+    let keeps = c.settle_to.ensures.keeps index (c.in-Some.offset + 1) c.args.place lies in
     charted_marked g.R.PartialEq.eq g.R.Behaves.is c.settle_to.new.next None (Some c.in-Some.key) _ c.in_ok-run.ensures.marked
     (charted_kept g.R.PartialEq.eq g.R.Behaves.is c.self.inside.next c.settle_to.new.next c.self.inside.mark _ c.settle_to.new.trie _ keeps c.settle_to.ensures.linked c.self.invariant)
 
 pub returns-clause-ok : goal.returns-clause-ok
 returns-clause-ok g c =
-    let found = c.in-Some.ensures.found in
-    let lies = place_found c.self.inside.trie found.0 c.args.place c.in-Some.key c.in-Some.offset found.2 c.if-place-eq0.false in
+    let index = c.in_ok-index.index in
+    let lies = place_found c.self.inside.trie index c.args.place c.in-Some.key c.in-Some.offset c.in-Some.ensures.lies c.if-place-eq0.false in
     subst (λ v. IsSettledLast g.R.PartialEq.eq (g.R.Behaves.is v.start.register) v (record { cut = c.settle_to.new.trie; start = c.self.inside.start; value = c.self.inside.value }) c.args.branch.now c.args.place
     (Some (part_of (c.in_ok-run.run', c.in-Some.offset + 1))) c.in_ok-run.replayed) c.self.view_is
-    (last_settled g.R.PartialEq.eq g.R.Behaves.is _ _ c.args.branch.now c.args.place c.in-Some.key (c.in-Some.offset + 1) found.0 c.in_ok-run.replayed c.in_ok-run.run' found.1
-    (c.in_ok-run.ensures.settles found.0 (c.in-Some.offset + 1) c.args.place lies) c.in_ok-run.ensures.run)
+    (last_settled g.R.PartialEq.eq g.R.Behaves.is _ _ c.args.branch.now c.args.place c.in-Some.key (c.in-Some.offset + 1) index c.in_ok-run.replayed c.in_ok-run.run' c.in_ok-index.ensures.index
+    (c.in_ok-run.ensures.settles index (c.in-Some.offset + 1) c.args.place lies) c.in_ok-run.ensures.run)
 
 pub returns-clause-found : goal.returns-clause-found
 returns-clause-found g c =
-    let found = c.in-Some.ensures.found in
-    let lies = place_found c.self.inside.trie found.0 c.args.place c.in-Some.key c.in-Some.offset found.2 c.if-place-eq0.false in
-    let keeps = c.settle_to.ensures.keeps found.0 (c.in-Some.offset + 1) c.args.place lies in
-    let there = look_there (g.R.Behaves.is c.self.inside.start.register) c.self.inside.trie c.args.branch.now (keys_in c.self.inside.trie.strands found.0) c.in_ok-has_place.ensures.ok.0 c.in_ok-has_place.ensures.ok.1 (ap (λ o. keys_by o c.self.inside.trie.strands) found.1) c.args.place c.in_ok-has_place.ensures.ok.2 in
+    let found = c.in_ok-index.ensures in
+    let index = c.in_ok-index.index in
+    let lies = place_found c.self.inside.trie index c.args.place c.in-Some.key c.in-Some.offset c.in-Some.ensures.lies c.if-place-eq0.false in
+    let keeps = c.settle_to.ensures.keeps index (c.in-Some.offset + 1) c.args.place lies in
+    let there = look_there (g.R.Behaves.is c.self.inside.start.register) c.self.inside.trie c.args.branch.now index c.in_ok-index.len found.index found.long c.args.place found.within in
     subst (λ v. look (forest v.cut) c.args.branch.now c.args.place ≡ Ok (forest c.settle_to.new.trie)) c.self.view_is (there ∙ ap Ok (sym keeps.forest_kept))
 
 pub returns-clause-keeps : goal.returns-clause-keeps
 returns-clause-keeps g c =
-    let found = c.in-Some.ensures.found in
-    let lies = place_found c.self.inside.trie found.0 c.args.place c.in-Some.key c.in-Some.offset found.2 c.if-place-eq0.false in
-    let keeps = c.settle_to.ensures.keeps found.0 (c.in-Some.offset + 1) c.args.place lies in
-    keeps_named g.R.PartialEq.eq g.R.Behaves.is c.args.self.now c.self.inside.trie c.settle_to.new.trie c.self.inside.start c.self.inside.value c.self.view_is c.args.branch.now c.args.place found.0 found.1 keeps
+    let index = c.in_ok-index.index in
+    let lies = place_found c.self.inside.trie index c.args.place c.in-Some.key c.in-Some.offset c.in-Some.ensures.lies c.if-place-eq0.false in
+    let keeps = c.settle_to.ensures.keeps index (c.in-Some.offset + 1) c.args.place lies in
+    keeps_named g.R.PartialEq.eq g.R.Behaves.is c.args.self.now c.self.inside.trie c.settle_to.new.trie c.self.inside.start c.self.inside.value c.self.view_is c.args.branch.now c.args.place index c.in_ok-index.ensures.index keeps

@@ -1,0 +1,49 @@
+use Rattle.std.proofs.Common.{◌≡◌, ◌++◌, ◌∷◌, ◌+◌, ◌≤◌, [], ℕ, List, length, sym, ap, subst, ◌∙◌, arith, append_assoc}
+use Rattle.std.proofs.lemmas.List.{length-append}
+use Rattle.std.proofs.lemmas.Result.{on_ok_weaker}
+use Rattle.conversation.specs.Told.{Told}
+use Rattle.conversation.proofs.Tellings.{told_on, told_line, behind}
+use Rattle.conversation.proofs.converse.Conversation.take.Goals as goal
+
+-- a line more of a piece
+joined : (before rest line later : List ℕ) → rest ≡ line ++ 10 ∷ later → before ++ rest ≡ ((before ++ line) ++ 10 ∷ []) ++ later
+joined before rest line later e =
+    ap (λ xs. before ++ xs) e ∙ sym (append_assoc before line (10 ∷ later)) ∙ sym (append_assoc (before ++ line) (10 ∷ []) later)
+
+shorter : (rest line later : List ℕ) → rest ≡ line ++ 10 ∷ later → length later + 1 ≤ length rest
+shorter rest line later e = omega (arith, ap length e, length-append line (10 ∷ later))
+
+pub lines-preserved : goal.lines-preserved
+lines-preserved g c =
+    let A = g.A.Answers in
+    let so_far = c.lines.invariant.told in
+    let line = c.in-Some.end.now in
+    let cut = c.in-Some.ensures.1 in
+    record {
+      few = omega (arith, c.lines.invariant.few, shorter c.lines.rest.now line c.in-Some.behind.now cut, c.end_line.ensures.lines, c.keep.ensures.lines);
+      told = (
+        (so_far.0 ++ line) ++ 10 ∷ [],
+        so_far.1 ∙ joined so_far.0 c.lines.rest.now line c.in-Some.behind.now cut,
+        λ start seen front t.
+            let before = so_far.2 start seen front t in
+            let kept = told_on A.define start (seen ++ so_far.0) (A.world c.lines.answers) c.lines.self.lines c.lines.self.line.items (front ++ c.lines.self.out.items) before
+            line c.keep.new.self.lines c.keep.new.self.line.items (front ++ c.keep.new.self.out.items) c.in-Some.ensures.0 c.keep.ensures.lines c.in_ok-keep.ensures.line (ap (λ out. front ++ out.items) c.keep.ensures.out) in
+            subst (λ xs. Told A.define start xs (A.world c.end_line.new.answers) c.end_line.new.self.lines c.end_line.new.self.line.items (front ++ c.end_line.new.self.out.items))
+            (ap (λ xs. xs ++ 10 ∷ []) (append_assoc seen so_far.0 line) ∙ append_assoc seen (so_far.0 ++ line) (10 ∷ []))
+            (told_line A.define g.A.Answers.reads_front start ((seen ++ so_far.0) ++ line) (A.world c.lines.answers) c.keep.new.self.lines c.keep.new.self.line.items (front ++ c.keep.new.self.out.items) kept
+            (A.world c.end_line.new.answers) c.end_line.new.self.lines c.end_line.new.self.line.items (front ++ c.end_line.new.self.out.items)
+            (behind A.define _ _ _ _ _ _ front c.in_ok-end_line.ensures.answer) c.end_line.ensures.lines c.in_ok-end_line.ensures.line),
+      );
+    }
+
+pub returns-clause-told : goal.returns-clause-told
+returns-clause-told g c =
+    let A = g.A.Answers in
+    let so_far = c.lines.invariant.told in
+    on_ok_weaker c.keep-2.result
+    (λ kept start seen front t.
+    subst (λ xs. Told A.define start xs (A.world c.lines.answers) c.keep-2.new.self.lines c.keep-2.new.self.line.items (front ++ c.keep-2.new.self.out.items))
+    (append_assoc seen so_far.0 c.lines.rest.now ∙ ap (λ xs. seen ++ xs) (sym so_far.1))
+    (told_on A.define start (seen ++ so_far.0) (A.world c.lines.answers) c.lines.self.lines c.lines.self.line.items (front ++ c.lines.self.out.items) (so_far.2 start seen front t)
+    c.lines.rest.now c.keep-2.new.self.lines c.keep-2.new.self.line.items (front ++ c.keep-2.new.self.out.items) (rw c.in_default.is at c.first_line.ensures) c.keep-2.ensures.lines kept (ap (λ out. front ++ out.items) c.keep-2.ensures.out)))
+    c.keep-2.ensures.line
