@@ -1,7 +1,7 @@
 //! Paths of items, first to last.
 
-ghost use Rattle.std.specs.Prelude.{ℕ, ◌≡◌, ◌≤◌, List, ◌++◌, length, [], ◌∷◌, map, Some, None, IfOk, IsSome, slice_set, true, false};
-ghost use Rattle.std.specs.Option.{option_copied};
+ghost use Rattle.std.specs.Prelude.{ℕ, ◌≡◌, ◌≤◌, List, ◌++◌, length, [], ◌∷◌, map, Some, None, IfOk, IfSome, IsSome, slice_set, true, false};
+ghost use Rattle.std.specs.Option.{option_copied, option_map};
 ghost use Rattle.lineage.specs.Family.{item_at, path_in, last_of, EndsAlone, IsFamily};
 ghost use Rattle.lineage.specs.Climbs.{Ends};
 ghost use Rattle.lineage.specs.Held.{above_of, path_to, tip_at};
@@ -131,6 +131,18 @@ impl<X: Drop> Lineage<X> {
         ensures none { item_at self.now key ≡ None → result ≡ None }
     {
         self.nodes.get(key)?.above
+    }
+
+    /// The item at a key, and the key that comes before it, the same in each path that has it, or none for a path's first. None
+    /// where no item has the key.
+    #[inline(always)]
+    pub fn step_up(&self, key: Key) -> Option<(&X, Option<Key>)>
+        ensures item { option_map (λ s. s.0.now) result ≡ item_at self.now key }
+        ensures each { IfSome result (λ s. (i : ℕ) (front back : List ℕ)
+            → path_in self.now i ≡ front ++ key ∷ back → s.1 ≡ last_of front) }
+    {
+        let node = self.nodes.get(key)?;
+        Some((&node.item, node.above))
     }
 
     /// The keys of the path at an index, in order; none where there is no such path.
