@@ -1,19 +1,22 @@
 -- A climb of a branch, by what the fields tell.
-use Rattle.std.proofs.Common.{◌≡◌, ℕ, ◌<◌, ◌≤◌, true, List, [], ◌∷◌, ◌++◌, length, Option, sym, ap, subst, ◌∙◌, arith}
+use Rattle.std.proofs.Common.{◌≡◌, ℕ, ◌<◌, ◌≤◌, true, true≢false, List, [], ◌∷◌, ◌++◌, length, Option, None, IsSome, sym, ap, subst, ◌∙◌, arith}
 use Rattle.std.proofs.lemmas.List.{length-append}
-use Rattle.lineage.specs.Family.{path_in, last_of}
+use Rattle.lineage.specs.Family.{item_at, path_in, last_of}
 use Rattle.schedule_trie.specs.declared.trie.Trie.TheInside.{Inside}
-use Rattle.schedule_trie.specs.Cut.{Cut, Piece, piece_at, slots_of, line, keys_in, has, Once}
+use Rattle.schedule_trie.specs.Cut.{Cut, Piece, piece_at, slots_of, line, keys_in, above_of, has, Once, IsWhole}
 use Rattle.schedule_trie.specs.Held.{cut_of, IsHeld}
 use Rattle.schedule_trie.proofs.Once.{Once-from_linked, has-head, has-tail}
 use Rattle.schedule_trie.proofs.Climbs.{IsLast, IsStepUp, last_is, step_up}
-use Rattle.schedule_trie.proofs.Lines.{keys_are, line_fits}
+use Rattle.schedule_trie.proofs.Lines.{keys_are, line_fits, sound_short}
+use Rattle.schedule_trie.proofs.Partings.{has-in}
+use Rattle.schedule_trie.proofs.Readings.{above_told, lacked_none}
+use Rattle.schedule_trie.proofs.StepSet.{item_there, none_there}
 use Rattle.schedule_trie.proofs.Touched.{some_slots}
 use Rattle.schedule_trie.specs.declared.limits.TheConstants.{MOST_CELLS_MADE}
 
 module _ {T : Type 0} (t : Inside T) (c : Cut T) (seen : cut_of t ≡ c) (held : IsHeld t) (index : ℕ) where
   -- a path has each key once
-  pub path_once : Once (keys_in c.strands index)
+  path_once : Once (keys_in c.strands index)
   path_once =
       subst (λ z. Once (keys_in z.strands index)) seen
       (Once-from_linked held.whole.sound.shares.above (keys_in (cut_of t).strands index) (held.whole.sound.shares.linked index))
@@ -30,12 +33,19 @@ module _ {T : Type 0} (t : Inside T) (c : Cut T) (seen : cut_of t ≡ c) (held :
       → ((i : ℕ) (front back : List ℕ) → path_in t.segments i ≡ front ++ key ∷ back → above ≡ last_of front) → IsStepUp (keys_in c.strands index) key above
   path_up key above h each = step_up (keys_in c.strands index) key above path_once h (λ front back e. each index front back (sym same ∙ e))
 
-  pub path_short : length (line (piece_at c.pieces) (keys_in c.strands index)) ≤ MOST_CELLS_MADE
-  path_short =
-      let fits = line_fits t held index in
-      let most : length (line (piece_at (cut_of t).pieces) (keys_in (cut_of t).strands index)) ≤ MOST_CELLS_MADE =
-      omega (arith, fits, held.whole.within.cells, held.whole.within.most_cells) in
-      subst (λ z. length (line (piece_at z.pieces) (keys_in z.strands index)) ≤ MOST_CELLS_MADE) seen most
+-- the same, where each branch tells what is above a key
+module _ {T : Type 0} (c : Cut T) (whole : IsWhole c) (index : ℕ) where
+  pub branch_once : Once (keys_in c.strands index)
+  branch_once = Once-from_linked whole.sound.shares.above (keys_in c.strands index) (whole.sound.shares.linked index)
+
+  pub branch_up : (key : ℕ) (above : Option ℕ) → has key (keys_in c.strands index) ≡ true
+      → ((i : ℕ) (front back : List ℕ) → keys_in c.strands i ≡ front ++ key ∷ back → above ≡ last_of front) → IsStepUp (keys_in c.strands index) key above
+  branch_up key above h each = step_up (keys_in c.strands index) key above branch_once h (λ front back e. each index front back e)
+
+  pub branch_short : length (line (piece_at c.pieces) (keys_in c.strands index)) ≤ MOST_CELLS_MADE
+  branch_short =
+      let short = sound_short (piece_at c.pieces) c.strands c.made whole.sound index in
+      omega (arith, short, whole.within.cells, whole.within.most_cells)
 
 -- each segment has a cell
 few_keys : {T : Type 0} (at : ℕ → Option (Piece T)) (keys : List ℕ) → ((k : ℕ) → has k keys ≡ true → 0 < length (slots_of (at k))) → length keys ≤ length (line at keys)
@@ -54,3 +64,23 @@ path_few t held i =
     let few = few_keys at keys (λ k h. some_slots t.made (at k) (sound.held i k h) (sound.segments k)) in
     let short = line_fits t held i in
     omega (arith, few, short)
+
+-- one look at a segment, which tells the key above it: by what the paths tell, each branch tells it
+module _ {T : Type 0} (t : Inside T) (c : Cut T) (seen : cut_of t ≡ c) (held : IsHeld t) (key : ℕ) (above : Option ℕ) where
+  abbrev pub IsAbove : Type 0
+  IsAbove = (i : ℕ) (front back : List ℕ) → path_in t.segments i ≡ front ++ key ∷ back → above ≡ last_of front
+
+  pub each_up : IsAbove → (i : ℕ) (front back : List ℕ) → keys_in c.strands i ≡ front ++ key ∷ back → above ≡ last_of front
+  each_up each i front back e = each i front back (sym (keys_are t held i) ∙ ap (λ z. keys_in z.strands i) seen ∙ e)
+
+  -- no path has a key that no segment has
+  pub none_up : item_at t.segments key ≡ None → IsAbove
+  none_up none i front back e =
+      let h : has key (keys_in (cut_of t).strands i) ≡ true = ap (has key) (keys_are t held i ∙ e) ∙ has-in key front back in
+      absurd (true≢false (sym (subst IsSome none (item_there t key (held.whole.sound.held i key h)))))
+
+  pub first_up : IsAbove → (item_at t.segments key ≡ None → above ≡ None) → above ≡ above_of c.strands key
+  first_up each none =
+      subst (λ z. above ≡ above_of z.strands key) seen
+      (above_told (cut_of t).strands key above (λ i front back e. each i front back (sym (keys_are t held i) ∙ e))
+      (λ lacks. none (none_there t key (lacked_none (piece_at (cut_of t).pieces key) (cut_of t).strands key (held.whole.sound.live key) lacks))))

@@ -260,6 +260,20 @@ impl<T: Drop> Trie<T> {
         self.segments.item(key)?.note.as_ref()
     }
 
+    /// What is noted at a segment, and the key of the segment right above it, each as above, by one look at the segment.
+    #[inline(always)]
+    pub fn step_up(&self, key: SegKey) -> (Option<&T>, Option<SegKey>)
+        ensures note { option_copied result.0 ≡ note_of (piece_at self.now.pieces key) }
+        ensures first { result.1 ≡ above_of self.now.strands key }
+        ensures each { (i : ℕ) (front back : List ℕ)
+            → keys_in self.now.strands i ≡ front ++ key ∷ back → result.1 ≡ last_of front }
+    {
+        match self.segments.step_up(key) {
+            Some((segment, above)) => (segment.note.as_ref(), above),
+            None => (None, None),
+        }
+    }
+
     /// Notes something else at a segment, or nothing. Where no segment has the key nothing is changed. It takes no memory.
     pub fn set_note(&mut self, key: SegKey, note: Option<T>)
         ensures { IsNoted self.old self.new key note }

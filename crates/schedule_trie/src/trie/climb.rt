@@ -33,8 +33,9 @@ impl<T: Drop> Trie<T> {
         let mut len = 0;
         let mut at = last;
         while let Some(key) = at {
-            len += self.slots_at(key).len() as u32;
-            at = self.segments.above(key);
+            let (slots, above) = self.slots_up(key);
+            len += slots.len() as u32;
+            at = above;
         }
         len
     }
@@ -55,12 +56,13 @@ impl<T: Drop> Trie<T> {
         let mut rest = (len - place) as usize;
         let mut at = self.segments.last(index);
         while let Some(key) = at {
-            let len = self.slots_at(key).len();
+            let (slots, above) = self.slots_up(key);
+            let len = slots.len();
             if rest <= len {
                 return Some((key, len - rest));
             }
             rest -= len;
-            at = self.segments.above(key);
+            at = above;
         }
         None
     }
@@ -71,13 +73,27 @@ impl<T: Drop> Trie<T> {
     {
         let mut at = self.segments.last(index);
         while let Some(key) = at {
-            let above = self.segments.above(key);
-            if let Some(offset) = offset_of(self.slots_at(key), cell) {
+            let (slots, above) = self.slots_up(key);
+            if let Some(offset) = offset_of(slots, cell) {
                 return Some(self.len_to(index, above) + offset as u32);
             }
             at = above;
         }
         None
+    }
+
+    /// The cells of a segment, and the key of the segment above it; none of either where no segment has the key.
+    #[inline(always)]
+    fn slots_up(&self, key: SegKey) -> (&[Slot], Option<SegKey>)
+        ensures slots { result.0.now ≡ slots_of (piece_at self.now.pieces key) }
+        ensures whole { IsWhole self.now }
+        ensures each { (i : ℕ) (front back : List ℕ)
+            → keys_in self.now.strands i ≡ front ++ key ∷ back → result.1 ≡ last_of front }
+    {
+        match self.segments.step_up(key) {
+            Some((segment, above)) => (segment.slots.as_slice(), above),
+            None => (&[], None),
+        }
     }
 }
 

@@ -1,11 +1,10 @@
 use Rattle.std.proofs.Common.{◌-◌, ◌<◌, length, sym, ap, subst, ◌∙◌, arith}
 use Rattle.schedule_trie.specs.Cut.{piece_at, keys_in, line}
 use Rattle.schedule_trie.specs.Climbs.{keys_to, IsReached}
-use Rattle.schedule_trie.proofs.Climbs.{IsStepUp, cells_up, lies_here, stands_here, shorter_up}
-use Rattle.schedule_trie.proofs.ClimbSteps.{path_last, path_up}
+use Rattle.schedule_trie.proofs.Climbs.{cells_up, lies_here, stands_here, shorter_up}
+use Rattle.schedule_trie.proofs.ClimbSteps.{path_last, branch_up}
 use Rattle.schedule_trie.proofs.Lines.{slots_in_on}
 use Rattle.schedule_trie.proofs.trie.Trie.find_cell.Goals as goal
-use Rattle.schedule_trie.proofs.trie.Trie.find_cell.Given.{Over}
 
 pub loop-at-init : goal.loop-at-init
 loop-at-init g c =
@@ -19,34 +18,32 @@ pub returns-then-rest-len-clause-lies : goal.returns-then-rest-len-clause-lies
 returns-then-rest-len-clause-lies g c =
     let now = c.args.self.now in
     let was = c.loop-at.invariant in
-    lies_here (piece_at now.pieces) (keys_in now.strands c.args.index) c.loop-at.at c.in-Some.key c.args.place c.loop-at.rest (length c.slots_at-len.result.now) was.reached c.in-Some.is
-    was.behind was.some c.if-rest-len.true (ap length c.slots_at-len.ensures)
+    lies_here (piece_at now.pieces) (keys_in now.strands c.args.index) c.loop-at.at c.in-Some.key c.args.place c.loop-at.rest (length c.slots_up-above.result.0.now) was.reached c.in-Some.is
+    was.behind was.some c.if-rest-len.true (ap length c.slots_up-above.ensures.slots)
 
 pub returns-then-rest-len-clause-found : goal.returns-then-rest-len-clause-found
 returns-then-rest-len-clause-found g c =
     let now = c.args.self.now in
     let was = c.loop-at.invariant in
-    stands_here (piece_at now.pieces) (keys_in now.strands c.args.index) c.args.place (c.in-Some.key, length c.slots_at-len.result.now - c.loop-at.rest)
-    (lies_here (piece_at now.pieces) (keys_in now.strands c.args.index) c.loop-at.at c.in-Some.key c.args.place c.loop-at.rest (length c.slots_at-len.result.now) was.reached c.in-Some.is
-    was.behind was.some c.if-rest-len.true (ap length c.slots_at-len.ensures))
-
-step : (g : Over) (c : goal.After-above-at g) → IsStepUp (keys_in c.args.self.now.strands c.args.index) c.in-Some.key c.above-at.result
-step g c =
-    path_up c.self.inside c.args.self.now c.self.view_is c.self.invariant.held c.args.index c.in-Some.key c.above-at.result
-    (subst (IsReached (keys_in c.args.self.now.strands c.args.index)) c.in-Some.is c.loop-at.invariant.reached) c.above-at.ensures.each
+    stands_here (piece_at now.pieces) (keys_in now.strands c.args.index) c.args.place (c.in-Some.key, length c.slots_up-above.result.0.now - c.loop-at.rest)
+    (lies_here (piece_at now.pieces) (keys_in now.strands c.args.index) c.loop-at.at c.in-Some.key c.args.place c.loop-at.rest (length c.slots_up-above.result.0.now) was.reached c.in-Some.is
+    was.behind was.some c.if-rest-len.true (ap length c.slots_up-above.ensures.slots))
 
 pub loop-at-smaller : goal.loop-at-smaller
 loop-at-smaller g c =
     let keys = keys_in c.args.self.now.strands c.args.index in
-    subst (λ o. length (keys_to keys c.above-at.result) < length (keys_to keys o)) (sym c.in-Some.is)
-    (shorter_up (piece_at c.args.self.now.pieces) keys c.in-Some.key c.above-at.result (step g c))
+    let s = branch_up c.args.self.now c.slots_up-above.ensures.whole c.args.index c.in-Some.key c.slots_up-above.result.1
+    (subst (IsReached (keys_in c.args.self.now.strands c.args.index)) c.in-Some.is c.loop-at.invariant.reached) c.slots_up-above.ensures.each in
+    subst (λ o. length (keys_to keys c.slots_up-above.result.1) < length (keys_to keys o)) (sym c.in-Some.is)
+    (shorter_up (piece_at c.args.self.now.pieces) keys c.in-Some.key c.slots_up-above.result.1 s)
 
 pub loop-at-preserved : goal.loop-at-preserved
 loop-at-preserved g c =
     let now = c.args.self.now in
     let keys = keys_in now.strands c.args.index in
-    let s = step g c in
-    let up = cells_up (piece_at now.pieces) keys c.in-Some.key c.above-at.result s in
-    let len = ap length c.slots_at-len.ensures in
+    let s = branch_up c.args.self.now c.slots_up-above.ensures.whole c.args.index c.in-Some.key c.slots_up-above.result.1
+    (subst (IsReached (keys_in c.args.self.now.strands c.args.index)) c.in-Some.is c.loop-at.invariant.reached) c.slots_up-above.ensures.each in
+    let up = cells_up (piece_at now.pieces) keys c.in-Some.key c.slots_up-above.result.1 s in
+    let len = ap length c.slots_up-above.ensures.slots in
     let at = ap (λ o. length (line (piece_at now.pieces) (keys_to keys o))) c.in-Some.is in
     record { reached = s.reached; behind = omega (arith, up, len, at, c.loop-at.invariant.behind); some = omega arith }
