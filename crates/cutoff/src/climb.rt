@@ -36,7 +36,8 @@ pub(crate) fn comes_down<R: Register>(
         let Some(key) = at else {
             break;
         };
-        let Some(stored) = trie.note(key) else {
+        let (note, above) = trie.step_up(key);
+        let Some(stored) = note else {
             return false;
         };
         let begun = stored.entry();
@@ -45,7 +46,7 @@ pub(crate) fn comes_down<R: Register>(
         }
         entry = begun;
         link = stored.link();
-        at = trie.above(key);
+        at = above;
     }
     *entry == *start
 }

@@ -36,8 +36,9 @@ fn known_prefix<R: Register>(
         let Some(key) = at else {
             break;
         };
-        at = trie.above(key);
-        let Some(stored) = trie.note(key) else {
+        let (note, above) = trie.step_up(key);
+        at = above;
+        let Some(stored) = note else {
             front = at;
             link = None;
             continue;

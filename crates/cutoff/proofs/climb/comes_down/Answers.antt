@@ -1,4 +1,5 @@
 use Rattle.std.proofs.Common.{◌≡◌, ℕ, true, Some, None, slice_get, length, sym, ap, subst, ◌∙◌, true≢false, arith}
+use Rattle.std.specs.Option.{option_copied}
 use Rattle.schedule_trie.specs.Cut.{keys_in, note_of, piece_at}
 use Rattle.schedule_trie.specs.Climbs.{keys_to, IsReached}
 use Rattle.schedule_trie.proofs.Climbs.{IsStepUp, step_up}
@@ -20,7 +21,7 @@ returns-in_default-note g c = λ i h. (
       let keys = keys_in c.args.trie.now.strands i in
       let here = subst (λ o. ComesDown E b c.args.trie.now c.args.start.now (keys_to keys o) c.loop.entry.now) c.in-Some.is (c.loop.invariant.down i h d) in
       let p = parting keys c.in-Some.key (subst (IsReached keys) c.in-Some.is (c.loop.invariant.reached i h)) in
-      absurd (down_noted E b c.args.trie.now c.in-Some.key c.loop.entry.now c.args.start.now p.front (sym c.in_default-note.ensures)
+      absurd (down_noted E b c.args.trie.now c.in-Some.key c.loop.entry.now c.args.start.now p.front (sym c.step_up-above.ensures.note ∙ ap option_copied c.in_default-note.is)
       (subst (λ l. ComesDown E b c.args.trie.now c.args.start.now l c.loop.entry.now) p.to here))),
 )
 
@@ -32,7 +33,7 @@ ends-requires g c = record {
       let told = c.requires.linked in
       let came = c.loop.invariant.came told.0 told.1 a link in
       link_same E g.met.R.PartialEq.laws (g.R.Behaves.is h) c.in-Some-note.stored.now c.loop.entry.now h told.1.exits (steps_at c.args.trie.now c.in-Some.key)
-      (stored_at E h told.1.exits c.args.trie.now c.in-Some.key c.in-Some-note.stored.now (told.1.each c.in-Some.key) (sym c.in-Some-note.ensures)) a id came.0 came.1;
+      (stored_at E h told.1.exits c.args.trie.now c.in-Some.key c.in-Some-note.stored.now (told.1.each c.in-Some.key) (sym c.step_up-above.ensures.note ∙ ap option_copied c.in-Some-note.is)) a id came.0 came.1;
 }
 
 pub returns-then-not-ends : goal.returns-then-not-ends
@@ -45,7 +46,7 @@ returns-then-not-ends g c = λ i h. (
       let here = subst (λ o. ComesDown E b c.args.trie.now c.args.start.now (keys_to keys o) c.loop.entry.now) c.in-Some.is (c.loop.invariant.down i h d) in
       let there = subst (IsReached keys) c.in-Some.is (c.loop.invariant.reached i h) in
       let same = climb_ends E g.met.R.PartialEq.laws g.R.Behaves.is g.met.R.Register.alike c.args.trie.now c.args.start.now c.loop.entry.now keys c.in-Some.key c.in-Some-note.stored.now
-      (sym c.in-Some-note.ensures) c.entry-begun.ensures.kept there here in
+      (sym c.step_up-above.ensures.note ∙ ap option_copied c.in-Some-note.is) c.entry-begun.ensures.kept there here in
       absurd (true≢false (sym (c.ends.ensures.1 same) ∙ c.if-not-ends.true))),
 )
 
@@ -56,34 +57,34 @@ loop-preserved g c =
     let trie = c.args.trie.now in
     let start = c.args.start.now in
     let s = c.in-Some-note.stored.now in
-    let noted : note_of (piece_at trie.pieces c.in-Some.key) ≡ Some s = sym c.in-Some-note.ensures in
+    let noted : note_of (piece_at trie.pieces c.in-Some.key) ≡ Some s = sym c.step_up-above.ensures.note ∙ ap option_copied c.in-Some-note.is in
     let was = c.loop.invariant in
     let begun = c.entry-begun.ensures.entry in
-    let step : (i : ℕ) → IsReached (keys_in trie.strands i) c.args.last → IsStepUp (keys_in trie.strands i) c.in-Some.key c.above-at.result =
-    λ i h. step_up (keys_in trie.strands i) c.in-Some.key c.above-at.result (path_once trie c.requires.cut i)
-    (subst (IsReached (keys_in trie.strands i)) c.in-Some.is (was.reached i h)) (λ front back e. c.above-at.ensures.each i front back e) in
+    let step : (i : ℕ) → IsReached (keys_in trie.strands i) c.args.last → IsStepUp (keys_in trie.strands i) c.in-Some.key c.step_up-above.result.1 =
+    λ i h. step_up (keys_in trie.strands i) c.in-Some.key c.step_up-above.result.1 (path_once trie c.requires.cut i)
+    (subst (IsReached (keys_in trie.strands i)) c.in-Some.is (was.reached i h)) (λ front back e. c.step_up-above.ensures.each i front back e) in
     record {
       reached = λ i h. (step i h).reached;
       short = λ i h.
           let keys = keys_in trie.strands i in
-          let up = shorter keys c.in-Some.key c.above-at.result (step i h) in
+          let up = shorter keys c.in-Some.key c.step_up-above.result.1 (step i h) in
           let at = ap (λ o. length (keys_to keys o)) c.in-Some.is in
           let old = was.short i h in
           omega (arith, up, at, old);
       down = λ i h d.
           let keys = keys_in trie.strands i in
           let here = subst (λ o. ComesDown E b trie start (keys_to keys o) c.loop.entry.now) c.in-Some.is (was.down i h d) in
-          subst (ComesDown E b trie start (keys_to keys c.above-at.result)) (sym begun)
+          subst (ComesDown E b trie start (keys_to keys c.step_up-above.result.1)) (sym begun)
           (climb_down E g.met.R.PartialEq.laws g.R.Behaves.is g.met.R.Register.alike trie start c.loop.entry.now keys c.in-Some.key s noted c.entry-begun.ensures.kept
-          c.above-at.result (step i h) here);
+          c.step_up-above.result.1 (step i h) here);
       up = λ i h d.
           let keys = keys_in trie.strands i in
           let told = c.requires.linked.1 in
           let covers = (stored_at E start.register told.exits trie c.in-Some.key s (told.each c.in-Some.key) noted).covers in
           was.up i h (subst (λ o. ComesDown E b trie start (keys_to keys o) c.loop.entry.now) (sym c.in-Some.is)
           (climb_up E g.met.R.PartialEq.laws g.R.Behaves.is g.met.R.Register.alike trie start c.loop.entry.now keys c.in-Some.key s noted c.entry-begun.ensures.kept
-          c.above-at.result (step i h) covers (c.ends.ensures.0 c.if-not-ends.false)
-          (subst (ComesDown E b trie start (keys_to keys c.above-at.result)) begun d)));
+          c.step_up-above.result.1 (step i h) covers (c.ends.ensures.0 c.if-not-ends.false)
+          (subst (ComesDown E b trie start (keys_to keys c.step_up-above.result.1)) begun d)));
       came = λ next told a link.
           subst (λ e. (slice_get told.exits a ≡ Some (alone e)) × (E e.register start.register ≡ true)) (sym begun)
           (link_came E start.register told.exits (steps_at trie c.in-Some.key) s

@@ -1,4 +1,5 @@
 use Rattle.std.proofs.Common.{◌≡◌, ℕ, true, Some, None, slice_get, length, inl, inr, refl, sym, ap, subst, ◌∙◌, arith}
+use Rattle.std.specs.Option.{option_copied}
 use Rattle.schedule_trie.specs.Cut.{has, keys_in, note_of, piece_at}
 use Rattle.schedule_trie.specs.Climbs.{keys_to, IsReached}
 use Rattle.schedule_trie.proofs.Climbs.{IsStepUp, step_up}
@@ -15,15 +16,15 @@ pub loop-preserved-in_default-note : goal.loop-preserved-in_default-note
 loop-preserved-in_default-note g c =
     let trie = c.args.trie.now in
     let was = c.loop.invariant in
-    let step : (i : ℕ) → has c.args.key (keys_in trie.strands i) ≡ true → IsStepUp (keys_in trie.strands i) c.in-Some.key c.above-at.result =
-    λ i h. step_up (keys_in trie.strands i) c.in-Some.key c.above-at.result (path_once trie c.requires.cut i)
-    (subst (IsReached (keys_in trie.strands i)) c.in-Some.is (was.reached i h)) (λ front back e. c.above-at.ensures.each i front back e) in
+    let step : (i : ℕ) → has c.args.key (keys_in trie.strands i) ≡ true → IsStepUp (keys_in trie.strands i) c.in-Some.key c.step_up-above.result.1 =
+    λ i h. step_up (keys_in trie.strands i) c.in-Some.key c.step_up-above.result.1 (path_once trie c.requires.cut i)
+    (subst (IsReached (keys_in trie.strands i)) c.in-Some.is (was.reached i h)) (λ front back e. c.step_up-above.ensures.each i front back e) in
     record {
       reached = λ i h. (step i h).reached;
       front = λ i h. (step i h).reached;
       short = λ i h.
           let keys = keys_in trie.strands i in
-          let up = shorter keys c.in-Some.key c.above-at.result (step i h) in
+          let up = shorter keys c.in-Some.key c.step_up-above.result.1 (step i h) in
           let at = ap (λ o. length (keys_to keys o)) c.in-Some.is in
           let old = was.short i h in
           omega (arith, up, at, old);
@@ -38,14 +39,14 @@ returns-then-eq g c = λ i h.
     let start = c.args.start.now in
     let keys = keys_in trie.strands i in
     let s = c.in-Some-note.stored.now in
-    let noted : note_of (piece_at trie.pieces c.in-Some.key) ≡ Some s = sym c.in-Some-note.ensures in
+    let noted : note_of (piece_at trie.pieces c.in-Some.key) ≡ Some s = sym c.step_up-above.ensures.note ∙ ap option_copied c.in-Some-note.is in
     let was = c.loop.invariant in
     let told = c.requires.linked.1 in
     let stored = stored_at E start.register told.exits trie c.in-Some.key s (told.each c.in-Some.key) noted in
     let here = subst (IsReached keys) c.in-Some.is (was.reached i h) in
-    let step = step_up keys c.in-Some.key c.above-at.result (path_once trie c.requires.cut i) here (λ front back e. c.above-at.ensures.each i front back e) in
+    let step = step_up keys c.in-Some.key c.step_up-above.result.1 (path_once trie c.requires.cut i) here (λ front back e. c.step_up-above.ensures.each i front back e) in
     let known = known_at E g.R.Behaves.is trie start c.loop.entry.now c.args.key c.in-Some.key c.loop.front c.loop.at c.loop.link was.known c.in-Some.is i h in
-    let down = front_down E g.met.R.PartialEq.laws g.R.Behaves.is g.met.R.Register.alike trie c.in-Some.key s noted c.entry-entry.ensures.kept stored.covers start keys c.above-at.result step
+    let down = front_down E g.met.R.PartialEq.laws g.R.Behaves.is g.met.R.Register.alike trie c.in-Some.key s noted c.entry-entry.ensures.kept stored.covers start keys c.step_up-above.result.1 step
     c.loop.front c.if-not-is_before.front c.loop.at c.loop.link c.loop.entry.now told.exits stored known (was.came c.requires.linked.0 told) in
     let marked = marked_at E g.R.Behaves.is trie start c.args.mark c.in-Some.key (sym (c.if-eq.ensures)) c.requires.marked i here in
     elim c.if-not-is_before.branch [
@@ -59,15 +60,15 @@ loop-preserved g c =
     let trie = c.args.trie.now in
     let start = c.args.start.now in
     let s = c.in-Some-note.stored.now in
-    let noted : note_of (piece_at trie.pieces c.in-Some.key) ≡ Some s = sym c.in-Some-note.ensures in
+    let noted : note_of (piece_at trie.pieces c.in-Some.key) ≡ Some s = sym c.step_up-above.ensures.note ∙ ap option_copied c.in-Some-note.is in
     let was = c.loop.invariant in
     let begun = c.entry-entry.ensures.entry in
     let told = c.requires.linked.1 in
     let stored = stored_at E start.register told.exits trie c.in-Some.key s (told.each c.in-Some.key) noted in
     let here : (i : ℕ) → has c.args.key (keys_in trie.strands i) ≡ true → has c.in-Some.key (keys_in trie.strands i) ≡ true =
     λ i h. subst (IsReached (keys_in trie.strands i)) c.in-Some.is (was.reached i h) in
-    let step : (i : ℕ) → has c.args.key (keys_in trie.strands i) ≡ true → IsStepUp (keys_in trie.strands i) c.in-Some.key c.above-at.result =
-    λ i h. step_up (keys_in trie.strands i) c.in-Some.key c.above-at.result (path_once trie c.requires.cut i) (here i h) (λ front back e. c.above-at.ensures.each i front back e) in
+    let step : (i : ℕ) → has c.args.key (keys_in trie.strands i) ≡ true → IsStepUp (keys_in trie.strands i) c.in-Some.key c.step_up-above.result.1 =
+    λ i h. step_up (keys_in trie.strands i) c.in-Some.key c.step_up-above.result.1 (path_once trie c.requires.cut i) (here i h) (λ front back e. c.step_up-above.ensures.each i front back e) in
     record {
       reached = λ i h. (step i h).reached;
       front = λ i h. elim c.if-not-is_before.branch [
@@ -76,16 +77,16 @@ loop-preserved g c =
       ];
       short = λ i h.
           let keys = keys_in trie.strands i in
-          let up = shorter keys c.in-Some.key c.above-at.result (step i h) in
+          let up = shorter keys c.in-Some.key c.step_up-above.result.1 (step i h) in
           let at = ap (λ o. length (keys_to keys o)) c.in-Some.is in
           let old = was.short i h in
           omega (arith, up, at, old);
       known = inr (λ i h d.
           let keys = keys_in trie.strands i in
           let known = known_at E g.R.Behaves.is trie start c.loop.entry.now c.args.key c.in-Some.key c.loop.front c.loop.at c.loop.link was.known c.in-Some.is i h in
-          let new = up_new E g.met.R.PartialEq.laws g.R.Behaves.is g.met.R.Register.alike trie c.in-Some.key s noted c.entry-entry.ensures.kept stored.covers start keys c.above-at.result (step i h)
-          (subst (RunsDown E g.R.Behaves.is trie (g.R.Behaves.is start.register) start (keys_to keys c.above-at.result)) begun d) in
-          let down = front_down E g.met.R.PartialEq.laws g.R.Behaves.is g.met.R.Register.alike trie c.in-Some.key s noted c.entry-entry.ensures.kept stored.covers start keys c.above-at.result (step i h)
+          let new = up_new E g.met.R.PartialEq.laws g.R.Behaves.is g.met.R.Register.alike trie c.in-Some.key s noted c.entry-entry.ensures.kept stored.covers start keys c.step_up-above.result.1 (step i h)
+          (subst (RunsDown E g.R.Behaves.is trie (g.R.Behaves.is start.register) start (keys_to keys c.step_up-above.result.1)) begun d) in
+          let down = front_down E g.met.R.PartialEq.laws g.R.Behaves.is g.met.R.Register.alike trie c.in-Some.key s noted c.entry-entry.ensures.kept stored.covers start keys c.step_up-above.result.1 (step i h)
           c.loop.front c.if-not-is_before.front c.loop.at c.loop.link c.loop.entry.now told.exits stored known (was.came c.requires.linked.0 told) in
           elim c.if-not-is_before.branch [
             | then-not-is_before w ↦ down (inl w.front-is) new
