@@ -1,5 +1,5 @@
 -- The last run of a branch's first cells: what is left of the branch, and what is answered.
-use Rattle.std.proofs.Common.{◌≡◌, ◌⊎◌, ℕ, zero, suc, ◌-◌, ◌+◌, ◌<◌, ◌≤◌, Bool, true, List, [], ◌∷◌, ◌++◌, length, map, Option, Some, None, inl, inr, refl, sym, ap, subst, ◌∙◌, arith}
+use Rattle.std.proofs.Common.{◌≡◌, ◌⊎◌, ℕ, zero, suc, ◌-◌, ◌+◌, ◌<◌, ◌≤◌, Bool, true, List, [], ◌∷◌, ◌++◌, length, map, Option, Some, None, inl, inr, refl, sym, ap, subst, ◌∙◌, arith, append_assoc}
 use Rattle.std.specs.Cmp.{IsEquivalence}
 use Rattle.std.specs.Option.{option_map}
 use Rattle.std.specs.Arc.{arc_value}
@@ -10,12 +10,12 @@ use Rattle.frames.specs.Recorded.{AllFit}
 use Rattle.checkpoints.specs.Segment.{SegmentRun}
 use Rattle.schedule_trie.specs.Forest.{step_of, index_of}
 use Rattle.schedule_trie.specs.Cut.{Cut, piece_at, slots_of, line, has, keys_in, forest, LiesIn}
-use Rattle.schedule_trie.specs.Climbs.{keys_up_to, keys_to, IsReached}
+use Rattle.schedule_trie.specs.Climbs.{keys_up_to, keys_to}
 use Rattle.schedule_trie.proofs.Climbs.{up_to-here}
 use Rattle.schedule_trie.proofs.Lines.{slots_in_on}
 use Rattle.schedule_trie.proofs.Partings.{parting, has-in}
 use Rattle.cutoff.specs.Fitting.{StoredRun, run_of, RunPart, Settles, reached, run_at, part_of, KeepsRuns, IsFilled}
-use Rattle.cutoff.specs.Prefixes.{RunsTo, IsKnown, IsMarked, IsPlaceIn, IsRest, SettlesTo}
+use Rattle.cutoff.specs.Prefixes.{RunsTo, IsKnown, IsBehind, IsMarked, IsPlaceIn, IsHung, IsLeft, SettlesTo}
 use Rattle.cutoff.specs.Held.{Charted, StepsFit, IsSettledLast, keys_or, keys_named, reached_by, last_part}
 use Rattle.cutoff.proofs.Walks.{reached_none}
 
@@ -24,23 +24,28 @@ last_of_parts [] p = refl
 last_of_parts (q ∷ []) p = refl
 last_of_parts (q ∷ r ∷ before) p = last_of_parts (r ∷ before) p
 
--- what is left of each branch that has a key
-module _ {R P : Type 0} (E : R → R → Bool) (equal : IsEquivalence E) (is : R → Behaviour P) (cut : Cut (StoredRun R P)) (start : Configuration R P) (key : ℕ) (known front : Option ℕ) (left : List ℕ)
-    (down : IsKnown E is cut start key known) (path : (i : ℕ) → has key (keys_in cut.strands i) ≡ true
-    → IsReached (keys_in cut.strands i) front × (keys_up_to key (keys_in cut.strands i) ≡ keys_to (keys_in cut.strands i) front ++ left))
-    (ends : (front ≡ known) ⊎ (front ≡ None)) (fits : StepsFit (is start.register) (forest cut)) where
-  pub rest_in : (i count place : ℕ) → IsPlaceIn cut key count place i → IsRest E is cut start front left key count place i
-  rest_in i count place lies = record {
-    lies = lies;
-    reached = (path i lies.there).0;
-    down = by ends;
-    path = (path i lies.there).1;
-    fits = subst (λ l. AllFit (is start.register) (map step_of l)) (slots_in_on (piece_at cut.pieces) cut.strands i) (fits i);
-  }
+-- what is left of each branch that has a key, of which runs hang from another one
+module _ {R P : Type 0} (E : R → R → Bool) (equal : IsEquivalence E) (is : R → Behaviour P) (cut : Cut (StoredRun R P)) (start : Configuration R P) (hung key : ℕ) (known front : Option ℕ) (left : List ℕ)
+    (hangs : (i : ℕ) → has key (keys_in cut.strands i) ≡ true → IsHung E is cut hung key i) (down : IsKnown E is cut start hung known) (behind : IsBehind cut hung known front left)
+    (fits : StepsFit (is start.register) (forest cut)) where
+  pub left_in : (i count place : ℕ) → IsPlaceIn cut key count place i → IsLeft E is cut start front left hung key count place i
+  left_in i count place lies =
+      let on = hangs i lies.there in
+      let path = behind.1 i on.there in
+      record {
+        hanging = on;
+        rest = record {
+          lies = lies;
+          reached = path.0;
+          down = by behind.0 on.there;
+          path = on.path ∙ ap (λ l. l ++ on.below) path.1 ∙ append_assoc (keys_to (keys_in cut.strands i) front) left on.below;
+          fits = subst (λ l. AllFit (is start.register) (map step_of l)) (slots_in_on (piece_at cut.pieces) cut.strands i) (fits i);
+        };
+      }
     where
-      by : (front ≡ known) ⊎ (front ≡ None) → RunsTo E is cut start front (keys_in cut.strands i)
-      by (inl e) = subst (λ o. RunsTo E is cut start o (keys_in cut.strands i)) (sym e) (down i lies.there).1
-      by (inr e) =
+      by : (front ≡ known) ⊎ (front ≡ None) → has hung (keys_in cut.strands i) ≡ true → RunsTo E is cut start front (keys_in cut.strands i)
+      by (inl e) there = subst (λ o. RunsTo E is cut start o (keys_in cut.strands i)) (sym e) (down i there).1
+      by (inr e) there =
           subst (λ o. RunsTo E is cut start o (keys_in cut.strands i)) (sym e)
           (record { register = equal.refl start.register; memory = refl; running = refl; stopped = refl })
 

@@ -8,7 +8,9 @@ pub mod Descents
 pub mod Climbs
 pub mod Paths
 pub mod Prefixes
+pub mod Hangings
 pub mod Rests
+pub mod Lefts
 pub mod Lasts
 pub mod Installed
 pub mod Plannings

@@ -1,5 +1,5 @@
 -- Stored runs down a branch, one more at a time.
-use Rattle.std.proofs.Common.{◌≡◌, ◌⊎◌, ℕ, Bool, true, nat_eq, List, [], ◌∷◌, ◌++◌, Option, Some, None, slice_get, inl, inr, refl, sym, ap, subst, ◌∙◌}
+use Rattle.std.proofs.Common.{◌≡◌, ◌⊎◌, ℕ, Bool, true, false, nat_eq, List, [], ◌∷◌, ◌++◌, Option, Some, None, slice_get, inl, inr, refl, sym, ap, subst, ◌∙◌, true≢false, eq-eqb}
 use Rattle.std.specs.Prelude.{⊤}
 use Rattle.std.specs.Option.{option_eq, option_map}
 use Rattle.std.proofs.lemmas.Bool.{eqb-true}
@@ -11,6 +11,7 @@ use Rattle.checkpoints.specs.Segment.{IsRun}
 use Rattle.schedule_trie.specs.Cut.{Cut, piece_at, note_of, keys_in, has}
 use Rattle.schedule_trie.specs.Climbs.{keys_up_to, keys_to}
 use Rattle.schedule_trie.proofs.Climbs.{IsStepUp}
+use Rattle.schedule_trie.proofs.Once.{has_cases, has-head, has-tail}
 use Rattle.cutoff.specs.Fitting.{StoredRun, run_of, RunFits, steps_at}
 use Rattle.cutoff.specs.Links.{alone, IsStored, IsLinked}
 use Rattle.cutoff.specs.Prefixes.{RunsDown, RunsTo, IsMarked, come_to, exit_or}
@@ -75,6 +76,16 @@ same_key None None e = refl
 same_key None (Some k) e = cc
 same_key (Some j) None e = cc
 same_key (Some j) (Some k) e = ap Some (eqb-true j k e)
+
+-- a key that is another one, and stands before it where it stands down to it
+pub other_key : (f k : ℕ) (at front : Option ℕ) → front ≡ Some f → at ≡ Some k → option_eq nat_eq at front ≡ false → f ≡ k → ⊥
+other_key f k at front e here differs same =
+    true≢false (sym (eq-eqb k f (sym same)) ∙ sym (ap (λ o. option_eq nat_eq o front) here ∙ ap (option_eq nat_eq (Some k)) e) ∙ differs)
+
+pub by_other : (f k : ℕ) (keys : List ℕ) → has f (keys ++ k ∷ []) ≡ true → (f ≡ k → ⊥) → has f keys ≡ true
+by_other f k [] h other = has_cases f k [] (has f [] ≡ true) h (λ e. absurd (other e)) (λ r. r)
+by_other f k (j ∷ keys) h other =
+    has_cases f j (keys ++ k ∷ []) (has f (j ∷ keys) ≡ true) h (λ e. subst (λ z. has f (z ∷ keys) ≡ true) e (has-head f keys)) (λ r. has-tail f j keys (by_other f k keys r other))
 
 -- what is known of the part that fits, on one of the branches
 pub known_at : {R P : Type 0} (E : R → R → Bool) (is : R → Behaviour P) (cut : Cut (StoredRun R P)) (start entry : Configuration R P) (key k : ℕ) (front at link : Option ℕ)

@@ -2,7 +2,7 @@
 use Rattle.std.proofs.Common.{◌≡◌, ◌⊎◌, ℕ, suc, drop, get_or, ◌+◌, ◌-◌, ◌<◌, ◌≤◌, Bool, true, false, List, [], ◌∷◌, ◌++◌, length, map, Option, Some, None, IsSome, inl, inr, refl, sym, ap, subst, ◌∙◌, arith, append_assoc, append-nil, true≢false}
 use Rattle.std.specs.Prelude.{min}
 use Rattle.std.specs.Cmp.{IsPartialEquivalence, IsEquivalence}
-use Rattle.std.specs.Option.{option_map}
+use Rattle.std.specs.Option.{option_map, IfSome}
 use Rattle.std.proofs.Math.Seq.{drop-cons}
 use Rattle.std.proofs.lemmas.List.{length-append, length-map}
 use Rattle.frames.specs.Behaviour.{Behaviour}
@@ -17,11 +17,12 @@ use Rattle.schedule_trie.proofs.Once.{has-head, has-tail}
 use Rattle.schedule_trie.proofs.Climbs.{once_before}
 use Rattle.schedule_trie.proofs.Partings.{parting}
 use Rattle.schedule_trie.proofs.Pushes.{line-append}
-use Rattle.cutoff.specs.Fitting.{StoredRun, run_of, RunPart, RunFits, IsSegmentSettled, Settles, steps_at, reached, exit_of}
+use Rattle.cutoff.specs.Fitting.{StoredRun, run_of, RunPart, RunFits, IsWork, IsSegmentSettled, Settles, steps_at, run_at, reached, exit_of}
 use Rattle.cutoff.specs.Links.{alone, IsLinked}
-use Rattle.cutoff.specs.Prefixes.{RunsDown, EndsIn, IsRest, EndsWith, SettlesTo, come_to, exit_or}
+use Rattle.cutoff.specs.Prefixes.{RunsDown, Hangs, EndsIn, IsRest, EndsWith, SettlesTo, come_to, exit_or}
 use Rattle.cutoff.proofs.Climbs.{path_once}
 use Rattle.cutoff.proofs.Fits.{register_kept, same_symm, run_fits_alike, fits_to_note, exit_same}
+use Rattle.cutoff.proofs.Hangings.{hang_kept, hang_down, has-left}
 use Rattle.cutoff.proofs.Links.{linked_none}
 use Rattle.cutoff.proofs.Prefixes.{down_same, down_more}
 use Rattle.cutoff.proofs.Segments.{noted_still}
@@ -52,10 +53,24 @@ down_kept E is cut new b c (k ∷ ks) end same d =
       subst (λ l. RunsDown E is new b (replayed b c l) ks end) steps (down_kept E is cut new b (replayed b c (steps_at cut k)) ks end (λ j h. same j (has-tail j k ks h)) d.1),
     )
 
+-- the last of some keys; `above` where there are none
+abbrev pub last_or : Option ℕ → List ℕ → Option ℕ
+last_or above [] = above
+last_or above (k ∷ ks) = last_or (Some k) ks
+
+last_or-last : (above : Option ℕ) (front : List ℕ) (k : ℕ) → last_or above (front ++ k ∷ []) ≡ Some k
+last_or-last above [] k = refl
+last_or-last above (j ∷ front) k = last_or-last (Some j) front k
+
+pub last_to : (keys : List ℕ) (last : Option ℕ) → IsReached keys last → last_or None (keys_to keys last) ≡ last
+last_to keys None h = refl
+last_to keys (Some k) h = let p = parting keys k h in ap (last_or None) p.to ∙ last_or-last None p.front k
+
 -- it has come behind the run that is stored at `above`, if a key is named, with the segments `left` still to go
 pub record IsGoing {R P : Type 0} (E : R → R → Bool) (is : R → Behaviour P) (old cut : Cut (StoredRun R P)) (start : Configuration R P) (next key count : ℕ)
     (keys left back : List ℕ) (place n : ℕ) (above : Option ℕ) : Type 0 where
   pub done : List ℕ
+  pub last : last_or None done ≡ above
   pub path : keys_up_to key keys ≡ done ++ left
   pub whole : keys ≡ done ++ (left ++ back)
   pub down : RunsDown E is cut (is start.register) start done (come_to cut start above)
@@ -75,6 +90,11 @@ more old key count rest left some ends = let s = ends.sum in omega arith
 none_left : (front : List ℕ) (key : ℕ) → [] ≡ front ++ key ∷ [] → ⊥
 none_left [] key e = cc
 none_left (k ∷ front) key e = cc
+
+-- each segment has a step
+some_steps : {T : Type 0} (o : Option (Piece T)) → IsSome o → IfSome o (λ p. (0 < length p.slots) × (length p.slots ≤ 128)) → 0 < length (map step_of (slots_of o))
+some_steps None h s = absurd (true≢false (sym h))
+some_steps (Some p) h s = let some = s.0 in let e : length (map step_of p.slots) ≡ length p.slots = length-map p.slots step_of in omega arith
 
 -- it goes on behind one more settled segment
 module _ {R P : Type 0} (E : R → R → Bool) (equal : IsEquivalence E) (per : IsPartialEquivalence E) (is : R → Behaviour P) (alike : (x y : R) → E x y ≡ true → is x ≡ is y)
@@ -135,6 +155,18 @@ module _ {R P : Type 0} (E : R → R → Bool) (equal : IsEquivalence E) (per : 
         (ap (λ r. r.steps) same_run ∙ settled.fits.steps ∙ sym steps_still) (is start.register) start g.done refl
         (down_same E per is alike new (is start.register) start g.done s.run.entry (come_to cut start above) entry kept))
 
+    -- where nothing is replayed its run stays stored
+    pub kept_here : IsCut old → work ≡ 0 → run_at new k ≡ run_at old k
+    kept_here whole none = by settled.work
+      where
+        by : IsWork E cut (come_to cut start above) k run work → run_at new k ≡ run_at old k
+        by (inl f) = ap (option_map run_of) noted ∙ ap Some same_run ∙ sym f.1 ∙ ap (λ o. option_map run_of (note_of o)) (g.walk.ahead k (has-head k (ks ++ back)))
+        by (inr f) =
+            let some = some_steps (piece_at old.pieces k) (g.walk.there k (has-head k (ks ++ back))) (whole.sizes k) in
+            let same : length (steps_at cut k) ≡ length (steps_at old k) = ap (λ o. length (map step_of (slots_of o))) (g.walk.ahead k (has-head k (ks ++ back))) in
+            let all : work ≡ length (steps_at cut k) = f.1 in
+            absurd (omega arith)
+
     abbrev counts : ℕ
     counts = min g.rest (length run.steps)
 
@@ -189,6 +221,7 @@ module _ {R P : Type 0} (E : R → R → Bool) (equal : IsEquivalence E) (per : 
     pub going_step : IsGoing E is old new start after key count keys ks back place (n + work) (Some k)
     going_step = record {
       done = g.done ++ k ∷ [];
+      last = last_or-last None g.done k;
       path = g.path ∙ sym (append_assoc g.done (k ∷ []) ks);
       whole = g.whole ∙ sym (append_assoc g.done (k ∷ []) (ks ++ back));
       down = down_here;
@@ -201,19 +234,6 @@ module _ {R P : Type 0} (E : R → R → Bool) (equal : IsEquivalence E) (per : 
       some = g.some;
       few = g.few;
     }
-
--- the last of some keys; `above` where there are none
-abbrev last_or : Option ℕ → List ℕ → Option ℕ
-last_or above [] = above
-last_or above (k ∷ ks) = last_or (Some k) ks
-
-last_or-last : (above : Option ℕ) (front : List ℕ) (k : ℕ) → last_or above (front ++ k ∷ []) ≡ Some k
-last_or-last above [] k = refl
-last_or-last above (j ∷ front) k = last_or-last (Some j) front k
-
-last_to : (keys : List ℕ) (last : Option ℕ) → IsReached keys last → last_or None (keys_to keys last) ≡ last
-last_to keys None h = refl
-last_to keys (Some k) h = let p = parting keys k h in ap (last_or None) p.to ∙ last_or-last None p.front k
 
 module _ {R P : Type 0} (E : R → R → Bool) (equal : IsEquivalence E) (per : IsPartialEquivalence E) (is : R → Behaviour P) (alike : (x y : R) → E x y ≡ true → is x ≡ is y) where
   -- it goes down a part that stored runs fit, and replays nothing
@@ -259,6 +279,7 @@ module _ {R P : Type 0} (E : R → R → Bool) (equal : IsEquivalence E) (per : 
       let within : place ≤ length (line (piece_at old.pieces) keys) = omega (arith, few, sum, cells) in
       let begun : IsGoing E is old old start next key count keys (keys_to keys front ++ left) p.back place 0 None = record {
         done = [];
+        last = refl;
         path = r.path;
         whole = parts;
         down = same;
@@ -306,30 +327,50 @@ module _ {R P : Type 0} (E : R → R → Bool) (is : R → Behaviour P) (old cut
             (subst (λ l. RunsDown E is cut (is start.register) start l (come_to cut start above)) (sym (g.path ∙ append-nil g.done)) g.down);
       }
 
--- where it stands, by the index of the next key
+-- where it stands, by the index of the next key, with `more` behind those of a list
 module _ {R P : Type 0} (E : R → R → Bool) (equal : IsEquivalence E) (per : IsPartialEquivalence E) (is : R → Behaviour P) (alike : (x y : R) → E x y ≡ true → is x ≡ is y)
-    {old cut : Cut (StoredRun R P)} {start : Configuration R P} {next key count : ℕ} {keys back : List ℕ} {place n : ℕ} {above : Option ℕ} (all : List ℕ) (index : ℕ)
-    (g : IsGoing E is old cut start next key count keys (drop index all) back place n above) (h : index < length all) where
-  going_at : IsGoing E is old cut start next key count keys (get_or all index 0 ∷ drop (index + 1) all) back place n above
-  going_at =
-      let step : suc index ≡ index + 1 = omega arith in
-      subst (λ l. IsGoing E is old cut start next key count keys l back place n above) (drop-cons all index 0 h ∙ ap (λ j. get_or all index 0 ∷ drop j all) step) g
+    {old cut : Cut (StoredRun R P)} {start : Configuration R P} {next key count : ℕ} {keys back : List ℕ} {place n : ℕ} {above : Option ℕ} (all : List ℕ) (index : ℕ) (more : List ℕ)
+    (g : IsGoing E is old cut start next key count keys (drop index all ++ more) back place n above) where
+  pub going_past : length all ≤ index → IsGoing E is old cut start next key count keys more back place n above
+  going_past past = subst (λ l. IsGoing E is old cut start next key count keys (l ++ more) back place n above) (drop_past index all past) g
 
-  pub small_next : length (steps_at cut (get_or all index 0)) ≤ 128
-  small_next = small_left E equal per is alike old cut start next key count keys (drop (index + 1) all) back (get_or all index 0) place n above going_at
+  module _ (h : index < length all) where
+    going_at : IsGoing E is old cut start next key count keys (get_or all index 0 ∷ (drop (index + 1) all ++ more)) back place n above
+    going_at =
+        let step : suc index ≡ index + 1 = omega arith in
+        subst (λ l. IsGoing E is old cut start next key count keys (l ++ more) back place n above) (drop-cons all index 0 h ∙ ap (λ j. get_or all index 0 ∷ drop j all) step) g
 
-  pub fits_next : AllFit (is start.register) (steps_at cut (get_or all index 0))
-  fits_next = fits_left E equal per is alike old cut start next key count keys (drop (index + 1) all) back (get_or all index 0) place n above going_at
+    pub small_next : length (steps_at cut (get_or all index 0)) ≤ 128
+    small_next = small_left E equal per is alike old cut start next key count keys (drop (index + 1) all ++ more) back (get_or all index 0) place n above going_at
 
-  pub going_next : (new : Cut (StoredRun R P)) (after work : ℕ) → (run : SegmentRun R P) × IsSegmentSettled E cut new (come_to cut start above) (get_or all index 0) run work
-      × IsRun (is run.entry.register) run → IsLinked E start.register after None (alone start) new
-      → IsGoing E is old new start after key count keys (drop (index + 1) all) back place (n + work) (Some (get_or all index 0))
-  going_next new after work settled linked =
-      going_step E equal per is alike old cut start next key count keys (drop (index + 1) all) back (get_or all index 0) place n above going_at
-      new after settled.0 work settled.1 linked settled.2
+    pub fits_next : AllFit (is start.register) (steps_at cut (get_or all index 0))
+    fits_next = fits_left E equal per is alike old cut start next key count keys (drop (index + 1) all ++ more) back (get_or all index 0) place n above going_at
 
-pub going_ends : {R P : Type 0} (E : R → R → Bool) (is : R → Behaviour P) (old cut : Cut (StoredRun R P)) (start : Configuration R P) (next key count i place n index : ℕ) (all back : List ℕ) (above : Option ℕ)
-    → length all ≤ index → IsGoing E is old cut start next key count (keys_in old.strands i) (drop index all) back place n above → SettlesTo E is old cut start key count place i n
-going_ends E is old cut start next key count i place n index all back above past g =
-    going_settles E is old cut start next key count i place n back above
-    (subst (λ l. IsGoing E is old cut start next key count (keys_in old.strands i) l back place n above) (drop_past index all past) g)
+    module _ (new : Cut (StoredRun R P)) (after work : ℕ) (settled : (run : SegmentRun R P) × IsSegmentSettled E cut new (come_to cut start above) (get_or all index 0) run work × IsRun (is run.entry.register) run)
+        (linked : IsLinked E start.register after None (alone start) new) where
+      pub going_next : IsGoing E is old new start after key count keys (drop (index + 1) all ++ more) back place (n + work) (Some (get_or all index 0))
+      going_next =
+          going_step E equal per is alike old cut start next key count keys (drop (index + 1) all ++ more) back (get_or all index 0) place n above going_at
+          new after settled.0 work settled.1 linked settled.2
+
+      pub kept_next : IsCut old → work ≡ 0 → run_at new (get_or all index 0) ≡ run_at old (get_or all index 0)
+      kept_next =
+          kept_here E equal per is alike old cut start next key count keys (drop (index + 1) all ++ more) back (get_or all index 0) place n above going_at
+          new after settled.0 work settled.1 linked settled.2
+
+-- what is left hangs from a run that stays stored
+module _ {R P : Type 0} (E : R → R → Bool) (equal : IsEquivalence E) (per : IsPartialEquivalence E) (is : R → Behaviour P) (alike : (x y : R) → E x y ≡ true → is x ≡ is y)
+    (old cut : Cut (StoredRun R P)) (start : Configuration R P) (next key count i place n : ℕ) (left back : List ℕ) (above : Option ℕ)
+    (g : IsGoing E is old cut start next key count (keys_in old.strands i) left back place n above) where
+  home_here : E (come_to cut start above).register start.register ≡ true
+  home_here = subst (λ (d : Configuration R P). E d.register start.register ≡ true) g.from (subst (λ r. E (exit_of start g.parts).register r ≡ true) g.walk.home g.walk.same.register)
+
+  pub hanging_settles : Hangs E is old (come_to cut start above) left → IsLinked E start.register next None (alone start) cut → SettlesTo E is old cut start key count place i n
+  hanging_settles hangs linked =
+      let c : Configuration R P = come_to cut start above in
+      let here : SameConfiguration E c c = record { register = equal.refl c.register; memory = refl; running = refl; stopped = refl } in
+      let own : is c.register ≡ is start.register = alike c.register start.register home_here in
+      let down = hang_down E is per alike cut (is start.register) c c left here own (hang_kept E is old cut c left (λ j h. g.walk.ahead j (has-left j left back h)) hangs) in
+      going_settles E is old cut start next key count i place n back (last_or above left)
+      (going_down E equal per is alike old cut start next key count (keys_in old.strands i) left [] back place n above c down.0 linked here own down.1
+      (subst (λ l. IsGoing E is old cut start next key count (keys_in old.strands i) l back place n above) (sym (append-nil left)) g))

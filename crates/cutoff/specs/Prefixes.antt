@@ -37,6 +37,11 @@ module _ {R P : Type 0} (E : R → R → Bool) (is : R → Behaviour P) (cut : C
   RunsDown b c [] end = SameConfiguration E end c
   RunsDown b c (k ∷ ks) end = HasTrueRun c k × RunsDown b (replayed b c (steps_at cut k)) ks end
 
+  -- such runs are stored down these segments: the first fits where replay has come to c, and each next one what the one above comes to
+  abbrev pub Hangs : Configuration R P → List ℕ → Type 0
+  Hangs c [] = Unit {0}
+  Hangs c (k ∷ ks) = (here : HasTrueRun c k) × Hangs here.stored.run.exit ks
+
   module _ (start : Configuration R P) where
     -- such runs are stored down to a key, if one is named, among these keys
     abbrev pub RunsTo : Option ℕ → List ℕ → Type 0
@@ -78,6 +83,18 @@ pub record IsRest {R P : Type 0} (E : R → R → Bool) (is : R → Behaviour P)
   pub down : RunsTo E is cut start front (keys_in cut.strands i)
   pub path : keys_up_to key (keys_in cut.strands i) ≡ keys_to (keys_in cut.strands i) front ++ left
   pub fits : AllFit (is start.register) (map step_of (line (piece_at cut.pieces) (keys_in cut.strands i)))
+
+-- such runs hang down to a key of a branch from the run that is stored at another one, or the two keys are one
+pub record IsHung {R P : Type 0} (E : R → R → Bool) (is : R → Behaviour P) (cut : Cut (StoredRun R P)) (hung key i : ℕ) : Type 0 where
+  pub there : has hung (keys_in cut.strands i) ≡ true
+  pub below : List ℕ
+  pub path : keys_up_to key (keys_in cut.strands i) ≡ keys_up_to hung (keys_in cut.strands i) ++ below
+  pub hangs : (start : Configuration R P) → Hangs E is cut (come_to cut start (Some hung)) below
+
+-- what is left of a branch down to a key: first these segments, and then those whose runs hang from that of `hung`
+pub record IsLeft {R P : Type 0} (E : R → R → Bool) (is : R → Behaviour P) (cut : Cut (StoredRun R P)) (start : Configuration R P) (front : Option ℕ) (left : List ℕ) (hung key count place i : ℕ) : Type 0 where
+  pub hanging : IsHung E is cut hung key i
+  pub rest : IsRest E is cut start front (left ++ hanging.below) key count place i
 
 -- the last of these parts is the run that is stored at a key, of which so many steps count
 pub record EndsWith {R P : Type 0} (cut : Cut (StoredRun R P)) (key count : ℕ) (parts : List (RunPart R P)) : Type 0 where

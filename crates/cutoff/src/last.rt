@@ -9,9 +9,9 @@ ghost use Rattle.schedule_trie.specs.Cut.{forest, keys_in, line, piece_at, IsCut
 ghost use Rattle.cutoff.specs.Fitting.{IsSegmentSettled, IsFilled, KeepsRuns, reached, run_at, steps_at};
 ghost use Rattle.cutoff.specs.Held.{StepsFit};
 ghost use Rattle.cutoff.specs.Links.{IsLinked, alone};
-ghost use Rattle.cutoff.specs.Prefixes.{IsMarked, IsPlaceIn, IsRest, SettlesTo, come_to, exit_or, run_named};
+ghost use Rattle.cutoff.specs.Prefixes.{IsMarked, IsPlaceIn, IsLeft, SettlesTo, come_to, exit_or, run_named};
 
-use crate::prefix::rest_to;
+use crate::prefix::{Rest, keys_behind, rest_to};
 use crate::settle::{fitting, settle_segment};
 use crate::stored::Stored;
 use checkpoints::run::Run;
@@ -134,37 +134,52 @@ fn settle_behind<R: Register>(
     Ok(settled.replayed())
 }
 
-/// Settles segments one behind the other, the first behind one down to which stored runs fit, if one is named. How many steps
-/// were replayed.
+/// Settles what is left of a branch down to a segment. Where the run that others hang from stays stored, so do they. How many
+/// steps were replayed.
 fn settle_rest<R: Register>(
     alloc: Global,
     trie: &mut Trie<Stored<R>>,
     next: &mut u64,
     start: &Config<R>,
-    front: Option<SegKey>,
-    keys: &[SegKey],
+    rest: &Rest,
+    key: SegKey,
 ) -> Result<u32, AllocError>
     requires linked { IsLinked R.PartialEq.eq start.now.register next.old None
         (alone start.now) trie.old }
     requires cut { IsCut trie.old }
-    requires rest { (i : ℕ) × (key : ℕ) × (count : ℕ) × (place : ℕ)
-        × IsRest R.PartialEq.eq R.is trie.old start.now front keys.now key count place i
+    requires left { (i : ℕ) × (count : ℕ) × (place : ℕ) × IsLeft R.PartialEq.eq R.is trie.old
+        start.now rest.now.front rest.now.keys.items rest.now.hung key count place i
         × (length (line (piece_at trie.old.pieces) (keys_in trie.old.strands i)) ≤ 4294967295) }
-    ensures settles { IfOk result (λ n. (i key count place : ℕ)
-        → IsRest R.PartialEq.eq R.is trie.old start.now front keys.now key count place i
+    ensures settles { IfOk result (λ n. (i count place : ℕ) → IsLeft R.PartialEq.eq R.is trie.old
+        start.now rest.now.front rest.now.keys.items rest.now.hung key count place i
         → SettlesTo R.PartialEq.eq R.is trie.old trie.new start.now key count place i n) }
-    ensures keeps { (i key count place : ℕ)
-        → IsRest R.PartialEq.eq R.is trie.old start.now front keys.now key count place i
+    ensures keeps { (i count place : ℕ) → IsLeft R.PartialEq.eq R.is trie.old start.now
+        rest.now.front rest.now.keys.items rest.now.hung key count place i
         → KeepsRuns trie.old trie.new (IsFilled R.PartialEq.eq (R.is start.now.register)
         trie.old trie.new start.now (reached trie.old place (keys_in trie.old.strands i))) }
     ensures linked { IsLinked R.PartialEq.eq start.now.register next.new None
         (alone start.now) trie.new }
 {
     let mut replayed = 0;
-    let mut above = front;
-    for key in keys {
-        replayed += settle_behind(alloc, trie, next, start, above, *key)?;
-        above = Some(*key);
+    let mut last = 0;
+    let mut above = rest.front;
+    for segment in &rest.keys {
+        last = settle_behind(alloc, trie, next, start, above, *segment)?;
+        replayed += last;
+        above = Some(*segment);
+    }
+    if last == 0 {
+        return Ok(replayed);
+    }
+    trie.held();
+    let (_, hanging) = keys_behind(alloc, trie, Some(rest.hung), key)?;
+    for segment in &hanging {
+        let here = settle_behind(alloc, trie, next, start, above, *segment)?;
+        replayed += here;
+        above = Some(*segment);
+        if here == 0 {
+            return Ok(replayed);
+        }
     }
     Ok(replayed)
 }
@@ -196,8 +211,8 @@ pub(crate) fn settle_to<R: Register>(
     ensures linked { IsLinked R.PartialEq.eq start.now.register next.new None
         (alone start.now) trie.new }
 {
-    let (front, keys) = rest_to(alloc, trie, start, mark, key)?;
-    let replayed = settle_rest(alloc, trie, next, start, front, &keys)?;
+    let rest = rest_to(alloc, trie, start, mark, key)?;
+    let replayed = settle_rest(alloc, trie, next, start, &rest, key)?;
     let Some(run) = run_named(trie, Some(key))? else {
         unreachable!()
     };

@@ -1,62 +1,205 @@
-use Rattle.std.proofs.Common.{sym, subst, arith}
+use Rattle.std.proofs.Common.{◌≡◌, ◌+◌, ◌++◌, [], Some, true, drop, get_or, refl, sym, subst, ◌∙◌, arith, append-nil}
 use Rattle.cutoff.specs.Fitting.{KeepsRuns, IsFilled, reached}
-use Rattle.schedule_trie.specs.Cut.{keys_in}
-use Rattle.cutoff.proofs.Rests.{going_starts, going_next, going_ends, small_next, fits_next}
+use Rattle.cutoff.specs.Prefixes.{Hangs, come_to}
+use Rattle.schedule_trie.specs.Cut.{has, keys_in}
+use Rattle.cutoff.proofs.Rests.{IsGoing, going_starts, going_past, going_next, kept_next, going_settles, small_next, fits_next}
+use Rattle.cutoff.proofs.Lefts.{again_left, hangs_next, kept_settles, early_settles}
 use Rattle.cutoff.proofs.last.settle_rest.Goals as goal
 
-pub loop-key-init : goal.loop-key-init
-loop-key-init g c = record {
-  going = λ i key count place r. going_starts g.R.PartialEq.eq g.met.R.Eq.laws g.met.R.PartialEq.laws g.R.Behaves.is g.met.R.Register.alike
-      c.args.trie.now c.args.start.now c.args.next.now c.args.front c.args.keys.now key count place i c.requires.cut c.requires.linked r;
+pub loop-segment-init : goal.loop-segment-init
+loop-segment-init g c = record {
+  going = λ i count place left.
+      let trie = c.args.trie.now in
+      let start = c.args.start.now in
+      let on = going_starts g.R.PartialEq.eq g.met.R.Eq.laws g.met.R.PartialEq.laws g.R.Behaves.is g.met.R.Register.alike
+      trie start c.args.next.now c.args.rest.now.front (c.args.rest.now.keys.items ++ left.hanging.below) c.args.key count place i c.requires.cut c.requires.linked left.rest in (
+        on.0,
+        subst (λ l. IsGoing g.R.PartialEq.eq g.R.Behaves.is trie trie start c.args.next.now c.args.key count (keys_in trie.strands i) (l ++ left.hanging.below) on.0 place 0 c.args.rest.now.front)
+            (sym c.deref-segment-items.ensures.value) on.1,
+      );
+  kept = λ none. refl;
   linked = c.requires.linked;
 }
 
 pub settle_behind-requires-clause-short : goal.settle_behind-requires-clause-short
 settle_behind-requires-clause-short g c =
-    let r = c.requires.rest in
-    let on = c.loop-key.invariant.going r.0 r.1 r.2 r.3 r.4 in
-    small_next g.R.PartialEq.eq g.met.R.Eq.laws g.met.R.PartialEq.laws g.R.Behaves.is g.met.R.Register.alike c.args.keys.now c.loop-key.key-index on.1 c.loop-key-test.true
+    let r = c.requires.left in
+    let on = c.loop-segment.invariant.going r.0 r.1 r.2 r.3 in
+    small_next g.R.PartialEq.eq g.met.R.Eq.laws g.met.R.PartialEq.laws g.R.Behaves.is g.met.R.Register.alike c.deref-segment-items.result.now c.loop-segment.segment-index r.3.hanging.below on.1
+    c.loop-segment-test.true
 
 pub settle_behind-requires-clause-fits : goal.settle_behind-requires-clause-fits
 settle_behind-requires-clause-fits g c =
-    let r = c.requires.rest in
-    let on = c.loop-key.invariant.going r.0 r.1 r.2 r.3 r.4 in
-    fits_next g.R.PartialEq.eq g.met.R.Eq.laws g.met.R.PartialEq.laws g.R.Behaves.is g.met.R.Register.alike c.args.keys.now c.loop-key.key-index on.1 c.loop-key-test.true
+    let r = c.requires.left in
+    let on = c.loop-segment.invariant.going r.0 r.1 r.2 r.3 in
+    fits_next g.R.PartialEq.eq g.met.R.Eq.laws g.met.R.PartialEq.laws g.R.Behaves.is g.met.R.Register.alike c.deref-segment-items.result.now c.loop-segment.segment-index r.3.hanging.below on.1
+    c.loop-segment-test.true
 
-pub returns-in_err-replayed-clause-keeps : goal.returns-in_err-replayed-clause-keeps
-returns-in_err-replayed-clause-keeps g c = λ i key count place r.
+pub returns-in_err-last-clause-keeps : goal.returns-in_err-last-clause-keeps
+returns-in_err-last-clause-keeps g c = λ i count place left.
     let E = g.R.PartialEq.eq in
     let trie = c.args.trie.now in
     let start = c.args.start.now in
-    let on = c.loop-key.invariant.going i key count place r in
-    subst (λ t. KeepsRuns trie t (IsFilled E (g.R.Behaves.is start.register) trie t start (reached trie place (keys_in trie.strands i)))) (sym c.in_err-replayed.ensures.unchanged) on.1.walk.keeps
+    let on = c.loop-segment.invariant.going i count place left in
+    subst (λ t. KeepsRuns trie t (IsFilled E (g.R.Behaves.is start.register) trie t start (reached trie place (keys_in trie.strands i)))) (sym c.in_err-last.ensures.unchanged) on.1.walk.keeps
 
 pub overflow_add-replayed : goal.overflow_add-replayed
 overflow_add-replayed g c =
-    let r = c.requires.rest in
-    let on = c.loop-key.invariant.going r.0 r.1 r.2 r.3 r.4 in
-    let next = going_next g.R.PartialEq.eq g.met.R.Eq.laws g.met.R.PartialEq.laws g.R.Behaves.is g.met.R.Register.alike c.args.keys.now c.loop-key.key-index on.1 c.loop-key-test.true
-    c.settle_behind.new.trie c.settle_behind.new.next c.in_ok-replayed.field-0 c.in_ok-replayed.ensures.settled c.settle_behind.ensures.linked in
+    let r = c.requires.left in
+    let on = c.loop-segment.invariant.going r.0 r.1 r.2 r.3 in
+    let next = going_next g.R.PartialEq.eq g.met.R.Eq.laws g.met.R.PartialEq.laws g.R.Behaves.is g.met.R.Register.alike c.deref-segment-items.result.now c.loop-segment.segment-index
+    r.3.hanging.below on.1 c.loop-segment-test.true
+    c.settle_behind.new.trie c.settle_behind.new.next c.in_ok-last.last c.in_ok-last.ensures.settled c.settle_behind.ensures.linked in
     let short = next.walk.short in
-    let few = r.5 in
+    let few = r.4 in
     omega (arith, short, few)
 
-pub loop-key-preserved : goal.loop-key-preserved
-loop-key-preserved g c = record {
-  going = λ i key count place r.
-      let on = c.loop-key.invariant.going i key count place r in (
+pub loop-segment-preserved : goal.loop-segment-preserved
+loop-segment-preserved g c =
+    let r = c.requires.left in record {
+      going = λ i count place left.
+          let on = c.loop-segment.invariant.going i count place left in (
+            on.0,
+            going_next g.R.PartialEq.eq g.met.R.Eq.laws g.met.R.PartialEq.laws g.R.Behaves.is g.met.R.Register.alike c.deref-segment-items.result.now c.loop-segment.segment-index
+                left.hanging.below on.1 c.loop-segment-test.true
+                c.settle_behind.new.trie c.settle_behind.new.next c.in_ok-last.last c.in_ok-last.ensures.settled c.settle_behind.ensures.linked,
+          );
+      kept = kept_next g.R.PartialEq.eq g.met.R.Eq.laws g.met.R.PartialEq.laws g.R.Behaves.is g.met.R.Register.alike c.deref-segment-items.result.now c.loop-segment.segment-index
+          r.3.hanging.below (c.loop-segment.invariant.going r.0 r.1 r.2 r.3).1 c.loop-segment-test.true
+          c.settle_behind.new.trie c.settle_behind.new.next c.in_ok-last.last c.in_ok-last.ensures.settled c.settle_behind.ensures.linked c.requires.cut;
+      linked = c.settle_behind.ensures.linked;
+    }
+
+pub returns-then-last-eq0-clause-settles : goal.returns-then-last-eq0-clause-settles
+returns-then-last-eq0-clause-settles g c = λ i count place left.
+    let on = c.loop-segment.invariant.going i count place left in
+    kept_settles g.R.PartialEq.eq g.met.R.Eq.laws g.met.R.PartialEq.laws g.R.Behaves.is g.met.R.Register.alike c.args.trie.now c.loop-segment.trie c.args.start.now c.loop-segment.next c.args.key
+    count i place c.loop-segment.replayed on.0 c.args.rest.now.hung c.loop-segment.above left.hanging
+    (going_past g.R.PartialEq.eq g.met.R.Eq.laws g.met.R.PartialEq.laws g.R.Behaves.is g.met.R.Register.alike c.deref-segment-items.result.now c.loop-segment.segment-index left.hanging.below on.1
+    c.loop-segment-test.false)
+    (c.loop-segment.invariant.kept c.if-last-eq0.true) c.loop-segment.invariant.linked
+
+pub returns-then-last-eq0-clause-keeps : goal.returns-then-last-eq0-clause-keeps
+returns-then-last-eq0-clause-keeps g c = λ i count place left. (c.loop-segment.invariant.going i count place left).1.walk.keeps
+
+pub keys_behind-requires-clause-there : goal.keys_behind-requires-clause-there
+keys_behind-requires-clause-there g c =
+    let r = c.requires.left in
+    let on = c.loop-segment.invariant.going r.0 r.1 r.2 r.3 in
+    (r.0, subst (λ s. has c.args.key (keys_in s r.0) ≡ true) (sym on.1.walk.keeps.strands) r.3.rest.lies.there)
+
+pub returns-in_err-hanging-clause-keeps : goal.returns-in_err-hanging-clause-keeps
+returns-in_err-hanging-clause-keeps g c = λ i count place left. (c.loop-segment.invariant.going i count place left).1.walk.keeps
+
+pub loop-segment-2-init : goal.loop-segment-2-init
+loop-segment-2-init g c =
+    let E = g.R.PartialEq.eq in
+    let is = g.R.Behaves.is in
+    let trie = c.args.trie.now in
+    let start = c.args.start.now in
+    record {
+      going = λ i count place left.
+          let on = c.loop-segment.invariant.going i count place left in
+          let past = going_past E g.met.R.Eq.laws g.met.R.PartialEq.laws is g.met.R.Register.alike c.deref-segment-items.result.now c.loop-segment.segment-index left.hanging.below on.1
+          c.loop-segment-test.false in
+          let same = again_left E is trie c.loop-segment.trie c.args.rest.now.hung c.args.key i c.in_ok-hanging.field-0-0 c.in_ok-hanging.hanging.items on.1.walk.keeps.strands left.hanging
+          left.rest.lies.there c.in_ok-hanging.ensures.behind c.in_ok-hanging.ensures.stops in (
+            on.0,
+            subst (λ l. IsGoing E is trie c.loop-segment.trie start c.loop-segment.next c.args.key count (keys_in trie.strands i) l on.0 place c.loop-segment.replayed c.loop-segment.above)
+                (same ∙ sym c.deref-segment-items-2.ensures.value ∙ sym (append-nil c.deref-segment-items-2.result.now)) past,
+          );
+      hangs = λ i count place left.
+          let on = c.loop-segment.invariant.going i count place left in
+          let same = again_left E is trie c.loop-segment.trie c.args.rest.now.hung c.args.key i c.in_ok-hanging.field-0-0 c.in_ok-hanging.hanging.items on.1.walk.keeps.strands left.hanging
+          left.rest.lies.there c.in_ok-hanging.ensures.behind c.in_ok-hanging.ensures.stops in
+          (come_to trie start (Some c.args.rest.now.hung), subst (Hangs E is trie (come_to trie start (Some c.args.rest.now.hung))) (same ∙ sym c.deref-segment-items-2.ensures.value) (left.hanging.hangs start));
+      linked = c.loop-segment.invariant.linked;
+    }
+
+pub settle_behind-requires-in-loop-segment-2-clause-short : goal.settle_behind-requires-in-loop-segment-2-clause-short
+settle_behind-requires-in-loop-segment-2-clause-short g c =
+    let r = c.requires.left in
+    let on = c.loop-segment-2.invariant.going r.0 r.1 r.2 r.3 in
+    small_next g.R.PartialEq.eq g.met.R.Eq.laws g.met.R.PartialEq.laws g.R.Behaves.is g.met.R.Register.alike c.deref-segment-items-2.result.now c.loop-segment-2.segment-index [] on.1
+    c.loop-segment-2-test.true
+
+pub settle_behind-requires-in-loop-segment-2-clause-fits : goal.settle_behind-requires-in-loop-segment-2-clause-fits
+settle_behind-requires-in-loop-segment-2-clause-fits g c =
+    let r = c.requires.left in
+    let on = c.loop-segment-2.invariant.going r.0 r.1 r.2 r.3 in
+    fits_next g.R.PartialEq.eq g.met.R.Eq.laws g.met.R.PartialEq.laws g.R.Behaves.is g.met.R.Register.alike c.deref-segment-items-2.result.now c.loop-segment-2.segment-index [] on.1
+    c.loop-segment-2-test.true
+
+pub returns-in_err-here-clause-keeps : goal.returns-in_err-here-clause-keeps
+returns-in_err-here-clause-keeps g c = λ i count place left.
+    let E = g.R.PartialEq.eq in
+    let trie = c.args.trie.now in
+    let start = c.args.start.now in
+    let on = c.loop-segment-2.invariant.going i count place left in
+    subst (λ t. KeepsRuns trie t (IsFilled E (g.R.Behaves.is start.register) trie t start (reached trie place (keys_in trie.strands i)))) (sym c.in_err-here.ensures.unchanged) on.1.walk.keeps
+
+pub overflow_add-replayed-in-loop-segment-2 : goal.overflow_add-replayed-in-loop-segment-2
+overflow_add-replayed-in-loop-segment-2 g c =
+    let r = c.requires.left in
+    let on = c.loop-segment-2.invariant.going r.0 r.1 r.2 r.3 in
+    let next = going_next g.R.PartialEq.eq g.met.R.Eq.laws g.met.R.PartialEq.laws g.R.Behaves.is g.met.R.Register.alike c.deref-segment-items-2.result.now c.loop-segment-2.segment-index
+    [] on.1 c.loop-segment-2-test.true
+    c.settle_behind-in-loop-segment-2.new.trie c.settle_behind-in-loop-segment-2.new.next c.in_ok-here.here c.in_ok-here.ensures.settled c.settle_behind-in-loop-segment-2.ensures.linked in
+    let short = next.walk.short in
+    let few = r.4 in
+    omega (arith, short, few)
+
+pub returns-then-here-eq0-clause-settles : goal.returns-then-here-eq0-clause-settles
+returns-then-here-eq0-clause-settles g c = λ i count place left.
+    let E = g.R.PartialEq.eq in
+    let is = g.R.Behaves.is in
+    let keys = c.deref-segment-items-2.result.now in
+    let index = c.loop-segment-2.segment-index in
+    let trie = c.args.trie.now in
+    let on = c.loop-segment-2.invariant.going i count place left in
+    let new = c.settle_behind-in-loop-segment-2.new.trie in
+    let after = c.settle_behind-in-loop-segment-2.new.next in
+    let settled = c.in_ok-here.ensures.settled in
+    let linked = c.settle_behind-in-loop-segment-2.ensures.linked in
+    let next = going_next E g.met.R.Eq.laws g.met.R.PartialEq.laws is g.met.R.Register.alike keys index [] on.1 c.loop-segment-2-test.true new after c.in_ok-here.here settled linked in
+    let kept = kept_next E g.met.R.Eq.laws g.met.R.PartialEq.laws is g.met.R.Register.alike keys index [] on.1 c.loop-segment-2-test.true new after c.in_ok-here.here settled linked c.requires.cut
+    c.if-here-eq0.true in
+    let hangs = c.loop-segment-2.invariant.hangs i count place left in
+    let below = hangs_next E is trie hangs.0 keys index c.loop-segment-2-test.true hangs.1 in
+    early_settles E g.met.R.Eq.laws g.met.R.PartialEq.laws is g.met.R.Register.alike trie new c.args.start.now after c.args.key count i place _ on.0 (get_or keys index 0) hangs.0
+    (drop (index + 1) keys) below.0 below.1 next kept linked
+
+pub returns-then-here-eq0-clause-keeps : goal.returns-then-here-eq0-clause-keeps
+returns-then-here-eq0-clause-keeps g c = λ i count place left.
+    let on = c.loop-segment-2.invariant.going i count place left in
+    let next = going_next g.R.PartialEq.eq g.met.R.Eq.laws g.met.R.PartialEq.laws g.R.Behaves.is g.met.R.Register.alike c.deref-segment-items-2.result.now c.loop-segment-2.segment-index
+    [] on.1 c.loop-segment-2-test.true
+    c.settle_behind-in-loop-segment-2.new.trie c.settle_behind-in-loop-segment-2.new.next c.in_ok-here.here c.in_ok-here.ensures.settled c.settle_behind-in-loop-segment-2.ensures.linked in
+    next.walk.keeps
+
+pub loop-segment-2-preserved : goal.loop-segment-2-preserved
+loop-segment-2-preserved g c = record {
+  going = λ i count place left.
+      let on = c.loop-segment-2.invariant.going i count place left in (
         on.0,
-        going_next g.R.PartialEq.eq g.met.R.Eq.laws g.met.R.PartialEq.laws g.R.Behaves.is g.met.R.Register.alike c.args.keys.now c.loop-key.key-index on.1 c.loop-key-test.true
-            c.settle_behind.new.trie c.settle_behind.new.next c.in_ok-replayed.field-0 c.in_ok-replayed.ensures.settled c.settle_behind.ensures.linked,
+        going_next g.R.PartialEq.eq g.met.R.Eq.laws g.met.R.PartialEq.laws g.R.Behaves.is g.met.R.Register.alike c.deref-segment-items-2.result.now c.loop-segment-2.segment-index
+            [] on.1 c.loop-segment-2-test.true
+            c.settle_behind-in-loop-segment-2.new.trie c.settle_behind-in-loop-segment-2.new.next c.in_ok-here.here c.in_ok-here.ensures.settled c.settle_behind-in-loop-segment-2.ensures.linked,
       );
-  linked = c.settle_behind.ensures.linked;
+  hangs = λ i count place left.
+      let hangs = c.loop-segment-2.invariant.hangs i count place left in
+      let below = hangs_next g.R.PartialEq.eq g.R.Behaves.is c.args.trie.now hangs.0 c.deref-segment-items-2.result.now c.loop-segment-2.segment-index c.loop-segment-2-test.true hangs.1 in
+      (below.0.stored.run.exit, below.1);
+  linked = c.settle_behind-in-loop-segment-2.ensures.linked;
 }
 
 pub returns-clause-settles : goal.returns-clause-settles
-returns-clause-settles g c = λ i key count place r.
-    let on = c.loop-key.invariant.going i key count place r in
-    going_ends g.R.PartialEq.eq g.R.Behaves.is c.args.trie.now c.loop-key.trie c.args.start.now c.loop-key.next key count i place c.loop-key.replayed c.loop-key.key-index
-    c.args.keys.now on.0 c.loop-key.above c.loop-key-test.false on.1
+returns-clause-settles g c = λ i count place left.
+    let on = c.loop-segment-2.invariant.going i count place left in
+    going_settles g.R.PartialEq.eq g.R.Behaves.is c.args.trie.now c.loop-segment-2.trie c.args.start.now c.loop-segment-2.next c.args.key count i place c.loop-segment-2.replayed on.0
+    c.loop-segment-2.above
+    (going_past g.R.PartialEq.eq g.met.R.Eq.laws g.met.R.PartialEq.laws g.R.Behaves.is g.met.R.Register.alike c.deref-segment-items-2.result.now c.loop-segment-2.segment-index [] on.1
+    c.loop-segment-2-test.false)
 
 pub returns-clause-keeps : goal.returns-clause-keeps
-returns-clause-keeps g c = λ i key count place r. (c.loop-key.invariant.going i key count place r).1.walk.keeps
+returns-clause-keeps g c = λ i count place left. (c.loop-segment-2.invariant.going i count place left).1.walk.keeps

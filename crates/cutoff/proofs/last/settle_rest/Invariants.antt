@@ -1,16 +1,30 @@
-use Rattle.std.proofs.Common.{ℕ, List, None, drop}
+use Rattle.std.proofs.Common.{◌≡◌, ◌++◌, [], ℕ, List, None, drop}
 use Rattle.schedule_trie.specs.Cut.{keys_in}
+use Rattle.frames.specs.Configuration.{Configuration}
 use Rattle.cutoff.specs.Links.{IsLinked, alone}
-use Rattle.cutoff.specs.Prefixes.{IsRest}
+use Rattle.cutoff.specs.Prefixes.{Hangs, IsLeft, run_named}
 use Rattle.cutoff.proofs.Rests.{IsGoing}
 use Rattle.cutoff.proofs.last.settle_rest.Given as goal
 
-abbrev pub invariant-loop-key : goal.invariant-loop-key
-invariant-loop-key g l =
+abbrev pub invariant-loop-segment : goal.invariant-loop-segment
+invariant-loop-segment g l =
     let E = g.R.PartialEq.eq in
     let is = g.R.Behaves.is in
     record {
-      going : (i key count place : ℕ) → IsRest E is l.fn.trie l.start l.fn.front l.keys key count place i
-          → (back : List ℕ) × IsGoing E is l.fn.trie l.trie l.start l.next key count (keys_in l.fn.trie.strands i) (drop l.key-index l.keys) back place l.replayed l.above;
+      going : (i count place : ℕ) (left : IsLeft E is l.fn.trie l.start l.rest.front l.rest.keys.items l.rest.hung l.key count place i)
+          → (back : List ℕ) × IsGoing E is l.fn.trie l.trie l.start l.next l.key count (keys_in l.fn.trie.strands i) (drop l.segment-index l.segment-items ++ left.hanging.below) back place l.replayed l.above;
+      kept : l.last ≡ 0 → run_named l.trie l.above ≡ run_named l.fn.trie l.above;
+      linked : IsLinked E l.start.register l.next None (alone l.start) l.trie;
+    }
+
+abbrev pub invariant-loop-segment-2 : goal.invariant-loop-segment-2
+invariant-loop-segment-2 g l =
+    let E = g.R.PartialEq.eq in
+    let is = g.R.Behaves.is in
+    record {
+      going : (i count place : ℕ) → IsLeft E is l.fn.trie l.start l.rest.front l.rest.keys.items l.rest.hung l.key count place i
+          → (back : List ℕ) × IsGoing E is l.fn.trie l.trie l.start l.next l.key count (keys_in l.fn.trie.strands i) (drop l.segment-index l.segment-items ++ []) back place l.replayed l.above;
+      hangs : (i count place : ℕ) → IsLeft E is l.fn.trie l.start l.rest.front l.rest.keys.items l.rest.hung l.key count place i
+          → (c : Configuration _ _) × Hangs E is l.fn.trie c (drop l.segment-index l.segment-items);
       linked : IsLinked E l.start.register l.next None (alone l.start) l.trie;
     }

@@ -5,37 +5,37 @@ use Rattle.cutoff.specs.Fitting.{run_of}
 use Rattle.cutoff.proofs.Lasts.{marked_now}
 use Rattle.cutoff.proofs.last.settle_to.Goals as goal
 
-pub settle_rest-requires-clause-rest : goal.settle_rest-requires-clause-rest
-settle_rest-requires-clause-rest g c =
+pub settle_rest-requires-clause-left : goal.settle_rest-requires-clause-left
+settle_rest-requires-clause-left g c =
     let t = c.requires.there in
-    rw c.deref.ensures.value (t.0, c.args.key, t.1, t.2, c.in_ok-front.ensures t.0 t.1 t.2 t.3, t.4)
+    (t.0, t.1, t.2, c.in_ok-rest.ensures t.0 t.1 t.2 t.3, t.4)
 
 pub returns-in_err-replayed-clause-keeps : goal.returns-in_err-replayed-clause-keeps
 returns-in_err-replayed-clause-keeps g c =
-    λ i count place lies. c.settle_rest.ensures.keeps i c.args.key count place (rw c.deref.ensures.value (c.in_ok-front.ensures i count place lies))
+    λ i count place lies. c.settle_rest.ensures.keeps i count place (c.in_ok-rest.ensures i count place lies)
 
 pub returns-in_err-run-clause-keeps : goal.returns-in_err-run-clause-keeps
 returns-in_err-run-clause-keeps g c =
-    λ i count place lies. c.settle_rest.ensures.keeps i c.args.key count place (rw c.deref.ensures.value (c.in_ok-front.ensures i count place lies))
+    λ i count place lies. c.settle_rest.ensures.keeps i count place (c.in_ok-rest.ensures i count place lies)
 
 pub unreachable-requires : goal.unreachable-requires
 unreachable-requires g c =
     let t = c.requires.there in
-    let s = c.in_ok-replayed.ensures.settles t.0 c.args.key t.1 t.2 (rw c.deref.ensures.value (c.in_ok-front.ensures t.0 t.1 t.2 t.3)) in
+    let s = c.in_ok-replayed.ensures.settles t.0 t.1 t.2 (c.in_ok-rest.ensures t.0 t.1 t.2 t.3) in
     let none = ap (option_map arc_value) (sym c.in_default.is) ∙ c.in_ok-run.ensures ∙ ap (option_map run_of) s.last.noted in
     cc
 
 pub returns-clause-settles : goal.returns-clause-settles
 returns-clause-settles g c =
-    λ i count place lies. c.in_ok-replayed.ensures.settles i c.args.key count place (rw c.deref.ensures.value (c.in_ok-front.ensures i count place lies))
+    λ i count place lies. c.in_ok-replayed.ensures.settles i count place (c.in_ok-rest.ensures i count place lies)
 
 pub returns-clause-marked : goal.returns-clause-marked
 returns-clause-marked g c =
     let t = c.requires.there in
-    let kept = c.settle_rest.ensures.keeps t.0 c.args.key t.1 t.2 (rw c.deref.ensures.value (c.in_ok-front.ensures t.0 t.1 t.2 t.3)) in
+    let kept = c.settle_rest.ensures.keeps t.0 t.1 t.2 (c.in_ok-rest.ensures t.0 t.1 t.2 t.3) in
     marked_now g.R.PartialEq.eq g.R.Behaves.is c.args.trie.now c.settle_rest.new.trie c.args.start.now c.args.key t.1 c.in_ok-replayed.replayed t.3.some t.3.few kept.strands
-    (λ i count place lies. c.in_ok-replayed.ensures.settles i c.args.key count place (rw c.deref.ensures.value (c.in_ok-front.ensures i count place lies)))
+    (λ i count place lies. c.in_ok-replayed.ensures.settles i count place (c.in_ok-rest.ensures i count place lies))
 
 pub returns-clause-keeps : goal.returns-clause-keeps
 returns-clause-keeps g c =
-    λ i count place lies. c.settle_rest.ensures.keeps i c.args.key count place (rw c.deref.ensures.value (c.in_ok-front.ensures i count place lies))
+    λ i count place lies. c.settle_rest.ensures.keeps i count place (c.in_ok-rest.ensures i count place lies)

@@ -1,10 +1,10 @@
-use Rattle.std.proofs.Common.{◌≡◌, ◌⊎◌, ◌++◌, ◌∷◌, [], ℕ, true, Some, None, length, reverse, inl, inr, sym, ap, subst, ◌∙◌, arith, append_assoc}
+use Rattle.std.proofs.Common.{◌≡◌, ◌⊎◌, ◌++◌, ◌∷◌, [], ℕ, true, Some, None, length, reverse, inl, inr, sym, ap, subst, ◌∙◌, arith, append_assoc, true≢false}
 use Rattle.std.proofs.lemmas.List.{reverse-append}
 use Rattle.schedule_trie.specs.Cut.{has, keys_in}
 use Rattle.schedule_trie.specs.Climbs.{keys_to, IsReached}
 use Rattle.schedule_trie.proofs.Climbs.{IsStepUp, step_up}
 use Rattle.cutoff.proofs.Climbs.{path_once, few_to, past_first, shorter}
-use Rattle.cutoff.proofs.Prefixes.{same_key}
+use Rattle.cutoff.proofs.Prefixes.{same_key, other_key, by_other}
 use Rattle.cutoff.proofs.prefix.keys_behind.Goals as goal
 use Rattle.cutoff.proofs.prefix.keys_behind.Goals.{else-loop-test, then-loop-test+then-eq, then-loop-test+else-eq+in_default}
 
@@ -22,6 +22,10 @@ loop-preserved g c =
           was.path i h ∙ ap (λ o. keys_to keys o ++ reverse c.loop.keys.items) c.in-Some.is ∙ ap (λ l. l ++ reverse c.loop.keys.items) (step i h).is
           ∙ append_assoc (keys_to keys c.above-at.result) (c.in-Some.key ∷ []) (reverse c.loop.keys.items)
           ∙ ap (λ l. keys_to keys c.above-at.result ++ l) (sym (ap reverse c.in_ok-push.ensures.items ∙ reverse-append c.loop.keys.items (c.in-Some.key ∷ [])));
+      ahead = λ i f h e there.
+          let keys = keys_in trie.strands i in
+          let on = subst (λ l. has f l ≡ true) (ap (keys_to keys) c.in-Some.is ∙ (step i h).is) (was.ahead i f h e there) in
+          by_other f c.in-Some.key (keys_to keys c.above-at.result) on (other_key f c.in-Some.key c.loop.at c.args.front e c.in-Some.is (sym c.if-eq.ensures));
       short = λ i h.
           let keys = keys_in trie.strands i in
           let up = shorter keys c.in-Some.key c.above-at.result (step i h) in
@@ -30,8 +34,8 @@ loop-preserved g c =
           omega (arith, up, at, old);
     }
 
-pub returns : goal.returns
-returns g c =
+pub returns-clause-behind : goal.returns-clause-behind
+returns-clause-behind g c =
     let trie = c.args.trie.now in
     let was = c.loop.invariant in
     let first = c.requires.there in
@@ -46,3 +50,20 @@ returns g c =
       | then-loop-test+else-eq+in_default w ↦ inr w.in_default.is
     ] in
     (ends, λ i h. (was.reached i h, was.path i h ∙ ap (λ l. keys_to (keys_in trie.strands i) c.loop.at ++ l) (sym c.reverse.ensures.items)))
+
+pub returns-clause-stops : goal.returns-clause-stops
+returns-clause-stops g c = λ i f h e there.
+    let trie = c.args.trie.now in
+    let was = c.loop.invariant in
+    let first = c.requires.there in
+    let past : c.loop.at ≡ None → c.loop.at ≡ c.args.front =
+    λ none. absurd (true≢false (sym (subst (λ o. has f (keys_to (keys_in trie.strands i) o) ≡ true) none (was.ahead i f h e there)))) in
+    elim c.loop-test.branch [
+      | else-loop-test w ↦
+          let few = few_to (keys_in trie.strands first.0) (Some c.args.key) first.1 in
+          let made = c.made-end.ensures.few first.0 in
+          past (past_first (keys_in trie.strands first.0) c.loop.at c.loop.counter (length (keys_to (keys_in trie.strands first.0) (Some c.args.key))) (was.reached first.0 first.1)
+          (was.short first.0 first.1) (omega (arith, few, made, w.loop-test.false)))
+      | then-loop-test+then-eq w ↦ same_key c.loop.at c.args.front (sym w.if-eq.ensures)
+      | then-loop-test+else-eq+in_default w ↦ past w.in_default.is
+    ]

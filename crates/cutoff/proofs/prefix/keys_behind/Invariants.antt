@@ -9,5 +9,6 @@ invariant-loop g l =
     record {
       reached : (i : ℕ) → has l.fn.key (keys i) ≡ true → IsReached (keys i) l.at;
       path : (i : ℕ) → has l.fn.key (keys i) ≡ true → keys_up_to l.fn.key (keys i) ≡ keys_to (keys i) l.at ++ reverse l.keys.items;
+      ahead : (i f : ℕ) → has l.fn.key (keys i) ≡ true → l.fn.front ≡ Some f → has f (keys_up_to l.fn.key (keys i)) ≡ true → has f (keys_to (keys i) l.at) ≡ true;
       short : (i : ℕ) → has l.fn.key (keys i) ≡ true → l.counter + length (keys_to (keys i) l.at) ≤ length (keys_to (keys i) (Some l.fn.key));
     }

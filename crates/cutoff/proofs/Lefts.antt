@@ -1,0 +1,67 @@
+-- What is left of a branch, as it is settled: the segments down to one from which others hang, and then those.
+use Rattle.std.proofs.Common.{◌≡◌, ℕ, suc, ◌+◌, ◌<◌, Bool, true, List, [], ◌∷◌, ◌++◌, length, drop, get_or, Option, Some, None, refl, sym, ap, subst, ◌∙◌, arith, append-nil}
+use Rattle.std.specs.Cmp.{IsPartialEquivalence, IsEquivalence}
+use Rattle.std.specs.Option.{option_map}
+use Rattle.std.proofs.Math.Seq.{drop-cons}
+use Rattle.std.proofs.lemmas.List.{append_cancel_left, append_cancel_right}
+use Rattle.frames.specs.Behaviour.{Behaviour}
+use Rattle.frames.specs.Configuration.{Configuration}
+use Rattle.schedule_trie.specs.Cut.{Cut, keys_in, has}
+use Rattle.schedule_trie.specs.Climbs.{keys_up_to, keys_to}
+use Rattle.schedule_trie.proofs.Partings.{parting, has-in}
+use Rattle.cutoff.specs.Fitting.{StoredRun, run_of, run_at}
+use Rattle.cutoff.specs.Links.{alone, IsLinked}
+use Rattle.cutoff.specs.Prefixes.{HasTrueRun, Hangs, IsBehind, IsHung, SettlesTo, come_to, exit_or, run_named}
+use Rattle.cutoff.proofs.Hangings.{has-left}
+use Rattle.cutoff.proofs.Rests.{IsGoing, last_or, last_to, hanging_settles}
+
+-- the keys behind the one that others hang from, listed anew
+module _ {R P : Type 0} (E : R → R → Bool) (is : R → Behaviour P) (old cut : Cut (StoredRun R P)) (hung key i : ℕ) (last : Option ℕ) (keys : List ℕ) (same : cut.strands ≡ old.strands)
+    (h : IsHung E is old hung key i) (there : has key (keys_in old.strands i) ≡ true) (behind : IsBehind cut key (Some hung) last keys)
+    (stops : (i f : ℕ) → has key (keys_in cut.strands i) ≡ true → Some hung ≡ Some f → has f (keys_up_to key (keys_in cut.strands i)) ≡ true → last ≡ Some hung) where
+  abbrev path : List ℕ
+  path = keys_in old.strands i
+
+  path_same : keys_in cut.strands i ≡ path
+  path_same = ap (λ s. keys_in s i) same
+
+  there_now : has key (keys_in cut.strands i) ≡ true
+  there_now = subst (λ l. has key l ≡ true) (sym path_same) there
+
+  on_path : has hung (keys_up_to key path) ≡ true
+  on_path =
+      let p = parting path hung h.there in
+      subst (λ l. has hung l ≡ true) (sym h.path) (has-left hung (keys_up_to hung path) h.below (subst (λ l. has hung l ≡ true) (sym p.to) (has-in hung p.front [])))
+
+  pub again_left : h.below ≡ keys
+  again_left =
+      let ends : last ≡ Some hung = stops i hung there_now refl (subst (λ l. has hung (keys_up_to key l) ≡ true) (sym path_same) on_path) in
+      let now : keys_up_to key path ≡ keys_to path last ++ keys = subst (λ l. keys_up_to key l ≡ keys_to l last ++ keys) path_same (behind.1 i there_now).1 in
+      append_cancel_left (keys_up_to hung path) h.below keys (sym h.path ∙ now ∙ ap (λ o. keys_to path o ++ keys) ends)
+
+module _ {R P : Type 0} (E : R → R → Bool) (is : R → Behaviour P) (old : Cut (StoredRun R P)) where
+  -- the next of those that hang
+  pub hangs_next : (c : Configuration R P) (all : List ℕ) (index : ℕ) → index < length all → Hangs E is old c (drop index all)
+      → (here : HasTrueRun E is old c (get_or all index 0)) × Hangs E is old here.stored.run.exit (drop (index + 1) all)
+  hangs_next c all index h hangs =
+      let step : suc index ≡ index + 1 = omega arith in
+      subst (Hangs E is old c) (drop-cons all index 0 h ∙ ap (λ j. get_or all index 0 ∷ drop j all) step) hangs
+
+-- where the run that others hang from stays stored, they are settled
+module _ {R P : Type 0} (E : R → R → Bool) (equal : IsEquivalence E) (per : IsPartialEquivalence E) (is : R → Behaviour P) (alike : (x y : R) → E x y ≡ true → is x ≡ is y)
+    (old cut : Cut (StoredRun R P)) (start : Configuration R P) (next key count i place n : ℕ) (back : List ℕ) where
+  pub kept_settles : (hung : ℕ) (above : Option ℕ) (h : IsHung E is old hung key i) → IsGoing E is old cut start next key count (keys_in old.strands i) h.below back place n above
+      → run_named cut above ≡ run_named old above → IsLinked E start.register next None (alone start) cut → SettlesTo E is old cut start key count place i n
+  kept_settles hung above h g kept linked =
+      let keys = keys_in old.strands i in
+      let named : above ≡ Some hung = sym g.last ∙ ap (last_or None) (append_cancel_right g.done (keys_up_to hung keys) h.below (sym g.path ∙ h.path)) ∙ last_to keys (Some hung) h.there in
+      let came : come_to old start (Some hung) ≡ come_to cut start above = ap (come_to old start) (sym named) ∙ ap (exit_or start) (sym kept) in
+      hanging_settles E equal per is alike old cut start next key count i place n h.below back above g (subst (λ c. Hangs E is old c h.below) came (h.hangs start)) linked
+
+  pub early_settles : (k : ℕ) (c : Configuration R P) (left : List ℕ) (here : HasTrueRun E is old c k) → Hangs E is old here.stored.run.exit left
+      → IsGoing E is old cut start next key count (keys_in old.strands i) (left ++ []) back place n (Some k) → run_at cut k ≡ run_at old k → IsLinked E start.register next None (alone start) cut
+      → SettlesTo E is old cut start key count place i n
+  early_settles k c left here hangs g kept linked =
+      let came : here.stored.run.exit ≡ come_to cut start (Some k) = sym (ap (exit_or start) (kept ∙ ap (option_map run_of) here.noted)) in
+      hanging_settles E equal per is alike old cut start next key count i place n (left ++ []) back (Some k) g
+      (subst (λ d. Hangs E is old d (left ++ [])) came (subst (Hangs E is old here.stored.run.exit) (sym (append-nil left)) hangs)) linked

@@ -1,0 +1,17 @@
+use Rattle.std.proofs.Common.{◌≡◌, ℕ, true}
+use Rattle.schedule_trie.specs.Cut.{has, keys_in}
+use Rattle.schedule_trie.proofs.Climbs.{IsStepUp}
+use Rattle.cutoff.specs.Prefixes.{IsHung}
+use Rattle.cutoff.proofs.Hangings.{HasLinked}
+use Rattle.cutoff.proofs.prefix.hung_from.Given as goal
+
+abbrev pub invariant-loop : goal.invariant-loop
+invariant-loop g l =
+    let E = g.R.PartialEq.eq in
+    let is = g.R.Behaves.is in
+    let keys = keys_in l.trie.strands in
+    record {
+      up : (i : ℕ) → has l.fn.key (keys i) ≡ true → IsStepUp (keys i) l.hung l.at;
+      hung : (i : ℕ) → has l.fn.key (keys i) ≡ true → IsHung E is l.trie l.hung l.fn.key i;
+      stored : HasLinked E is l.trie l.hung l.link;
+    }
