@@ -1,6 +1,6 @@
 //! Places of a branch, found from its end.
 
-ghost use Rattle.std.specs.Prelude.{ℕ, List, ◌≡◌, ◌≤◌, ◌<◌, ◌++◌, ◌∷◌, length, IfSome, IfNone};
+ghost use Rattle.std.specs.Prelude.{ℕ, List, ◌≡◌, ◌≤◌, ◌<◌, ◌++◌, ◌∷◌, length, IsSome, IfSome, IfNone};
 ghost use Rattle.std.specs.List.{position};
 ghost use Rattle.lineage.specs.Family.{last_of};
 ghost use Rattle.schedule_trie.specs.Forest.{is_cell, slots_in};
@@ -30,6 +30,7 @@ impl<T: Drop> Trie<T> {
         ensures { result ≡ length (line (piece_at self.now.pieces)
             (keys_to (keys_in self.now.strands index) last)) }
     {
+        self.held();
         let mut len = 0;
         let mut at = last;
         while let Some(key) = at {
@@ -82,9 +83,10 @@ impl<T: Drop> Trie<T> {
         None
     }
 
-    /// The cells of a segment, and the key of the segment above it; none of either where no segment has the key.
+    /// The cells of a segment, and the key of the segment above it.
     #[inline(always)]
     fn slots_up(&self, key: SegKey) -> (&[Slot], Option<SegKey>)
+        requires { IsSome (piece_at self.now.pieces key) }
         ensures slots { result.0.now ≡ slots_of (piece_at self.now.pieces key) }
         ensures whole { IsWhole self.now }
         ensures each { (i : ℕ) (front back : List ℕ)
@@ -92,7 +94,7 @@ impl<T: Drop> Trie<T> {
     {
         match self.segments.step_up(key) {
             Some((segment, above)) => (segment.slots.as_slice(), above),
-            None => (&[], None),
+            None => unreachable!(),
         }
     }
 }

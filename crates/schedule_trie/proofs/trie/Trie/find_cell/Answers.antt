@@ -47,3 +47,8 @@ loop-at-preserved g c =
     let len = ap length c.slots_up-above.ensures.slots in
     let at = ap (λ o. length (line (piece_at now.pieces) (keys_to keys o))) c.in-Some.is in
     record { reached = s.reached; behind = omega (arith, up, len, at, c.loop-at.invariant.behind); some = omega arith }
+
+pub slots_up-above-requires : goal.slots_up-above-requires
+slots_up-above-requires g c =
+    c.len_at-len.ensures.whole.sound.held c.args.index c.in-Some.key
+    (subst (IsReached (keys_in c.args.self.now.strands c.args.index)) c.in-Some.is c.loop-at.invariant.reached)

@@ -44,3 +44,8 @@ loop-at-preserved g c =
     let len = ap length c.slots_up-above.ensures.slots in
     let at = ap (λ o. length (line (piece_at now.pieces) (keys_to keys o))) c.in-Some.is in
     record { reached = s.reached; sum = omega (arith, up, len, at, c.loop-at.invariant.sum) }
+
+pub slots_up-above-requires : goal.slots_up-above-requires
+slots_up-above-requires g c =
+    c.held.ensures.whole.sound.held c.args.index c.in-Some.key
+    (subst (IsReached (keys_in c.args.self.now.strands c.args.index)) c.in-Some.is c.loop-at.invariant.reached)

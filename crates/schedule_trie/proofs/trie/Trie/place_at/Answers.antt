@@ -1,7 +1,7 @@
 use Rattle.std.proofs.Common.{◌+◌, ◌<◌, Some, length, sym, ap, subst, ◌∙◌, arith}
 use Rattle.std.specs.List.{position}
 use Rattle.schedule_trie.specs.Forest.{is_cell}
-use Rattle.schedule_trie.specs.Cut.{piece_at, keys_in, line}
+use Rattle.schedule_trie.specs.Cut.{piece_at, keys_in, line, IsWhole}
 use Rattle.schedule_trie.specs.Climbs.{keys_to, IsReached}
 use Rattle.schedule_trie.proofs.Climbs.{cells_up, cells_within, place_up, place_above, shorter_up}
 use Rattle.schedule_trie.proofs.ClimbSteps.{path_last, branch_once, branch_short, branch_up}
@@ -78,3 +78,8 @@ returns g c =
     let keys = keys_in now.strands c.args.index in
     ap (λ o. position (is_cell c.args.cell) (line (piece_at now.pieces) (keys_to keys o))) (sym c.in_default.is) ∙ c.loop-at.invariant.same
     ∙ ap (position (is_cell c.args.cell)) (sym (slots_in_on (piece_at now.pieces) now.strands c.args.index))
+
+pub slots_up-above-requires : goal.slots_up-above-requires
+slots_up-above-requires g c =
+    (subst IsWhole c.self.view_is c.self.invariant.held.whole).sound.held c.args.index c.in-Some.key
+    (subst (IsReached (keys_in c.args.self.now.strands c.args.index)) c.in-Some.is c.loop-at.invariant.reached)
