@@ -173,10 +173,10 @@ fn settle_rest<R: Register>(
     }
     trie.held();
     let (_, hanging) = keys_behind(alloc, trie, Some(rest.hung), key)?;
-    for segment in &hanging {
-        let here = settle_behind(alloc, trie, next, start, above, *segment)?;
+    for below in &hanging {
+        let here = settle_behind(alloc, trie, next, start, above, *below)?;
         replayed += here;
-        above = Some(*segment);
+        above = Some(*below);
         if here == 0 {
             return Ok(replayed);
         }

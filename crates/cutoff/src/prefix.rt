@@ -1,6 +1,7 @@
 //! The part of a branch that stored runs are known to fit, seen from one of its segments upwards.
 
 ghost use Rattle.std.specs.Prelude.{◌≡◌, ℕ, None, Some, true, IfOk};
+ghost use Rattle.std.specs.Bool.{Decides};
 ghost use Rattle.frames.specs.Configuration.{Configuration};
 ghost use Rattle.schedule_trie.specs.Cut.{forest, has, keys_in, IsCut};
 ghost use Rattle.schedule_trie.specs.Climbs.{keys_up_to};
@@ -86,7 +87,7 @@ fn hung_from<R: Register>(trie: &Trie<Stored<R>>, mark: Option<SegKey>, key: Seg
     let mut at = above;
     // A branch has no more segments than cells were made.
     for _ in 0..trie.made() {
-        if mark == Some(hung) {
+        if is_marked(mark, hung) {
             break;
         }
         let Some(key) = at else {
@@ -105,6 +106,16 @@ fn hung_from<R: Register>(trie: &Trie<Stored<R>>, mark: Option<SegKey>, key: Seg
         at = above;
     }
     hung
+}
+
+/// Whether a segment is the marked one.
+fn is_marked(mark: Option<SegKey>, key: SegKey) -> bool
+    ensures { Decides result (mark ≡ Some key) }
+{
+    match mark {
+        Some(mark) => mark == key,
+        None => false,
+    }
 }
 
 /// What is left of a branch down to one of its segments.

@@ -91,8 +91,8 @@ keys_behind-requires-clause-there g c =
 pub returns-in_err-hanging-clause-keeps : goal.returns-in_err-hanging-clause-keeps
 returns-in_err-hanging-clause-keeps g c = λ i count place left. (c.loop-segment.invariant.going i count place left).1.walk.keeps
 
-pub loop-segment-2-init : goal.loop-segment-2-init
-loop-segment-2-init g c =
+pub loop-below-init : goal.loop-below-init
+loop-below-init g c =
     let E = g.R.PartialEq.eq in
     let is = g.R.Behaves.is in
     let trie = c.args.trie.now in
@@ -106,45 +106,45 @@ loop-segment-2-init g c =
           left.rest.lies.there c.in_ok-hanging.ensures.behind c.in_ok-hanging.ensures.stops in (
             on.0,
             subst (λ l. IsGoing E is trie c.loop-segment.trie start c.loop-segment.next c.args.key count (keys_in trie.strands i) l on.0 place c.loop-segment.replayed c.loop-segment.above)
-                (same ∙ sym c.deref-segment-items-2.ensures.value ∙ sym (append-nil c.deref-segment-items-2.result.now)) past,
+                (same ∙ sym c.deref-below-items.ensures.value ∙ sym (append-nil c.deref-below-items.result.now)) past,
           );
       hangs = λ i count place left.
           let on = c.loop-segment.invariant.going i count place left in
           let same = again_left E is trie c.loop-segment.trie c.args.rest.now.hung c.args.key i c.in_ok-hanging.field-0-0 c.in_ok-hanging.hanging.items on.1.walk.keeps.strands left.hanging
           left.rest.lies.there c.in_ok-hanging.ensures.behind c.in_ok-hanging.ensures.stops in
-          (come_to trie start (Some c.args.rest.now.hung), subst (Hangs E is trie (come_to trie start (Some c.args.rest.now.hung))) (same ∙ sym c.deref-segment-items-2.ensures.value) (left.hanging.hangs start));
+          (come_to trie start (Some c.args.rest.now.hung), subst (Hangs E is trie (come_to trie start (Some c.args.rest.now.hung))) (same ∙ sym c.deref-below-items.ensures.value) (left.hanging.hangs start));
       linked = c.loop-segment.invariant.linked;
     }
 
-pub settle_behind-requires-in-loop-segment-2-clause-short : goal.settle_behind-requires-in-loop-segment-2-clause-short
-settle_behind-requires-in-loop-segment-2-clause-short g c =
+pub settle_behind-requires-in-loop-below-clause-short : goal.settle_behind-requires-in-loop-below-clause-short
+settle_behind-requires-in-loop-below-clause-short g c =
     let r = c.requires.left in
-    let on = c.loop-segment-2.invariant.going r.0 r.1 r.2 r.3 in
-    small_next g.R.PartialEq.eq g.met.R.Eq.laws g.met.R.PartialEq.laws g.R.Behaves.is g.met.R.Register.alike c.deref-segment-items-2.result.now c.loop-segment-2.segment-index [] on.1
-    c.loop-segment-2-test.true
+    let on = c.loop-below.invariant.going r.0 r.1 r.2 r.3 in
+    small_next g.R.PartialEq.eq g.met.R.Eq.laws g.met.R.PartialEq.laws g.R.Behaves.is g.met.R.Register.alike c.deref-below-items.result.now c.loop-below.below-index [] on.1
+    c.loop-below-test.true
 
-pub settle_behind-requires-in-loop-segment-2-clause-fits : goal.settle_behind-requires-in-loop-segment-2-clause-fits
-settle_behind-requires-in-loop-segment-2-clause-fits g c =
+pub settle_behind-requires-in-loop-below-clause-fits : goal.settle_behind-requires-in-loop-below-clause-fits
+settle_behind-requires-in-loop-below-clause-fits g c =
     let r = c.requires.left in
-    let on = c.loop-segment-2.invariant.going r.0 r.1 r.2 r.3 in
-    fits_next g.R.PartialEq.eq g.met.R.Eq.laws g.met.R.PartialEq.laws g.R.Behaves.is g.met.R.Register.alike c.deref-segment-items-2.result.now c.loop-segment-2.segment-index [] on.1
-    c.loop-segment-2-test.true
+    let on = c.loop-below.invariant.going r.0 r.1 r.2 r.3 in
+    fits_next g.R.PartialEq.eq g.met.R.Eq.laws g.met.R.PartialEq.laws g.R.Behaves.is g.met.R.Register.alike c.deref-below-items.result.now c.loop-below.below-index [] on.1
+    c.loop-below-test.true
 
 pub returns-in_err-here-clause-keeps : goal.returns-in_err-here-clause-keeps
 returns-in_err-here-clause-keeps g c = λ i count place left.
     let E = g.R.PartialEq.eq in
     let trie = c.args.trie.now in
     let start = c.args.start.now in
-    let on = c.loop-segment-2.invariant.going i count place left in
+    let on = c.loop-below.invariant.going i count place left in
     subst (λ t. KeepsRuns trie t (IsFilled E (g.R.Behaves.is start.register) trie t start (reached trie place (keys_in trie.strands i)))) (sym c.in_err-here.ensures.unchanged) on.1.walk.keeps
 
-pub overflow_add-replayed-in-loop-segment-2 : goal.overflow_add-replayed-in-loop-segment-2
-overflow_add-replayed-in-loop-segment-2 g c =
+pub overflow_add-replayed-in-loop-below : goal.overflow_add-replayed-in-loop-below
+overflow_add-replayed-in-loop-below g c =
     let r = c.requires.left in
-    let on = c.loop-segment-2.invariant.going r.0 r.1 r.2 r.3 in
-    let next = going_next g.R.PartialEq.eq g.met.R.Eq.laws g.met.R.PartialEq.laws g.R.Behaves.is g.met.R.Register.alike c.deref-segment-items-2.result.now c.loop-segment-2.segment-index
-    [] on.1 c.loop-segment-2-test.true
-    c.settle_behind-in-loop-segment-2.new.trie c.settle_behind-in-loop-segment-2.new.next c.in_ok-here.here c.in_ok-here.ensures.settled c.settle_behind-in-loop-segment-2.ensures.linked in
+    let on = c.loop-below.invariant.going r.0 r.1 r.2 r.3 in
+    let next = going_next g.R.PartialEq.eq g.met.R.Eq.laws g.met.R.PartialEq.laws g.R.Behaves.is g.met.R.Register.alike c.deref-below-items.result.now c.loop-below.below-index
+    [] on.1 c.loop-below-test.true
+    c.settle_behind-in-loop-below.new.trie c.settle_behind-in-loop-below.new.next c.in_ok-here.here c.in_ok-here.ensures.settled c.settle_behind-in-loop-below.ensures.linked in
     let short = next.walk.short in
     let few = r.4 in
     omega (arith, short, few)
@@ -153,53 +153,53 @@ pub returns-then-here-eq0-clause-settles : goal.returns-then-here-eq0-clause-set
 returns-then-here-eq0-clause-settles g c = λ i count place left.
     let E = g.R.PartialEq.eq in
     let is = g.R.Behaves.is in
-    let keys = c.deref-segment-items-2.result.now in
-    let index = c.loop-segment-2.segment-index in
+    let keys = c.deref-below-items.result.now in
+    let index = c.loop-below.below-index in
     let trie = c.args.trie.now in
-    let on = c.loop-segment-2.invariant.going i count place left in
-    let new = c.settle_behind-in-loop-segment-2.new.trie in
-    let after = c.settle_behind-in-loop-segment-2.new.next in
+    let on = c.loop-below.invariant.going i count place left in
+    let new = c.settle_behind-in-loop-below.new.trie in
+    let after = c.settle_behind-in-loop-below.new.next in
     let settled = c.in_ok-here.ensures.settled in
-    let linked = c.settle_behind-in-loop-segment-2.ensures.linked in
-    let next = going_next E g.met.R.Eq.laws g.met.R.PartialEq.laws is g.met.R.Register.alike keys index [] on.1 c.loop-segment-2-test.true new after c.in_ok-here.here settled linked in
-    let kept = kept_next E g.met.R.Eq.laws g.met.R.PartialEq.laws is g.met.R.Register.alike keys index [] on.1 c.loop-segment-2-test.true new after c.in_ok-here.here settled linked c.requires.cut
+    let linked = c.settle_behind-in-loop-below.ensures.linked in
+    let next = going_next E g.met.R.Eq.laws g.met.R.PartialEq.laws is g.met.R.Register.alike keys index [] on.1 c.loop-below-test.true new after c.in_ok-here.here settled linked in
+    let kept = kept_next E g.met.R.Eq.laws g.met.R.PartialEq.laws is g.met.R.Register.alike keys index [] on.1 c.loop-below-test.true new after c.in_ok-here.here settled linked c.requires.cut
     c.if-here-eq0.true in
-    let hangs = c.loop-segment-2.invariant.hangs i count place left in
-    let below = hangs_next E is trie hangs.0 keys index c.loop-segment-2-test.true hangs.1 in
+    let hangs = c.loop-below.invariant.hangs i count place left in
+    let below = hangs_next E is trie hangs.0 keys index c.loop-below-test.true hangs.1 in
     early_settles E g.met.R.Eq.laws g.met.R.PartialEq.laws is g.met.R.Register.alike trie new c.args.start.now after c.args.key count i place _ on.0 (get_or keys index 0) hangs.0
     (drop (index + 1) keys) below.0 below.1 next kept linked
 
 pub returns-then-here-eq0-clause-keeps : goal.returns-then-here-eq0-clause-keeps
 returns-then-here-eq0-clause-keeps g c = λ i count place left.
-    let on = c.loop-segment-2.invariant.going i count place left in
-    let next = going_next g.R.PartialEq.eq g.met.R.Eq.laws g.met.R.PartialEq.laws g.R.Behaves.is g.met.R.Register.alike c.deref-segment-items-2.result.now c.loop-segment-2.segment-index
-    [] on.1 c.loop-segment-2-test.true
-    c.settle_behind-in-loop-segment-2.new.trie c.settle_behind-in-loop-segment-2.new.next c.in_ok-here.here c.in_ok-here.ensures.settled c.settle_behind-in-loop-segment-2.ensures.linked in
+    let on = c.loop-below.invariant.going i count place left in
+    let next = going_next g.R.PartialEq.eq g.met.R.Eq.laws g.met.R.PartialEq.laws g.R.Behaves.is g.met.R.Register.alike c.deref-below-items.result.now c.loop-below.below-index
+    [] on.1 c.loop-below-test.true
+    c.settle_behind-in-loop-below.new.trie c.settle_behind-in-loop-below.new.next c.in_ok-here.here c.in_ok-here.ensures.settled c.settle_behind-in-loop-below.ensures.linked in
     next.walk.keeps
 
-pub loop-segment-2-preserved : goal.loop-segment-2-preserved
-loop-segment-2-preserved g c = record {
+pub loop-below-preserved : goal.loop-below-preserved
+loop-below-preserved g c = record {
   going = λ i count place left.
-      let on = c.loop-segment-2.invariant.going i count place left in (
+      let on = c.loop-below.invariant.going i count place left in (
         on.0,
-        going_next g.R.PartialEq.eq g.met.R.Eq.laws g.met.R.PartialEq.laws g.R.Behaves.is g.met.R.Register.alike c.deref-segment-items-2.result.now c.loop-segment-2.segment-index
-            [] on.1 c.loop-segment-2-test.true
-            c.settle_behind-in-loop-segment-2.new.trie c.settle_behind-in-loop-segment-2.new.next c.in_ok-here.here c.in_ok-here.ensures.settled c.settle_behind-in-loop-segment-2.ensures.linked,
+        going_next g.R.PartialEq.eq g.met.R.Eq.laws g.met.R.PartialEq.laws g.R.Behaves.is g.met.R.Register.alike c.deref-below-items.result.now c.loop-below.below-index
+            [] on.1 c.loop-below-test.true
+            c.settle_behind-in-loop-below.new.trie c.settle_behind-in-loop-below.new.next c.in_ok-here.here c.in_ok-here.ensures.settled c.settle_behind-in-loop-below.ensures.linked,
       );
   hangs = λ i count place left.
-      let hangs = c.loop-segment-2.invariant.hangs i count place left in
-      let below = hangs_next g.R.PartialEq.eq g.R.Behaves.is c.args.trie.now hangs.0 c.deref-segment-items-2.result.now c.loop-segment-2.segment-index c.loop-segment-2-test.true hangs.1 in
+      let hangs = c.loop-below.invariant.hangs i count place left in
+      let below = hangs_next g.R.PartialEq.eq g.R.Behaves.is c.args.trie.now hangs.0 c.deref-below-items.result.now c.loop-below.below-index c.loop-below-test.true hangs.1 in
       (below.0.stored.run.exit, below.1);
-  linked = c.settle_behind-in-loop-segment-2.ensures.linked;
+  linked = c.settle_behind-in-loop-below.ensures.linked;
 }
 
 pub returns-clause-settles : goal.returns-clause-settles
 returns-clause-settles g c = λ i count place left.
-    let on = c.loop-segment-2.invariant.going i count place left in
-    going_settles g.R.PartialEq.eq g.R.Behaves.is c.args.trie.now c.loop-segment-2.trie c.args.start.now c.loop-segment-2.next c.args.key count i place c.loop-segment-2.replayed on.0
-    c.loop-segment-2.above
-    (going_past g.R.PartialEq.eq g.met.R.Eq.laws g.met.R.PartialEq.laws g.R.Behaves.is g.met.R.Register.alike c.deref-segment-items-2.result.now c.loop-segment-2.segment-index [] on.1
-    c.loop-segment-2-test.false)
+    let on = c.loop-below.invariant.going i count place left in
+    going_settles g.R.PartialEq.eq g.R.Behaves.is c.args.trie.now c.loop-below.trie c.args.start.now c.loop-below.next c.args.key count i place c.loop-below.replayed on.0
+    c.loop-below.above
+    (going_past g.R.PartialEq.eq g.met.R.Eq.laws g.met.R.PartialEq.laws g.R.Behaves.is g.met.R.Register.alike c.deref-below-items.result.now c.loop-below.below-index [] on.1
+    c.loop-below-test.false)
 
 pub returns-clause-keeps : goal.returns-clause-keeps
-returns-clause-keeps g c = λ i count place left. (c.loop-segment-2.invariant.going i count place left).1.walk.keeps
+returns-clause-keeps g c = λ i count place left. (c.loop-below.invariant.going i count place left).1.walk.keeps

@@ -17,14 +17,14 @@ invariant-loop-segment g l =
       linked : IsLinked E l.start.register l.next None (alone l.start) l.trie;
     }
 
-abbrev pub invariant-loop-segment-2 : goal.invariant-loop-segment-2
-invariant-loop-segment-2 g l =
+abbrev pub invariant-loop-below : goal.invariant-loop-below
+invariant-loop-below g l =
     let E = g.R.PartialEq.eq in
     let is = g.R.Behaves.is in
     record {
       going : (i count place : ℕ) → IsLeft E is l.fn.trie l.start l.rest.front l.rest.keys.items l.rest.hung l.key count place i
-          → (back : List ℕ) × IsGoing E is l.fn.trie l.trie l.start l.next l.key count (keys_in l.fn.trie.strands i) (drop l.segment-index l.segment-items ++ []) back place l.replayed l.above;
+          → (back : List ℕ) × IsGoing E is l.fn.trie l.trie l.start l.next l.key count (keys_in l.fn.trie.strands i) (drop l.below-index l.below-items ++ []) back place l.replayed l.above;
       hangs : (i count place : ℕ) → IsLeft E is l.fn.trie l.start l.rest.front l.rest.keys.items l.rest.hung l.key count place i
-          → (c : Configuration _ _) × Hangs E is l.fn.trie c (drop l.segment-index l.segment-items);
+          → (c : Configuration _ _) × Hangs E is l.fn.trie c (drop l.below-index l.below-items);
       linked : IsLinked E l.start.register l.next None (alone l.start) l.trie;
     }
