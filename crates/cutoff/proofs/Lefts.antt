@@ -1,5 +1,5 @@
 -- What is left of a branch, as it is settled: the segments down to one from which others hang, and then those.
-use Rattle.std.proofs.Common.{◌≡◌, ℕ, suc, ◌+◌, ◌<◌, Bool, true, List, [], ◌∷◌, ◌++◌, length, drop, get_or, Option, Some, None, refl, sym, ap, subst, ◌∙◌, arith, append-nil}
+use Rattle.std.proofs.Common.{◌≡◌, ℕ, suc, ◌+◌, ◌<◌, Bool, true, List, [], ◌∷◌, ◌++◌, length, drop, get_or, Option, Some, None, refl, sym, ap, subst, ◌∙◌, arith, append-nil, append_assoc}
 use Rattle.std.specs.Cmp.{IsPartialEquivalence, IsEquivalence}
 use Rattle.std.specs.Option.{option_map}
 use Rattle.std.proofs.Math.Seq.{drop-cons}
@@ -11,8 +11,9 @@ use Rattle.schedule_trie.specs.Climbs.{keys_up_to, keys_to}
 use Rattle.schedule_trie.proofs.Partings.{parting, has-in}
 use Rattle.cutoff.specs.Fitting.{StoredRun, run_of, run_at}
 use Rattle.cutoff.specs.Links.{alone, IsLinked}
-use Rattle.cutoff.specs.Prefixes.{HasTrueRun, Hangs, IsBehind, IsHung, SettlesTo, come_to, exit_or, run_named}
+use Rattle.cutoff.specs.Prefixes.{HasTrueRun, RunsDown, RunsTo, Hangs, IsBehind, IsHung, SettlesTo, come_to, exit_or, run_named}
 use Rattle.cutoff.proofs.Hangings.{has-left}
+use Rattle.cutoff.proofs.Prefixes.{down_same, down_more}
 use Rattle.cutoff.proofs.Rests.{IsGoing, last_or, last_to, hanging_settles}
 
 -- the keys behind the one that others hang from, listed anew
@@ -65,3 +66,30 @@ module _ {R P : Type 0} (E : R → R → Bool) (equal : IsEquivalence E) (per : 
       let came : here.stored.run.exit ≡ come_to cut start (Some k) = sym (ap (exit_or start) (kept ∙ ap (option_map run_of) here.noted)) in
       hanging_settles E equal per is alike old cut start next key count i place n (left ++ []) back (Some k) g
       (subst (λ d. Hangs E is old d (left ++ [])) came (subst (Hangs E is old here.stored.run.exit) (sym (append-nil left)) hangs)) linked
+
+-- down a part that fits, and on to where its last run has others hanging from it
+module _ {R P : Type 0} (E : R → R → Bool) (per : IsPartialEquivalence E) (is : R → Behaviour P) (alike : (x y : R) → E x y ≡ true → is x ≡ is y) (cut : Cut (StoredRun R P)) (start : Configuration R P) where
+  hung_down : (keys below : List ℕ) (above : Option ℕ) → RunsDown E is cut (is start.register) start keys (come_to cut start above) → Hangs E is cut (come_to cut start above) below
+      → RunsDown E is cut (is start.register) start (keys ++ below) (come_to cut start (last_or above below))
+  hung_down keys [] above d h = subst (λ l. RunsDown E is cut (is start.register) start l (come_to cut start above)) (sym (append-nil keys)) d
+  hung_down keys (k ∷ below) above d h =
+      let s = h.0.stored in
+      let came : come_to cut start (Some k) ≡ s.run.exit = ap (λ n. exit_or start (option_map run_of n)) h.0.noted in
+      let entry = down_same E per is alike cut (is start.register) start keys s.run.entry (come_to cut start above) h.0.fits.entry d in
+      let more = down_more E per is alike cut k s h.0.noted h.0.true_run h.0.fits.steps (is start.register) start keys refl entry in
+      subst (λ l. RunsDown E is cut (is start.register) start l (come_to cut start (last_or (Some k) below))) (append_assoc keys (k ∷ []) below)
+      (hung_down (keys ++ k ∷ []) below (Some k) (subst (RunsDown E is cut (is start.register) start (keys ++ k ∷ [])) (sym came) more) (subst (λ c. Hangs E is cut c below) (sym came) h.1))
+
+  last_or-append : (above : Option ℕ) (keys below : List ℕ) → last_or above (keys ++ below) ≡ last_or (last_or above keys) below
+  last_or-append above [] below = refl
+  last_or-append above (k ∷ keys) below = last_or-append (Some k) keys below
+
+  pub hung_runs : (top front i : ℕ) → IsHung E is cut top front i → has front (keys_in cut.strands i) ≡ true → RunsTo E is cut start (Some top) (keys_in cut.strands i)
+      → RunsTo E is cut start (Some front) (keys_in cut.strands i)
+  hung_runs top front i h there d =
+      let keys = keys_in cut.strands i in
+      let named : last_or (Some top) h.below ≡ Some front =
+      ap (λ o. last_or o h.below) (sym (last_to keys (Some top) h.there)) ∙ sym (last_or-append None (keys_up_to top keys) h.below) ∙ ap (last_or None) (sym h.path) ∙ last_to keys (Some front) there in
+      subst (λ o. RunsDown E is cut (is start.register) start (keys_up_to front keys) (come_to cut start o)) named
+      (subst (λ l. RunsDown E is cut (is start.register) start l (come_to cut start (last_or (Some top) h.below))) (sym h.path)
+      (hung_down (keys_up_to top keys) h.below (Some top) d (h.hangs start)))

@@ -1,5 +1,5 @@
 -- Stored runs down a branch, one more at a time.
-use Rattle.std.proofs.Common.{◌≡◌, ◌⊎◌, ℕ, Bool, true, false, nat_eq, List, [], ◌∷◌, ◌++◌, Option, Some, None, slice_get, inl, inr, refl, sym, ap, subst, ◌∙◌, true≢false, eq-eqb}
+use Rattle.std.proofs.Common.{◌≡◌, ℕ, Bool, true, false, nat_eq, List, [], ◌∷◌, ◌++◌, Option, Some, None, refl, sym, ap, subst, ◌∙◌, true≢false, eq-eqb}
 use Rattle.std.specs.Prelude.{⊤}
 use Rattle.std.specs.Option.{option_eq, option_map}
 use Rattle.std.proofs.lemmas.Bool.{eqb-true}
@@ -8,14 +8,13 @@ use Rattle.frames.specs.Behaviour.{Behaviour}
 use Rattle.frames.specs.Configuration.{Configuration, replayed}
 use Rattle.frames.specs.Equality.{SameConfiguration}
 use Rattle.checkpoints.specs.Segment.{IsRun}
-use Rattle.schedule_trie.specs.Cut.{Cut, piece_at, note_of, keys_in, has}
-use Rattle.schedule_trie.specs.Climbs.{keys_up_to, keys_to}
+use Rattle.schedule_trie.specs.Cut.{Cut, piece_at, note_of, has}
+use Rattle.schedule_trie.specs.Climbs.{keys_to}
 use Rattle.schedule_trie.proofs.Climbs.{IsStepUp}
 use Rattle.schedule_trie.proofs.Once.{has_cases, has-head, has-tail}
 use Rattle.cutoff.specs.Fitting.{StoredRun, run_of, RunFits, steps_at}
-use Rattle.cutoff.specs.Links.{alone, IsStored, IsLinked}
-use Rattle.cutoff.specs.Prefixes.{RunsDown, RunsTo, IsMarked, come_to, exit_or}
-use Rattle.cutoff.proofs.Climbs.{link_same, ends_same}
+use Rattle.cutoff.specs.Links.{alone, IsLinked}
+use Rattle.cutoff.specs.Prefixes.{RunsDown, RunsTo, come_to, exit_or}
 use Rattle.cutoff.proofs.Fits.{register_kept, same_trans, exit_same, stored_at}
 use Rattle.cutoff.proofs.Walks.{linked_home}
 
@@ -43,34 +42,6 @@ module _ {R P : Type 0} (E : R → R → Bool) (per : IsPartialEquivalence E) (i
           subst (λ l. RunsDown E is cut (is start.register) start l (come_to cut start (Some k))) (sym step.is)
           (subst (RunsDown E is cut (is start.register) start (keys_to keys above ++ k ∷ [])) (sym come_here) (down_more (is start.register) start (keys_to keys above) refl d))
 
-      -- a run that was found behind this one begins where this one ends
-      pub up_same : (entry : Configuration R P) → SameConfiguration E entry s.run.exit → RunsTo E is cut start (Some k) keys
-          → RunsDown E is cut (is start.register) start (keys_up_to k keys) entry
-      up_same entry same d = down_same (is start.register) start (keys_up_to k keys) entry (come_to cut start (Some k)) (subst (SameConfiguration E entry) (sym come_here) same) d
-
-      -- whether this run begins a part that fits anew, or comes right before one that does
-      pub front_down : (front found at link : Option ℕ) (entry : Configuration R P) (exits : List (Configuration ⊤ P)) → IsStored E start.register exits (steps_at cut k) s
-          → ((front ≡ at) × (link ≡ None)) ⊎ (RunsDown E is cut (is start.register) start (keys_up_to k keys) entry → RunsTo E is cut start front keys)
-          → ((a : ℕ) → link ≡ Some a → (slice_get exits a ≡ Some (alone entry)) × (E entry.register start.register ≡ true))
-          → (found ≡ Some k) ⊎ ((found ≡ front) × ((a : ℕ) × (link ≡ Some a) × (s.id ≡ Some a))) → RunsTo E is cut start (Some k) keys → RunsTo E is cut start found keys
-      front_down front found at link entry exits told known came (inl new) d = subst (λ o. RunsTo E is cut start o keys) (sym new) d
-      front_down front found at link entry exits told (inl p) came (inr on) d = absurd (no_number link on.1.0 p.1 on.1.1)
-        where
-          no_number : (link : Option ℕ) (a : ℕ) → link ≡ None → link ≡ Some a → ⊥
-          no_number link a e f = cc
-      front_down front found at link entry exits told (inr up) came (inr on) d =
-          let c = came on.1.0 on.1.1 in
-          let same = link_same E per (is s.run.entry.register) s entry start.register exits (steps_at cut k) told on.1.0 on.1.2 c.0 c.1 in
-          subst (λ o. RunsTo E is cut start o keys) (sym on.0)
-          (up (up_same entry (ends_same E per (is s.run.entry.register) s entry true_run same.0 same.1) d))
-
--- what a mark tells, where it is a segment's
-pub marked_at : {R P : Type 0} (E : R → R → Bool) (is : R → Behaviour P) (cut : Cut (StoredRun R P)) (start : Configuration R P) (mark : Option ℕ) (k : ℕ)
-    → option_eq nat_eq mark (Some k) ≡ true → IsMarked E is cut start mark → (i : ℕ) → has k (keys_in cut.strands i) ≡ true → RunsTo E is cut start (Some k) (keys_in cut.strands i)
-marked_at E is cut start None k e m = cc
-marked_at E is cut start (Some j) k e m =
-    subst (λ x. (i : ℕ) → has x (keys_in cut.strands i) ≡ true → RunsTo E is cut start (Some x) (keys_in cut.strands i)) (eqb-true j k e) m
-
 pub same_key : (a b : Option ℕ) → option_eq nat_eq a b ≡ true → a ≡ b
 same_key None None e = refl
 same_key None (Some k) e = cc
@@ -86,16 +57,6 @@ pub by_other : (f k : ℕ) (keys : List ℕ) → has f (keys ++ k ∷ []) ≡ tr
 by_other f k [] h other = has_cases f k [] (has f [] ≡ true) h (λ e. absurd (other e)) (λ r. r)
 by_other f k (j ∷ keys) h other =
     has_cases f j (keys ++ k ∷ []) (has f (j ∷ keys) ≡ true) h (λ e. subst (λ z. has f (z ∷ keys) ≡ true) e (has-head f keys)) (λ r. has-tail f j keys (by_other f k keys r other))
-
--- what is known of the part that fits, on one of the branches
-pub known_at : {R P : Type 0} (E : R → R → Bool) (is : R → Behaviour P) (cut : Cut (StoredRun R P)) (start entry : Configuration R P) (key k : ℕ) (front at link : Option ℕ)
-    → ((front ≡ at) × (link ≡ None)) ⊎ ((i : ℕ) → has key (keys_in cut.strands i) ≡ true
-    → RunsDown E is cut (is start.register) start (keys_to (keys_in cut.strands i) at) entry → RunsTo E is cut start front (keys_in cut.strands i))
-    → at ≡ Some k → (i : ℕ) → has key (keys_in cut.strands i) ≡ true
-    → ((front ≡ at) × (link ≡ None)) ⊎ (RunsDown E is cut (is start.register) start (keys_up_to k (keys_in cut.strands i)) entry → RunsTo E is cut start front (keys_in cut.strands i))
-known_at E is cut start entry key k front at link (inl p) here i h = inl p
-known_at E is cut start entry key k front at link (inr up) here i h =
-    inr (λ d. up i h (subst (λ o. RunsDown E is cut (is start.register) start (keys_to (keys_in cut.strands i) o) entry) (sym here) d))
 
 -- what a stored run comes to is of the chart's register, and its number is that of a run that came there
 module _ {R P : Type 0} (E : R → R → Bool) (per : IsPartialEquivalence E) (b : Behaviour P) (cut : Cut (StoredRun R P)) (h : R) (k : ℕ) (s : StoredRun R P)

@@ -40,32 +40,22 @@ fn known_prefix<R: Register>(
     requires there { (i : ℕ) × (has key (keys_in trie.now.strands i) ≡ true) }
     ensures { IsKnown R.PartialEq.eq R.is trie.now start.now key result }
 {
-    let mut front = Some(key);
-    let mut at = front;
-    let mut entry = start;
-    let mut link = None;
+    let mut front = key;
     // A branch has no more segments than cells were made.
     for _ in 0..trie.made() {
-        let Some(key) = at else {
-            break;
-        };
-        let (note, above) = trie.step_up(key);
-        at = above;
-        let Some(stored) = note else {
-            front = at;
-            link = None;
-            continue;
-        };
-        entry = stored.entry();
-        if !stored.is_before(link) {
-            front = Some(key);
+        let top = hung_from(trie, mark, front);
+        if is_marked(mark, top) {
+            return Some(front);
         }
-        if mark == Some(key) {
-            return front;
-        }
-        link = stored.link();
+        let (note, above) = trie.step_up(top);
+        let Some(next) = above else {
+            let stored = note?;
+            let begun = stored.entry();
+            return if *begun == *start { Some(front) } else { None };
+        };
+        front = next;
     }
-    if *entry == *start { front } else { None }
+    None
 }
 
 /// The segment from which stored runs hang down to one, this one if there is none above it: each run that hangs was found behind
