@@ -85,8 +85,7 @@ impl<R: Register> Config<R> {
     {
         let store = self.store.copy(alloc)?;
         let stacks = copies(alloc, &self.stacks)?;
-        let mut stopped = Vec::new(alloc);
-        stopped.extend_from_slice(&self.stopped)?;
+        let stopped = Vec::from_slice(alloc, &self.stopped)?;
         Ok(Config {
             register: self.register,
             store,
@@ -247,7 +246,7 @@ impl<R: Register> Config<R> {
 fn no_frames(alloc: Global, processes: u32) -> Result<Vec<FlatStack>, AllocError>
     ensures { IfOk result (λ stacks. stacks.items ≡ replicate processes []) }
 {
-    let mut stacks = Vec::new(alloc);
+    let mut stacks = Vec::with_capacity(alloc, processes as usize)?;
     for _ in 0..processes {
         stacks.push(FlatStack::new())?;
     }
@@ -258,7 +257,7 @@ fn no_frames(alloc: Global, processes: u32) -> Result<Vec<FlatStack>, AllocError
 fn no_marks(alloc: Global, processes: u32) -> Result<Vec<bool>, AllocError>
     ensures { IfOk result (λ marks. marks.items ≡ replicate processes false) }
 {
-    let mut marks = Vec::new(alloc);
+    let mut marks = Vec::with_capacity(alloc, processes as usize)?;
     marks.resize(processes as usize, false)?;
     Ok(marks)
 }
@@ -267,7 +266,7 @@ fn no_marks(alloc: Global, processes: u32) -> Result<Vec<bool>, AllocError>
 fn copies(alloc: Global, stacks: &[FlatStack]) -> Result<Vec<FlatStack>, AllocError>
     ensures { IfOk result (λ copied. copied.items ≡ stacks.now) }
 {
-    let mut copied = Vec::new(alloc);
+    let mut copied = Vec::with_capacity(alloc, stacks.len())?;
     for stack in stacks {
         copied.push(stack.copy())?;
     }

@@ -83,9 +83,9 @@ impl Store {
     pub fn new(alloc: Global, cells: u32, words: u32) -> Result<Store, AllocError>
         ensures { IfOk result (λ store. store ≡ blank cells words) }
     {
-        let mut idle = Vec::new(alloc);
+        let mut idle = Vec::with_capacity(alloc, cells as usize)?;
         idle.resize(cells as usize, Cell::IDLE)?;
-        let mut zeros = Vec::new(alloc);
+        let mut zeros = Vec::with_capacity(alloc, words as usize)?;
         zeros.resize(words as usize, 0)?;
         Ok(Store {
             cells: idle,
@@ -97,10 +97,8 @@ impl Store {
     pub fn copy(&self, alloc: Global) -> Result<Store, AllocError>
         ensures { IfOk result (λ store. store ≡ self.now) }
     {
-        let mut cells = Vec::new(alloc);
-        cells.extend_from_slice(&self.cells)?;
-        let mut words = Vec::new(alloc);
-        words.extend_from_slice(&self.words)?;
+        let cells = Vec::from_slice(alloc, &self.cells)?;
+        let words = Vec::from_slice(alloc, &self.words)?;
         Ok(Store { cells, words })
     }
 
