@@ -67,7 +67,27 @@ impl<R: Register> Run<R> {
     }
 }
 
-/// Makes the steps of a segment one after another, from the configuration that it begins from.
+/// Makes steps one after another, from the configuration that they begin from, and keeps them as they are.
+pub fn run_of<R: Register>(
+    alloc: Global,
+    entry: &Config<R>,
+    steps: Vec<Step>,
+) -> Result<Run<R>, AllocError>
+    requires { AllFit (R.is entry.now.register) steps.items }
+    ensures entry { IfOk result (λ run. run.entry ≡ entry.now) }
+    ensures steps { IfOk result (λ run. run.steps ≡ steps.items) }
+{
+    let replayed = replay_from(alloc, entry.copy(alloc)?, &steps)?;
+    Ok(Run {
+        entry: entry.copy(alloc)?,
+        steps,
+        exit: replayed.config,
+        events: replayed.events,
+    })
+}
+
+/// Makes a copy of the steps of a segment one after another, from the configuration that it begins
+/// from.
 pub fn run_segment<R: Register>(
     alloc: Global,
     entry: &Config<R>,
@@ -77,12 +97,5 @@ pub fn run_segment<R: Register>(
     ensures entry { IfOk result (λ run. run.entry ≡ entry.now) }
     ensures steps { IfOk result (λ run. run.steps ≡ steps.now) }
 {
-    let list = Vec::from_slice(alloc, steps)?;
-    let replayed = replay_from(alloc, entry.copy(alloc)?, &list)?;
-    Ok(Run {
-        entry: entry.copy(alloc)?,
-        steps: list,
-        exit: replayed.config,
-        events: replayed.events,
-    })
+    run_of(alloc, entry, Vec::from_slice(alloc, steps)?)
 }
