@@ -9,7 +9,7 @@ ghost use Rattle.cutoff.specs.Fitting.{RunFits, Fits, IsSegmentSettled, steps_at
 ghost use Rattle.cutoff.specs.Links.{IsLinked, alone};
 
 use crate::stored::Stored;
-use checkpoints::run::{Run, run_segment};
+use checkpoints::run::{Run, run_of};
 use frames::config::Config;
 use frames::register::Register;
 use frames::types::Step;
@@ -125,15 +125,12 @@ fn replay_segment<R: Register>(
     ensures unchanged { OnErr result ((trie.new ≡ trie.old) × (next.new ≡ next.old)) }
 {
     let steps = segment_steps(alloc, trie, key)?;
-    let run = Arc::new(alloc, run_segment(alloc, config, &steps)?)?;
+    let replayed = steps.len() as u32;
+    let run = Arc::new(alloc, run_of(alloc, config, steps)?)?;
     let kept = Arc::try_clone(&run)?;
     let id = take_number(next);
     trie.set_note(key, Some(Stored::new(kept, id, above)));
-    Ok(Settled {
-        run,
-        id,
-        replayed: steps.len() as u32,
-    })
+    Ok(Settled { run, id, replayed })
 }
 
 /// Settles a segment where a walk has come to a configuration; `above` is the number of the run that came to it, if it has
