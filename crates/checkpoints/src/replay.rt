@@ -4,7 +4,7 @@ ghost use Rattle.std.specs.Prelude.{◌≡◌, ◌<◌, IfOk};
 ghost use Rattle.frames.specs.Configuration.{initial_configuration, replayed, history};
 ghost use Rattle.frames.specs.Recorded.{AllFit};
 
-use crate::events::Events;
+use crate::events::{Events, push_told};
 use frames::config::Config;
 use frames::register::Register;
 use frames::types::Step;
@@ -45,11 +45,14 @@ pub(crate) fn replay_from<R: Register>(
     ensures config { IfOk result (λ r. r.config ≡ replayed (R.is entry.register) entry steps.now) }
     ensures events { IfOk result (λ r. r.events ≡ history (R.is entry.register) entry steps.now) }
 {
+    let most = steps.len().checked_mul(2).ok_or(AllocError)?;
+    let mut marks = Vec::with_capacity(alloc, steps.len())?;
+    let mut events = Vec::with_capacity(alloc, most)?;
     let mut config = entry;
-    let mut events = Events::with_capacity(alloc, steps.len())?;
     for step in steps {
         let told = config.step(*step);
-        events.push(told)?;
+        push_told(&mut marks, &mut events, told);
     }
+    let events = Events::told_by(marks, events);
     Ok(Replayed { config, events })
 }

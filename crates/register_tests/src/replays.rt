@@ -77,7 +77,14 @@ fn run_of_a_segment(rt: HostRuntime) -> Result<(), Fail> {
     assert!(rt; *run.entry() == initial);
     assert_eq!(rt; run.steps(), OVERLAPPED_READ.as_slice());
     assert!(rt; *run.exit() == replayed.config);
-    assert_eq!(rt; run.events().as_slice(), replayed.events.as_slice());
+    assert_eq!(
+        rt;
+        run.events().indexed(rt.alloc())?.as_slice(),
+        replayed.events.indexed(rt.alloc())?.as_slice()
+    );
+    let mut front = run.events().walk(1);
+    assert!(rt; front.next().is_some());
+    assert!(rt; front.next().is_none());
     assert!(rt; is_shareable(&run));
     Ok(())
 }

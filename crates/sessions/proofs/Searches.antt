@@ -11,7 +11,7 @@ use Rattle.views.specs.declared.breakpoint.Break.{Break}
 use Rattle.views.specs.declared.breakpoint.Break.TheVariants.{Returns, Bit, Chosen, Void, Refused}
 use Rattle.views.specs.Breaks.{is_met, is_recorded, is_shown}
 use Rattle.sessions.specs.Seeks.{places_with, least_above, greatest_below}
-use Rattle.sessions.specs.Walks.{is_on_bit, records_any}
+use Rattle.sessions.specs.Walks.{is_on_bit, records_any, TellsEvents}
 
 range_more : (a n : ℕ) → range_with_len a (suc n) ≡ range_with_len a n ++ (a + n) ∷ []
 range_more a zero = let e : a ≡ a + 0 = omega arith in ap (λ m. m ∷ []) e
@@ -78,3 +78,16 @@ met_by_records (break ∷ breaks) events m e =
     let none = or_false (is_on_bit break) (list_any is_on_bit breaks) e in
     ap (λ b. b || is_met breaks events m) (or_nothing (is_recorded break events) (is_shown break m) (shown_false break m none.0))
     ∙ ap (λ b. is_recorded break events || b) (met_by_records breaks events m none.1)
+
+-- a test that tells of steps tells of the first of them, and of those behind it
+pub tells_first : (breaks : List Break) (test : ℕ → Bool) (place : ℕ) (events : StepEvents) (later : List StepEvents) → TellsEvents breaks test place (events ∷ later)
+    → test (place + 1) ≡ records_any breaks events
+tells_first breaks test place events later tells =
+    let here : place + 1 ≡ (place + 1) + 0 = omega arith in
+    ap test here ∙ tells 0 (omega arith)
+
+pub tells_behind : (breaks : List Break) (test : ℕ → Bool) (place : ℕ) (events : StepEvents) (later : List StepEvents) → TellsEvents breaks test place (events ∷ later)
+    → TellsEvents breaks test (place + 1) later
+tells_behind breaks test place events later tells i within =
+    let next : ((place + 1) + 1) + i ≡ (place + 1) + suc i = omega arith in
+    ap test next ∙ tells (suc i) (omega (arith, within))

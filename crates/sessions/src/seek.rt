@@ -16,6 +16,7 @@ ghost use Rattle.sessions.specs.Walks.{found_below, GoesOn, Tells, TellAll, Tell
 ghost use Rattle.sessions.specs.Walks as spec;
 
 use crate::way::Way;
+use checkpoints::events::EventWalk;
 use checkpoints::run::Run;
 use cutoff::chart::Chart;
 use frames::config::Config;
@@ -126,18 +127,22 @@ fn is_met<R: Register>(breaks: &[Break], events: StepEvents, config: &Config<R>)
 /// Goes on over the places behind steps that record these events; the first step stands at a place.
 fn along_events(
     search: &Search<'_>,
-    events: &[StepEvents],
+    events: EventWalk<'_>,
     place: u32,
     found: Option<u32>,
 ) -> Option<u32>
-    requires { IsPlace (place + length events.now) }
-    ensures { (test : ℕ → Bool) → TellsEvents search.now.breaks.now test place events.now
-        → GoesOn search.now test place (length events.now) found result }
+    requires { IsPlace (place + length events) }
+    ensures { (test : ℕ → Bool)
+        → TellsEvents search.now.breaks.now test place events.entry
+        → GoesOn search.now test place (length events.entry) found result }
 {
+    let mut left = events;
+    let mut at = place;
     let mut found = found;
-    for (i, step) in events.iter().enumerate() {
-        let hit = records_any(search.breaks, *step);
-        found = search.with_place(found, place + 1 + i as u32, hit);
+    while let Some(told) = left.next() {
+        at += 1;
+        let hit = records_any(search.breaks, told);
+        found = search.with_place(found, at, hit);
     }
     found
 }
@@ -185,7 +190,7 @@ fn along_run<R: Register>(
         let steps = front(run.steps(), count);
         return Ok(along_steps(search, config, steps, progress.place, progress.found));
     }
-    let events = front(run.events().as_slice(), count);
+    let events = run.events().walk(count as usize);
     Ok(along_events(search, events, progress.place, progress.found))
 }
 

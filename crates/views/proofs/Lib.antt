@@ -2,6 +2,7 @@ pub mod Ranges
 pub mod Alone
 pub mod Lenses
 pub mod Spots
+pub mod Indices
 pub mod BranchLengths
 pub mod Slips
 pub mod VerdictRows

@@ -2,16 +2,15 @@
 
 ghost use Rattle.std.specs.Prelude.{◌≡◌, IfOk, map, take};
 ghost use Rattle.frames.specs.Configuration.{replayed};
-ghost use Rattle.frames.specs.Recorded.{AllFit};
+ghost use Rattle.frames.specs.Recorded.{AllFit, indexed};
 ghost use Rattle.cutoff.specs.Fitting.{part_of};
 ghost use Rattle.views.specs.Spots.{IsAlike, end_of, events_of};
 
 use crate::lens::Lens;
-use checkpoints::events::Events;
 use checkpoints::run::Run;
 use frames::config::Config;
 use frames::register::Register;
-use frames::types::Step;
+use frames::types::{Event, Step};
 use std::alloc::{AllocError, Global};
 use std::sync::Arc;
 
@@ -40,18 +39,22 @@ pub(crate) fn make<R: Register>(config: &mut Config<R>, steps: &[Step])
     }
 }
 
-/// The events of runs one after the other, each as far as it counts.
-pub fn events_of<R: Register>(
+/// The events of runs one after the other, each run as far as it counts: each event with the index of
+/// its step.
+pub fn history_of<R: Register>(
     alloc: Global,
     runs: &[(Arc<Run<R>>, u32)],
-) -> Result<Events, AllocError>
-    ensures { IfOk result (λ events. events ≡ events_of R.is (map part_of runs.now)) }
+) -> Result<Vec<(usize, Event)>, AllocError>
+    ensures { IfOk result
+        (λ all. all.items ≡ indexed 0 (events_of R.is (map part_of runs.now))) }
 {
-    let mut events = Events::new(alloc);
+    let mut all = Vec::new(alloc);
+    let mut index = 0;
     for (run, count) in runs {
-        events.extend(front(run.events().as_slice(), *count))?;
+        let walk = run.events().walk(*count as usize);
+        index = walk.push_indexed(index, &mut all)?;
     }
-    Ok(events)
+    Ok(all)
 }
 
 /// The first `count` items; all where there are fewer.

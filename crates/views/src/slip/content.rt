@@ -23,7 +23,7 @@ use crate::page::state::state_page;
 use crate::page::steps::StepsPage;
 use crate::page::verdict::verdict_page;
 use crate::query::PlaceKind;
-use crate::spot::{config_of, events_of};
+use crate::spot::{config_of, history_of};
 use checkpoints::run::Run;
 use frames::config::Config;
 use frames::register::Register;
@@ -82,12 +82,9 @@ fn run_page<R: Register>(
         (λ page. page ≡ spec.run_page R.is kind head.now first.now (map part_of runs.now)) }
 {
     match kind {
-        PlaceKind::History => {
-            let events = events_of(alloc, runs)?;
-            Ok(history_page(head, events.indexed(alloc)?))
-        }
+        PlaceKind::History => Ok(history_page(head, history_of(alloc, runs)?)),
         PlaceKind::Verdict(value) => {
-            let events = events_of(alloc, runs)?.indexed(alloc)?;
+            let events = history_of(alloc, runs)?;
             Ok(Page::Verdict(verdict_page(alloc, head, value, &events)?))
         }
         PlaceKind::State | PlaceKind::Process(_) | PlaceKind::Bits | PlaceKind::Pending => {
