@@ -8,5 +8,6 @@ pub mod NextHits
 pub mod Looks
 pub mod Rows
 pub mod Standing
+pub mod Unmoved
 pub mod EditAnswers
 pub mod Loads

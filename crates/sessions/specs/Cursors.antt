@@ -41,6 +41,11 @@ shifted shift f branch place c = if is_behind f branch place c then cursor c.bra
 abbrev pub each_cursor : (Cursor → Cursor) → List (Option Cursor) → List (Option Cursor)
 each_cursor change cursors = map (option_map change) cursors
 
+-- a cursor stands behind a place, on whatever branch
+abbrev pub stands_behind : ℕ → Option Cursor → Bool
+stands_behind place None = false
+stands_behind place (Some c) = nat_lt place c.place
+
 -- a cursor stands on a branch
 abbrev pub stands_on : List ℕ → Option Cursor → Bool
 stands_on branch None = false

@@ -1,6 +1,7 @@
 //! Cursors of sessions.
 
 ghost use Rattle.std.specs.Prelude.{◌≡◌, ◌<◌, ◌≤◌, IfSome, length};
+ghost use Rattle.std.specs.List.{list_any};
 ghost use Rattle.std.specs.Option.{option_map};
 ghost use Rattle.schedule_trie.specs.Forest.{cell_at};
 ghost use Rattle.schedule_trie.specs.Cut.{forest};
@@ -113,6 +114,22 @@ pub(crate) fn shift_of(command: &Command) -> Option<(Name, u32, Shift)>
         Command::Insert { branch, place, .. } => Some((*branch, *place, Shift::Up)),
         Command::Remove { branch, place } => Some((*branch, *place, Shift::Down)),
         _ => None,
+    }
+}
+
+/// Whether a cursor stands behind a place, on whatever branch: an insert or a remove there moves no other.
+pub(crate) fn any_behind(cursors: &[Option<Cursor>], place: u32) -> bool
+    ensures { result ≡ list_any (spec.stands_behind place) cursors.now }
+{
+    cursors.iter().any(|cursor| stands_behind(place, cursor))
+}
+
+fn stands_behind(place: u32, cursor: &Option<Cursor>) -> bool
+    ensures { result ≡ spec.stands_behind place cursor.now }
+{
+    match cursor {
+        None => false,
+        Some(cursor) => place < cursor.place,
     }
 }
 

@@ -9,7 +9,7 @@ ghost use Rattle.schedule_trie.specs.Cut.{forest};
 
 use super::Stage;
 use crate::command::Command;
-use crate::cursor::{Cursor, SESSIONS, is_occupied, shift_of, shifted};
+use crate::cursor::{Cursor, SESSIONS, any_behind, is_occupied, shift_of, shifted};
 use crate::reply::Reply;
 use cutoff::chart::Chart;
 use frames::register::Register;
@@ -73,6 +73,9 @@ fn change_and_move<R: Register>(
     let Some((branch, place, shift)) = shift_of(command) else {
         return change(alloc, chart, command);
     };
+    if !any_behind(cursors, place) {
+        return change(alloc, chart, command);
+    }
     let moved = shifted(chart, cursors, &branch, place, shift);
     change(alloc, chart, command)?;
     *cursors = moved;
