@@ -11,7 +11,7 @@ use denote.Param.Send.{IsSend, IsSync, view_send, recorded_send, recorded_sync, 
 use Rattle.std.specs.declared.clone.Clone as clone
 use Rattle.std.specs.declared.cmp.Eq as eq
 use Rattle.std.specs.declared.cmp.PartialEq as partial_eq
-use Rattle.std.proofs.Crossing.{crosses, Vec-send}
+use Rattle.std.proofs.Crossing.{crosses, Box-send, Vec-send}
 use Rattle.frames.specs.declared.register.Register as register
 use Rattle.frames.specs.declared.register.Behaves as behaves
 use Rattle.frames.specs.contracts.safe.Safe as safe
@@ -46,7 +46,7 @@ module _ (T T' : RattleType) (r : register.Ghosts T.Denot T'.Denot) (b : behaves
   journal_send : IsSend (journal.the_row T T' r b e' e)
   journal_send = view_send (journal_inside.the_row T T' r b e' e) _ _ _ _
       (recorded_send (journal_inside.the_field T T' r b e' e).row _ _ (journal_inside.the_type T T' r b e' e).to_one
-      (struct_send (declared.shape (journal_inside.the_type T T' r b e' e)) (search crosses, (book_send, tt))))
+      (struct_send (declared.shape (journal_inside.the_type T T' r b e' e)) (search crosses, (Box-send _ book_send, tt))))
 
   pub chair_send : (g : counted.Ghosts (journal.the_row T T' r b e' e).Denot (item.the_row T T' r b e' e).Denot) → IsSend (chair.the_row (journal.the_row T T' r b e' e) (item.the_row T T' r b e' e) g)
   chair_send g = chairs.the_send (journal.the_row T T' r b e' e) (item.the_row T T' r b e' e) g journal_send

@@ -24,7 +24,7 @@ impl<R: Register> Work<Journal<R>> for Act<'_> {
     ghost relation = { λ work before after receipt _. IsAct R.is work.who work.if_at work.command.now before after receipt };
 
     fn work(&mut self, journal: &mut Journal<R>, number: u32) -> Receipt {
-        let book = &mut journal.book;
+        let book = &mut *journal.book;
         let reply = book.act(self.alloc, number, self.who, self.if_at, self.command);
         let at = u64::from(book.len());
         Receipt { at, reply }

@@ -88,7 +88,8 @@ impl<R: Register> Desk<R> {
         ensures err { IfErr result (λ e. e ≡ Memory) }
     {
         let first = Snapshot::of(&book);
-        let Ok((turn, chair)) = Turn::new(alloc, Journal::new(book)) else {
+        let journal = Journal::new(alloc, book)?;
+        let Ok((turn, chair)) = Turn::new(alloc, journal) else {
             return Err(Refusal::Memory);
         };
         Ok((Desk { turn, first }, chair))

@@ -28,7 +28,7 @@ impl<R: Register> Work<Journal<R>> for Install<R> {
     ghost relation = { λ work before after answer _. IsReading R.is (λ _ world. Offers R.PartialEq.eq R.is work.key work.run world answer) before after };
 
     fn work(&mut self, journal: &mut Journal<R>, _number: u32) -> Option<Installation> {
-        let book = &mut journal.book;
+        let book = &mut *journal.book;
         let answer = offer(book, self.key, self.run.take());
         book.held();
         answer

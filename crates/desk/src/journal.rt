@@ -1,6 +1,6 @@
 //! The book behind a desk's turn.
 
-ghost use Rattle.std.specs.Prelude.{◌≡◌, ◌+◌, [], length, ◌↔◌};
+ghost use Rattle.std.specs.Prelude.{◌≡◌, ◌+◌, [], length, ◌↔◌, IfOk};
 ghost use Rattle.sessions.specs.Logs.{IsLegal};
 ghost use Rattle.sessions.specs.Held.{opening_of};
 ghost use Rattle.desk.specs.Items.{calls_in, items, made_under};
@@ -9,15 +9,17 @@ use crate::item::Item;
 use frames::register::Register;
 use sessions::book::Book;
 use sessions::log::Log;
+use std::alloc::{AllocError, Global};
 use std::marker::Model;
 use std::snapshot::Snapshot;
 use turn::Counted;
 
-/// A book, and how it opened. Contracts see it as the list of its items: the opening, and the logged calls.
+/// A book, and how it opened. Contracts see it as the list of its items: the opening, and the logged calls. The book lies in a box,
+/// since each holding of the turn moves the journal out and back.
 #[derive(Drop)]
 pub struct Journal<R: Register> {
     first: Snapshot<Book<R>>,
-    pub(crate) book: Book<R>,
+    pub(crate) book: Box<Book<R>>,
 }
 
 impl<R: Register> Model for Journal<R> {
@@ -28,20 +30,19 @@ impl<R: Register> Model for Journal<R> {
 
     ghost Value = { List (Item R R.Pending) };
 
-    ghost view = { λ j. items j.first.value j.book.log };
+    ghost view = { λ j. items j.first.value j.book.value.log };
 
-    ghost invariant = { λ j. opening_of R.is j.book ≡ opening_of R.is j.first.value };
+    ghost invariant = { λ j. opening_of R.is j.book.value ≡ opening_of R.is j.first.value };
 }
 
 impl<R: Register> Journal<R> {
     /// A book as it opens.
-    pub(crate) fn new(book: Book<R>) -> Journal<R>
-        ensures { result ≡ items book book.log }
+    pub(crate) fn new(alloc: Global, book: Book<R>) -> Result<Journal<R>, AllocError>
+        ensures { IfOk result (λ journal. journal ≡ items book book.log) }
     {
-        Journal {
-            first: Snapshot::of(&book),
-            book,
-        }
+        let first = Snapshot::of(&book);
+        let book = Box::new(alloc, book)?;
+        Ok(Journal { first, book })
     }
 
     /// The log of its book.
@@ -49,7 +50,7 @@ impl<R: Register> Journal<R> {
         ensures { result ≡ calls_in self }
     {
         let Self { first: _, book } = self;
-        book.into_log()
+        Box::into_inner(book).into_log()
     }
 }
 

@@ -23,7 +23,7 @@ impl<R: Register> Work<Journal<R>> for Look {
     ghost relation = { λ work before after out _. IsLook R.is work.query before after out.0 out.1 };
 
     fn work(&mut self, journal: &mut Journal<R>, _number: u32) -> (u64, Result<Slip<R>, Refusal>) {
-        let book = &mut journal.book;
+        let book = &mut *journal.book;
         let slip = book.look(self.alloc, self.query);
         (u64::from(book.len()), slip)
     }

@@ -24,7 +24,7 @@ impl<R: Register> Work<Journal<R>> for Plan<'_> {
     ghost relation = { λ work before after out _. IsReading R.is (λ _ world. PlansOf R.PartialEq.eq R.is work.branch.now work.most world out) before after };
 
     fn work(&mut self, journal: &mut Journal<R>, _number: u32) -> Result<Vec<Chain<R>>, Refusal> {
-        let book = &journal.book;
+        let book = &*journal.book;
         book.held();
         book.chains(self.alloc, self.branch, self.most)
     }

@@ -28,7 +28,7 @@ impl<R: Register> Work<Journal<R>> for Save {
     ghost relation = { λ work before after out _. IsReading R.is (λ n world. IsSaving n world out) before after };
 
     fn work(&mut self, journal: &mut Journal<R>, _number: u32) -> Result<Saved, Refusal> {
-        let book = &journal.book;
+        let book = &*journal.book;
         let at = u64::from(book.len());
         let limbs = book.limbs(self.alloc)?;
         Ok(Saved { at, limbs })

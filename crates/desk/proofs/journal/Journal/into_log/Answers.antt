@@ -4,4 +4,4 @@ use Rattle.desk.proofs.Lists.{calls_as}
 use Rattle.desk.proofs.journal.Journal.into_log.Goals as goal
 
 pub returns : goal.returns
-returns g c = c.into_log.ensures.log ∙ (sym (calls_as g.row.R.Denot g.row.R-Pending.Denot c.self.inside.book.log) ∙ ap calls_in c.self.view_is)
+returns g c = c.into_log.ensures.log ∙ ap (λ b. b.log) c.into_inner.ensures ∙ (sym (calls_as g.row.R.Denot g.row.R-Pending.Denot c.self.inside.book.value.log) ∙ ap calls_in c.self.view_is)
