@@ -1,5 +1,5 @@
 -- Where no cursor stands behind an edit's place, the edit moves none.
-use Rattle.std.proofs.Common.{◌≡◌, ℕ, Bool, true, false, ◌&&◌, ◌||◌, nat_lt, List, [], ◌∷◌, Option, Some, None, Result, Ok, Err, OnOk, if◌then◌else◌, refl, sym, ap, ◌∙◌}
+use Rattle.std.proofs.Common.{◌≡◌, ℕ, Bool, true, false, not, ◌&&◌, ◌||◌, nat_lt, List, [], ◌∷◌, Option, Some, None, if◌then◌else◌, refl, sym, ap, ◌∙◌}
 use Rattle.std.specs.Option.{option_map}
 use Rattle.std.specs.List.{list_any}
 use Rattle.schedule_trie.specs.Forest.{Forest, cell_at}
@@ -28,10 +28,10 @@ module _ (way : Shift) (f : Forest) (branch : List ℕ) (place : ℕ) where
       by others true e g = absurd (cc)
       by others false e g = ap (λ x. x ∷ each_cursor (shifted way f branch place) rest) (one_stays o e) ∙ ap (λ xs. o ∷ xs) (others g)
 
-pub unmoved : (edit : Option Edit) (at : List ℕ × ℕ × Shift) (f : Forest) (cursors : List (Option Cursor)) (t : Bool) → IsShift edit (Some at)
-    → t ≡ list_any (stands_behind at.1) cursors → t ≡ false → cursors ≡ moved_if edit f cursors
-unmoved edit at f cursors t is any none = sym (is f cursors ∙ all_stay at.2 f at.0 at.1 cursors (sym any ∙ none))
+none_is : (t : Bool) → not t ≡ true → t ≡ false
+none_is true h = absurd (cc)
+none_is false h = refl
 
-pub however : {A B C : Type 0} (r : Result A B) → C → OnOk r C
-however (Ok x) c = c
-however (Err e) c = tt
+pub unmoved : (edit : Option Edit) (at : List ℕ × ℕ × Shift) (cursors : List (Option Cursor)) (t : Bool) → IsShift edit (Some at)
+    → t ≡ list_any (stands_behind at.1) cursors → not t ≡ true → (f : Forest) → cursors ≡ moved_if edit f cursors
+unmoved edit at cursors t is any none f = sym (is f cursors ∙ all_stay at.2 f at.0 at.1 cursors (sym any ∙ none_is t none))

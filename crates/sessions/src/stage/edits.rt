@@ -6,6 +6,7 @@ ghost use Rattle.sessions.specs.Bounds.{AreWithin, CanLog};
 ghost use Rattle.sessions.specs.Edits.{edit_of, is_held_up, moved_if};
 ghost use Rattle.sessions.specs.Held.{Does, Changes};
 ghost use Rattle.schedule_trie.specs.Cut.{forest};
+ghost use Rattle.schedule_trie.specs.Forest.{Forest};
 
 use super::Stage;
 use crate::command::Command;
@@ -70,12 +71,45 @@ fn change_and_move<R: Register>(
         ≡ moved_if (edit_of command.now) (forest chart.old.cut) cursors.old) }
     ensures kept { OnErr result (cursors.new ≡ cursors.old) }
 {
+    if moves_none(cursors, command) {
+        return change(alloc, chart, command);
+    }
+    change_and_shift(alloc, chart, cursors, command)
+}
+
+/// Whether a command's edit can't move any cursor: there is none behind its place, or it moves none.
+fn moves_none(cursors: &[Option<Cursor>], command: &Command) -> bool
+    ensures { result ≡ true → (f : Forest)
+        → cursors.now ≡ moved_if (edit_of command.now) f cursors.now }
+{
+    match shift_of(command) {
+        None => true,
+        Some((_, place, _)) => !any_behind(cursors, place),
+    }
+}
+
+/// The same for an edit that may move cursors. It stands apart for the room that all cursors take, which is made ready at each call.
+///
+/// # Errors
+///
+/// Those of the edit. Then nothing is changed.
+#[inline(never)]
+fn change_and_shift<R: Register>(
+    alloc: Global,
+    chart: &mut Chart<R>,
+    cursors: &mut [Option<Cursor>; SESSIONS],
+    command: &Command,
+) -> Result<(), Refusal>
+    requires fits { fits_command (R.is chart.old.start.register) command.now ≡ true }
+    requires within { AreWithin cursors.old }
+    ensures chart { Changes (edit_of command.now) chart.old chart.new result }
+    ensures moved { OnOk result (cursors.new
+        ≡ moved_if (edit_of command.now) (forest chart.old.cut) cursors.old) }
+    ensures kept { OnErr result (cursors.new ≡ cursors.old) }
+{
     let Some((branch, place, shift)) = shift_of(command) else {
         return change(alloc, chart, command);
     };
-    if !any_behind(cursors, place) {
-        return change(alloc, chart, command);
-    }
     let moved = shifted(chart, cursors, &branch, place, shift);
     change(alloc, chart, command)?;
     *cursors = moved;
