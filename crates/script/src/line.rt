@@ -56,7 +56,12 @@ fn called(line: &[u8]) -> Line
 fn all_plain(line: &[u8]) -> bool
     ensures { result ≡ list_all spec.is_plain line.now }
 {
-    line.iter().all(|b| 0x20 <= *b && *b <= 0x7e)
+    // There is no early way out, so that many bytes are looked at together.
+    let mut plain = true;
+    for byte in line {
+        plain &= 0x20 <= *byte && *byte <= 0x7e;
+    }
+    plain
 }
 
 /// Reads the number of a session, and what it asks for.
