@@ -1,6 +1,6 @@
 //! A conversation: the script comes in by pieces, and the answers to each piece go out together.
 
-ghost use Rattle.std.specs.Prelude.{◌≡◌, ◌++◌, ◌∷◌, [], ◌<◌, ◌≤◌, ◌+◌, ◌^◌, ℕ, List, Option, OnOk, OnErr, IfOk, IfErr, IfSome, MatchOption, length};
+ghost use Rattle.std.specs.Prelude.{◌≡◌, ◌++◌, ◌∷◌, [], ◌<◌, ◌≤◌, ◌+◌, ◌^◌, ℕ, List, Option, OnOk, OnErr, IfOk, IfErr, IfSome, MatchOption, length, take};
 ghost use Rattle.std.specs.Io.KnownBytes.{Appends, IsAtEnd};
 ghost use Rattle.conversation.specs.declared.limits.TheConstants.{KEPT_BYTES, MOST_BYTES};
 ghost use Rattle.conversation.specs.Scripts.{answers_to, AnswersBy, IsAnswer};
@@ -59,11 +59,36 @@ impl Conversation {
     {
         let mut rest = piece;
         'lines: while let Some((end, behind)) = first_line(rest) {
-            self.keep(end)?;
-            self.end_line(answers, answer)?;
+            self.answer_line(answers, answer, end)?;
             rest = behind;
         }
         self.keep(rest)
+    }
+
+    /// Adds the answer to the line that ends with these bytes. Where nothing is kept of it, it is answered as it lies in the piece.
+    fn answer_line<A: Answers, F: Fn(&mut A, u32, &[u8], &mut Vec<u8>) -> Result<(), AllocError>>(
+        &mut self,
+        answers: &mut A,
+        answer: &F,
+        end: &[u8],
+    ) -> Result<(), AllocError>
+        requires few { self.old.lines + 1 < 2 ^ 32 }
+        requires callable { F.IsAlwaysCallable answer.now }
+        requires answers { AnswersBy A.define A.world (F.post answer.now) }
+        ensures lines { self.new.lines ≤ self.old.lines + 1 }
+        ensures counted { OnOk result (self.new.lines ≡ self.old.lines + 1) }
+        ensures line { OnOk result (self.new.line.items ≡ []) }
+        ensures answer { OnOk result (IsAnswer A.define (self.old.lines + 1)
+            (kept_with self.old.line.items end.now) (A.world answers.old) (A.world answers.new)
+            self.old.out.items self.new.out.items) }
+    {
+        if self.line.as_slice().is_empty() {
+            self.lines += 1;
+            answer(answers, self.lines, kept_front(end), &mut self.out)?;
+            return Ok(());
+        }
+        self.keep(end)?;
+        self.end_line(answers, answer)
     }
 
     /// Adds the answer to the line, which ends here.
@@ -192,6 +217,13 @@ impl Conversation {
         };
         Ok(())
     }
+}
+
+/// The bytes of a line that are kept of it.
+fn kept_front(line: &[u8]) -> &[u8]
+    ensures { result.now ≡ take KEPT_BYTES line.now }
+{
+    &line[..KEPT_BYTES.min(line.len())]
 }
 
 /// The bytes before the first line's end of a text, and those behind it; none where no line ends in it.

@@ -1,7 +1,7 @@
-use Rattle.std.proofs.Common.{◌≡◌, ◌++◌, ◌∷◌, ◌+◌, ◌≤◌, [], ℕ, List, length, sym, ap, subst, ◌∙◌, arith, append_assoc}
+use Rattle.std.proofs.Common.{◌≡◌, ◌++◌, ◌∷◌, ◌+◌, ◌≤◌, [], ℕ, List, length, refl, sym, ap, subst, ◌∙◌, arith, append_assoc}
 use Rattle.std.proofs.lemmas.List.{length-append}
 use Rattle.std.proofs.lemmas.Result.{on_ok_weaker}
-use Rattle.conversation.specs.Told.{Told}
+use Rattle.conversation.specs.Told.{Told, kept_with}
 use Rattle.conversation.proofs.Tellings.{told_on, told_line, behind}
 use Rattle.conversation.proofs.converse.Conversation.take.Goals as goal
 
@@ -20,19 +20,20 @@ lines-preserved g c =
     let line = c.in-Some.end.now in
     let cut = c.in-Some.ensures.1 in
     record {
-      few = omega (arith, c.lines.invariant.few, shorter c.lines.rest.now line c.in-Some.behind.now cut, c.end_line.ensures.lines, c.keep.ensures.lines);
+      few = omega (arith, c.lines.invariant.few, shorter c.lines.rest.now line c.in-Some.behind.now cut, c.answer_line.ensures.lines);
       told = (
         (so_far.0 ++ line) ++ 10 ∷ [],
         so_far.1 ∙ joined so_far.0 c.lines.rest.now line c.in-Some.behind.now cut,
         λ start seen front t.
             let before = so_far.2 start seen front t in
+            let whole = kept_with c.lines.self.line.items line in
             let kept = told_on A.define start (seen ++ so_far.0) (A.world c.lines.answers) c.lines.self.lines c.lines.self.line.items (front ++ c.lines.self.out.items) before
-            line c.keep.new.self.lines c.keep.new.self.line.items (front ++ c.keep.new.self.out.items) c.in-Some.ensures.0 c.keep.ensures.lines c.in_ok-keep.ensures.line (ap (λ out. front ++ out.items) c.keep.ensures.out) in
-            subst (λ xs. Told A.define start xs (A.world c.end_line.new.answers) c.end_line.new.self.lines c.end_line.new.self.line.items (front ++ c.end_line.new.self.out.items))
+            line c.lines.self.lines whole (front ++ c.lines.self.out.items) c.in-Some.ensures.0 refl refl refl in
+            subst (λ xs. Told A.define start xs (A.world c.answer_line.new.answers) c.answer_line.new.self.lines c.answer_line.new.self.line.items (front ++ c.answer_line.new.self.out.items))
             (ap (λ xs. xs ++ 10 ∷ []) (append_assoc seen so_far.0 line) ∙ append_assoc seen (so_far.0 ++ line) (10 ∷ []))
-            (told_line A.define g.A.Answers.reads_front start ((seen ++ so_far.0) ++ line) (A.world c.lines.answers) c.keep.new.self.lines c.keep.new.self.line.items (front ++ c.keep.new.self.out.items) kept
-            (A.world c.end_line.new.answers) c.end_line.new.self.lines c.end_line.new.self.line.items (front ++ c.end_line.new.self.out.items)
-            (behind A.define _ _ _ _ _ _ front c.in_ok-end_line.ensures.answer) c.end_line.ensures.lines c.in_ok-end_line.ensures.line),
+            (told_line A.define g.A.Answers.reads_front start ((seen ++ so_far.0) ++ line) (A.world c.lines.answers) c.lines.self.lines whole (front ++ c.lines.self.out.items) kept
+            (A.world c.answer_line.new.answers) c.answer_line.new.self.lines c.answer_line.new.self.line.items (front ++ c.answer_line.new.self.out.items)
+            (behind A.define _ _ _ _ _ _ front c.in_ok-answer_line.ensures.answer) c.in_ok-answer_line.ensures.counted c.in_ok-answer_line.ensures.line),
       );
     }
 
@@ -40,10 +41,10 @@ pub returns-clause-told : goal.returns-clause-told
 returns-clause-told g c =
     let A = g.A.Answers in
     let so_far = c.lines.invariant.told in
-    on_ok_weaker c.keep-2.result
+    on_ok_weaker c.keep.result
     (λ kept start seen front t.
-    subst (λ xs. Told A.define start xs (A.world c.lines.answers) c.keep-2.new.self.lines c.keep-2.new.self.line.items (front ++ c.keep-2.new.self.out.items))
+    subst (λ xs. Told A.define start xs (A.world c.lines.answers) c.keep.new.self.lines c.keep.new.self.line.items (front ++ c.keep.new.self.out.items))
     (append_assoc seen so_far.0 c.lines.rest.now ∙ ap (λ xs. seen ++ xs) (sym so_far.1))
     (told_on A.define start (seen ++ so_far.0) (A.world c.lines.answers) c.lines.self.lines c.lines.self.line.items (front ++ c.lines.self.out.items) (so_far.2 start seen front t)
-    c.lines.rest.now c.keep-2.new.self.lines c.keep-2.new.self.line.items (front ++ c.keep-2.new.self.out.items) (rw c.in_default.is at c.first_line.ensures) c.keep-2.ensures.lines kept (ap (λ out. front ++ out.items) c.keep-2.ensures.out)))
-    c.keep-2.ensures.line
+    c.lines.rest.now c.keep.new.self.lines c.keep.new.self.line.items (front ++ c.keep.new.self.out.items) (rw c.in_default.is at c.first_line.ensures) c.keep.ensures.lines kept (ap (λ out. front ++ out.items) c.keep.ensures.out)))
+    c.keep.ensures.line
