@@ -1,11 +1,14 @@
 -- The value of a run of digits, one digit at a time.
-use Rattle.std.proofs.Common.{◌≡◌, ℕ, ◌+◌, ◌-◌, ◌*◌, ◌^◌, ◌<◌, ◌≤◌, true, List, length, take, get_or, refl, arith, rules, tests, lit<, add-one}
+use Rattle.std.proofs.Common.{◌≡◌, ℕ, ◌+◌, ◌-◌, ◌*◌, ◌^◌, ◌<◌, ◌≤◌, true, List, length, take, get_or, arith, rules, tests, lit<, add-one, ◌∙◌, ◌/◌, ◌%◌, ◌++◌, ◌∷◌, [], sym, ap, append_assoc}
 use Rattle.std.proofs.lemmas.Bool.Decides.{nat_tests}
 use Rattle.std.specs.List.{list_all}
 use Rattle.std.specs.Char.{is_ascii_digit, digit_value}
 use Rattle.std.specs.Str.Parse.{digits_value}
-use Rattle.std.proofs.lemmas.List.Recursion.{and_at}
+use Rattle.std.proofs.lemmas.Bool.{and_from}
+use Rattle.std.proofs.lemmas.List.Folds.{list_all_more}
 use Rattle.std.proofs.lemmas.Int.Digits.{digits_value_more}
+use Rattle.std.specs.Fmt.{decimal}
+use Rattle.std.proofs.lemmas.Fmt.{decimal_step}
 use Rattle.std.proofs.Math.Nat.{pow-le-pow_right, pow-suc}
 
 pub digit_bounds : (c : ℕ) → is_ascii_digit c ≡ true → (48 ≤ c) × (c ≤ 57)
@@ -14,19 +17,27 @@ digit_bounds c h = search (rules, tests)
 pub digit_value-ascii : (c : ℕ) → 48 ≤ c → c ≤ 57 → digit_value c ≡ c - 48
 digit_value-ascii c low high = grind (arith, nat_tests)
 
-pub digit_at : (xs : List ℕ) (i : ℕ) → list_all is_ascii_digit xs ≡ true → i < length xs → (48 ≤ get_or xs i 0) × (get_or xs i 0 ≤ 57)
-digit_at xs i h lt = digit_bounds (get_or xs i 0) (and_at (list_all is_ascii_digit) is_ascii_digit refl (λ _ _. refl) xs i 0 lt h)
-
 pub small_power : (v i : ℕ) → v < 10 ^ i → i ≤ 8 → v < 10 ^ 8
 small_power v i h le = omega (arith, pow-le-pow_right {n = 10} (lit< tt) le)
 
-pub next_digit : (xs : List ℕ) (i v d : ℕ) → list_all is_ascii_digit xs ≡ true → i < length xs → d ≡ get_or xs i 0 - 48 → v ≡ digits_value 10 (take i xs)
+pub next_digit : (xs : List ℕ) (i v d : ℕ) → is_ascii_digit (get_or xs i 0) ≡ true → i < length xs → d ≡ get_or xs i 0 - 48 → v ≡ digits_value 10 (take i xs)
     → v * 10 + d ≡ digits_value 10 (take (i + 1) xs)
 next_digit xs i v d h lt e f =
-    let b = digit_at xs i h lt in
+    let b = digit_bounds (get_or xs i 0) h in
     let g = digit_value-ascii (get_or xs i 0) b.0 b.1 in
     let m = digits_value_more 10 xs i lt in
     omega (arith, e, f, g, m)
 
+-- digits in front of a place, and one at it
+pub more_digits : (xs : List ℕ) (i : ℕ) → i < length xs → list_all is_ascii_digit (take i xs) ≡ true → is_ascii_digit (get_or xs i 0) ≡ true → list_all is_ascii_digit (take (i + 1) xs) ≡ true
+more_digits xs i lt h k = list_all_more is_ascii_digit xs i 0 lt ∙ and_from (list_all is_ascii_digit (take i xs)) (is_ascii_digit (get_or xs i 0)) h k
+
 pub next_small : (i v d : ℕ) → v < 10 ^ i → d ≤ 9 → v * 10 + d < 10 ^ (i + 1)
 next_small i v d h le = rw (add-one, pow-suc 10 i) (omega arith)
+
+-- a number's text is that of its tens, and its last digit
+pub last_digit : (out front : List ℕ) (n : ℕ) → 10 ≤ n → n < 2 ^ 64 → front ≡ out ++ decimal (n / 10) → front ++ (48 + n % 10) ∷ [] ≡ out ++ decimal n
+last_digit out front n many small e =
+    ap (λ (ds : List ℕ). ds ++ (48 + n % 10) ∷ []) e
+    ∙ append_assoc out (decimal (n / 10)) ((48 + n % 10) ∷ [])
+    ∙ ap (λ (ds : List ℕ). out ++ ds) (sym (decimal_step n many small))

@@ -1,6 +1,6 @@
 //! Numbers in a line.
 
-ghost use Rattle.std.specs.Prelude.{◌≡◌, ◌≤◌, length, true};
+ghost use Rattle.std.specs.Prelude.{◌≡◌, ◌≤◌, length, Some, None, if◌then◌else◌};
 ghost use Rattle.std.specs.List.{list_all};
 ghost use Rattle.std.specs.Char.{is_ascii_digit};
 ghost use Rattle.std.specs.Str.Parse.{digits_value};
@@ -15,41 +15,28 @@ const MOST_DIGITS: usize = 9;
 pub fn number(word: &[u8]) -> Option<u32>
     ensures { result ≡ spec.number word.now }
 {
-    if is_number(word) {
-        Some(value(word))
+    let (first, others) = word.split_first()?;
+    if others.len() < MOST_DIGITS && (*first != b'0' || others.is_empty()) {
+        value(word)
     } else {
         None
     }
 }
 
-/// Whether a word is a number.
-fn is_number(word: &[u8]) -> bool
-    ensures { result ≡ spec.is_number word.now }
-{
-    let Some((first, others)) = word.split_first() else {
-        return false;
-    };
-    others.len() < MOST_DIGITS && (*first != b'0' || others.is_empty()) && all_digits(word)
-}
-
-/// Whether each byte is a digit.
-fn all_digits(word: &[u8]) -> bool
-    ensures { result ≡ list_all is_ascii_digit word.now }
-{
-    word.iter().all(|b| b.is_ascii_digit())
-}
-
-/// The number that digits write.
-fn value(word: &[u8]) -> u32
+/// The number that digits write; none where a byte is no digit.
+fn value(word: &[u8]) -> Option<u32>
     requires short { length word.now ≤ 9 }
-    requires digits { list_all is_ascii_digit word.now ≡ true }
-    ensures { result ≡ digits_value 10 word.now }
+    ensures { result ≡ (if list_all is_ascii_digit word.now then Some (digits_value 10 word.now)
+        else None) }
 {
     let mut value = 0;
-    for digit in word {
-        value = value * 10 + u32::from(digit - b'0');
+    for byte in word {
+        if !byte.is_ascii_digit() {
+            return None;
+        }
+        value = value * 10 + u32::from(byte - b'0');
     }
-    value
+    Some(value)
 }
 
 /// Reads the next word as a number.

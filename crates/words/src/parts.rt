@@ -1,10 +1,9 @@
 //! The parts of a text: the lines of a file, and the words of a line.
 
-ghost use Rattle.std.specs.Prelude.{◌≡◌, ◌∷◌};
+ghost use Rattle.std.specs.Prelude.{◌≡◌, ◌==◌, ◌∷◌, position};
 ghost use Rattle.std.specs.Option.{option_map};
 ghost use Rattle.words.specs.Words.{parts, parts_left, next, after_next, is_end};
 
-use bstr::ByteSlice;
 use std::marker::Model;
 
 /// The parts that are left of a text: what stands between its bytes of one kind.
@@ -61,11 +60,18 @@ fn first_part(text: &[u8], separator: u8) -> (&[u8], Option<&[u8]>)
     ensures { parts separator text.now ≡ result.0.now ∷ parts_left separator
         (option_map (λ t. t.now) result.1) }
 {
-    match text.find_byte(separator) {
+    match first_place(text, separator) {
         None => (text, None),
         Some(end) => {
             let (part, behind) = text.split_at(end);
             (part, Some(&behind[1..]))
         }
     }
+}
+
+/// The place of the first byte of this kind. Parts are short: it looks at one byte after the other.
+fn first_place(text: &[u8], byte: u8) -> Option<usize>
+    ensures { result ≡ position (λ b. b == byte) text.now }
+{
+    text.iter().position(|b| *b == byte)
 }

@@ -1,12 +1,13 @@
 //! Steps in words.
 
-ghost use Rattle.std.specs.Prelude.{◌≡◌, ◌++◌, OnOk};
+ghost use Rattle.std.specs.Prelude.{◌≡◌, ◌++◌, OnOk, decimal};
 ghost use Rattle.std.specs.Str.{bytes_eq};
 ghost use Rattle.words.specs.Steps as spec;
 
 use crate::number::{one_number, two_numbers};
 use crate::parts::Parts;
 use frames::types::Step;
+use std::alloc::AllocError;
 use std::io;
 use std::io::Write;
 
@@ -52,8 +53,22 @@ pub fn push_words(out: &mut Vec<u8>, word: &str, numbers: &[u32]) -> io::Result<
 {
     out.write_all(word.as_bytes())?;
     for number in numbers {
-        write!(out, " {number}")?;
+        out.push(b' ')?;
+        push_number(out, *number)?;
     }
+    Ok(())
+}
+
+/// Adds the digits of a number.
+fn push_number(out: &mut Vec<u8>, number: u32) -> Result<(), AllocError>
+    ensures { OnOk result (out.new.items ≡ out.old.items ++ decimal number) }
+{
+    if number < 10 {
+        out.push(b'0' + number as u8)?;
+        return Ok(());
+    }
+    push_number(out, number / 10)?;
+    out.push(b'0' + (number % 10) as u8)?;
     Ok(())
 }
 

@@ -1,22 +1,28 @@
-use Rattle.std.proofs.Common.{arith}
-use Rattle.words.proofs.Digits.{digit_at, small_power, next_digit, next_small}
+use Rattle.std.proofs.Common.{rules, ◌≡◌, true, get_or, arith}
+use Rattle.std.specs.Char.{is_ascii_digit}
+use Rattle.words.proofs.Digits.{digit_bounds, small_power, more_digits, next_digit, next_small}
 use Rattle.words.proofs.number.value.Goals as goal
 
 pub overflow_mul-value : goal.overflow_mul-value
 overflow_mul-value c =
-    let small = small_power c.loop-digit.value c.loop-digit.digit-index c.loop-digit.invariant.small (omega arith) in
+    let small = small_power c.loop-byte.value c.loop-byte.byte-index c.loop-byte.invariant.small (omega arith) in
     omega (arith, small)
 
 pub overflow_add-value : goal.overflow_add-value
 overflow_add-value c =
-    let small = small_power c.loop-digit.value c.loop-digit.digit-index c.loop-digit.invariant.small (omega arith) in
-    let digit = digit_at c.args.word.now c.loop-digit.digit-index c.requires.digits c.loop-digit-test.true in
-    omega (arith, small, digit.1, c.from.ensures)
+    let small = small_power c.loop-byte.value c.loop-byte.byte-index c.loop-byte.invariant.small (omega arith) in
+    let digit : is_ascii_digit (get_or c.args.word.now c.loop-byte.byte-index 0) ≡ true = search rules in
+    let bounds = digit_bounds (get_or c.args.word.now c.loop-byte.byte-index 0) digit in
+    omega (arith, small, bounds.1, c.from.ensures)
 
-pub loop-digit-preserved : goal.loop-digit-preserved
-loop-digit-preserved c =
-    let digit = digit_at c.args.word.now c.loop-digit.digit-index c.requires.digits c.loop-digit-test.true in
+pub loop-byte-preserved : goal.loop-byte-preserved
+loop-byte-preserved c =
+    let word = c.args.word.now in
+    let i = c.loop-byte.byte-index in
+    let digit : is_ascii_digit (get_or word i 0) ≡ true = search rules in
+    let bounds = digit_bounds (get_or word i 0) digit in
     record {
-      so_far = next_digit c.args.word.now c.loop-digit.digit-index c.loop-digit.value c.from.result c.requires.digits c.loop-digit-test.true c.from.ensures c.loop-digit.invariant.so_far;
-      small = next_small c.loop-digit.digit-index c.loop-digit.value c.from.result c.loop-digit.invariant.small (omega (arith, digit.1, c.from.ensures));
+      digits = more_digits word i c.loop-byte-test.true c.loop-byte.invariant.digits digit;
+      so_far = next_digit word i c.loop-byte.value c.from.result digit c.loop-byte-test.true c.from.ensures c.loop-byte.invariant.so_far;
+      small = next_small i c.loop-byte.value c.from.result c.loop-byte.invariant.small (omega (arith, bounds.1, c.from.ensures));
     }
