@@ -28,7 +28,7 @@ use Rattle.tower_file.specs.Spelling.{line, tower_text, spelling, Spells}
 use Rattle.tower_file.specs.Reading.{◌>>=◌, is_plain, first_odd, version_of, second_line, tower_of, steps_of, file_of_lines, reading_from, reading}
 use Rattle.words.proofs.Numbers.{number-decimal}
 use Rattle.words.proofs.Texts.{all_weaker, all_append, is_print, text_prints, words-text}
-use Rattle.words.proofs.Steps.{step_again}
+use Rattle.words.proofs.Steps.{step_again, step_prints}
 use Rattle.tower_file.proofs.Texts.{print_is_plain, lines-line}
 
 -- ---- the numbers of lawful files have at most 9 digits
@@ -140,12 +140,6 @@ step_short t (step.Stop p) small h = omega (arith, small.processes, ltb-true p (
 -- a step that a file may have fits its tower
 fits_tower : (v : Version) (t : TowerSpec) (s : Step) → may_have v t s ≡ true → fits t s ≡ true
 fits_tower v t s h = (and_parts (has_step v s) (fits t s) h).1
-
-pub step_prints : (s : Step) → HasShortNumbers s → list_all is_print (step_text s) ≡ true
-step_prints (step.Write p v) h = text_prints (codes "w") (p ∷ v ∷ []) refl (h.0, (h.1, tt))
-step_prints (step.Read p) h = text_prints (codes "r") (p ∷ []) refl (h, tt)
-step_prints (step.Go p c) h = text_prints (codes "g") (p ∷ c ∷ []) refl (h.0, (h.1, tt))
-step_prints (step.Stop p) h = text_prints (codes "x") (p ∷ []) refl (h, tt)
 
 pub all_fit : (v : Version) (t : TowerSpec) (ss : List Step) → list_all (may_have v t) ss ≡ true → list_all (fits t) ss ≡ true
 all_fit v t [] h = refl

@@ -11,9 +11,9 @@ use Rattle.tower_file.specs.declared.version.Version.{Version}
 use Rattle.tower_file.specs.Faults.{fault, Fails, Gives}
 use Rattle.tower_file.specs.Files.{File, file_of}
 use Rattle.tower_file.specs.Spelling.{Spells, SpellsSteps}
-use Rattle.tower_file.specs.Reading.{◌>>=◌, first_odd, version_of, tower_of, steps_of, HasStep, file_of_lines, reading_from, reading}
+use Rattle.tower_file.specs.Reading.{◌>>=◌, first_odd, line_at, version_of, tower_of, steps_of, HasStep, file_of_lines, reading_from, reading}
 use Rattle.words.specs.Words.{lines, after_next}
-use Rattle.tower_file.proofs.Sound.{reading_is}
+use Rattle.tower_file.proofs.Sound.{from_is, reading_is}
 use Rattle.tower_file.proofs.Again.{reading_again}
 
 abbrev same : File → File
@@ -56,3 +56,16 @@ spells_steps bytes v t left plain version tower same h =
           ∙ ap (λ (r : Result (List Step) FileFault). r >>= λ ss. Ok (file_of v t ss)) (ap (steps_of v t 3) (sym same) ∙ h.2));
       some = omega arith;
     }
+
+-- lines that spell a file have no odd byte
+pub plain_file : (bytes : List ℕ) (f : File) → file_of_lines (lines bytes) ≡ Ok f → reading bytes ≡ Ok f
+plain_file bytes f h = reading_again bytes f (from_is None bytes f h)
+
+-- an odd byte is told before what the lines have
+pub odd_first : (bytes : List ℕ) (told of_lines : FileFault) (P : Type 0) → ((k : ℕ) → first_odd bytes ≡ Some k → told ≡ fault NotAscii (line_at k bytes)) → (first_odd bytes ≡ None → told ≡ of_lines)
+    → (of_lines.kind ≡ Memory → first_odd bytes ≡ None → P) → told.kind ≡ Memory → P
+odd_first bytes told of_lines P odd plain known memory = by (first_odd bytes) refl
+  where
+    by : (o : Option ℕ) → first_odd bytes ≡ o → P
+    by (Some k) e = let clash : NotAscii ≡ Memory = sym (ap (λ (x : FileFault). x.kind) (odd k e)) ∙ memory in absurd cc
+    by None e = known (sym (ap (λ (x : FileFault). x.kind) (plain e)) ∙ memory) e

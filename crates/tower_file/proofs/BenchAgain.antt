@@ -29,7 +29,8 @@ use Rattle.words.specs.Steps.{text, step_text, HasShortNumbers}
 use Rattle.words.proofs.Numbers.{number-decimal}
 use Rattle.words.proofs.Texts.{is_not, is_print, all_weaker, all_append, text_prints, words-text, cut_at}
 use Rattle.tower_file.proofs.Texts.{lines-line}
-use Rattle.tower_file.proofs.Again.{IsFew, few, tower_prints, step_short, step_prints, fitting_again, line_plain, no_odd, tower_of_lines}
+use Rattle.words.proofs.Steps.{step_prints}
+use Rattle.tower_file.proofs.Again.{IsFew, few, tower_prints, step_short, fitting_again, line_plain, no_odd, tower_of_lines}
 use Rattle.tower_file.proofs.BenchLimbs.{step_line, limbs_text, put_step-last, some_last}
 
 -- ---- the bytes of names

@@ -16,10 +16,10 @@ use Rattle.tower_file.specs.Benches.{Bench, IsLawfulBench, bench_of, is_some, ar
 use Rattle.tower_file.specs.Spelling.{line, tower_text}
 use Rattle.tower_file.specs.BenchSpelling.{bench_header, bench_spelling, SpellsBench, SpellsLimbs, SpellsFront}
 use Rattle.tower_file.specs.Reading.{◌>>=◌, has_header, first_odd, tower_of}
-use Rattle.tower_file.specs.BenchReading.{then_line, ended, limbs_of, bench_reading}
+use Rattle.tower_file.specs.BenchReading.{then_line, ended, limbs_of, bench_of_lines, bench_reading}
 use Rattle.words.specs.Words.{lines, next, after_next, is_end}
 use Rattle.tower_file.proofs.BenchLimbs.{limbs_text}
-use Rattle.tower_file.proofs.BenchSound.{line_goes_on, limbs_are, begun, bench_reading_is}
+use Rattle.tower_file.proofs.BenchSound.{line_goes_on, limbs_are, begun, from_is, bench_reading_is}
 use Rattle.tower_file.proofs.BenchAgain.{bench_reading_again}
 
 -- a line that has its end, and what is left behind it
@@ -153,3 +153,7 @@ no_bench_fault Memory e b given other = other refl
 pub spells_no_bench : (bytes : List ℕ) (r : Result Bench FileFault) → Gives same_bench r (bench_reading bytes) → IfErr r (λ e. e.kind ≢ Memory → (b : Bench) → SpellsBench bytes b → ⊥)
 spells_no_bench bytes (Ok b) given = tt
 spells_no_bench bytes (Err e) given = λ other b s. no_bench_fault e.kind e b (bench_read bytes (Err e) given b s) other
+
+-- lines that spell a bench file have no odd byte
+pub plain_bench : (bytes : List ℕ) (b : Bench) → bench_of_lines (lines bytes) ≡ Ok b → bench_reading bytes ≡ Ok b
+plain_bench bytes b h = bench_reading_again bytes b (from_is None bytes b h)

@@ -181,7 +181,7 @@ bench_is ls b h =
       spelled = front.spelled (limbs_text limbs) behind.spelled;
     })
 
-from_is : (o : Option ℕ) (bytes : List ℕ) (b : Bench) → reading_from bench_of_lines o bytes ≡ Ok b → SpellsBench bytes b
+pub from_is : (o : Option ℕ) (bytes : List ℕ) (b : Bench) → reading_from bench_of_lines o bytes ≡ Ok b → SpellsBench bytes b
 from_is (Some k) bytes b h = absurd cc
 from_is None bytes b h = subst (λ (x : List ℕ). SpellsBench x b) (join_with_byte-slice_split 10 bytes) (bench_is (lines bytes) b h)
 

@@ -200,7 +200,7 @@ file_is ls f h =
       spelled = whole_file ls v a.0 b.0 first.0 first.1 tower steps;
     })
 
-from_is : (o : Option ℕ) (bytes : List ℕ) (f : File) → reading_from file_of_lines o bytes ≡ Ok f → Spells bytes f
+pub from_is : (o : Option ℕ) (bytes : List ℕ) (f : File) → reading_from file_of_lines o bytes ≡ Ok f → Spells bytes f
 from_is (Some k) bytes f h = absurd cc
 from_is None bytes f h = subst (λ (x : List ℕ). Spells x f) (join_with_byte-slice_split 10 bytes) (file_is (lines bytes) f h)
 

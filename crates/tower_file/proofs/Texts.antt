@@ -3,12 +3,9 @@ use Rattle.std.proofs.Common.{◌≡◌, ℕ, true, List, [], ◌∷◌, ◌++�
 use Rattle.std.specs.List.{list_all}
 use Rattle.std.proofs.lemmas.Bool.Decides.{nat_tests}
 use Rattle.words.specs.Words.{lines}
-use Rattle.words.proofs.Texts.{all_weaker, is_not, is_print, cut_at}
+use Rattle.words.proofs.Texts.{all_weaker, is_not, is_print, print_stays, cut_at}
 use Rattle.tower_file.specs.Spelling.{line}
 use Rattle.tower_file.specs.Reading.{is_plain}
-
-pub print_stays : (b : ℕ) → is_print b ≡ true → is_not 10 b ≡ true
-print_stays b h = grind (arith, nat_tests)
 
 pub print_is_plain : (b : ℕ) → is_print b ≡ true → is_plain b ≡ true
 print_is_plain b h = grind (arith, nat_tests)

@@ -1,6 +1,6 @@
 //! Reading a bench file.
 
-ghost use Rattle.std.specs.Prelude.{◌≡◌, ◌≢◌, [], ◌≤◌, ◌^◌, IsOk, length, Ok, IfOk, IfErr};
+ghost use Rattle.std.specs.Prelude.{◌≡◌, ◌≢◌, [], ◌≤◌, ◌^◌, IsOk, length, None, Ok, IfOk, IfErr};
 ghost use Rattle.tower_file.specs.declared.fault.FaultKind.TheVariants.{Memory};
 ghost use Rattle.tower_file.specs.Faults as faults;
 ghost use Rattle.tower_file.specs.Faults.{Gives};
@@ -8,13 +8,13 @@ ghost use Rattle.tower_file.specs.Benches.{Bench};
 ghost use Rattle.tower_file.specs.BenchSpelling.{SpellsBench, SpellsFront, SpellsLimbs, bench_header};
 ghost use Rattle.tower_file.specs.BenchReading as spec;
 ghost use Rattle.tower_file.specs.Reading as reading;
-ghost use Rattle.words.specs.Words.{after_next};
+ghost use Rattle.words.specs.Words.{lines, after_next};
 
 use crate::bench::BenchFile;
 use crate::fault::{FaultKind, FileFault};
 use crate::limbs::NamedLimbs;
 use crate::line::{branch_of, fitting_step, is_branch};
-use crate::reading::{fault, first_odd, line_at, tower_of};
+use crate::reading::{fault, first_fault, tower_of};
 use crate::tower::TowerSpec;
 use crate::version::Version;
 use schedule_trie::limb::Limb;
@@ -139,15 +139,13 @@ fn limbs_of(alloc: Global, tower: &TowerSpec, lines: &mut Parts<'_>) -> Result<V
     }
 }
 
-/// Reads a bench file.
-fn bench_of(alloc: Global, bytes: &[u8]) -> Result<BenchFile, FileFault>
-    ensures exact { Gives (λ b. b) result (spec.bench_reading bytes.now) }
-    ensures memory { IfErr result (λ e. e.kind ≡ Memory → SpellsFront bytes.now) }
+/// Reads the lines of a bench file, whatever their bytes.
+fn bench_of_lines(alloc: Global, bytes: &[u8]) -> Result<BenchFile, FileFault>
+    ensures exact { Gives (λ b. b) result (spec.bench_of_lines (lines bytes.now)) }
+    ensures memory { IfErr result (λ e. e.kind ≡ Memory
+        → reading.first_odd bytes.now ≡ None → SpellsFront bytes.now) }
 {
     prove!(bytes.len() < 1 << 63);
-    if let Some(place) = first_odd(bytes) {
-        return Err(fault(FaultKind::NotAscii, line_at(place, bytes)));
-    }
     let mut lines = Parts::new(bytes, b'\n');
     if !has_header(&mut lines) {
         return Err(fault(FaultKind::BadHeader, 1));
@@ -155,6 +153,17 @@ fn bench_of(alloc: Global, bytes: &[u8]) -> Result<BenchFile, FileFault>
     let tower = tower_of(&mut lines)?;
     let limbs = limbs_of(alloc, &tower, &mut lines)?;
     Ok(BenchFile::new(tower, limbs))
+}
+
+/// Reads a bench file. Lines that spell one have no odd byte, so it looks for these behind a fault alone.
+fn bench_of(alloc: Global, bytes: &[u8]) -> Result<BenchFile, FileFault>
+    ensures exact { Gives (λ b. b) result (spec.bench_reading bytes.now) }
+    ensures memory { IfErr result (λ e. e.kind ≡ Memory → SpellsFront bytes.now) }
+{
+    match bench_of_lines(alloc, bytes) {
+        Ok(bench) => Ok(bench),
+        Err(of_lines) => Err(first_fault(bytes, of_lines)),
+    }
 }
 
 /// The bench file that the bytes spell, or their first fault.

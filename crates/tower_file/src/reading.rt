@@ -1,6 +1,6 @@
 //! Reading a tower file.
 
-ghost use Rattle.std.specs.Prelude.{◌≡◌, ◌≢◌, ◌∷◌, [], ◌++◌, ◌≤◌, ◌<◌, ◌^◌, length, true, Ok, Err, OnOk, IfOk, IfErr};
+ghost use Rattle.std.specs.Prelude.{◌≡◌, ◌≢◌, ◌∷◌, [], ◌++◌, ◌≤◌, ◌<◌, ◌^◌, ℕ, length, true, Some, None, Ok, Err, OnOk, IfOk, IfErr};
 ghost use Rattle.tower_file.specs.declared.fault.FaultKind.TheVariants.{Memory};
 ghost use Rattle.tower_file.specs.Faults as faults;
 ghost use Rattle.tower_file.specs.Faults.{Gives, out_of_memory};
@@ -21,7 +21,7 @@ use words::parts::Parts;
 use words::step::is;
 
 /// The place of the first byte that is neither a line end nor one of 0x20 to 0x7E.
-pub(crate) fn first_odd(bytes: &[u8]) -> Option<usize>
+fn first_odd(bytes: &[u8]) -> Option<usize>
     ensures { result ≡ spec.first_odd bytes.now }
 {
     bytes.iter().position(|b| !is_plain(*b))
@@ -35,7 +35,7 @@ fn is_plain(b: u8) -> bool
 }
 
 /// The line of the byte at a place.
-pub(crate) fn line_at(place: usize, bytes: &[u8]) -> u64
+fn line_at(place: usize, bytes: &[u8]) -> u64
     requires inside { place ≤ length bytes.now }
     ensures { result ≡ spec.line_at place bytes.now }
 {
@@ -103,6 +103,12 @@ fn next_step(
     ensures fault { IfErr result (λ e. e ≡ faults.fault FaultKind.BadStep number) }
     ensures left { lines.new ≡ after_next lines.old }
 {
+    if let Some(step) = lines.next_step() {
+        if version.may_have(tower, step) {
+            return Ok(Some(step));
+        }
+        return Err(fault(FaultKind::BadStep, number));
+    }
     let line = lines.next();
     if lines.is_end() {
         if line.is_empty() {
@@ -155,15 +161,13 @@ fn steps_of(
     Ok(steps)
 }
 
-/// Reads a file. Memory is asked for steps alone.
-fn file_of(alloc: Global, bytes: &[u8]) -> Result<TowerFile, FileFault>
-    ensures exact { Gives (λ f. f) result (spec.reading bytes.now) }
-    ensures memory { IfErr result (λ e. e.kind ≡ Memory → SpellsSteps bytes.now) }
+/// Reads the lines of a file, whatever their bytes. Memory is asked for steps alone.
+fn file_of_lines(alloc: Global, bytes: &[u8]) -> Result<TowerFile, FileFault>
+    ensures exact { Gives (λ f. f) result (spec.file_of_lines (lines bytes.now)) }
+    ensures memory { IfErr result (λ e. e.kind ≡ Memory
+        → spec.first_odd bytes.now ≡ None → SpellsSteps bytes.now) }
 {
     prove!(bytes.len() < 1 << 63);
-    if let Some(place) = first_odd(bytes) {
-        return Err(fault(FaultKind::NotAscii, line_at(place, bytes)));
-    }
     let mut lines = Parts::new(bytes, b'\n');
     let Some(version) = version_of(&mut lines) else {
         return Err(fault(FaultKind::BadHeader, 1));
@@ -171,6 +175,29 @@ fn file_of(alloc: Global, bytes: &[u8]) -> Result<TowerFile, FileFault>
     let tower = tower_of(&mut lines)?;
     let steps = steps_of(alloc, version, &tower, &mut lines)?;
     Ok(TowerFile::of_lawful(version, tower, steps))
+}
+
+/// The first fault of bytes whose lines have one, or are too many for the memory: an odd byte comes before that.
+pub(crate) fn first_fault(bytes: &[u8], of_lines: FileFault) -> FileFault
+    ensures odd { (k : ℕ) → spec.first_odd bytes.now ≡ Some k
+        → result ≡ faults.fault FaultKind.NotAscii (spec.line_at k bytes.now) }
+    ensures plain { spec.first_odd bytes.now ≡ None → result ≡ of_lines }
+{
+    match first_odd(bytes) {
+        Some(place) => fault(FaultKind::NotAscii, line_at(place, bytes)),
+        None => of_lines,
+    }
+}
+
+/// Reads a file. Lines that spell one have no odd byte, so it looks for these behind a fault alone.
+fn file_of(alloc: Global, bytes: &[u8]) -> Result<TowerFile, FileFault>
+    ensures exact { Gives (λ f. f) result (spec.reading bytes.now) }
+    ensures memory { IfErr result (λ e. e.kind ≡ Memory → SpellsSteps bytes.now) }
+{
+    match file_of_lines(alloc, bytes) {
+        Ok(file) => Ok(file),
+        Err(of_lines) => Err(first_fault(bytes, of_lines)),
+    }
 }
 
 /// The file that the bytes spell, or their first fault.

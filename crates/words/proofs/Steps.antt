@@ -1,8 +1,8 @@
 -- A step is read from its own text alone.
-use Rattle.std.proofs.Common.{◌≡◌, ℕ, ◌<◌, ◌^◌, Bool, true, false, cond, List, [], ◌∷◌, map, Option, Some, None, refl, sym, ap, ◌∙◌, subst}
+use Rattle.std.proofs.Common.{Bor, ◌==◌, ◌≡◌, ℕ, ◌<◌, ◌^◌, Bool, true, false, cond, List, [], ◌∷◌, ◌++◌, map, Option, Some, None, refl, sym, ap, ◌∙◌, subst}
 use Rattle.std.specs.Prelude.{codes, ◌↔◌}
 use Rattle.std.specs.Option.{option_map, option_and_then}
-use Rattle.std.specs.List.{join_with_byte}
+use Rattle.std.specs.List.{join_with_byte, list_all}
 use Rattle.std.specs.Str.{bytes_eq}
 use Rattle.std.specs.Fmt.{decimal}
 use Rattle.std.proofs.lemmas.Option.{cond_some, same_Some}
@@ -10,10 +10,11 @@ use Rattle.std.proofs.lemmas.List.Splits.{join_with_byte-slice_split}
 use Rattle.std.proofs.lemmas.Slice.Eq.{bytes_eq-Decides}
 use Rattle.frames.specs.declared.types.Step.{Step}
 use Rattle.frames.specs.declared.types.Step.TheVariants as step
-use Rattle.words.specs.Words.{words, is_end, number, one_number, two_numbers, three_numbers, four_numbers}
+use Rattle.words.specs.Words.{parts, parts_left, words, next, after_next, is_end, number, one_number, two_numbers, three_numbers, four_numbers}
 use Rattle.words.specs.Steps.{step_of, text, step_text, HasShortNumbers}
+use Rattle.words.proofs.Splits.{split_some}
 use Rattle.words.proofs.Numbers.{decimal-number, number-decimal}
-use Rattle.words.proofs.Texts.{words-text, join-words}
+use Rattle.words.proofs.Texts.{all_weaker, is_not, is_print, print_stays, text_prints, cut_at, words-text, join-words}
 
 pub some_then : {A B : Type 0} (o : Option A) (f : A → Option B) (y : B) → option_and_then f o ≡ Some y → (x : A) × (o ≡ Some x) × (f x ≡ Some y)
 some_then None f y e = absurd cc
@@ -150,3 +151,30 @@ one_step line s = (
   λ h. (step_short (words line) s h, sym (join_with_byte-slice_split 32 line) ∙ step_is (words line) s h),
   λ h. ap (λ l. step_of (words l)) h.1 ∙ step_again s h.0,
 )
+
+pub step_prints : (s : Step) → HasShortNumbers s → list_all is_print (step_text s) ≡ true
+step_prints (step.Write p v) h = text_prints (codes "w") (p ∷ v ∷ []) refl (h.0, (h.1, tt))
+step_prints (step.Read p) h = text_prints (codes "r") (p ∷ []) refl (h, tt)
+step_prints (step.Go p c) h = text_prints (codes "g") (p ∷ c ∷ []) refl (h.0, (h.1, tt))
+step_prints (step.Stop p) h = text_prints (codes "x") (p ∷ []) refl (h, tt)
+
+-- the first line of a text that begins with a step's, and the lines behind it
+pub step_first : (text rest : List ℕ) (s : Step) → HasShortNumbers s → text ≡ step_text s ++ 10 ∷ rest → parts 10 text ≡ step_text s ∷ parts 10 rest
+step_first text rest s h e = ap (parts 10) e ∙ cut_at 10 (step_text s) rest (all_weaker is_print (is_not 10) print_stays (step_text s) (step_prints s h))
+
+-- the next of these lines spells this step, and has its end; the others are those of the rest
+pub record IsNextStep (all : List (List ℕ)) (s : Step) (c : ℕ) (rest : List ℕ) : Type 0 where
+  pub step : step_of (words (next all)) ≡ Some s
+  pub whole : is_end (after_next all) ≡ false
+  pub left : parts c rest ≡ after_next all
+
+pub step_next : (text : Option (Bor (List ℕ))) (left : Bor (List ℕ)) (c : ℕ) (all : List (List ℕ)) (rest : List ℕ) (s : Step) → text ≡ Some left → c ≡ 10
+    → parts_left c (option_map (λ t. t.now) text) ≡ all → HasShortNumbers s → left.now ≡ step_text s ++ 10 ∷ rest → IsNextStep all s c rest
+step_next text left c all rest s e f view h front =
+    let lines : all ≡ step_text s ∷ parts 10 rest =
+    sym view ∙ ap (λ (o : Option (Bor (List ℕ))). parts_left c (option_map (λ t. t.now) o)) e ∙ ap (λ (d : ℕ). parts d left.now) f ∙ step_first left.now rest s h front in
+    record {
+      step = ap (λ (ls : List (List ℕ)). step_of (words (next ls))) lines ∙ step_again s h;
+      whole = ap (λ (ls : List (List ℕ)). is_end (after_next ls)) lines ∙ split_some (λ b. b == 10) rest;
+      left = ap (λ (d : ℕ). parts d rest) f ∙ sym (ap after_next lines);
+    }

@@ -6,6 +6,7 @@
 //! numbers. Whether it fits a register is asked elsewhere.
 #![tactic(auto)]
 
+mod front;
 pub mod laws;
 pub mod number;
 pub mod parts;

@@ -1,9 +1,12 @@
 //! The parts of a text: the lines of a file, and the words of a line.
 
-ghost use Rattle.std.specs.Prelude.{◌≡◌, ◌==◌, ◌∷◌, position};
+ghost use Rattle.std.specs.Prelude.{◌≡◌, ◌==◌, ◌∷◌, Some, false, position, IfSome, OnSome, IfNone};
 ghost use Rattle.std.specs.Option.{option_map};
-ghost use Rattle.words.specs.Words.{parts, parts_left, next, after_next, is_end};
+ghost use Rattle.words.specs.Words.{parts, parts_left, words, next, after_next, is_end};
+ghost use Rattle.words.specs.Steps.{step_of};
 
+use crate::front::front_step;
+use frames::types::Step;
 use std::marker::Model;
 
 /// The parts that are left of a text: what stands between its bytes of one kind.
@@ -45,6 +48,22 @@ impl<'a> Parts<'a> {
         let (part, left) = first_part(text, self.separator);
         self.text = left;
         part
+    }
+
+    /// Takes the next part where it is a line that spells a step, and has its end. Where it takes none the
+    /// line can still be looked at word by word, which takes longer: that it takes none says nothing of it.
+    pub fn next_step(&mut self) -> Option<Step>
+        ensures step { IfSome result (λ s. step_of (words (next self.old)) ≡ Some s) }
+        ensures whole { OnSome result (is_end (after_next self.old) ≡ false) }
+        ensures left { OnSome result (self.new ≡ after_next self.old) }
+        ensures kept { IfNone result (self.new ≡ self.old) }
+    {
+        if self.separator != b'\n' {
+            return None;
+        }
+        let (step, left) = front_step(self.text?)?;
+        self.text = Some(left);
+        Some(step)
     }
 
     /// Whether no part is left.

@@ -1,0 +1,30 @@
+use Rattle.std.proofs.Common.{rules, ◌≡◌, ◌<◌, ◌^◌, true, length, Ok, None}
+use Rattle.words.specs.Words.{lines, after_next}
+use Rattle.tower_file.specs.BenchSpelling.{bench_header, SpellsFront}
+use Rattle.tower_file.specs.Reading.{first_odd, has_header, tower_of}
+use Rattle.tower_file.proofs.Loop.{few_lines, want_of_memory}
+use Rattle.tower_file.proofs.BenchAnswers.{bench_lawful, spells_front}
+use Rattle.tower_file.proofs.bench_reading.bench_of_lines.Goals as goal
+
+pub returns-in_err-tower-clause-memory : goal.returns-in_err-tower-clause-memory
+returns-in_err-tower-clause-memory c =
+    want_of_memory c.from_residual.result _ _ c.from_residual.ensures.0 c.from_residual.ensures.1 (λ x h. h) (first_odd c.args.bytes.now ≡ None → SpellsFront c.args.bytes.now)
+    (λ k. absurd (c.in_err-tower.ensures.known k))
+
+pub limbs_of-requires : goal.limbs_of-requires
+limbs_of-requires c =
+    let behind : c.tower_of.new.lines ≡ after_next (after_next (lines c.args.bytes.now)) = search rules in
+    let small : length c.args.bytes.now < 2 ^ 63 = search rules in
+    record { few = few_lines c.args.bytes.now c.tower_of.new.lines behind small }
+
+pub returns-in_err-limbs-clause-memory : goal.returns-in_err-limbs-clause-memory
+returns-in_err-limbs-clause-memory c =
+    let header : has_header bench_header (lines c.args.bytes.now) ≡ true = search rules in
+    let tower : tower_of (after_next (lines c.args.bytes.now)) ≡ Ok c.in_ok-tower.tower = search rules in
+    let behind : c.tower_of.new.lines ≡ after_next (after_next (lines c.args.bytes.now)) = search rules in
+    want_of_memory c.from_residual-in_err-limbs.result _ _ c.from_residual-in_err-limbs.ensures.0 c.from_residual-in_err-limbs.ensures.1 (λ x h. h) (first_odd c.args.bytes.now ≡ None → SpellsFront c.args.bytes.now)
+    (λ k plain. spells_front c.args.bytes.now c.in_ok-tower.tower c.tower_of.new.lines plain header tower behind (c.in_err-limbs.ensures.memory k))
+
+pub new-requires : goal.new-requires
+new-requires c =
+    record { lawful = bench_lawful c.in_ok-tower.tower 3 c.tower_of.new.lines c.in_ok-limbs.limbs.items c.in_ok-tower.ensures.lawful c.in_ok-limbs.ensures.read }
