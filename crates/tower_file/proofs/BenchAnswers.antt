@@ -1,6 +1,6 @@
 -- Reading limbs line by line, as a loop does, and what follows from what a call answers.
-use Rattle.std.proofs.Common.{◌≡◌, ◌≢◌, ℕ, ◌+◌, ◌<◌, true, false, List, [], ◌∷◌, ◌++◌, length, None, Result, Ok, Err, refl, sym, ap, subst, ◌∙◌, true≢false, append_assoc, arith}
-use Rattle.std.specs.Prelude.{IsOk, IfOk, IfErr, ◌&&◌}
+use Rattle.std.proofs.Common.{◌≡◌, ◌≢◌, ℕ, ◌+◌, ◌<◌, true, false, List, [], ◌∷◌, ◌++◌, length, Some, None, Bool, cond, Result, Ok, Err, refl, sym, ap, subst, ◌∙◌, true≢false, append_assoc, arith}
+use Rattle.std.specs.Prelude.{IsOk, IfOk, IfErr, ◌&&◌, codes}
 use Rattle.std.specs.List.{join_with_byte}
 use Rattle.std.specs.Result.{IsErr, IsErrAnd}
 use Rattle.std.proofs.lemmas.Bool.{and_from}
@@ -16,8 +16,11 @@ use Rattle.tower_file.specs.Benches.{Bench, IsLawfulBench, bench_of, is_some, ar
 use Rattle.tower_file.specs.Spelling.{line, tower_text}
 use Rattle.tower_file.specs.BenchSpelling.{bench_header, bench_spelling, SpellsBench, SpellsLimbs, SpellsFront}
 use Rattle.tower_file.specs.Reading.{◌>>=◌, has_header, first_odd, tower_of}
-use Rattle.tower_file.specs.BenchReading.{then_line, ended, limbs_of, bench_of_lines, bench_reading}
-use Rattle.words.specs.Words.{lines, next, after_next, is_end}
+use Rattle.tower_file.specs.BenchReading.{then_branch, then_step, then_line, ended, limbs_of, bench_of_lines, bench_reading}
+use Rattle.words.specs.Words.{lines, words, next, after_next, is_end}
+use Rattle.words.specs.Steps.{step_of}
+use Rattle.words.proofs.Steps.{first_word}
+use Rattle.frames.specs.declared.types.Step.{Step}
 use Rattle.tower_file.proofs.BenchLimbs.{limbs_text}
 use Rattle.tower_file.proofs.BenchSound.{line_goes_on, limbs_are, begun, from_is, bench_reading_is}
 use Rattle.tower_file.proofs.BenchAgain.{bench_reading_again}
@@ -76,6 +79,11 @@ unfolding limbs_of
 at_end t n limbs [] h = refl
 at_end t n limbs (x ∷ []) h = refl
 at_end t n limbs (x ∷ y ∷ xs) h = absurd (true≢false (sym h))
+
+-- a line that spells a step is no branch's
+pub is_then_step : (t : TowerSpec) (n : ℕ) (limbs : List Limb) (line : List ℕ) (s : Step) → step_of (words line) ≡ Some s → then_line t n limbs line ≡ then_step t n limbs line
+is_then_step t n limbs line s h =
+    ap (λ (b : Bool). cond b (then_branch n limbs (after_next (words line))) (then_step t n limbs line)) (first_word (words line) s (codes "branch") refl refl refl refl h)
 
 -- ---- what is handed on
 

@@ -1,6 +1,6 @@
 //! Reading a bench file.
 
-ghost use Rattle.std.specs.Prelude.{◌≡◌, ◌≢◌, [], ◌≤◌, ◌^◌, IsOk, length, None, Ok, IfOk, IfErr};
+ghost use Rattle.std.specs.Prelude.{◌≡◌, ◌≢◌, ℕ, List, [], ◌≤◌, ◌^◌, IsOk, length, None, Ok, IfOk, IfErr};
 ghost use Rattle.tower_file.specs.declared.fault.FaultKind.TheVariants.{Memory};
 ghost use Rattle.tower_file.specs.Faults as faults;
 ghost use Rattle.tower_file.specs.Faults.{Gives};
@@ -8,19 +8,21 @@ ghost use Rattle.tower_file.specs.Benches.{Bench};
 ghost use Rattle.tower_file.specs.BenchSpelling.{SpellsBench, SpellsFront, SpellsLimbs, bench_header};
 ghost use Rattle.tower_file.specs.BenchReading as spec;
 ghost use Rattle.tower_file.specs.Reading as reading;
-ghost use Rattle.words.specs.Words.{lines, after_next};
+ghost use Rattle.words.specs.Words.{lines, words, after_next};
+ghost use Rattle.words.specs.Steps.{step_of};
 
 use crate::bench::BenchFile;
 use crate::fault::{FaultKind, FileFault};
 use crate::limbs::NamedLimbs;
-use crate::line::{branch_of, fitting_step, is_branch};
+use crate::line::{branch_of, is_branch};
 use crate::reading::{fault, first_fault, tower_of};
 use crate::tower::TowerSpec;
 use crate::version::Version;
+use frames::types::Step;
 use schedule_trie::limb::Limb;
 use std::alloc::Global;
 use words::parts::Parts;
-use words::step::is;
+use words::step::{is, step_of};
 
 /// Whether the first line is a bench file's header, which is read.
 fn has_header(lines: &mut Parts<'_>) -> bool
@@ -64,24 +66,28 @@ fn add_branch(
     Ok(())
 }
 
-/// Adds the step of line `number` to the last branch.
+/// Adds the step that line `number` spells, if it spells one, to the last branch.
 fn add_step(
     tower: &TowerSpec,
     limbs: &mut NamedLimbs,
     number: u64,
-    line: &[u8],
+    spelled: Option<Step>,
 ) -> Result<(), FileFault>
-    ensures read { Gives
-        (λ _. limbs.new) result (spec.then_step tower.now number limbs.old line.now) }
+    ensures read { (line : List ℕ) → step_of (words line) ≡ spelled
+        → Gives (λ _. limbs.new) result (spec.then_step tower.now number limbs.old line) }
     ensures memory { IfErr result (λ e. e.kind ≡ Memory
-        → IsOk (spec.then_step tower.now number limbs.old line.now)) }
+        → (line : List ℕ) → step_of (words line) ≡ spelled
+        → IsOk (spec.then_step tower.now number limbs.old line)) }
 {
     if limbs.is_empty() {
         return Err(fault(FaultKind::BadBranch, number));
     }
-    let Some(step) = fitting_step(Version::Two, tower, line) else {
+    let Some(step) = spelled else {
         return Err(fault(FaultKind::BadStep, number));
     };
+    if !Version::Two.may_have(tower, step) {
+        return Err(fault(FaultKind::BadStep, number));
+    }
     limbs.push_step(step)?;
     Ok(())
 }
@@ -103,7 +109,8 @@ fn add_line(
     if is(words.next(), "branch") {
         return add_branch(alloc, limbs, number, &mut words);
     }
-    add_step(tower, limbs, number, line)
+    let spelled = step_of(&mut Parts::new(line, b' '));
+    add_step(tower, limbs, number, spelled)
 }
 
 /// These limbs, where line `number` is nothing, and the file's end.
@@ -130,6 +137,11 @@ fn limbs_of(alloc: Global, tower: &TowerSpec, lines: &mut Parts<'_>) -> Result<V
     let mut limbs = NamedLimbs::new(alloc);
     let mut number = 3;
     'reading: loop {
+        if let Some(step) = lines.next_step() {
+            add_step(tower, &mut limbs, number, Some(step))?;
+            number += 1;
+            continue 'reading;
+        }
         let line = lines.next();
         if lines.is_end() {
             return ended(limbs, number, line);

@@ -104,6 +104,24 @@ pub step_is : (ws : List (List ℕ)) (s : Step) → step_of ws ≡ Some s → jo
 step_is [] s h = absurd cc
 step_is (w ∷ ws) s h = step_by (bytes_eq w (codes "w")) (bytes_eq w (codes "r")) (bytes_eq w (codes "g")) (bytes_eq w (codes "x")) w ws s (is_word w (codes "w")) (is_word w (codes "r")) (is_word w (codes "g")) (is_word w (codes "x")) h
 
+-- the first word of a step is none but those four
+words_of_steps : (isw isr isg isx : Bool) (ws : List (List ℕ)) (w other : List ℕ) (s : Step) → (isw ≡ true → w ≡ codes "w") → (isr ≡ true → w ≡ codes "r") → (isg ≡ true → w ≡ codes "g") → (isx ≡ true → w ≡ codes "x")
+    → bytes_eq (codes "w") other ≡ false → bytes_eq (codes "r") other ≡ false → bytes_eq (codes "g") other ≡ false → bytes_eq (codes "x") other ≡ false
+    → cond isw (option_map (λ n. step.Write n.0 n.1) (two_numbers ws)) (cond isr (option_map (λ p. step.Read p) (one_number ws)) (cond isg (option_map (λ n. step.Go n.0 n.1) (two_numbers ws)) (cond isx (option_map (λ p. step.Stop p) (one_number ws)) None))) ≡ Some s
+    → bytes_eq w other ≡ false
+words_of_steps true isr isg isx ws w other s e f g k nw nr ng nx h = ap (λ (x : List ℕ). bytes_eq x other) (e refl) ∙ nw
+words_of_steps false true isg isx ws w other s e f g k nw nr ng nx h = ap (λ (x : List ℕ). bytes_eq x other) (f refl) ∙ nr
+words_of_steps false false true isx ws w other s e f g k nw nr ng nx h = ap (λ (x : List ℕ). bytes_eq x other) (g refl) ∙ ng
+words_of_steps false false false true ws w other s e f g k nw nr ng nx h = ap (λ (x : List ℕ). bytes_eq x other) (k refl) ∙ nx
+words_of_steps false false false false ws w other s e f g k nw nr ng nx h = absurd cc
+
+pub first_word : (ws : List (List ℕ)) (s : Step) (other : List ℕ) → bytes_eq (codes "w") other ≡ false → bytes_eq (codes "r") other ≡ false → bytes_eq (codes "g") other ≡ false → bytes_eq (codes "x") other ≡ false
+    → step_of ws ≡ Some s → bytes_eq (next ws) other ≡ false
+first_word ws s other nw nr ng nx h =
+    let w = next ws in
+    words_of_steps (bytes_eq w (codes "w")) (bytes_eq w (codes "r")) (bytes_eq w (codes "g")) (bytes_eq w (codes "x")) (after_next ws) w other s
+    (is_word w (codes "w")) (is_word w (codes "r")) (is_word w (codes "g")) (is_word w (codes "x")) nw nr ng nx h
+
 one_short : (ws : List (List ℕ)) (n : ℕ) → one_number ws ≡ Some n → n < 10 ^ 9
 one_short [] n h = absurd cc
 one_short (w ∷ ws) n h =
