@@ -8,7 +8,7 @@ use crate::file::TowerFile;
 use crate::tower::TowerSpec;
 use frames::types::Step;
 use std::alloc::{AllocError, Global};
-use words::step::{push_step, push_words};
+use words::step::{append_step, push_words};
 
 /// The spelling of a file.
 pub fn print(alloc: Global, file: &TowerFile) -> Result<Vec<u8>, AllocError>
@@ -50,7 +50,7 @@ pub(crate) fn push_tower(out: &mut Vec<u8>, tower: &TowerSpec) -> Result<(), All
 pub(crate) fn push_step_line(out: &mut Vec<u8>, step: Step) -> Result<(), AllocError>
     ensures { OnOk result (out.new.items ≡ out.old.items ++ line (step_text step)) }
 {
-    push_step(out, step).map_err(|_| AllocError)?;
+    append_step(out, step)?;
     out.push(b'\n')?;
     Ok(())
 }

@@ -1,6 +1,6 @@
 //! Steps in words.
 
-ghost use Rattle.std.specs.Prelude.{◌≡◌, ◌++◌, OnOk, decimal};
+ghost use Rattle.std.specs.Prelude.{◌≡◌, ◌++◌, ◌∷◌, [], OnOk, decimal};
 ghost use Rattle.std.specs.Str.{bytes_eq};
 ghost use Rattle.words.specs.Steps as spec;
 
@@ -39,12 +39,33 @@ pub fn step_of(words: &mut Parts<'_>) -> Option<Step>
 pub fn push_step(out: &mut Vec<u8>, step: Step) -> io::Result<()>
     ensures { OnOk result (out.new.items ≡ out.old.items ++ spec.step_text step) }
 {
+    append_step(out, step)?;
+    Ok(())
+}
+
+/// Adds the words of a step.
+///
+/// # Errors
+///
+/// Where there is no memory.
+pub fn append_step(out: &mut Vec<u8>, step: Step) -> Result<(), AllocError>
+    ensures { OnOk result (out.new.items ≡ out.old.items ++ spec.step_text step) }
+{
     match step {
-        Step::Write { p, v } => push_words(out, "w", &[p, v]),
-        Step::Read { p } => push_words(out, "r", &[p]),
-        Step::Go { p, c } => push_words(out, "g", &[p, c]),
-        Step::Stop { p } => push_words(out, "x", &[p]),
+        Step::Write { p, v } => append_letter(out, b'w', &[p, v]),
+        Step::Read { p } => append_letter(out, b'r', &[p]),
+        Step::Go { p, c } => append_letter(out, b'g', &[p, c]),
+        Step::Stop { p } => append_letter(out, b'x', &[p]),
     }
+}
+
+/// Adds a word of one letter, and numbers.
+fn append_letter(out: &mut Vec<u8>, letter: u8, numbers: &[u32]) -> Result<(), AllocError>
+    ensures { OnOk result
+        (out.new.items ≡ out.old.items ++ spec.text (letter ∷ []) numbers.now) }
+{
+    out.push(letter)?;
+    append_numbers(out, numbers)
 }
 
 /// Adds a word and numbers, with one space before each. An error comes only where there is no memory.
@@ -52,22 +73,30 @@ pub fn push_words(out: &mut Vec<u8>, word: &str, numbers: &[u32]) -> io::Result<
     ensures { OnOk result (out.new.items ≡ out.old.items ++ spec.text word.now numbers.now) }
 {
     out.write_all(word.as_bytes())?;
+    append_numbers(out, numbers)?;
+    Ok(())
+}
+
+/// Adds numbers, with one space before each.
+fn append_numbers(out: &mut Vec<u8>, numbers: &[u32]) -> Result<(), AllocError>
+    ensures { OnOk result (out.new.items ≡ out.old.items ++ spec.text [] numbers.now) }
+{
     for number in numbers {
         out.push(b' ')?;
-        push_number(out, *number)?;
+        append_number(out, *number)?;
     }
     Ok(())
 }
 
 /// Adds the digits of a number.
-fn push_number(out: &mut Vec<u8>, number: u32) -> Result<(), AllocError>
+fn append_number(out: &mut Vec<u8>, number: u32) -> Result<(), AllocError>
     ensures { OnOk result (out.new.items ≡ out.old.items ++ decimal number) }
 {
     if number < 10 {
         out.push(b'0' + number as u8)?;
         return Ok(());
     }
-    push_number(out, number / 10)?;
+    append_number(out, number / 10)?;
     out.push(b'0' + (number % 10) as u8)?;
     Ok(())
 }
