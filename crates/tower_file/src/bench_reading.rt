@@ -21,11 +21,12 @@ use crate::version::Version;
 use frames::types::Step;
 use schedule_trie::limb::Limb;
 use std::alloc::Global;
+use words::lines::Lines;
 use words::parts::Parts;
 use words::step::{is, step_of};
 
 /// Whether the first line is a bench file's header, which is read.
-fn has_header(lines: &mut Parts<'_>) -> bool
+fn has_header(lines: &mut Lines<'_>) -> bool
     ensures header { result ≡ reading.has_header bench_header lines.old }
     ensures left { lines.new ≡ after_next lines.old }
 {
@@ -37,7 +38,7 @@ fn has_header(lines: &mut Parts<'_>) -> bool
 pub fn is_bench(bytes: &[u8]) -> bool
     ensures { result ≡ spec.is_bench bytes.now }
 {
-    let mut lines = Parts::new(bytes, b'\n');
+    let mut lines = Lines::new(bytes);
     has_header(&mut lines)
 }
 
@@ -128,7 +129,7 @@ fn ended(limbs: NamedLimbs, number: u64, rest: &[u8]) -> Result<Vec<Limb>, FileF
 }
 
 /// Reads the limbs: the lines that are left, of which the first is the file's third.
-fn limbs_of(alloc: Global, tower: &TowerSpec, lines: &mut Parts<'_>) -> Result<Vec<Limb>, FileFault>
+fn limbs_of(alloc: Global, tower: &TowerSpec, lines: &mut Lines<'_>) -> Result<Vec<Limb>, FileFault>
     requires few { length lines.old ≤ 2 ^ 63 }
     ensures read { Gives
         (λ limbs. limbs.items) result (spec.limbs_of tower.now 3 [] lines.old) }
@@ -158,7 +159,7 @@ fn bench_of_lines(alloc: Global, bytes: &[u8]) -> Result<BenchFile, FileFault>
         → reading.first_odd bytes.now ≡ None → SpellsFront bytes.now) }
 {
     prove!(bytes.len() < 1 << 63);
-    let mut lines = Parts::new(bytes, b'\n');
+    let mut lines = Lines::new(bytes);
     if !has_header(&mut lines) {
         return Err(fault(FaultKind::BadHeader, 1));
     }

@@ -1,17 +1,15 @@
-//! What a line says: a tower, a step or a branch.
+//! What a line says: a tower or a branch.
 
 ghost use Rattle.std.specs.Prelude.{◌≡◌};
 ghost use Rattle.tower_file.specs.Lines as spec;
 
 use crate::tower::TowerSpec;
-use crate::version::Version;
-use frames::types::Step;
 use schedule_trie::limb::{Limb, Steps};
 use schedule_trie::name::Name;
 use std::alloc::Global;
 use words::number::{four_numbers, one_number, three_numbers, two_numbers};
 use words::parts::Parts;
-use words::step::{is, step_of};
+use words::step::is;
 
 /// The first word of a tower's line.
 #[derive(Clone, Copy, Debug, PartialEq, Eq)]
@@ -88,14 +86,6 @@ pub fn fields_of(name: TowerName, words: &mut Parts<'_>) -> Option<TowerSpec>
             })
         }
     }
-}
-
-/// Reads the step of a line, where a file of the version may have it on the tower.
-pub fn fitting_step(version: Version, tower: &TowerSpec, line: &[u8]) -> Option<Step>
-    ensures { result ≡ spec.fitting_step version tower.now line.now }
-{
-    let step = step_of(&mut Parts::new(line, b' '))?;
-    version.may_have(tower, step).then_some(step)
 }
 
 /// Whether the first word of a line is `branch`.

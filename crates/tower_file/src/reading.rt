@@ -12,11 +12,12 @@ ghost use Rattle.tower_file.specs.Reading as spec;
 
 use crate::fault::{FaultKind, FileFault, OUT_OF_MEMORY};
 use crate::file::TowerFile;
-use crate::line::{fields_of, fitting_step, tower_name};
+use crate::line::{fields_of, tower_name};
 use crate::tower::TowerSpec;
 use crate::version::Version;
 use frames::types::Step;
 use std::alloc::Global;
+use words::lines::Lines;
 use words::parts::Parts;
 use words::step::is;
 
@@ -50,7 +51,7 @@ pub(crate) fn fault(kind: FaultKind, line: u64) -> FileFault
 }
 
 /// Reads the header.
-fn version_of(lines: &mut Parts<'_>) -> Option<Version>
+fn version_of(lines: &mut Lines<'_>) -> Option<Version>
     ensures version { result ≡ spec.version_of lines.old }
     ensures left { lines.new ≡ after_next lines.old }
 {
@@ -68,7 +69,7 @@ fn version_of(lines: &mut Parts<'_>) -> Option<Version>
 }
 
 /// Reads the line of the tower.
-pub(crate) fn tower_of(lines: &mut Parts<'_>) -> Result<TowerSpec, FileFault>
+pub(crate) fn tower_of(lines: &mut Lines<'_>) -> Result<TowerSpec, FileFault>
     ensures tower { result ≡ spec.tower_of lines.old }
     ensures lawful { IfOk result (λ tower. is_lawful_tower tower ≡ true) }
     ensures known { IfErr result (λ e. e.kind ≢ Memory) }
@@ -96,7 +97,7 @@ pub(crate) fn tower_of(lines: &mut Parts<'_>) -> Result<TowerSpec, FileFault>
 fn next_step(
     version: Version,
     tower: &TowerSpec,
-    lines: &mut Parts<'_>,
+    lines: &mut Lines<'_>,
     number: u64,
 ) -> Result<Option<Step>, FileFault>
     ensures step { result ≡ spec.next_step version tower.now number lines.old }
@@ -109,17 +110,11 @@ fn next_step(
         }
         return Err(fault(FaultKind::BadStep, number));
     }
-    let line = lines.next();
-    if lines.is_end() {
-        if line.is_empty() {
-            return Ok(None);
-        }
-        return Err(fault(FaultKind::BadStep, number));
+    let rest = lines.next();
+    if lines.is_end() && rest.is_empty() {
+        return Ok(None);
     }
-    let Some(step) = fitting_step(version, tower, line) else {
-        return Err(fault(FaultKind::BadStep, number));
-    };
-    Ok(Some(step))
+    Err(fault(FaultKind::BadStep, number))
 }
 
 /// Adds a step where there was room for those before: whether there was, and is for this one.
@@ -136,7 +131,7 @@ fn steps_of(
     alloc: Global,
     version: Version,
     tower: &TowerSpec,
-    lines: &mut Parts<'_>,
+    lines: &mut Lines<'_>,
 ) -> Result<Vec<Step>, FileFault>
     requires few { length lines.old ≤ 2 ^ 63 }
     ensures read { Gives
@@ -168,7 +163,7 @@ fn file_of_lines(alloc: Global, bytes: &[u8]) -> Result<TowerFile, FileFault>
         → spec.first_odd bytes.now ≡ None → SpellsSteps bytes.now) }
 {
     prove!(bytes.len() < 1 << 63);
-    let mut lines = Parts::new(bytes, b'\n');
+    let mut lines = Lines::new(bytes);
     let Some(version) = version_of(&mut lines) else {
         return Err(fault(FaultKind::BadHeader, 1));
     };

@@ -1,8 +1,19 @@
 -- Numbers at the front of a text.
-use Rattle.std.proofs.Common.{◌≡◌, ℕ, ◌+◌, ◌-◌, ◌*◌, ◌/◌, ◌%◌, ◌<◌, ◌^◌, true, List, [], ◌∷◌, ◌++◌, sym, ap, ◌∙◌, append_assoc, arith}
+use Rattle.std.proofs.Common.{◌≡◌, ℕ, ◌+◌, ◌-◌, ◌*◌, ◌/◌, ◌%◌, ◌<◌, ◌^◌, true, false, List, [], ◌∷◌, ◌++◌, length, get_or, Option, Some, None, refl, sym, ap, ◌∙◌, append_assoc, inl, inr, arith, lit<}
 use Rattle.std.specs.Char.{is_ascii_digit}
 use Rattle.std.specs.Fmt.{decimal}
 use Rattle.std.proofs.lemmas.Fmt.{decimal_digit, decimal_step}
+use Rattle.std.proofs.lemmas.Fmt.{first_decimal}
+use Rattle.std.proofs.lemmas.Bool.{and_parts, cases_eq, false≢true}
+use Rattle.std.proofs.lemmas.List.{append-nil}
+use Rattle.std.specs.Prelude.{IfNone}
+use Rattle.std.specs.List.{list_all}
+use Rattle.frames.specs.declared.types.Step.{Step}
+use Rattle.frames.specs.declared.types.Step.TheVariants as step
+use Rattle.frames.specs.Fitting.{process_of}
+use Rattle.words.specs.Steps.{step_text, HasShortNumbers}
+use Rattle.words.specs.Fronts.{begins_with_digit, IsWhole}
+use Rattle.words.proofs.Numbers.{digits-decimal, digit_first, eight_digits, nine_digits}
 use Rattle.words.proofs.Digits.{digit_bounds}
 
 -- a digit more of a number
@@ -26,3 +37,145 @@ one_digit text digits left b d e f h is =
     let bounds = digit_bounds b h in
     let digit : decimal d ≡ b ∷ [] = decimal_digit d (omega arith) ∙ ap (λ (c : ℕ). c ∷ []) (omega arith) in
     e ∙ ap (λ (xs : List ℕ). 32 ∷ xs) (f ∙ ap (λ (ds : List ℕ). ds ++ left) (sym digit))
+
+-- ---- what is read is all that can be
+
+-- digits, and what comes behind them
+digits_split : (xs ys left : List ℕ) (c : ℕ) (rest : List ℕ) → list_all is_ascii_digit xs ≡ true → list_all is_ascii_digit ys ≡ true → is_ascii_digit c ≡ false
+    → (length xs < length ys → begins_with_digit left ≡ false) → xs ++ left ≡ ys ++ c ∷ rest → left ≡ c ∷ rest
+digits_split [] [] left c rest dx dy other h e = e
+digits_split [] (y ∷ ys) left c rest dx dy other h e =
+    let digit : begins_with_digit left ≡ true = ap begins_with_digit e ∙ (and_parts (is_ascii_digit y) (list_all is_ascii_digit ys) dy).0 in
+    absurd (false≢true (sym (h (omega arith)) ∙ digit))
+digits_split (x ∷ xs) [] left c rest dx dy other h e =
+    let same : x ≡ c = cc in
+    absurd (false≢true (sym other ∙ ap is_ascii_digit (sym same) ∙ (and_parts (is_ascii_digit x) (list_all is_ascii_digit xs) dx).0))
+digits_split (x ∷ xs) (y ∷ ys) left c rest dx dy other h e =
+    let behind : xs ++ left ≡ ys ++ c ∷ rest = cc in
+    digits_split xs ys left c rest (and_parts (is_ascii_digit x) (list_all is_ascii_digit xs) dx).1 (and_parts (is_ascii_digit y) (list_all is_ascii_digit ys) dy).1 other (λ l. h (omega arith)) behind
+
+left_of_zero : (n : ℕ) (left : List ℕ) (c : ℕ) (rest : List ℕ) → n < 10 ^ 9 → decimal 0 ++ left ≡ decimal n ++ c ∷ rest → left ≡ c ∷ rest
+left_of_zero n left c rest short e =
+    let zero : decimal 0 ≡ 48 ∷ [] = decimal_digit 0 (lit< tt) in
+    elim (cases_eq n 0) [
+      | inl none ↦
+          let same : 48 ∷ left ≡ 48 ∷ c ∷ rest = ap (λ (ds : List ℕ). ds ++ left) (sym zero) ∙ e ∙ ap (λ (m : ℕ). decimal m ++ c ∷ rest) none ∙ ap (λ (ds : List ℕ). ds ++ c ∷ rest) zero in
+          cc
+      | inr some ↦
+          let a = digit_first n short in
+          let same : 48 ∷ left ≡ a.0 ∷ (a.1 ++ c ∷ rest) = ap (λ (ds : List ℕ). ds ++ left) (sym zero) ∙ e ∙ ap (λ (ds : List ℕ). ds ++ c ∷ rest) a.3 in
+          let first : 48 ≡ a.0 = cc in
+          absurd (omega (arith, first, ap (λ (ds : List ℕ). get_or ds 0 0) a.3, first_decimal n (omega arith) (omega arith)))
+    ]
+
+-- a number that has all its digits is the one that a text begins with
+pub left_of_number : (v n : ℕ) (left : List ℕ) (c : ℕ) (rest : List ℕ) → v < 10 ^ 9 → n < 10 ^ 9 → is_ascii_digit c ≡ false → IsWhole v left
+    → decimal v ++ left ≡ decimal n ++ c ∷ rest → left ≡ c ∷ rest
+left_of_number v n left c rest hv hn other whole e =
+    elim (cases_eq v 0) [
+      | inl zero ↦ left_of_zero n left c rest hn (ap (λ (m : ℕ). decimal m ++ left) (sym zero) ∙ e)
+      | inr some ↦
+          digits_split (decimal v) (decimal n) left c rest (digits-decimal v hv) (digits-decimal n hn) other
+          (λ l. whole (omega arith) (eight_digits v hv (omega (arith, l, nine_digits n hn)))) e
+    ]
+
+-- no space and digit, and no line end, at the front
+abbrev pub HasNoNumber : List ℕ → Type 0
+HasNoNumber text = (d : ℕ) (rest : List ℕ) → is_ascii_digit d ≡ true → text ≡ 32 ∷ d ∷ rest → ⊥
+
+abbrev pub HasNoEnd : List ℕ → Type 0
+HasNoEnd text = (left : List ℕ) → text ≡ 10 ∷ left → ⊥
+
+no_number : (text : List ℕ) (n : ℕ) (more : List ℕ) → n < 10 ^ 9 → HasNoNumber text → text ≡ 32 ∷ (decimal n ++ more) → ⊥
+no_number text n more short none e =
+    let a = digit_first n short in
+    none a.0 (a.1 ++ more) a.2 (e ∙ ap (λ (ds : List ℕ). 32 ∷ (ds ++ more)) a.3)
+
+-- a step's letter, its first number, and what stands behind that
+abbrev letter : Step → ℕ
+letter (step.Write p v) = 119
+letter (step.Read p) = 114
+letter (step.Go p c) = 103
+letter (step.Stop p) = 120
+
+abbrev behind_first : Step → List ℕ → List ℕ
+behind_first (step.Write p v) rest = 32 ∷ (decimal v ++ rest)
+behind_first (step.Read p) rest = rest
+behind_first (step.Go p c) rest = 32 ∷ (decimal c ++ rest)
+behind_first (step.Stop p) rest = rest
+
+spelled : (s : Step) (rest : List ℕ) → step_text s ++ rest ≡ letter s ∷ 32 ∷ (decimal (process_of s) ++ behind_first s rest)
+spelled (step.Write p v) rest =
+    ap (λ (xs : List ℕ). 119 ∷ 32 ∷ xs) (append_assoc (decimal p) (32 ∷ (decimal v ++ [])) rest ∙ ap (λ (xs : List ℕ). decimal p ++ 32 ∷ (xs ++ rest)) (append-nil (decimal v)))
+spelled (step.Read p) rest = ap (λ (xs : List ℕ). 114 ∷ 32 ∷ (xs ++ rest)) (append-nil (decimal p))
+spelled (step.Go p c) rest =
+    ap (λ (xs : List ℕ). 103 ∷ 32 ∷ xs) (append_assoc (decimal p) (32 ∷ (decimal c ++ [])) rest ∙ ap (λ (xs : List ℕ). decimal p ++ 32 ∷ (xs ++ rest)) (append-nil (decimal c)))
+spelled (step.Stop p) rest = ap (λ (xs : List ℕ). 120 ∷ 32 ∷ (xs ++ rest)) (append-nil (decimal p))
+
+short_process : (s : Step) → HasShortNumbers s → process_of s < 10 ^ 9
+short_process (step.Write p v) h = h.0
+short_process (step.Read p) h = h
+short_process (step.Go p c) h = h.0
+short_process (step.Stop p) h = h
+
+-- what stands there begins with no digit
+first_behind : (s : Step) (rest : List ℕ) → (c : ℕ) × (more : List ℕ) × (is_ascii_digit c ≡ false) × (behind_first s (10 ∷ rest) ≡ c ∷ more)
+first_behind (step.Write p v) rest = (32, decimal v ++ 10 ∷ rest, refl, refl)
+first_behind (step.Read p) rest = (10, rest, refl, refl)
+first_behind (step.Go p c) rest = (32, decimal c ++ 10 ∷ rest, refl, refl)
+first_behind (step.Stop p) rest = (10, rest, refl, refl)
+
+two_numbers_behind : (word : ℕ) (s : Step) (rest : List ℕ) → word ≡ letter s → (word ≡ 114 → ⊥) → (word ≡ 120 → ⊥) → HasShortNumbers s
+    → (n : ℕ) × (n < 10 ^ 9) × (behind_first s rest ≡ 32 ∷ (decimal n ++ rest))
+two_numbers_behind word (step.Write p v) rest e nr nx h = (v, h.1, refl)
+two_numbers_behind word (step.Read p) rest e nr nx h = absurd (nr e)
+two_numbers_behind word (step.Go p c) rest e nr nx h = (c, h.1, refl)
+two_numbers_behind word (step.Stop p) rest e nr nx h = absurd (nx e)
+
+one_number_behind : (word : ℕ) (s : Step) (rest : List ℕ) → word ≡ letter s → (word ≡ 119 → ⊥) → (word ≡ 103 → ⊥) → behind_first s rest ≡ rest
+one_number_behind word (step.Write p v) rest e nw ng = absurd (nw e)
+one_number_behind word (step.Read p) rest e nw ng = refl
+one_number_behind word (step.Go p c) rest e nw ng = absurd (ng e)
+one_number_behind word (step.Stop p) rest e nw ng = refl
+
+-- ---- what a text doesn't begin with
+
+-- no step's line is at the front of a text
+abbrev pub HasNoStep : List ℕ → Type 0
+HasNoStep text = (s : Step) (rest : List ℕ) → HasShortNumbers s → text ≡ step_text s ++ 10 ∷ rest → ⊥
+
+module _ (text numbers : List ℕ) (word : ℕ) (is : text ≡ word ∷ numbers) where
+  letter_is : (s : Step) (rest : List ℕ) → text ≡ step_text s ++ 10 ∷ rest
+      → (word ≡ letter s) × (numbers ≡ 32 ∷ (decimal (process_of s) ++ behind_first s (10 ∷ rest)))
+  letter_is s rest e = let both = sym is ∙ e ∙ spelled s (10 ∷ rest) in (cc, cc)
+
+  pub no_first : HasNoNumber numbers → HasNoStep text
+  no_first none s rest short e = no_number numbers (process_of s) (behind_first s (10 ∷ rest)) (short_process s short) none (letter_is s rest e).1
+
+  module _ (p : ℕ) (left : List ℕ) (short_p : p < 10 ^ 9) (front : numbers ≡ 32 ∷ (decimal p ++ left)) (whole : IsWhole p left) where
+    left_is : (s : Step) (rest : List ℕ) → HasShortNumbers s → text ≡ step_text s ++ 10 ∷ rest → left ≡ behind_first s (10 ∷ rest)
+    left_is s rest short e =
+        let a = first_behind s rest in
+        let both : 32 ∷ (decimal p ++ left) ≡ 32 ∷ (decimal (process_of s) ++ behind_first s (10 ∷ rest)) = sym front ∙ (letter_is s rest e).1 in
+        let same : decimal p ++ left ≡ decimal (process_of s) ++ a.0 ∷ a.1 = (let t : decimal p ++ left ≡ decimal (process_of s) ++ behind_first s (10 ∷ rest) = cc in t ∙ ap (λ (xs : List ℕ). decimal (process_of s) ++ xs) a.3) in
+        left_of_number p (process_of s) left a.0 a.1 short_p (short_process s short) a.2 whole same ∙ sym a.3
+
+    pub no_second : (word ≡ 114 → ⊥) → (word ≡ 120 → ⊥) → HasNoNumber left → HasNoStep text
+    no_second nr nx none s rest short e =
+        let a = two_numbers_behind word s (10 ∷ rest) (letter_is s rest e).0 nr nx short in
+        no_number left a.0 (10 ∷ rest) a.1 none (left_is s rest short e ∙ a.2)
+
+    pub no_end : (word ≡ 119 → ⊥) → (word ≡ 103 → ⊥) → HasNoEnd left → HasNoStep text
+    no_end nw ng none s rest short e =
+        none rest (left_is s rest short e ∙ one_number_behind word s (10 ∷ rest) (letter_is s rest e).0 nw ng)
+
+    pub no_second_end : (word ≡ 114 → ⊥) → (word ≡ 120 → ⊥) → (v : ℕ) (last : List ℕ) → v < 10 ^ 9 → left ≡ 32 ∷ (decimal v ++ last) → IsWhole v last → HasNoEnd last → HasNoStep text
+    no_second_end nr nx v last short_v front_v whole_v none s rest short e =
+        let a = two_numbers_behind word s (10 ∷ rest) (letter_is s rest e).0 nr nx short in
+        let both : 32 ∷ (decimal v ++ last) ≡ 32 ∷ (decimal a.0 ++ 10 ∷ rest) = sym front_v ∙ left_is s rest short e ∙ a.2 in
+        let same : decimal v ++ last ≡ decimal a.0 ++ 10 ∷ rest = cc in
+        none rest (left_of_number v a.0 last 10 rest short_v a.1 refl whole_v same)
+
+pub if_none : {A : Type 0} (o : Option A) (P : Type 0) → P → IfNone o P
+if_none None P h = h
+if_none (Some x) P h = tt

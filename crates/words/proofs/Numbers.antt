@@ -78,3 +78,20 @@ number-decimal n lt =
     let few : n < 2 ^ 64 = omega arith in
     let test = is_number_from (decimal n) (decimal_nonempty n few) (length-decimal-le 9 n (lit< tt) lt few) (plain_decimal n few) (digits-decimal n lt) in
     ap (λ b. cond b (Some (digits_value 10 (decimal n))) None) test ∙ ap (λ m. Some m) (digits_value-decimal own n few)
+
+-- a number with at most 8 digits
+pub eight_digits : (n : ℕ) → n < 10 ^ 9 → length (decimal n) ≤ 8 → n < 10 ^ 8
+eight_digits n lt short =
+    let few : n < 2 ^ 64 = omega arith in
+    omega (arith, digits_value_short own (decimal n) 8 (digits-decimal n lt) short, digits_value-decimal own n few)
+
+pub nine_digits : (n : ℕ) → n < 10 ^ 9 → length (decimal n) ≤ 9
+nine_digits n lt = length-decimal-le 9 n (lit< tt) lt (omega arith)
+
+-- the first digit of a number
+pub digit_first : (n : ℕ) → n < 10 ^ 9 → (d : ℕ) × (ds : List ℕ) × (is_ascii_digit d ≡ true) × (decimal n ≡ d ∷ ds)
+digit_first n lt = by (decimal n) (decimal_nonempty n (omega arith)) (digits-decimal n lt)
+  where
+    by : (xs : List ℕ) → 0 < length xs → list_all is_ascii_digit xs ≡ true → (d : ℕ) × (ds : List ℕ) × (is_ascii_digit d ≡ true) × (xs ≡ d ∷ ds)
+    by [] some digits = absurd (omega arith)
+    by (x ∷ xs) some digits = (x, xs, (and_parts (is_ascii_digit x) (list_all is_ascii_digit xs) digits).0, refl)

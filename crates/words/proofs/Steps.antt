@@ -10,7 +10,7 @@ use Rattle.std.proofs.lemmas.List.Splits.{join_with_byte-slice_split}
 use Rattle.std.proofs.lemmas.Slice.Eq.{bytes_eq-Decides}
 use Rattle.frames.specs.declared.types.Step.{Step}
 use Rattle.frames.specs.declared.types.Step.TheVariants as step
-use Rattle.words.specs.Words.{parts, parts_left, words, next, after_next, is_end, number, one_number, two_numbers, three_numbers, four_numbers}
+use Rattle.words.specs.Words.{parts, parts_left, lines, words, next, after_next, is_end, number, one_number, two_numbers, three_numbers, four_numbers}
 use Rattle.words.specs.Steps.{step_of, text, step_text, HasShortNumbers}
 use Rattle.words.proofs.Splits.{split_some}
 use Rattle.words.proofs.Numbers.{decimal-number, number-decimal}
@@ -181,18 +181,46 @@ pub step_first : (text rest : List ℕ) (s : Step) → HasShortNumbers s → tex
 step_first text rest s h e = ap (parts 10) e ∙ cut_at 10 (step_text s) rest (all_weaker is_print (is_not 10) print_stays (step_text s) (step_prints s h))
 
 -- the next of these lines spells this step, and has its end; the others are those of the rest
-pub record IsNextStep (all : List (List ℕ)) (s : Step) (c : ℕ) (rest : List ℕ) : Type 0 where
+pub record IsNextStep (all : List (List ℕ)) (s : Step) (rest : List ℕ) : Type 0 where
   pub step : step_of (words (next all)) ≡ Some s
   pub whole : is_end (after_next all) ≡ false
-  pub left : parts c rest ≡ after_next all
+  pub left : lines rest ≡ after_next all
 
-pub step_next : (text : Option (Bor (List ℕ))) (left : Bor (List ℕ)) (c : ℕ) (all : List (List ℕ)) (rest : List ℕ) (s : Step) → text ≡ Some left → c ≡ 10
-    → parts_left c (option_map (λ t. t.now) text) ≡ all → HasShortNumbers s → left.now ≡ step_text s ++ 10 ∷ rest → IsNextStep all s c rest
-step_next text left c all rest s e f view h front =
-    let lines : all ≡ step_text s ∷ parts 10 rest =
-    sym view ∙ ap (λ (o : Option (Bor (List ℕ))). parts_left c (option_map (λ t. t.now) o)) e ∙ ap (λ (d : ℕ). parts d left.now) f ∙ step_first left.now rest s h front in
+pub step_next : (text : Option (Bor (List ℕ))) (left : Bor (List ℕ)) (all : List (List ℕ)) (rest : List ℕ) (s : Step) → text ≡ Some left
+    → parts_left 10 (option_map (λ t. t.now) text) ≡ all → HasShortNumbers s → left.now ≡ step_text s ++ 10 ∷ rest → IsNextStep all s rest
+step_next text left all rest s e view h front =
+    let is : all ≡ step_text s ∷ lines rest =
+    sym view ∙ ap (λ (o : Option (Bor (List ℕ))). parts_left 10 (option_map (λ t. t.now) o)) e ∙ step_first left.now rest s h front in
     record {
-      step = ap (λ (ls : List (List ℕ)). step_of (words (next ls))) lines ∙ step_again s h;
-      whole = ap (λ (ls : List (List ℕ)). is_end (after_next ls)) lines ∙ split_some (λ b. b == 10) rest;
-      left = ap (λ (d : ℕ). parts d rest) f ∙ sym (ap after_next lines);
+      step = ap (λ (ls : List (List ℕ)). step_of (words (next ls))) is ∙ step_again s h;
+      whole = ap (λ (ls : List (List ℕ)). is_end (after_next ls)) is ∙ split_some (λ b. b == 10) rest;
+      left = sym (ap after_next is);
     }
+
+-- a line with its end, and what stands behind that
+joined_next : (ls : List (List ℕ)) → is_end (after_next ls) ≡ false → join_with_byte 10 ls ≡ next ls ++ 10 ∷ join_with_byte 10 (after_next ls)
+joined_next [] h = absurd cc
+joined_next (l ∷ []) h = absurd cc
+joined_next (l ∷ k ∷ ls) h = refl
+
+-- where no step's line is at the front of a text, its first line spells none, or has no end
+pub no_step_next : (text : Option (Bor (List ℕ))) (left : Bor (List ℕ)) (all : List (List ℕ)) → text ≡ Some left → parts_left 10 (option_map (λ t. t.now) text) ≡ all
+    → ((s : Step) (rest : List ℕ) → HasShortNumbers s → left.now ≡ step_text s ++ 10 ∷ rest → ⊥) → is_end (after_next all) ≡ false → step_of (words (next all)) ≡ None
+no_step_next text left all e view none whole = by (step_of (words (next all))) refl
+  where
+    is : lines left.now ≡ all
+    is = ap (λ (o : Option (Bor (List ℕ))). parts_left 10 (option_map (λ t. t.now) o)) (sym e) ∙ view
+
+    by : (o : Option Step) → step_of (words (next all)) ≡ o → step_of (words (next all)) ≡ None
+    by None h = h
+    by (Some s) h =
+        let a = (one_step (next all) s).0 h in
+        absurd (none s (join_with_byte 10 (after_next all)) a.0
+        (sym (join_with_byte-slice_split 10 left.now) ∙ ap (join_with_byte 10) is ∙ joined_next all whole ∙ ap (λ (l : List ℕ). l ++ 10 ∷ join_with_byte 10 (after_next all)) a.1))
+
+pub no_line_next : (text : Option (Bor (List ℕ))) (all : List (List ℕ)) → text ≡ None → parts_left 10 (option_map (λ t. t.now) text) ≡ all
+    → is_end (after_next all) ≡ false → step_of (words (next all)) ≡ None
+no_line_next text all e view whole =
+    let is : all ≡ [] = sym view ∙ ap (λ (o : Option (Bor (List ℕ))). parts_left 10 (option_map (λ t. t.now) o)) e in
+    let end : is_end (after_next all) ≡ true = ap (λ (ls : List (List ℕ)). is_end (after_next ls)) is in
+    absurd cc

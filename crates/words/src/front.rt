@@ -1,18 +1,23 @@
 //! Steps at the front of a text of lines, read at one go.
 
-ghost use Rattle.std.specs.Prelude.{◌≡◌, ◌<◌, ◌^◌, ◌∷◌, ◌++◌, IfSome, decimal};
+ghost use Rattle.std.specs.Prelude.{◌≡◌, ◌<◌, ◌^◌, ℕ, List, ◌∷◌, ◌++◌, true, IfSome, IfNone, decimal};
+ghost use Rattle.std.specs.Char.{is_ascii_digit};
+ghost use Rattle.frames.specs.declared.types.Step.{Step};
 ghost use Rattle.words.specs.Steps.{step_text, HasShortNumbers};
+ghost use Rattle.words.specs.Fronts.{IsWhole};
 
 use frames::types::Step;
 
 /// The least number of nine digits, behind which no more can come.
 const LEAST_OF_NINE_DIGITS: u32 = 100_000_000;
 
-/// The step that a text's first line spells, and what stands behind the line's end. That there is none says
-/// nothing of the line.
+/// The step that a text's first line spells, and what stands behind the line's end; none where that line spells no
+/// step, or has no end.
 pub(crate) fn front_step(text: &[u8]) -> Option<(Step, &[u8])>
     ensures short { IfSome result (λ r. HasShortNumbers r.0) }
     ensures front { IfSome result (λ r. text.now ≡ step_text r.0 ++ 10 ∷ r.1.now) }
+    ensures none { IfNone result ((s : Step) (rest : List ℕ) → HasShortNumbers s
+        → text.now ≡ step_text s ++ 10 ∷ rest → ⊥) }
 {
     let (word, numbers) = text.split_first()?;
     let (p, left) = front_number(numbers)?;
@@ -35,6 +40,9 @@ pub(crate) fn front_step(text: &[u8]) -> Option<(Step, &[u8])>
 fn front_number(text: &[u8]) -> Option<(u32, &[u8])>
     ensures short { IfSome result (λ r. r.0 < 10 ^ 9) }
     ensures front { IfSome result (λ r. text.now ≡ 32 ∷ (decimal r.0 ++ r.1.now)) }
+    ensures whole { IfSome result (λ r. IsWhole r.0 r.1.now) }
+    ensures none { IfNone result ((d : ℕ) (rest : List ℕ) → is_ascii_digit d ≡ true
+        → text.now ≡ 32 ∷ d ∷ rest → ⊥) }
 {
     let (space, digits) = text.split_first()?;
     let (digit, left) = digits.split_first()?;
@@ -54,6 +62,7 @@ fn more_digits(first: u32, text: &[u8]) -> (u32, &[u8])
     requires short { first < 10 ^ 9 }
     ensures short { result.0 < 10 ^ 9 }
     ensures front { decimal first ++ text.now ≡ decimal result.0 ++ result.1.now }
+    ensures whole { IsWhole result.0 result.1.now }
 {
     let mut value = first;
     let mut left = text;
@@ -72,10 +81,9 @@ fn more_digits(first: u32, text: &[u8]) -> (u32, &[u8])
 
 /// What stands behind a line end with which a text begins.
 fn behind_end(text: &[u8]) -> Option<&[u8]>
-    ensures { IfSome result (λ left. text.now ≡ 10 ∷ left.now) }
+    ensures found { IfSome result (λ left. text.now ≡ 10 ∷ left.now) }
+    ensures none { IfNone result ((left : List ℕ) → text.now ≡ 10 ∷ left → ⊥) }
 {
-    match text {
-        [b'\n', left @ ..] => Some(left),
-        _ => None,
-    }
+    let (end, left) = text.split_first()?;
+    (*end == b'\n').then_some(left)
 }

@@ -8,6 +8,7 @@
 
 mod front;
 pub mod laws;
+pub mod lines;
 pub mod number;
 pub mod parts;
 pub mod step;

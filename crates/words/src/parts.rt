@@ -1,12 +1,9 @@
-//! The parts of a text: the lines of a file, and the words of a line.
+//! The parts of a text, as the words of a line.
 
-ghost use Rattle.std.specs.Prelude.{◌≡◌, ◌==◌, ◌∷◌, Some, false, position, IfSome, OnSome, IfNone};
+ghost use Rattle.std.specs.Prelude.{◌≡◌, ◌==◌, ◌∷◌, position};
 ghost use Rattle.std.specs.Option.{option_map};
-ghost use Rattle.words.specs.Words.{parts, parts_left, words, next, after_next, is_end};
-ghost use Rattle.words.specs.Steps.{step_of};
+ghost use Rattle.words.specs.Words.{parts, parts_left, next, after_next, is_end};
 
-use crate::front::front_step;
-use frames::types::Step;
 use std::marker::Model;
 
 /// The parts that are left of a text: what stands between its bytes of one kind.
@@ -50,22 +47,6 @@ impl<'a> Parts<'a> {
         part
     }
 
-    /// Takes the next part where it is a line that spells a step, and has its end. Where it takes none the
-    /// line can still be looked at word by word, which takes longer: that it takes none says nothing of it.
-    pub fn next_step(&mut self) -> Option<Step>
-        ensures step { IfSome result (λ s. step_of (words (next self.old)) ≡ Some s) }
-        ensures whole { OnSome result (is_end (after_next self.old) ≡ false) }
-        ensures left { OnSome result (self.new ≡ after_next self.old) }
-        ensures kept { IfNone result (self.new ≡ self.old) }
-    {
-        if self.separator != b'\n' {
-            return None;
-        }
-        let (step, left) = front_step(self.text?)?;
-        self.text = Some(left);
-        Some(step)
-    }
-
     /// Whether no part is left.
     pub fn is_end(&self) -> bool
         ensures { result ≡ is_end self.now }
@@ -75,7 +56,7 @@ impl<'a> Parts<'a> {
 }
 
 /// The first part of a text, and what is left after the separator behind it.
-fn first_part(text: &[u8], separator: u8) -> (&[u8], Option<&[u8]>)
+pub(crate) fn first_part(text: &[u8], separator: u8) -> (&[u8], Option<&[u8]>)
     ensures { parts separator text.now ≡ result.0.now ∷ parts_left separator
         (option_map (λ t. t.now) result.1) }
 {
