@@ -55,19 +55,30 @@ module _ {T E : Type 0} (by : E → ℕ) (entries : T → List E) where
   unmoved s i me v r at = subst (λ (z : List ℕ × List V). Rule record { words = z.0; homes = s.homes; views = z.1 })
       (λ k. (sym (set-get_or s.words i 0) k, sym (set_again s.views me v at) k)) r
 
-  -- what a view knows while the list is the same and another seat takes or frees the turn
-  others_know : (list : List E) (f f' h h' : ℕ) (owner : ℕ → ℕ) (seat : ℕ) (v : V) → (v.holds ≡ true → ⊥) → Knows by list f h owner seat v → Knows by list f' h' owner seat v
-  others_know list f f' h h' owner seat v idle k = record {
+  -- what a view knows of a list that stays, where it is told more or the turn and the shares' owners are others
+  same_list : (list : List E) (f f' h h' : ℕ) (owner owner' : ℕ → ℕ) (seat : ℕ) (v : V) (told : ℕ) (holds : Bool) → Knows by list f h owner seat v
+      → ((share : ℕ) → has v.shares share ≡ true → owner' share ≡ seat) → told ≤ length list → (holds ≡ true → (f' ≡ 1) × (seat ≡ h') × (v.seen ≡ list) × HoldsSome v)
+      → Knows by list f' h' owner' seat (record v { told = told; holds = holds })
+  same_list list f f' h h' owner owner' seat v told holds k owns within turn = record {
     below = k.below;
     seen = k.seen;
-    owns = k.owns;
+    owns = owns;
     calls = k.calls;
     saw = k.saw;
     others = k.others;
-    told = k.told;
-    holding = λ t. absurd (idle t);
+    told = within;
+    holding = turn;
     met = k.met;
   }
+
+  -- another seat takes or frees the turn
+  others_know : (list : List E) (f f' h h' : ℕ) (owner : ℕ → ℕ) (seat : ℕ) (v : V) → (v.holds ≡ true → ⊥) → Knows by list f h owner seat v → Knows by list f' h' owner seat v
+  others_know list f f' h h' owner seat v idle k = same_list list f f' h h' owner owner seat v v.told v.holds k k.owns k.told (λ t. absurd (idle t))
+
+  -- shares have other owners, but not those of this seat
+  new_owners : (list : List E) (f h : ℕ) (owner owner' : ℕ → ℕ) (seat : ℕ) (v : V) → Knows by list f h owner seat v → ((share : ℕ) → has v.shares share ≡ true → owner' share ≡ seat)
+      → Knows by list f h owner' seat v
+  new_owners list f h owner owner' seat v k owns = same_list list f f h h owner owner' seat v v.told v.holds k owns k.told k.holding
 
   owns_calls : (list : List E) (f h : ℕ) (owner : ℕ → ℕ) (seat : ℕ) (v : V) → Knows by list f h owner seat v → OwnsItsCalls by v
   owns_calls list f h owner seat v k share held = k.saw share held ∙ sym (k.calls share held)
@@ -219,17 +230,8 @@ module _ {T E : Type 0} (by : E → ℕ) (entries : T → List E) where
           words = ap (λ ws. set ws 0 0) r.words;
           home = λ _. (x, ap (put_back s.homes) carried ∙ ap (λ hs. set hs 0 (some (Some x))) a.1, is ∙ hold.2);
           away = λ busy. absurd (busy refl);
-          each = views_stay (Knows by r.list 0 r.holder r.owner) s.views id w record {
-            below = k.below;
-            seen = k.seen;
-            owns = k.owns;
-            calls = k.calls;
-            saw = k.saw;
-            others = k.others;
-            told = k.told;
-            holding = λ t. absurd (cc);
-            met = k.met;
-          } (λ j d other at'. let kj = r.each j d at' in others_know r.list r.flag 0 r.holder r.holder r.owner j d (λ t. other ((kj.holding t).1 ∙ sym hold.1)) kj);
+          each = views_stay (Knows by r.list 0 r.holder r.owner) s.views id w (same_list r.list r.flag 0 r.holder r.holder r.owner r.owner id v v.told false k k.owns k.told (λ t. absurd (cc)))
+              (λ j d other at'. let kj = r.each j d at' in others_know r.list r.flag 0 r.holder r.holder r.owner j d (λ t. other ((kj.holding t).1 ∙ sym hold.1)) kj);
         },
         λ i. (w, rest (carried i)),
       )
@@ -249,17 +251,7 @@ module _ {T E : Type 0} (by : E → ℕ) (entries : T → List E) where
           words = set-get_or s.words 1 0 ∙ r.words;
           home = r.home;
           away = away_stays s r id v w at refl;
-          each = views_stay (Knows by r.list r.flag r.holder r.owner) s.views id w record {
-            below = k.below;
-            seen = k.seen;
-            owns = k.owns;
-            calls = k.calls;
-            saw = k.saw;
-            others = k.others;
-            told = omega arith;
-            holding = k.holding;
-            met = k.met;
-          } (λ j d _. r.each j d);
+          each = views_stay (Knows by r.list r.flag r.holder r.owner) s.views id w (same_list r.list r.flag r.flag r.holder r.holder r.owner r.owner id v n v.holds k k.owns (omega arith) k.holding) (λ j d _. r.each j d);
         },
         (
           refl,
@@ -317,17 +309,7 @@ module _ {T E : Type 0} (by : E → ℕ) (entries : T → List E) where
         holding = λ t. absurd (cc);
         met = k.met;
       } in
-      let third : (j : ℕ) (d : V) → j ≢ id → get_elem? s.views j ≡ some d → K j d = λ j d other at'. let kj = r.each j d at' in record {
-        below = kj.below;
-        seen = kj.seen;
-        owns = λ share held. kept_owner share j (both_cases (has given share) (λ t. absurd (other (sym (kj.owns share held) ∙ k.owns share (inside share t)))) (λ f. f)) (kj.owns share held);
-        calls = kj.calls;
-        saw = kj.saw;
-        others = kj.others;
-        told = kj.told;
-        holding = kj.holding;
-        met = kj.met;
-      } in record {
+      let third : (j : ℕ) (d : V) → j ≢ id → get_elem? s.views j ≡ some d → K j d = λ j d other at'. let kj = r.each j d at' in new_owners r.list r.flag r.holder r.owner owner' j d kj (λ share held. kept_owner share j (both_cases (has given share) (λ t. absurd (other (sym (kj.owns share held) ∙ k.owns share (inside share t)))) (λ f. f)) (kj.owns share held)) in record {
         list = r.list;
         flag = r.flag;
         holder = r.holder;
@@ -386,17 +368,7 @@ module _ {T E : Type 0} (by : E → ℕ) (entries : T → List E) where
         holding = λ t. absurd (cc);
         met = ((r.list, refl), (r.list, refl));
       } in
-      let third : (j : ℕ) (d : V) → j ≢ id → j ≢ other → get_elem? s.views j ≡ some d → K j d = λ j d not_id not_other at_j. let kj = r.each j d at_j in record {
-        below = kj.below;
-        seen = kj.seen;
-        owns = λ share held. kept_owner share j (both_cases (has w.shares share) (λ t. absurd (not_other (sym (kj.owns share held) ∙ k'.owns share t))) (λ f. f)) (kj.owns share held);
-        calls = kj.calls;
-        saw = kj.saw;
-        others = kj.others;
-        told = kj.told;
-        holding = kj.holding;
-        met = kj.met;
-      } in
+      let third : (j : ℕ) (d : V) → j ≢ id → j ≢ other → get_elem? s.views j ≡ some d → K j d = λ j d not_id not_other at_j. let kj = r.each j d at_j in new_owners r.list r.flag r.holder r.owner owner' j d kj (λ share held. kept_owner share j (both_cases (has w.shares share) (λ t. absurd (not_other (sym (kj.owns share held) ∙ k'.owns share t))) (λ f. f)) (kj.owns share held)) in
       let not_idle : (v' : V) (x : V) (place : ℕ) → v'.holds ≡ false → get_elem? s.views place ≡ some v' → get_elem? s.views r.holder ≡ some x → x.holds ≡ true → r.holder ≢ place
       = λ v' x place still at_p at_h holds e. let same : x ≡ v' = some-injective x v' (sym at_h ∙ (ap (get_elem? s.views) e ∙ at_p)) in let t = ap (λ z. z.holds) same in absurd (cc) in record {
         list = r.list;
