@@ -91,6 +91,22 @@ module _ {T E : Type 0} (by : E → ℕ) (entries : T → List E) where
       (w, a.1, ap (get_elem? (set s.views id w)) is ∙ there s.views id v w at, same ∙ (ap (λ z. z.holds) (sym me) ∙ a.3)))
       (λ other. (a.0, a.1, set_else s.views id r.holder w other ∙ a.2, a.3))
 
+  -- the list, the turn and the words stay, while views and the shares' owners are others
+  other_views : (s : St) (r : Rule s) (views : List V) (owner : ℕ → ℕ)
+      → (r.flag ≢ 0 → (x : V) × (s.homes ≡ none ∷ []) × (get_elem? views r.holder ≡ some x) × (x.holds ≡ true))
+      → ((seat : ℕ) (v : V) → get_elem? views seat ≡ some v → Knows by r.list r.flag r.holder owner seat v)
+      → Rule record { words = s.words; homes = s.homes; views = views }
+  other_views s r views owner away each = record {
+    list = r.list;
+    flag = r.flag;
+    holder = r.holder;
+    owner = owner;
+    words = r.words;
+    home = r.home;
+    away = away;
+    each = each;
+  }
+
   pub none_under : (share : ℕ) (xs : List E) → share < 16 → All (λ e. 16 ≤ by e) xs → under by share xs ≡ []
   none_under share [] inside outside = refl
   none_under share (x ∷ xs) inside outside = let far = All-head (λ e. 16 ≤ by e) x xs outside in
@@ -309,17 +325,10 @@ module _ {T E : Type 0} (by : E → ℕ) (entries : T → List E) where
         holding = λ t. absurd (cc);
         met = k.met;
       } in
-      let third : (j : ℕ) (d : V) → j ≢ id → get_elem? s.views j ≡ some d → K j d = λ j d other at'. let kj = r.each j d at' in new_owners r.list r.flag r.holder r.owner owner' j d kj (λ share held. kept_owner share j (both_cases (has given share) (λ t. absurd (other (sym (kj.owns share held) ∙ k.owns share (inside share t)))) (λ f. f)) (kj.owns share held)) in record {
-        list = r.list;
-        flag = r.flag;
-        holder = r.holder;
-        owner = owner';
-        words = r.words;
-        home = r.home;
-        away = λ busy. let a = away_stays s r id v l at refl busy in (a.0, a.1, at_longer (set s.views id l) (g ∷ []) r.holder a.0 a.2, a.3);
-        each = λ j d e. ⊎_elim (views_stay K s.views id l left third j d) (λ (t : (j ≡ end) × (g ≡ d)). subst (λ (x : ℕ × V). K x.0 x.1) (λ i. (sym t.0 i, t.1 i)) right)
-            (at_end (set s.views id l) g d j e);
-      }
+      let third : (j : ℕ) (d : V) → j ≢ id → get_elem? s.views j ≡ some d → K j d = λ j d other at'. let kj = r.each j d at' in new_owners r.list r.flag r.holder r.owner owner' j d kj (λ share held. kept_owner share j (both_cases (has given share) (λ t. absurd (other (sym (kj.owns share held) ∙ k.owns share (inside share t)))) (λ f. f)) (kj.owns share held)) in other_views s r (set s.views id l ++ g ∷ []) owner'
+      (λ busy. let a = away_stays s r id v l at refl busy in (a.0, a.1, at_longer (set s.views id l) (g ∷ []) r.holder a.0 a.2, a.3))
+      (λ j d e. ⊎_elim (views_stay K s.views id l left third j d) (λ (t : (j ≡ end) × (g ≡ d)). subst (λ (x : ℕ × V). K x.0 x.1) (λ i. (sym t.0 i, t.1 i)) right)
+      (at_end (set s.views id l) g d j e))
 
   pub longer_cases : (xs ys : List E) → ((longer xs ys ≡ ys) × (length xs ≤ length ys)) ⊎ ((longer xs ys ≡ xs) × (length ys ≤ length xs))
   longer_cases xs ys = dite (dec_le (suc (length xs)) (length ys)) (λ l. inl (ap (λ b. cond b ys xs) (lt-ltb (length xs) (length ys) l), omega arith))
@@ -370,15 +379,8 @@ module _ {T E : Type 0} (by : E → ℕ) (entries : T → List E) where
       } in
       let third : (j : ℕ) (d : V) → j ≢ id → j ≢ other → get_elem? s.views j ≡ some d → K j d = λ j d not_id not_other at_j. let kj = r.each j d at_j in new_owners r.list r.flag r.holder r.owner owner' j d kj (λ share held. kept_owner share j (both_cases (has w.shares share) (λ t. absurd (not_other (sym (kj.owns share held) ∙ k'.owns share t))) (λ f. f)) (kj.owns share held)) in
       let not_idle : (v' : V) (x : V) (place : ℕ) → v'.holds ≡ false → get_elem? s.views place ≡ some v' → get_elem? s.views r.holder ≡ some x → x.holds ≡ true → r.holder ≢ place
-      = λ v' x place still at_p at_h holds e. let same : x ≡ v' = some-injective x v' (sym at_h ∙ (ap (get_elem? s.views) e ∙ at_p)) in let t = ap (λ z. z.holds) same in absurd (cc) in record {
-        list = r.list;
-        flag = r.flag;
-        holder = r.holder;
-        owner = owner';
-        words = r.words;
-        home = r.home;
-        away = λ busy. let a = r.away busy in
-            (a.0, a.1, set_else (set s.views id b) other r.holder spent_view (not_idle w a.0 other idle' seat a.2 a.3) ∙ (set_else s.views id r.holder b (not_idle v a.0 id idle at a.2 a.3) ∙ a.2), a.3);
-        each = views_stay K (set s.views id b) other spent_view spent
-            (λ j d not_other e. views_stay (λ j d. j ≢ other → K j d) s.views id b (λ _. mine) (λ j d not_id at_j not_other'. third j d not_id not_other' at_j) j d e not_other);
-      }
+      = λ v' x place still at_p at_h holds e. let same : x ≡ v' = some-injective x v' (sym at_h ∙ (ap (get_elem? s.views) e ∙ at_p)) in let t = ap (λ z. z.holds) same in absurd (cc) in other_views s r (set (set s.views id b) other spent_view) owner'
+      (λ busy. let a = r.away busy in
+      (a.0, a.1, set_else (set s.views id b) other r.holder spent_view (not_idle w a.0 other idle' seat a.2 a.3) ∙ (set_else s.views id r.holder b (not_idle v a.0 id idle at a.2 a.3) ∙ a.2), a.3))
+      (views_stay K (set s.views id b) other spent_view spent
+      (λ j d not_other e. views_stay (λ j d. j ≢ other → K j d) s.views id b (λ _. mine) (λ j d not_id at_j not_other'. third j d not_id not_other' at_j) j d e not_other))

@@ -9,9 +9,7 @@ use std::marker::{Brand, PhantomData};
 use std::snapshot::Snapshot;
 
 /// The rule: one list, which the value stands for whenever the turn is free.
-pub struct Rule<T> {
-    of: PhantomData<T>,
-}
+pub struct Rule<T>(PhantomData<T>);
 
 impl<T: Counted> TableRule<Option<T>, View<T::Entry>, Snapshot<T>> for Rule<T> {
     ghost use Rattle.turn.specs.Histories.{first_view};
@@ -52,9 +50,7 @@ impl Given for Brand {
     ghost given = { [] };
 }
 
-pub(crate) struct Grab<T> {
-    of: PhantomData<T>,
-}
+pub(crate) struct Grab<T>(PhantomData<T>);
 
 impl<T: Counted> Play<Option<T>, View<T::Entry>> for Grab<T> {
     ghost use Rattle.turn.specs.Rule.{grab_tells};
@@ -62,9 +58,7 @@ impl<T: Counted> Play<Option<T>, View<T::Entry>> for Grab<T> {
     ghost then = { grab_tells T.by T.entries };
 }
 
-pub(crate) struct Publish<T, N> {
-    of: PhantomData<(T, N)>,
-}
+pub(crate) struct Publish<T, N>(PhantomData<(T, N)>);
 
 impl<T: Counted, N: Added<T::Entry>> Play<Option<T>, View<T::Entry>> for Publish<T, N> {
     ghost use Rattle.turn.specs.Rule.{publish_tells};
@@ -72,9 +66,7 @@ impl<T: Counted, N: Added<T::Entry>> Play<Option<T>, View<T::Entry>> for Publish
     ghost then = { publish_tells T.by T.entries N.added };
 }
 
-pub(crate) struct Release<T> {
-    of: PhantomData<T>,
-}
+pub(crate) struct Release<T>(PhantomData<T>);
 
 impl<T: Counted> Play<Option<T>, View<T::Entry>> for Release<T> {
     ghost use Rattle.turn.specs.Rule.{release_tells};
@@ -82,9 +74,7 @@ impl<T: Counted> Play<Option<T>, View<T::Entry>> for Release<T> {
     ghost then = { release_tells T.by T.entries };
 }
 
-pub(crate) struct News<T> {
-    of: PhantomData<T>,
-}
+pub(crate) struct News<T>(PhantomData<T>);
 
 impl<T: Counted> Play<Option<T>, View<T::Entry>> for News<T> {
     ghost use Rattle.turn.specs.Rule.{news_tells};
@@ -92,9 +82,7 @@ impl<T: Counted> Play<Option<T>, View<T::Entry>> for News<T> {
     ghost then = { news_tells T.by T.entries };
 }
 
-pub(crate) struct SplitOff<T, G> {
-    of: PhantomData<(T, G)>,
-}
+pub(crate) struct SplitOff<T, G>(PhantomData<(T, G)>);
 
 impl<T: Counted, G: Given> Split<View<T::Entry>> for SplitOff<T, G> {
     ghost use Rattle.turn.specs.Histories.{kept, handed};
@@ -104,9 +92,7 @@ impl<T: Counted, G: Given> Split<View<T::Entry>> for SplitOff<T, G> {
     ghost right = { handed T.by G.given };
 }
 
-pub(crate) struct JoinIn<T> {
-    of: PhantomData<T>,
-}
+pub(crate) struct JoinIn<T>(PhantomData<T>);
 
 impl<T: Counted> Join<View<T::Entry>> for JoinIn<T> {
     ghost use Rattle.turn.specs.Histories.{joined, spent_view};
