@@ -17,6 +17,9 @@ pub record MarkedBelow (test : ℕ → Bool) (n : ℕ) (marks : List Bool) : Typ
   pub long : length marks ≡ 16
   pub each : (k : ℕ) → k < n → has marks k ≡ test k
 
+pub marked_none : (test : ℕ → Bool) (marks : List Bool) → length marks ≡ 16 → MarkedBelow test 0 marks
+marked_none test marks long = record { long = long; each = λ k h. absurd (omega arith) }
+
 pub marked_more : (test : ℕ → Bool) (n : ℕ) (marks : List Bool) (mark : Bool) → MarkedBelow test n marks → n < 16 → mark ≡ test n → MarkedBelow test (n + 1) (set marks n mark)
 marked_more test n marks mark below inside is = let long = below.long in record {
   long = length-set marks n mark ∙ long;

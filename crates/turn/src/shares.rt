@@ -52,6 +52,7 @@ impl Shares {
     }
 
     /// The next least shares after the least.
+    #[tactic(auto, using(crate::specs::ShareLaws::marked_none, crate::specs::ShareLaws::marked_more, crate::specs::ShareLaws::marked_all))]
     pub(crate) fn next_least(&self, many: usize) -> Shares
         ensures { result.marks ≡ next_least many self.now.marks }
     {
@@ -63,6 +64,7 @@ impl Shares {
         Shares { marks }
     }
 
+    #[tactic(auto, using(crate::specs::ShareLaws::marked_none, crate::specs::ShareLaws::marked_more, crate::specs::ShareLaws::marked_all))]
     pub(crate) fn without(&self, given: &Shares) -> Shares
         ensures { result.marks ≡ without self.now.marks given.now.marks }
     {
@@ -73,6 +75,7 @@ impl Shares {
         Shares { marks }
     }
 
+    #[tactic(auto, using(crate::specs::ShareLaws::marked_none, crate::specs::ShareLaws::marked_more, crate::specs::ShareLaws::marked_all))]
     pub(crate) fn together(&self, others: &Shares) -> Shares
         ensures { result.marks ≡ together self.now.marks others.now.marks }
     {
