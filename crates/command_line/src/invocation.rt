@@ -82,11 +82,7 @@ fn command<'a>(alloc: Global) -> Result<Command<'a>, AllocError>
     let file = Arg::new(alloc, FILE).help(
         "A tower and its steps, or its branches; without it a safe bit",
     );
-    let workers = number_option(
-        alloc,
-        WORKERS,
-        value_parser!(u32).range(0..=4),
-        "0",
+    let workers = number_option(alloc, WORKERS, value_parser!(u32).range(0..=4), "0").help(
         "Threads that help to fill, 0 to 4",
     );
     let cells = number_option(
@@ -94,20 +90,12 @@ fn command<'a>(alloc: Global) -> Result<Command<'a>, AllocError>
         CELLS,
         value_parser!(u32).range(1..=268435456),
         "65536",
-        "The most cells that are ever made, 1 to 268435456",
-    );
-    let branches = number_option(
-        alloc,
-        BRANCHES,
-        value_parser!(u32).range(1..=1024),
-        "64",
+    )
+    .help("The most cells that are ever made, 1 to 268435456");
+    let branches = number_option(alloc, BRANCHES, value_parser!(u32).range(1..=1024), "64").help(
         "The most branches that there are at a time, 1 to 1024",
     );
-    let save = path_option(
-        alloc,
-        SAVE,
-        "Where the branches are saved behind the script",
-    );
+    let save = path_option(alloc, SAVE).help("Where the branches are saved behind the script");
     Command::new(alloc, "towerbench")
         .about(
             "Answers the script on standard input: edits and looks over the runs of a register tower",
@@ -126,7 +114,6 @@ fn number_option<'a>(
     id: &'a str,
     number: ValueParser<'a>,
     default: &'a str,
-    help: &'a str,
 ) -> Arg<'a>
     ensures rule { rule_of result ≡ option_rule id.now number.entry default.now }
     ensures own { result.global ≡ false }
@@ -135,13 +122,12 @@ fn number_option<'a>(
         .long(id)
         .action(ArgAction::Set)
         .value_name("N")
-        .help(help)
         .value_parser(number)
         .default_value(default)
 }
 
 /// An option that takes a path.
-fn path_option<'a>(alloc: Global, id: &'a str, help: &'a str) -> Arg<'a>
+fn path_option<'a>(alloc: Global, id: &'a str) -> Arg<'a>
     ensures rule { rule_of result ≡ path_rule id.now }
     ensures own { result.global ≡ false }
 {
@@ -149,7 +135,6 @@ fn path_option<'a>(alloc: Global, id: &'a str, help: &'a str) -> Arg<'a>
         .long(id)
         .action(ArgAction::Set)
         .value_name("PATH")
-        .help(help)
 }
 
 /// What is told of words that aren't taken.
