@@ -175,21 +175,14 @@ rule_at k = slice_index_or all_rules k file_rule
 abbrev first_with : Text → Option ℕ
 first_with id = position (λ (r : Rule). bytes_eq r.id id) all_rules
 
-all_simple : (k : ℕ) → k < length all_rules → (rule_at k).is_simple ≡ true
-all_simple zero lt = refl
-all_simple (suc zero) lt = refl
-all_simple (suc (suc zero)) lt = refl
-all_simple (suc (suc (suc zero))) lt = refl
-all_simple (suc (suc (suc (suc zero)))) lt = refl
-all_simple (suc (suc (suc (suc (suc k))))) lt = absurd (omega (arith, lt))
-
-all_first : (k : ℕ) → k < length all_rules → first_with (rule_at k).id ≡ Some k
-all_first zero lt = refl
-all_first (suc zero) lt = refl
-all_first (suc (suc zero)) lt = refl
-all_first (suc (suc (suc zero))) lt = refl
-all_first (suc (suc (suc (suc zero)))) lt = refl
-all_first (suc (suc (suc (suc (suc k))))) lt = absurd (omega (arith, lt))
+-- the rule at each place is simple, and is the first with its id
+each_rule : (k : ℕ) → k < length all_rules → ((rule_at k).is_simple ≡ true) × (first_with (rule_at k).id ≡ Some k)
+each_rule zero lt = (refl, refl)
+each_rule (suc zero) lt = (refl, refl)
+each_rule (suc (suc zero)) lt = (refl, refl)
+each_rule (suc (suc (suc zero))) lt = (refl, refl)
+each_rule (suc (suc (suc (suc zero)))) lt = (refl, refl)
+each_rule (suc (suc (suc (suc (suc k))))) lt = absurd (omega (arith, lt))
 
 -- one of the options: its place, and that its id is neither empty nor the help's or the version's
 pub record IsOption (id : Text) (least most : ℕ) : Type 0 where
@@ -256,7 +249,7 @@ module _ (c : Command) (m : ArgMatches) (shape : app_of c ≡ program) (p : IsPa
   names_none : NamesNoGroup c
   names_none k d lt =
       let low : k < length all_rules = rw as_many at lt in
-      no_arg_groups (slice_index_or (args_of c) k d) (ap (λ (r : Rule). r.is_simple) (has_rule k d low) ∙ all_simple k low)
+      no_arg_groups (slice_index_or (args_of c) k d) (ap (λ (r : Rule). r.is_simple) (has_rule k d low) ∙ (each_rule k low).0)
 
   -- what is answered where the option of an id is asked for
   abbrev pub Gives : Text → Option ℕ → Type 0
@@ -283,14 +276,14 @@ module _ (c : Command) (m : ArgMatches) (shape : app_of c ≡ program) (p : IsPa
     id_is = ap (λ (r : Rule). r.id) rule
 
     first : first_with id ≡ Some o.place
-    first = ap (λ (r : Rule). first_with r.id) (sym o.rule) ∙ all_first o.place o.within
+    first = ap (λ (r : Rule). first_with r.id) (sym o.rule) ∙ (each_rule o.place o.within).1
 
     only : (j : ℕ) (e : Arg) → j < length (args_of c) → bytes_eq (slice_index_or (args_of c) j e).id.now arg.id.now ≡ true → j ≡ o.place
     only j e lt same =
         let low : j < length all_rules = rw as_many at lt in
         let is : (rule_at j).id ≡ id =
         ap (λ (r : Rule). r.id) (sym (has_rule j e low)) ∙ (bytes_eq-Decides _ _).0 same ∙ id_is in
-        ap (λ o. unwrap_or o 0) (sym (all_first j low) ∙ ap first_with is ∙ first)
+        ap (λ o. unwrap_or o 0) (sym (each_rule j low).1 ∙ ap first_with is ∙ first)
 
     own : IsAuto arg → ⊥
     own auto = elim auto [
