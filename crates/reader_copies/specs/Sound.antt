@@ -92,20 +92,9 @@ module _ (readers values : ℕ) (some : 1 ≤ readers) (few : readers ≤ MOST_R
   frame_tells who op.Read (Writing v reader) stands = absurd stands
 
   pub copies_sound : IsSoundTable (copies_table readers values) (CopiesStands readers values) (copies_left readers)
-  copies_sound = record {
-    zero_writes = λ v lt. writer.zero_writes values (readers + 1) v (omega arith) lt;
-    others_read = λ who above below. writer.others_read values (readers + 1) who above below;
-    nobody_else = λ who o h. writer.nobody_else values (readers + 1) who o h;
-    no_other_value = λ who v h. writer.no_other_value values (readers + 1) who v h;
-    first_fits = λ v j lt below. lt;
-    first_words = λ v k lt below. absurd (omega arith);
-    asks_fit = asks_fit;
-    stands_suits = stands_suits;
-    frame_tells = frame_tells;
-    begins_sound = begins_sound;
-    rest_sound = rest_sound;
-    rest_falls = rest_falls;
-  }
+  copies_sound = writer.one_writer_sound (copies_table readers values) (CopiesStands readers values) (copies_left readers) (λ who o. refl) (omega arith)
+      (λ v j lt below. lt) (λ v k lt below. absurd (omega arith))
+      asks_fit stands_suits frame_tells begins_sound rest_sound rest_falls
 
 -- the test of two tasks
 abbrev pub task_eq : CopiesTask → CopiesTask → Bool

@@ -55,20 +55,9 @@ module _ (processes : ℕ) (some : 0 < processes) where
   frame_tells who op.Read (Writing v) stands = absurd stands
 
   pub regular_sound : IsSoundTable (regular_table processes) (RegularStands processes) (λ _. 0)
-  regular_sound = record {
-    zero_writes = λ v lt. writer.zero_writes 2 processes v some lt;
-    others_read = λ who above below. writer.others_read 2 processes who above below;
-    nobody_else = λ who o h. writer.nobody_else 2 processes who o h;
-    no_other_value = λ who v h. writer.no_other_value 2 processes who v h;
-    first_fits = λ v j lt below. lt;
-    first_words = λ v k lt below. omega (arith, lt);
-    asks_fit = asks_fit;
-    stands_suits = stands_suits;
-    frame_tells = frame_tells;
-    begins_sound = begins_sound;
-    rest_sound = rest_sound;
-    rest_falls = λ who o task outcome stands answers on. tt;
-  }
+  regular_sound = writer.one_writer_sound (regular_table processes) (RegularStands processes) (λ _. 0) (λ who o. refl) (some)
+      (λ v j lt below. lt) (λ v k lt below. omega (arith, lt))
+      asks_fit stands_suits frame_tells begins_sound rest_sound (λ who o task outcome stands answers on. tt)
 
 -- the test of two tasks
 abbrev pub task_eq : RegularTask → RegularTask → Bool

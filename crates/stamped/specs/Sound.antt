@@ -102,20 +102,9 @@ module _ (values last : ℕ) (some : LEAST_VALUES ≤ values) where
   frame_tells who op.Read (Writing v code) stands = absurd stands
 
   pub stamped_sound : IsSoundTable (stamped_table values last) (StampedStands values last) (λ _. 0)
-  stamped_sound = record {
-    zero_writes = λ v lt. writer.zero_writes values 2 v (omega arith) lt;
-    others_read = λ who above below. writer.others_read values 2 who above below;
-    nobody_else = λ who o h. writer.nobody_else values 2 who o h;
-    no_other_value = λ who v h. writer.no_other_value values 2 who v h;
-    first_fits = λ v j lt below. value_fits values last v lt;
-    first_words = first_words;
-    asks_fit = asks_fit;
-    stands_suits = stands_suits;
-    frame_tells = frame_tells;
-    begins_sound = begins_sound;
-    rest_sound = rest_sound;
-    rest_falls = rest_falls;
-  }
+  stamped_sound = writer.one_writer_sound (stamped_table values last) (StampedStands values last) (λ _. 0) (λ who o. refl) (omega arith)
+      (λ v j lt below. value_fits values last v lt) first_words
+      asks_fit stands_suits frame_tells begins_sound rest_sound rest_falls
 
 -- the test of two tasks
 abbrev pub task_eq : StampedTask → StampedTask → Bool

@@ -126,20 +126,9 @@ module _ (none : Outcome) (values processes : ℕ) (two : LEAST_VALUES ≤ value
   frame_tells who op.Read (Clearing x i) stands = absurd stands
 
   pub table_sound : IsSoundTable (unary_table_with none values processes) (UnaryStands values processes) unary_left
-  table_sound = record {
-    zero_writes = λ v lt. writer.zero_writes values processes v some lt;
-    others_read = λ who above below. writer.others_read values processes who above below;
-    nobody_else = λ who o h. writer.nobody_else values processes who o h;
-    no_other_value = λ who v h. writer.no_other_value values processes who v h;
-    first_fits = λ v j lt below. first_bit v j;
-    first_words = λ v k lt below. omega arith;
-    asks_fit = asks_fit;
-    stands_suits = stands_suits;
-    frame_tells = frame_tells;
-    begins_sound = begins_sound;
-    rest_sound = rest_sound;
-    rest_falls = rest_falls;
-  }
+  table_sound = writer.one_writer_sound (unary_table_with none values processes) (UnaryStands values processes) unary_left (λ who o. refl) (some)
+      (λ v j lt below. first_bit v j) (λ v k lt below. omega arith)
+      asks_fit stands_suits frame_tells begins_sound rest_sound rest_falls
 
 -- the register's own table: the answer of a scan that finds none is one of its values
 pub unary_sound : (values processes : ℕ) → LEAST_VALUES ≤ values → 0 < processes → IsSoundTable (unary_table values processes) (UnaryStands values processes) unary_left

@@ -1,2 +1,42 @@
--- Which operations fit a register of one writer: laws of `frames`.
+-- Registers of one writer: which operations fit, by laws of `frames`, and what is left to show of a table of one.
+use Rattle.std.specs.Prelude.{◌≡◌, ℕ, ◌<◌, true}
+use Rattle.std.proofs.Common.{◌∙◌, sym}
+use Rattle.frames.specs.declared.types.Op.{Op}
+use Rattle.frames.specs.declared.types.Op.TheVariants as op
+use Rattle.frames.specs.declared.types.Outcome.{Outcome}
+use Rattle.frames.specs.Behaviour.{Answers}
+use Rattle.frames.specs.OneWriter.{one_writer}
+use Rattle.frames.specs.laws.OneWriter as writer
+use Rattle.layers.specs.Nested.{Table}
+use Rattle.layers.specs.Sound.{IsSound, IsSoundTable, IsNotSpent, Falls, FitsPart}
 pub use Rattle.frames.specs.laws.OneWriter.{zero_writes, others_read, nobody_else, writer_zero, no_other_value, reader_some, reader_few, writer_suits}
+
+module _ {Task : Type 0} (t : Table Task) (Stands : ℕ → Op → Task → Type 0) (left : Task → ℕ) where
+  -- a part's outcome behind which the program of a task goes on
+  abbrev GoesOn : ℕ → Op → Task → Outcome → (Type 0) → Type 0
+  GoesOn who o task outcome Then = Stands who o task → Answers t.inner_values (t.asks task).op outcome → IsNotSpent outcome → Then
+
+  pub one_writer_sound : ((who : ℕ) (o : Op) → t.suits who o ≡ one_writer t.values t.processes who o) → 0 < t.processes
+      → ((v j : ℕ) → v < t.values → j < t.parts → t.first v j < t.inner_values)
+      → ((v k : ℕ) → v < t.values → k < t.words → t.first_word v k < t.bound k)
+      → ((who : ℕ) (o : Op) (task : Task) → Stands who o task → ((t.asks task).part < t.parts) × FitsPart t.inner_values t.inner_processes (t.asks task).who (t.asks task).op)
+      → ((who : ℕ) (o : Op) (task : Task) → Stands who o task → t.suits who o ≡ true)
+      → ((who : ℕ) (o : Op) (task : Task) → Stands who o task → (t.find who (t.frame task) ≡ task) × ((t.frame task).op ≡ o))
+      → ((who : ℕ) (o : Op) → t.suits who o ≡ true → IsSound t (Stands who o) (Answers t.values o) (t.program who o))
+      → ((who : ℕ) (o : Op) (task : Task) (outcome : Outcome) → GoesOn who o task outcome (IsSound t (Stands who o) (Answers t.values o) (t.rest task outcome)))
+      → ((who : ℕ) (o : Op) (task : Task) (outcome : Outcome) → GoesOn who o task outcome (Falls left (left task) (t.rest task outcome)))
+      → IsSoundTable t Stands left
+  one_writer_sound suits some first_fits first_words asks_fit stands_suits frame_tells begins_sound rest_sound rest_falls = record {
+    zero_writes = λ v lt. suits 0 (op.Write v) ∙ writer.zero_writes t.values t.processes v some lt;
+    others_read = λ who above below. suits who op.Read ∙ writer.others_read t.values t.processes who above below;
+    nobody_else = λ who o h. writer.nobody_else t.values t.processes who o (sym (suits who o) ∙ h);
+    no_other_value = λ who v h. writer.no_other_value t.values t.processes who v (sym (suits who (op.Write v)) ∙ h);
+    first_fits = first_fits;
+    first_words = first_words;
+    asks_fit = asks_fit;
+    stands_suits = stands_suits;
+    frame_tells = frame_tells;
+    begins_sound = begins_sound;
+    rest_sound = rest_sound;
+    rest_falls = rest_falls;
+  }
