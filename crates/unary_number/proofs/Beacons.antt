@@ -150,6 +150,10 @@ among_more x v vs h = elim (v == x) as (λ c. IsTrue (c || among x vs)) [ true �
 pub among_here : (x : ℕ) (vs : List ℕ) → IsTrue (among x (x ∷ vs))
 among_here x vs = ap (λ c. c || among x vs) (eq-eqb x x refl)
 
+-- what is read of bit i, where of bit d the same is read as before
+same_at : {X : Type 0} (of : Seen → X) (i d : ℕ) (s : Seen) (parts : ℕ → Seen) → of s ≡ of (parts d) → of (put d s parts i) ≡ of (parts i)
+same_at of i d s parts same = put_all (λ y z. of z ≡ of (parts y)) d s parts same (λ y ne. refl) i
+
 -- process r reads bit i, with so many left above: bit k is its beacon
 pub record Looks (top r i left k : ℕ) (u : Seen) (parts : ℕ → Seen) : Type 0 where
   pub room : i + left ≡ top
@@ -166,12 +170,9 @@ looking_begin top r i left k p x u parts l =
     record {
       room = l.room;
       beacon = beacon_raise top i k x (MayGive r (sees (Some (Invoke p (Write x))) u)) parts (beacon_more top i k (MayGive r u) (MayGive r (sees (Some (Invoke p (Write x))) u)) parts more l.beacon) ax;
-      here = put_all (λ y s. y ≡ i → k ≡ i → (s.fresh r ≡ 1) × (IsTrue (among 0 (s.overlaps r)) → ⊥)) x (raised (parts x)) parts
-          (λ e ke. subst (λ y. ((parts y).fresh r ≡ 1) × (IsTrue (among 0 ((parts y).overlaps r)) → ⊥)) (sym e) (l.here ke))
-          (λ y ne e ke. subst (λ y. ((parts y).fresh r ≡ 1) × (IsTrue (among 0 ((parts y).overlaps r)) → ⊥)) (sym e) (l.here ke)) i refl;
-      fresh_one = put_all (λ y s. y ≡ i → s.fresh r ≡ 1 → MayGive r (sees (Some (Invoke p (Write x))) u) i) x (raised (parts x)) parts
-          (λ e f. more i (l.fresh_one (subst (λ y. (parts y).fresh r ≡ 1) e f)))
-          (λ y ne e f. more i (l.fresh_one (subst (λ y. (parts y).fresh r ≡ 1) e f))) i refl;
+      here = λ ke. let h = l.here ke in
+          (same_at (λ z. z.fresh r) i x (raised (parts x)) parts refl ∙ h.0, λ m. h.1 (subst IsTrue (same_at (λ z. among 0 (z.overlaps r)) i x (raised (parts x)) parts refl) m));
+      fresh_one = λ f. more i (l.fresh_one (sym (same_at (λ z. z.fresh r) i x (raised (parts x)) parts refl) ∙ f));
       over_one = put_all (λ y s. y ≡ i → IsTrue (among 1 (s.overlaps r)) → MayGive r (sees (Some (Invoke p (Write x))) u) i) x (raised (parts x)) parts
           (λ e f. subst (MayGive r (sees (Some (Invoke p (Write x))) u)) e ax)
           (λ y ne e f. more i (l.over_one (subst (λ y. IsTrue (among 1 ((parts y).overlaps r))) e f))) i refl;
@@ -183,15 +184,10 @@ pub looking_written : (top r i left k d : ℕ) (u : Seen) (parts : ℕ → Seen)
 looking_written top r i left k d u parts l b = record {
   room = l.room;
   beacon = b;
-  here = put_all (λ y s. y ≡ i → k ≡ i → (s.fresh r ≡ 1) × (IsTrue (among 0 (s.overlaps r)) → ⊥)) d (written (parts d)) parts
-      (λ e ke. subst (λ y. ((parts y).fresh r ≡ 1) × (IsTrue (among 0 ((parts y).overlaps r)) → ⊥)) (sym e) (l.here ke))
-      (λ y ne e ke. subst (λ y. ((parts y).fresh r ≡ 1) × (IsTrue (among 0 ((parts y).overlaps r)) → ⊥)) (sym e) (l.here ke)) i refl;
-  fresh_one = put_all (λ y s. y ≡ i → s.fresh r ≡ 1 → MayGive r u i) d (written (parts d)) parts
-      (λ e f. l.fresh_one (subst (λ y. (parts y).fresh r ≡ 1) e f))
-      (λ y ne e f. l.fresh_one (subst (λ y. (parts y).fresh r ≡ 1) e f)) i refl;
-  over_one = put_all (λ y s. y ≡ i → IsTrue (among 1 (s.overlaps r)) → MayGive r u i) d (written (parts d)) parts
-      (λ e f. l.over_one (subst (λ y. IsTrue (among 1 ((parts y).overlaps r))) e f))
-      (λ y ne e f. l.over_one (subst (λ y. IsTrue (among 1 ((parts y).overlaps r))) e f)) i refl;
+  here = λ ke. let h = l.here ke in
+      (same_at (λ z. z.fresh r) i d (written (parts d)) parts refl ∙ h.0, λ m. h.1 (subst IsTrue (same_at (λ z. among 0 (z.overlaps r)) i d (written (parts d)) parts refl) m));
+  fresh_one = λ f. l.fresh_one (sym (same_at (λ z. z.fresh r) i d (written (parts d)) parts refl) ∙ f);
+  over_one = λ m. l.over_one (subst IsTrue (same_at (λ z. among 1 (z.overlaps r)) i d (written (parts d)) parts refl) m);
 }
 
 -- a write of 0 to bit d begins, and k or a higher bit is the beacon then
@@ -203,12 +199,8 @@ looking_lower top r i left k z d u parts l b which = record {
   here = put_all (λ y s. y ≡ i → z ≡ i → (s.fresh r ≡ 1) × (IsTrue (among 0 (s.overlaps r)) → ⊥)) d (lowered (parts d)) parts
       (λ e ze. absurd ((which ze).1 (sym e)))
       (λ y ne e ze. subst (λ y. ((parts y).fresh r ≡ 1) × (IsTrue (among 0 ((parts y).overlaps r)) → ⊥)) (sym e) (l.here (which ze).0)) i refl;
-  fresh_one = put_all (λ y s. y ≡ i → s.fresh r ≡ 1 → MayGive r u i) d (lowered (parts d)) parts
-      (λ e f. l.fresh_one (subst (λ y. (parts y).fresh r ≡ 1) e f))
-      (λ y ne e f. l.fresh_one (subst (λ y. (parts y).fresh r ≡ 1) e f)) i refl;
-  over_one = put_all (λ y s. y ≡ i → IsTrue (among 1 (s.overlaps r)) → MayGive r u i) d (lowered (parts d)) parts
-      (λ e f. l.over_one (subst (λ y. IsTrue (among 1 ((parts y).overlaps r))) e f))
-      (λ y ne e f. l.over_one (subst (λ y. IsTrue (among 1 ((parts y).overlaps r))) e f)) i refl;
+  fresh_one = λ f. l.fresh_one (sym (same_at (λ z. z.fresh r) i d (lowered (parts d)) parts refl) ∙ f);
+  over_one = λ m. l.over_one (subst IsTrue (same_at (λ z. among 1 (z.overlaps r)) i d (lowered (parts d)) parts refl) m);
 }
 
 -- another process begins to read bit d
@@ -219,20 +211,14 @@ looking_other top r i left k d q u v parts ne ef eo l =
     let s : Seen = sees (Some (Invoke q Read)) (parts d) in
     let sf : s.fresh r ≡ (parts d).fresh r = put_other q r (parts d).last (parts d).fresh ne in
     let so : s.overlaps r ≡ (parts d).overlaps r = put_other q r (in_progress (parts d).writing) (parts d).overlaps ne in
+    let fresh_at = same_at (λ z. z.fresh r) i d s parts sf in
+    let over_at = same_at (λ z. z.overlaps r) i d s parts so in
     record {
       room = l.room;
       beacon = beacon_read top i k d q (MayGive r v) parts (beacon_more top i k (MayGive r u) (MayGive r v) parts give l.beacon);
-      here = put_all (λ y s. y ≡ i → k ≡ i → (s.fresh r ≡ 1) × (IsTrue (among 0 (s.overlaps r)) → ⊥)) d s parts
-          (λ e ke.
-          let h = subst (λ y. ((parts y).fresh r ≡ 1) × (IsTrue (among 0 ((parts y).overlaps r)) → ⊥)) (sym e) (l.here ke) in
-          (sf ∙ h.0, λ m. h.1 (subst (λ o. IsTrue (among 0 o)) so m)))
-          (λ y ne e ke. subst (λ y. ((parts y).fresh r ≡ 1) × (IsTrue (among 0 ((parts y).overlaps r)) → ⊥)) (sym e) (l.here ke)) i refl;
-      fresh_one = put_all (λ y s. y ≡ i → s.fresh r ≡ 1 → MayGive r v i) d s parts
-          (λ e f. give i (l.fresh_one (subst (λ y. (parts y).fresh r ≡ 1) e (sym sf ∙ f))))
-          (λ y ne e f. give i (l.fresh_one (subst (λ y. (parts y).fresh r ≡ 1) e f))) i refl;
-      over_one = put_all (λ y s. y ≡ i → IsTrue (among 1 (s.overlaps r)) → MayGive r v i) d s parts
-          (λ e f. give i (l.over_one (subst (λ y. IsTrue (among 1 ((parts y).overlaps r))) e (subst (λ o. IsTrue (among 1 o)) so f))))
-          (λ y ne e f. give i (l.over_one (subst (λ y. IsTrue (among 1 ((parts y).overlaps r))) e f))) i refl;
+      here = λ ke. let h = l.here ke in (fresh_at ∙ h.0, λ m. h.1 (subst (λ o. IsTrue (among 0 o)) over_at m));
+      fresh_one = λ f. give i (l.fresh_one (sym fresh_at ∙ f));
+      over_one = λ m. give i (l.over_one (subst (λ o. IsTrue (among 1 o)) over_at m));
     }
 
 one_of : (w : Option ℕ) → IsTrue (among 1 (in_progress w)) → w ≡ Some 1
