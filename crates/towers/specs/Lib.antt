@@ -1,2 +1,3 @@
+pub mod UnaryLayers
 pub mod Towers
 pub mod Built

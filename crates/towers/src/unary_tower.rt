@@ -31,21 +31,20 @@ impl Behaves for UnaryTower {
 
 impl Register for UnaryTower {
     ghost use Rattle.std.specs.Prelude.{refl};
-    ghost use Rattle.frames.specs.SafeBit.{safe_behaviour, safe_point};
-    ghost use Rattle.frames.specs.laws.Safe.{safe_lawful, safe_tells, point_decides};
+    ghost use Rattle.frames.specs.SafeBit.{safe_point};
+    ghost use Rattle.frames.specs.laws.Safe.{safe_tells, point_decides};
     ghost use Rattle.frames.specs.declared.safe.SafePoint.TheVariants.{WriteStart, WriteEnd, ReadStart, ReadEnd};
     ghost use Rattle.layers.specs.Flat.{layered_point};
-    ghost use Rattle.layers.specs.laws.Flat.{layered_tells, points_alike};
-    ghost use Rattle.layers.specs.laws.Over.{over};
+    ghost use Rattle.layers.specs.laws.Flat.{layered_tells};
+    ghost use Rattle.towers.specs.UnaryLayers as layers;
     ghost use Rattle.layers.specs.laws.Layered.{layer_lawful};
-    ghost use Rattle.layers.specs.laws.Equality.{nested_decides, layered_alike, both_true, decides_like};
+    ghost use Rattle.layers.specs.laws.Equality.{nested_decides, decides_like};
     ghost use Rattle.reader_copies.specs.Program.{copies_table};
     ghost use Rattle.reader_copies.specs.Sound as copies;
     ghost use Rattle.reader_copies.specs.declared.task.CopiesTask.TheVariants as copies_task;
     ghost use Rattle.regular_bit.specs.Program.{regular_table};
     ghost use Rattle.regular_bit.specs.Sound as regular;
     ghost use Rattle.regular_bit.specs.declared.task.RegularTask.TheVariants as regular_task;
-    ghost use Rattle.unary_number.specs.Program.{unary_table};
     ghost use Rattle.unary_number.specs.Sound as unary;
     ghost use Rattle.unary_number.specs.declared.task.UnaryTask.TheVariants as unary_task;
 
@@ -119,52 +118,16 @@ impl Register for UnaryTower {
     }
 
     ghost tells = { λ r.
-        let c = r.layers.below.below in
         let b = r.layers.below in
-        let u = r.layers in
-        let on_bits = over safe_lawful (copies.copies_sound c.layer.readers c.layer.values c.layer.some c.layer.few) c.fit in
-        let on_copies = over (layer_lawful on_bits) (regular.regular_sound b.layer.processes b.layer.some) b.fit in
-        let on_regular = over (layer_lawful on_copies) (unary.unary_sound u.layer.values u.layer.processes u.layer.two u.layer.some) u.fit in
-        let copies_point = layered_point (copies_table c.layer.readers c.layer.values) safe_point in
-        layered_tells on_regular (layered_point (regular_table b.layer.processes) copies_point)
-        (layered_tells on_copies copies_point (layered_tells on_bits safe_point safe_tells)) };
+        let copies_point = layered_point (copies_table b.below.layer.readers b.below.layer.values) safe_point in
+        layered_tells (layers.on_regular r) (layered_point (regular_table b.layer.processes) copies_point)
+        (layered_tells (layers.on_copies r) copies_point (layered_tells (layers.on_bits r) safe_point safe_tells)) };
 
-    ghost lawful = { λ r.
-        let c = r.layers.below.below in
-        let b = r.layers.below in
-        let u = r.layers in
-        let on_bits = over safe_lawful (copies.copies_sound c.layer.readers c.layer.values c.layer.some c.layer.few) c.fit in
-        let on_copies = over (layer_lawful on_bits) (regular.regular_sound b.layer.processes b.layer.some) b.fit in
-        let on_regular = over (layer_lawful on_copies) (unary.unary_sound u.layer.values u.layer.processes u.layer.two u.layer.some) u.fit in
-        layer_lawful on_regular };
+    ghost lawful = { λ r. layer_lawful (layers.on_regular r) };
 
-    ghost alike = { λ a b h.
-        let x = a.layers in
-        let y = b.layers in
-        let over_regular = both_true (⟦<RegularTower as PartialEq>⟧.eq x.below y.below) (⟦<Unary as PartialEq>⟧.eq x.layer y.layer) h in
-        let over_copies = both_true (⟦<CopiesTower as PartialEq>⟧.eq x.below.below y.below.below) (⟦<RegularBit as PartialEq>⟧.eq x.below.layer y.below.layer) over_regular.0 in
-        let p = x.below.below in
-        let q = y.below.below in
-        let over_bits = both_true (⟦<Safe as PartialEq>⟧.eq p.below q.below) (⟦<Copies as PartialEq>⟧.eq p.layer q.layer) over_copies.0 in
-        layered_alike (unary_table x.layer.values x.layer.processes) (unary_table y.layer.values y.layer.processes) _ _
-        (unary.table_alike x.layer.values y.layer.values x.layer.processes y.layer.processes over_regular.1)
-        (layered_alike (regular_table x.below.layer.processes) (regular_table y.below.layer.processes) _ _ (regular.table_alike x.below.layer.processes y.below.layer.processes over_copies.1)
-        (layered_alike (copies_table p.layer.readers p.layer.values) (copies_table q.layer.readers q.layer.values) safe_behaviour safe_behaviour
-        (copies.layers_alike p.layer.readers q.layer.readers p.layer.values q.layer.values over_bits.1) refl)) };
+    ghost alike = { λ a b h. (layers.same_layers (⟦<Safe as PartialEq>⟧.eq a.layers.below.below.below b.layers.below.below.below) a b h).0 };
 
-    ghost finds_alike = { λ a b h.
-        let x = a.layers in
-        let y = b.layers in
-        let over_regular = both_true (⟦<RegularTower as PartialEq>⟧.eq x.below y.below) (⟦<Unary as PartialEq>⟧.eq x.layer y.layer) h in
-        let over_copies = both_true (⟦<CopiesTower as PartialEq>⟧.eq x.below.below y.below.below) (⟦<RegularBit as PartialEq>⟧.eq x.below.layer y.below.layer) over_regular.0 in
-        let p = x.below.below in
-        let q = y.below.below in
-        let over_bits = both_true (⟦<Safe as PartialEq>⟧.eq p.below q.below) (⟦<Copies as PartialEq>⟧.eq p.layer q.layer) over_copies.0 in
-        points_alike (unary_table x.layer.values x.layer.processes) (unary_table y.layer.values y.layer.processes) _ _
-        (unary.table_alike x.layer.values y.layer.values x.layer.processes y.layer.processes over_regular.1)
-        (points_alike (regular_table x.below.layer.processes) (regular_table y.below.layer.processes) _ _ (regular.table_alike x.below.layer.processes y.below.layer.processes over_copies.1)
-        (points_alike (copies_table p.layer.readers p.layer.values) (copies_table q.layer.readers q.layer.values) safe_point safe_point
-        (copies.layers_alike p.layer.readers q.layer.readers p.layer.values q.layer.values over_bits.1) refl)) };
+    ghost finds_alike = { λ a b h. (layers.same_layers (⟦<Safe as PartialEq>⟧.eq a.layers.below.below.below b.layers.below.below.below) a b h).1 };
 
     ghost same_pending = { nested_decides _ _
         (decides_like ⟦<UnaryTask as PartialEq>⟧.eq unary.task_eq (elim [ unary_task.Setting _ ↦ elim [ unary_task.Setting _ ↦ refl | unary_task.Clearing _ _ ↦ refl | unary_task.Looking _ _ _ ↦ refl ] | unary_task.Clearing _ _ ↦ elim [ unary_task.Setting _ ↦ refl | unary_task.Clearing _ _ ↦ refl | unary_task.Looking _ _ _ ↦ refl ] | unary_task.Looking _ _ _ ↦ elim [ unary_task.Setting _ ↦ refl | unary_task.Clearing _ _ ↦ refl | unary_task.Looking _ _ _ ↦ refl ] ]) unary.task_decides)
