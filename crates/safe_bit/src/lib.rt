@@ -110,6 +110,20 @@ impl Store {
         let _cells = &self.cells;
     }
 
+    /// The cells, in order.
+    pub fn cells(&self) -> &[Cell]
+        ensures { result.now ≡ self.now.cells }
+    {
+        &self.cells
+    }
+
+    /// The words, in order.
+    pub fn words(&self) -> &[u32]
+        ensures { result.now ≡ self.now.words }
+    {
+        &self.words
+    }
+
     /// Cell `i`.
     pub fn cell(&self, i: u32) -> Cell
         requires { i < length self.now.cells }

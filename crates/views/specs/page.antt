@@ -1,5 +1,6 @@
 -- Pages, one by one: their data and their texts.
 pub mod Head
+pub mod Names
 pub mod Process
 pub mod Memory
 pub mod State

@@ -34,13 +34,23 @@ impl<T> Listed<T> {
         &self.items
     }
 
-    /// The same list, with memory of its own.
-    pub fn copy(&self, alloc: Global) -> Result<Listed<T>, AllocError>
+    /// The list of these values, with memory of its own.
+    pub(crate) fn of(alloc: Global, items: &[T]) -> Result<Listed<T>, AllocError>
     where
         T: Copy,
-        ensures { IfOk result (λ l. l ≡ self.now) }
+        ensures { IfOk result (λ l. l ≡ items.now) }
     {
-        let items = Vec::from_slice(alloc, &self.items)?;
-        Ok(Listed { items })
+        Ok(Listed::new(Vec::from_slice(alloc, items)?))
+    }
+}
+
+/// A clone is the same list, with memory of its own.
+impl<T: Copy> Clone for Listed<T> {
+    ghost use Rattle.std.specs.Prelude.{◌≡◌};
+
+    ghost is_clone = { λ l m. m ≡ l };
+
+    fn clone(&self) -> Result<Listed<T>, AllocError> {
+        Listed::of(*self.items.allocator(), &self.items)
     }
 }

@@ -9,6 +9,7 @@ pub mod cursor;
 pub mod head;
 pub mod history;
 pub(crate) mod memory;
+mod names;
 pub mod pending;
 pub mod process;
 pub mod state;

@@ -127,9 +127,9 @@ impl<R: Register> Slip<R> {
     {
         match &self.content {
             Content::Place(slip) => slip.page(alloc, lens),
-            Content::Branches(page) => Ok(Page::Branches(page.copy(alloc)?)),
-            Content::Cursor(page) => Ok(Page::Cursor(page.copy(alloc)?)),
-            Content::Steps(page) => Ok(Page::Steps(page.copy(alloc)?)),
+            Content::Branches(page) => Ok(Page::Branches(page.clone()?)),
+            Content::Cursor(page) => Ok(Page::Cursor(page.clone()?)),
+            Content::Steps(page) => Ok(Page::Steps(page.clone()?)),
         }
     }
 }

@@ -18,9 +18,12 @@ break_text Refused = codes "refused"
 abbrev pub break_line : Break → List ℕ
 break_line break = codes "  " ++ break_text break ++ line_end
 
+abbrev pub break_lines : List Break → List ℕ
+break_lines breaks = flat_map break_line breaks
+
 abbrev pub cursor_head : ℕ → List ℕ → ℕ → ℕ → List ℕ
 cursor_head session branch place count =
     page_title session (codes "cursor") branch ++ decimal place ++ codes " breaks " ++ decimal count ++ line_end
 
 abbrev pub cursor_text : ℕ → CursorPage → List ℕ
-cursor_text session page = cursor_head session page.branch page.place (length page.breaks) ++ flat_map break_line page.breaks
+cursor_text session page = cursor_head session page.branch page.place (length page.breaks) ++ break_lines page.breaks

@@ -2,27 +2,15 @@
 use Rattle.std.specs.Prelude.{ℕ, List, [], ◌∷◌, ◌++◌, codes}
 use Rattle.std.specs.List.{flat_map}
 use Rattle.std.specs.Fmt.{decimal}
-use Rattle.frames.specs.declared.types.Layer.{Layer}
-use Rattle.frames.specs.declared.types.Layer.TheVariants.{Stamped, Matrix}
-use Rattle.frames.specs.declared.types.Reason.{Reason}
-use Rattle.frames.specs.declared.types.Reason.TheVariants as reason
 use Rattle.frames.specs.declared.types.Event.{Event}
 use Rattle.frames.specs.declared.types.Event.TheVariants.{Invoke, Got, Wrote, Refused, Void, Stop, Chosen}
 use Rattle.views.specs.declared.page.history.HistoryPage.{HistoryPage}
 use Rattle.views.specs.page.Head.{line_end, head_line}
+use Rattle.views.specs.page.Names.{layer_name, reason_name}
 use Rattle.views.specs.page.Memory.{bit_name}
 use Rattle.views.specs.page.Process.{op_text}
 
 -- an event: its process and its name
-abbrev pub layer_name : Layer → List ℕ
-layer_name Stamped = codes "stamped"
-layer_name Matrix = codes "matrix"
-
-abbrev pub reason_name : Reason → List ℕ
-reason_name reason.Busy = codes "busy"
-reason_name reason.Idle = codes "idle"
-reason_name reason.Stopped = codes "stopped"
-
 abbrev pub event_process : Event → ℕ
 event_process (Invoke p o) = p
 event_process (Got p v) = p

@@ -15,6 +15,7 @@ use Rattle.views.specs.Numbered.{numbered}
 use Rattle.views.specs.declared.page.head.Head.{Head}
 use Rattle.views.specs.declared.page.pending.PendingPage.{PendingPage}
 use Rattle.views.specs.page.Head.{line_end, head_line}
+use Rattle.views.specs.page.Names.{frame_name}
 use Rattle.views.specs.page.Process.{stopped_text, idle_line}
 
 -- a process: whether it has stopped, and the frames of what it has pending, outermost first; no frames where that is nothing
@@ -28,16 +29,6 @@ pending_at b c p = record { frames = frames_of b (running_at p c); stopped = is_
 -- all processes, in order
 abbrev pub pending : {R P : Type 0} → Behaviour P → Configuration R P → List PendingStatus
 pending b c = map (pending_at b c) (range_with_len 0 b.processes)
-
--- the name of a layer; that of a matrix is one in both of its phases
-abbrev pub frame_name : FrameLayer → List ℕ
-frame_name Safe = codes "safe"
-frame_name Copies = codes "copies"
-frame_name Regular = codes "regular"
-frame_name Unary = codes "unary"
-frame_name Stamped = codes "stamped"
-frame_name MatrixRead = codes "matrix"
-frame_name MatrixWrite = codes "matrix"
 
 -- the operation of a frame, with the number that it writes
 abbrev pub short_op : Op → ℕ → List ℕ

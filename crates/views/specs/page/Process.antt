@@ -5,8 +5,6 @@ use Rattle.std.specs.Fmt.{decimal}
 use Rattle.frames.specs.declared.types.Op.{Op}
 use Rattle.frames.specs.declared.types.Op.TheVariants as op
 use Rattle.frames.specs.declared.types.Action.{Action}
-use Rattle.frames.specs.declared.types.ActionKind.{ActionKind}
-use Rattle.frames.specs.declared.types.ActionKind.TheVariants.{WriteStart, WriteEnd, ReadStart, ReadEnd}
 use Rattle.frames.specs.declared.running.Running.{Running}
 use Rattle.frames.specs.Behaviour.{Behaviour}
 use Rattle.frames.specs.Configuration.{Configuration, running_at, is_stopped}
@@ -15,6 +13,7 @@ use Rattle.views.specs.declared.page.process.ProcessStatus.TheVariants.{Idle, Bu
 use Rattle.views.specs.declared.page.head.Head.{Head}
 use Rattle.views.specs.declared.page.process.ProcessPage.{ProcessPage}
 use Rattle.views.specs.page.Head.{line_end, head_line}
+use Rattle.views.specs.page.Names.{kind_name}
 
 -- a process that has this pending, or nothing, and has stopped or not
 abbrev pub status : {P : Type 0} → Behaviour P → Option (Running P) → Bool → ProcessStatus
@@ -32,16 +31,10 @@ statuses b c = map (status_at b c) (range_with_len 0 b.processes)
 abbrev pub status_of : {R P : Type 0} → Behaviour P → Configuration R P → ℕ → Option ProcessStatus
 status_of b c p = if nat_lt p b.processes then Some (status_at b c p) else None
 
--- an operation, and a bit action
+-- an operation
 abbrev pub op_text : Op → List ℕ
 op_text (op.Write v) = codes "write " ++ decimal v
 op_text op.Read = codes "read"
-
-abbrev pub kind_name : ActionKind → List ℕ
-kind_name WriteStart = codes "ws"
-kind_name WriteEnd = codes "we"
-kind_name ReadStart = codes "rs"
-kind_name ReadEnd = codes "re"
 
 -- what stands behind a process that has stopped
 abbrev pub stopped_text : Bool → List ℕ

@@ -1,12 +1,11 @@
 //! The page of each bit cell and each word.
 
 ghost use Rattle.std.specs.Prelude.{◌≡◌, ◌++◌, IfOk, OnOk};
-ghost use Rattle.safe_bit.specs.Parts.{HasSize};
 ghost use Rattle.views.specs.page.Bits as spec;
 
 use crate::listed::Listed;
 use crate::page::head::{Head, push_head};
-use crate::page::memory::{bit_cells, push_bit_cells, push_words, words};
+use crate::page::memory::{push_bit_cells, push_words};
 use frames::config::Config;
 use frames::register::Register;
 use safe_bit::Cell;
@@ -27,14 +26,14 @@ pub(crate) fn bits_page<R: Register>(
     head: &Head,
     config: &Config<R>,
 ) -> Result<BitsPage, AllocError>
-    requires { HasSize (R.is config.now.register).size config.now.memory }
     ensures { IfOk result (λ page. page ≡ spec.bits_page head.now config.now) }
 {
-    let size = config.register().size();
-    let cells = bit_cells(alloc, config.store(), size.cell)?;
-    let words = words(alloc, config.store(), size.word)?;
-    let head = *head;
-    Ok(BitsPage { head, cells, words })
+    let store = config.store();
+    Ok(BitsPage {
+        head: *head,
+        cells: Listed::of(alloc, store.cells())?,
+        words: Listed::of(alloc, store.words())?,
+    })
 }
 
 /// Adds the page of each bit cell and each word.

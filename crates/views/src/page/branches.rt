@@ -22,7 +22,7 @@ pub struct BranchLength {
 }
 
 /// How many edits were accepted, how many cells were ever made, and the branches in order of making.
-#[derive(Drop)]
+#[derive(Clone, Drop)]
 pub struct BranchesPage {
     pub edits: u64,
     pub made: u32,
@@ -43,18 +43,6 @@ impl BranchesPage {
         Ok(BranchesPage {
             edits,
             made,
-            branches,
-        })
-    }
-
-    /// The same page, with memory of its own.
-    pub(crate) fn copy(&self, alloc: Global) -> Result<BranchesPage, AllocError>
-        ensures { IfOk result (λ page. page ≡ self.now) }
-    {
-        let branches = self.branches.copy(alloc)?;
-        Ok(BranchesPage {
-            edits: self.edits,
-            made: self.made,
             branches,
         })
     }

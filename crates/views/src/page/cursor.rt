@@ -1,7 +1,6 @@
 //! The page of a session's cursor and its breaks.
 
 ghost use Rattle.std.specs.Prelude.{◌≡◌, ◌++◌, IfOk, OnOk};
-ghost use Rattle.std.specs.List.{flat_map};
 ghost use Rattle.views.specs.page.Cursor as spec;
 
 use crate::breakpoint::Break;
@@ -13,27 +12,11 @@ use std::io;
 use std::io::Write;
 
 /// Where a session's cursor stands, and the session's breaks in order.
-#[derive(Drop)]
+#[derive(Clone, Drop)]
 pub struct CursorPage {
     pub branch: Name,
     pub place: u32,
     pub breaks: Listed<Break>,
-}
-
-impl CursorPage {
-    /// The same page, with memory of its own.
-    pub(crate) fn copy(&self, alloc: Global) -> Result<CursorPage, AllocError>
-        ensures { IfOk result (λ page. page ≡ self.now) }
-    {
-        let breaks = self.breaks.copy(alloc)?;
-        let branch = self.branch;
-        let place = self.place;
-        Ok(CursorPage {
-            branch,
-            place,
-            breaks,
-        })
-    }
 }
 
 /// Adds the page of a session's cursor.
@@ -62,7 +45,7 @@ fn push_cursor_head(
 
 /// Adds a line for each break.
 fn push_breaks(out: &mut Vec<u8>, breaks: &[Break]) -> io::Result<()>
-    ensures { OnOk result (out.new.items ≡ out.old.items ++ flat_map spec.break_line breaks.now) }
+    ensures { OnOk result (out.new.items ≡ out.old.items ++ spec.break_lines breaks.now) }
 {
     for at in breaks {
         push_break(out, *at)?;

@@ -6,8 +6,9 @@ ghost use Rattle.views.specs.page.History as spec;
 use crate::listed::Listed;
 use crate::page::head::{Head, push_head};
 use crate::page::memory::bit_name;
+use crate::page::names::{layer_name, reason_name};
 use crate::page::process::push_op;
-use frames::types::{Event, Layer, Reason};
+use frames::types::Event;
 use std::io;
 use std::io::Write;
 
@@ -88,26 +89,5 @@ fn push_event_name(out: &mut Vec<u8>, event: Event) -> io::Result<()>
             let value = bit_name(value);
             write!(out, "chosen bit {bit} value {value}")
         }
-    }
-}
-
-/// The name of a layer that is spent.
-fn layer_name(layer: Layer) -> &'static str
-    ensures { result.now ≡ spec.layer_name layer }
-{
-    match layer {
-        Layer::Stamped => "stamped",
-        Layer::Matrix => "matrix",
-    }
-}
-
-/// Why a step wasn't enabled.
-fn reason_name(reason: Reason) -> &'static str
-    ensures { result.now ≡ spec.reason_name reason }
-{
-    match reason {
-        Reason::Busy => "busy",
-        Reason::Idle => "idle",
-        Reason::Stopped => "stopped",
     }
 }

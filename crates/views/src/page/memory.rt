@@ -1,51 +1,22 @@
 //! The lines of bit cells and words.
 
-ghost use Rattle.std.specs.Prelude.{◌≡◌, ◌++◌, IfOk, OnOk, length, map};
+ghost use Rattle.std.specs.Prelude.{◌≡◌, ◌++◌, IfOk, OnOk, map};
 ghost use Rattle.std.specs.List.{flat_map};
 ghost use Rattle.views.specs.page.Memory as spec;
 
 use crate::listed::Listed;
-use safe_bit::{Cell, Store};
+use safe_bit::Cell;
 use std::alloc::{AllocError, Global};
 use std::io;
 use std::io::Write;
 
-/// The values of a store's bit cells, of which there are so many.
-pub(crate) fn bits(alloc: Global, store: &Store, count: u32) -> Result<Listed<bool>, AllocError>
-    requires { length store.now.cells ≡ count }
-    ensures { IfOk result (λ all. all ≡ map spec.value_of store.now.cells) }
+/// The values of bit cells.
+pub(crate) fn bits(alloc: Global, cells: &[Cell]) -> Result<Listed<bool>, AllocError>
+    ensures { IfOk result (λ all. all ≡ map spec.value_of cells.now) }
 {
     let mut all = Vec::new(alloc);
-    for i in 0..count {
-        all.push(store.cell(i).value)?;
-    }
-    Ok(Listed::new(all))
-}
-
-/// A store's bit cells, of which there are so many.
-pub(crate) fn bit_cells(
-    alloc: Global,
-    store: &Store,
-    count: u32,
-) -> Result<Listed<Cell>, AllocError>
-    requires { length store.now.cells ≡ count }
-    ensures { IfOk result (λ all. all ≡ store.now.cells) }
-{
-    let mut all = Vec::new(alloc);
-    for i in 0..count {
-        all.push(store.cell(i))?;
-    }
-    Ok(Listed::new(all))
-}
-
-/// A store's words, of which there are so many.
-pub(crate) fn words(alloc: Global, store: &Store, count: u32) -> Result<Listed<u32>, AllocError>
-    requires { length store.now.words ≡ count }
-    ensures { IfOk result (λ all. all ≡ store.now.words) }
-{
-    let mut all = Vec::new(alloc);
-    for i in 0..count {
-        all.push(store.word(i))?;
+    for cell in cells {
+        all.push(cell.value)?;
     }
     Ok(Listed::new(all))
 }

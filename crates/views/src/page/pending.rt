@@ -1,11 +1,11 @@
 //! What a page tells of pending operations, in frames.
 
 ghost use Rattle.std.specs.Prelude.{◌≡◌, ◌++◌, IfOk, OnOk};
-ghost use Rattle.std.specs.List.{flat_map};
 ghost use Rattle.views.specs.page.Pending as spec;
 
 use crate::listed::Listed;
 use crate::page::head::{Head, push_head};
+use crate::page::names::frame_name;
 use crate::page::process::{push_idle, stopped_text};
 use frames::config::Config;
 use frames::register::Register;
@@ -30,20 +30,6 @@ pub struct PendingPage {
     pub processes: Listed<PendingStatus>,
 }
 
-/// The page of a configuration's pending operations.
-pub(crate) fn pending_page<R: Register>(
-    alloc: Global,
-    head: &Head,
-    config: &Config<R>,
-) -> Result<PendingPage, AllocError>
-    ensures { IfOk result
-        (λ page. page ≡ spec.pending_page (R.is config.now.register) head.now config.now) }
-{
-    let processes = pending(alloc, config)?;
-    let head = *head;
-    Ok(PendingPage { head, processes })
-}
-
 /// Adds the page of pending operations.
 pub(crate) fn push_pending(out: &mut Vec<u8>, session: u32, page: &PendingPage) -> io::Result<()>
     ensures { OnOk result (out.new.items ≡ out.old.items ++ spec.pending_text session page.now) }
@@ -53,7 +39,7 @@ pub(crate) fn push_pending(out: &mut Vec<u8>, session: u32, page: &PendingPage) 
 }
 
 /// What each process has pending.
-fn pending<R: Register>(
+pub(crate) fn pending<R: Register>(
     alloc: Global,
     config: &Config<R>,
 ) -> Result<Listed<PendingStatus>, AllocError>
@@ -123,25 +109,11 @@ fn push_nested(out: &mut Vec<u8>, frames: &[Frame]) -> io::Result<()>
         return Ok(());
     };
     push_frame(out, *outermost)?;
-    push_all_inner(out, inner)
-}
-
-/// Adds frames inside another.
-fn push_all_inner(out: &mut Vec<u8>, frames: &[Frame]) -> io::Result<()>
-    ensures { OnOk result (out.new.items ≡ out.old.items ++ flat_map spec.inner_frame frames.now) }
-{
-    for frame in frames {
-        push_inner(out, *frame)?;
+    for frame in inner {
+        write!(out, " > ")?;
+        push_frame(out, *frame)?;
     }
     Ok(())
-}
-
-/// Adds a frame inside another.
-fn push_inner(out: &mut Vec<u8>, frame: Frame) -> io::Result<()>
-    ensures { OnOk result (out.new.items ≡ out.old.items ++ spec.inner_frame frame) }
-{
-    write!(out, " > ")?;
-    push_frame(out, frame)
 }
 
 /// Adds a frame.
@@ -152,20 +124,6 @@ fn push_frame(out: &mut Vec<u8>, frame: Frame) -> io::Result<()>
     write!(out, "{name} ")?;
     push_frame_op(out, frame.layer, frame.op, frame.x)?;
     push_frame_rest(out, frame.layer, frame.i, frame.x)
-}
-
-/// The name of a layer; that of a matrix is one in both of its phases.
-fn frame_name(layer: FrameLayer) -> &'static str
-    ensures { result.now ≡ spec.frame_name layer }
-{
-    match layer {
-        FrameLayer::Safe => "safe",
-        FrameLayer::Copies => "copies",
-        FrameLayer::Regular => "regular",
-        FrameLayer::Unary => "unary",
-        FrameLayer::Stamped => "stamped",
-        FrameLayer::MatrixRead | FrameLayer::MatrixWrite => "matrix",
-    }
 }
 
 /// Adds the operation of a frame: a stamped register writes its code, every other layer its value.

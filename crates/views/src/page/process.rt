@@ -6,9 +6,10 @@ ghost use Rattle.views.specs.page.Process as spec;
 
 use crate::listed::Listed;
 use crate::page::head::{Head, push_head};
+use crate::page::names::kind_name;
 use frames::config::Config;
 use frames::register::Register;
-use frames::types::{Action, ActionKind, Op};
+use frames::types::{Action, Op};
 use std::alloc::{AllocError, Global};
 use std::io;
 use std::io::Write;
@@ -40,12 +41,10 @@ pub(crate) fn process_page<R: Register>(
 ) -> ProcessPage
     ensures { result ≡ spec.process_page (R.is config.now.register) head.now process config.now }
 {
-    let status = status_of(config, process);
-    let head = *head;
     ProcessPage {
-        head,
+        head: *head,
         process,
-        status,
+        status: status_of(config, process),
     }
 }
 
@@ -173,17 +172,5 @@ pub(crate) fn push_op(out: &mut Vec<u8>, op: Op) -> io::Result<()>
     match op {
         Op::Write(v) => write!(out, "write {v}"),
         Op::Read => write!(out, "read"),
-    }
-}
-
-/// The short name of a bit action.
-fn kind_name(kind: ActionKind) -> &'static str
-    ensures { result.now ≡ spec.kind_name kind }
-{
-    match kind {
-        ActionKind::WriteStart => "ws",
-        ActionKind::WriteEnd => "we",
-        ActionKind::ReadStart => "rs",
-        ActionKind::ReadEnd => "re",
     }
 }

@@ -1,12 +1,11 @@
 //! The page of a configuration: its processes, and the values of all bit cells and words.
 
 ghost use Rattle.std.specs.Prelude.{◌≡◌, ◌++◌, IfOk, OnOk};
-ghost use Rattle.safe_bit.specs.Parts.{HasSize};
 ghost use Rattle.views.specs.page.State as spec;
 
 use crate::listed::Listed;
 use crate::page::head::{Head, push_head};
-use crate::page::memory::{bits, push_bits, push_words, words};
+use crate::page::memory::{bits, push_bits, push_words};
 use crate::page::process::{ProcessStatus, push_statuses, statuses};
 use frames::config::Config;
 use frames::register::Register;
@@ -28,20 +27,15 @@ pub(crate) fn state_page<R: Register>(
     head: &Head,
     config: &Config<R>,
 ) -> Result<StatePage, AllocError>
-    requires { HasSize (R.is config.now.register).size config.now.memory }
     ensures { IfOk result
         (λ page. page ≡ spec.state_page (R.is config.now.register) head.now config.now) }
 {
-    let size = config.register().size();
-    let processes = statuses(alloc, config)?;
-    let bits = bits(alloc, config.store(), size.cell)?;
-    let words = words(alloc, config.store(), size.word)?;
-    let head = *head;
+    let store = config.store();
     Ok(StatePage {
-        head,
-        processes,
-        bits,
-        words,
+        head: *head,
+        processes: statuses(alloc, config)?,
+        bits: bits(alloc, store.cells())?,
+        words: Listed::of(alloc, store.words())?,
     })
 }
 

@@ -13,21 +13,10 @@ use std::io::Write;
 use words::step::push_step;
 
 /// The steps of a branch, in order.
-#[derive(Drop)]
+#[derive(Clone, Drop)]
 pub struct StepsPage {
     pub branch: Name,
     pub steps: Listed<Step>,
-}
-
-impl StepsPage {
-    /// The same page, with memory of its own.
-    pub(crate) fn copy(&self, alloc: Global) -> Result<StepsPage, AllocError>
-        ensures { IfOk result (λ page. page ≡ self.now) }
-    {
-        let steps = self.steps.copy(alloc)?;
-        let branch = self.branch;
-        Ok(StepsPage { branch, steps })
-    }
 }
 
 /// Adds the page of a branch's steps.
@@ -53,16 +42,9 @@ fn push_step_lines(out: &mut Vec<u8>, steps: &[Step]) -> io::Result<()>
     ensures { OnOk result (out.new.items ≡ out.old.items ++ spec.step_lines steps.now) }
 {
     for (index, step) in steps.iter().enumerate() {
-        push_step_line(out, index, *step)?;
+        write!(out, "  {index} ")?;
+        push_step(out, *step)?;
+        writeln!(out)?;
     }
     Ok(())
-}
-
-/// Adds the line of the step with this index.
-fn push_step_line(out: &mut Vec<u8>, index: usize, step: Step) -> io::Result<()>
-    ensures { OnOk result (out.new.items ≡ out.old.items ++ spec.step_line index step) }
-{
-    write!(out, "  {index} ")?;
-    push_step(out, step)?;
-    writeln!(out)
 }

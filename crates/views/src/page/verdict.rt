@@ -5,9 +5,10 @@ ghost use Rattle.views.specs.page.Verdict as spec;
 
 use crate::listed::Listed;
 use crate::page::head::{Head, push_head};
+use crate::page::names::verdict_name;
 use crate::verdict::verdicts;
 use frames::types::Event;
-use frames::verdict::{ReadVerdict, Verdict};
+use frames::verdict::ReadVerdict;
 use std::alloc::{AllocError, Global};
 use std::io;
 use std::io::Write;
@@ -78,15 +79,4 @@ fn push_read(out: &mut Vec<u8>, read: ReadVerdict) -> io::Result<()>
     let name = verdict_name(read.verdict);
     write!(out, "  {step} p{process} ")?;
     writeln!(out, "{value} {name}")
-}
-
-/// The name of a verdict.
-fn verdict_name(verdict: Verdict) -> &'static str
-    ensures { result.now ≡ spec.verdict_name verdict }
-{
-    match verdict {
-        Verdict::Fresh => "fresh",
-        Verdict::Overlap => "overlap",
-        Verdict::Stray => "stray",
-    }
 }

@@ -1,7 +1,6 @@
 //! What a slip holds.
 
 ghost use Rattle.std.specs.Prelude.{◌≡◌, ℕ, List, IfOk, map};
-ghost use Rattle.safe_bit.specs.Parts.{HasSize};
 ghost use Rattle.cutoff.specs.Fitting.{part_of};
 ghost use Rattle.frames.specs.declared.types.Event.{Event as RecordedEvent};
 ghost use Rattle.views.specs.Pages.{page_at};
@@ -17,7 +16,7 @@ use crate::page::branches::BranchesPage;
 use crate::page::cursor::CursorPage;
 use crate::page::head::Head;
 use crate::page::history::HistoryPage;
-use crate::page::pending::pending_page;
+use crate::page::pending::{PendingPage, pending};
 use crate::page::process::process_page;
 use crate::page::state::state_page;
 use crate::page::steps::StepsPage;
@@ -110,8 +109,7 @@ fn config_page<R: Register>(
     head: &Head,
     config: &Config<R>,
 ) -> Result<Page, AllocError>
-    requires size { HasSize (R.is config.now.register).size config.now.memory }
-    requires kind { IsOfConfig kind }
+    requires { IsOfConfig kind }
     ensures { IfOk result (λ page. (events : List (ℕ × RecordedEvent))
         → page ≡ page_at (R.is config.now.register) kind head.now config.now events) }
 {
@@ -119,7 +117,10 @@ fn config_page<R: Register>(
         PlaceKind::State => Ok(Page::State(state_page(alloc, head, config)?)),
         PlaceKind::Process(p) => Ok(Page::Process(process_page(head, p, config))),
         PlaceKind::Bits => Ok(Page::Bits(bits_page(alloc, head, config)?)),
-        PlaceKind::Pending => Ok(Page::Pending(pending_page(alloc, head, config)?)),
+        PlaceKind::Pending => Ok(Page::Pending(PendingPage {
+            head: *head,
+            processes: pending(alloc, config)?,
+        })),
         PlaceKind::History | PlaceKind::Verdict(_) => unreachable!(),
     }
 }
