@@ -187,6 +187,18 @@ module _ {R P : Type 0} (E : R → R → Bool) (is : R → Behaviour P) (first :
           subst (λ n. GoesOn E is first (Follows E is first branch n) report plan u w result) less on,
         )
 
+    -- rounds that are the last, and such behind which there is another plan
+    pub begins_last : (more left : ℕ) (chains : List (Chained R P)) (v u : View (Item R P)) (report : Report) (depth : ℕ) → AreRounds E is first chains v u report depth
+        → left ≡ more - (depth - 1) → (left ≡ 0) ⊎ IsIdle report → Begins E is first (Follows E is first branch more) chains v u (Ok report)
+    begins_last more left chains v u report depth rounds is_left last = inr (u, report, depth, rounds, follows_none more (depth - 1) left report u is_left last)
+
+    pub begins_more : (more left : ℕ) (chains : List (Chained R P)) (v u : View (Item R P)) (report : Report) (depth : ℕ) → AreRounds E is first chains v u report depth
+        → left ≡ more - (depth - 1) → (left ≡ 0 → ⊥) → (IsIdle report → ⊥) → (x w : View (Item R P)) (plan : Result (Vec (Chained R P)) Refusal) (result : Result Report Refusal)
+        → Reads is first (λ n world. PlansOf E is branch (left - 1) world plan) u x → GoesOn E is first (Follows E is first branch (left - 1)) report plan x w result
+        → Begins E is first (Follows E is first branch more) chains v w result
+    begins_more more left chains v u report depth rounds is_left some busy x w plan result reads on =
+        inr (u, report, depth, rounds, follows_more more (depth - 1) left report u x w plan result is_left some busy reads on)
+
     pub rounds_sum : (more : ℕ) (chains : List (Chained R P)) (v w : View (Item R P)) (result : Result Report Refusal)
         → Begins E is first (Follows E is first branch more) chains v w result → IfOk result IsSum
     rounds_sum more chains v w result begins = good_sum result (begins_good (Follows E is first branch more) (follows_good more) chains v w result begins).1
