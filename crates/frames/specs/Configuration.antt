@@ -1,5 +1,5 @@
 -- Configurations, one step of a schedule, and the fold that replays one.
-use Rattle.std.specs.Prelude.{ℕ, Bool, true, false, not, ◌&&◌, ◌==◌, List, [], ◌∷◌, Option, Some, None, is_none, is_some, slice_index_or, slice_set, replicate}
+use Rattle.std.specs.Prelude.{◌≡◌, ℕ, Bool, true, false, not, ◌&&◌, ◌==◌, List, [], ◌∷◌, Option, Some, None, is_none, is_some, slice_index_or, slice_set, replicate}
 use Rattle.safe_bit.specs.Memory.{Memory}
 use Rattle.frames.specs.declared.types.Op.{Op}
 use Rattle.frames.specs.declared.types.Op.TheVariants as op
@@ -119,6 +119,11 @@ events_of b c s = (acted_on b c s).events
 -- the configuration after what a step did for process p
 abbrev pub put_acted : {R P : Type 0} → ℕ → Acted P → Configuration R P → Configuration R P
 put_acted p done c = record c { memory = done.memory; running = slice_set c.running p done.running }
+
+-- what is told of what a process did, and the configuration after it
+pub record Did {R P : Type 0} (p : ℕ) (done : Acted P) (c : Configuration R P) (told : StepEvents) (next : Configuration R P) : Type 0 where
+  pub events : told ≡ done.events
+  pub after : next ≡ put_acted p done c
 
 -- the marks after a step: a stop marks its process
 abbrev pub marked : Step → List Bool → List Bool

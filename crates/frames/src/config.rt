@@ -4,7 +4,7 @@ ghost use Rattle.std.specs.Prelude.{◌≡◌, ℕ, ◌<◌, ◌+◌, Bool, true
 ghost use Rattle.std.specs.Bool.{Decides};
 ghost use Rattle.std.specs.Option.{option_map};
 ghost use Rattle.safe_bit.specs.Memory.{Memory};
-ghost use Rattle.frames.specs.Configuration.{running_at, is_stopped, initial_configuration, fits_step, events_of, stepped, put_acted, mark, only_records, acting, invoking, going};
+ghost use Rattle.frames.specs.Configuration.{running_at, is_stopped, initial_configuration, fits_step, events_of, stepped, mark, only_records, acting, invoking, going, Did};
 ghost use Rattle.frames.specs.Fitting.{process_of};
 ghost use Rattle.frames.specs.Parked.{IsConfiguration};
 ghost use Rattle.frames.specs.Flat.{stack_of};
@@ -83,14 +83,11 @@ impl<R: Register> Config<R> {
     pub fn copy(&self, alloc: Global) -> Result<Config<R>, AllocError>
         ensures { IfOk result (λ c. c ≡ self.now) }
     {
-        let store = self.store.copy(alloc)?;
-        let stacks = copies(alloc, &self.stacks)?;
-        let stopped = Vec::from_slice(alloc, &self.stopped)?;
         Ok(Config {
             register: self.register,
-            store,
-            stacks,
-            stopped,
+            store: self.store.copy(alloc)?,
+            stacks: copies(alloc, &self.stacks)?,
+            stopped: Vec::from_slice(alloc, &self.stopped)?,
         })
     }
 
@@ -183,12 +180,9 @@ impl<R: Register> Config<R> {
     #[inline(always)]
     fn act(&mut self, step: Step) -> StepEvents
         requires { fits_step (R.is self.old.register) step ≡ true }
-        ensures events { result
-            ≡ (acting (R.is self.old.register) step (running_at
-            (process_of step) self.old) self.old.memory).events }
-        ensures after { self.new ≡ put_acted (process_of step)
-            (acting (R.is self.old.register) step (running_at (process_of step) self.old)
-            self.old.memory) (mark step self.old) }
+        ensures { let p = process_of step in
+            Did p (acting (R.is self.old.register) step (running_at p self.old) self.old.memory)
+            (mark step self.old) result self.new }
     {
         match step {
             Step::Write { p, v } => self.invoke(p, Op::Write(v)),
@@ -201,12 +195,8 @@ impl<R: Register> Config<R> {
     /// A process stops. Its operation stays pending, and its cells stay as they are.
     fn stop(&mut self, who: u32) -> StepEvents
         requires { who < (R.is self.old.register).processes }
-        ensures events { result
-            ≡ (only_records (Event.Stop who) (running_at who self.old) self.old.memory).events }
-        ensures after { self.new
-            ≡ put_acted who (only_records (Event.Stop who)
-            (running_at who self.old) self.old.memory)
-            (record self.old { stopped = slice_set self.old.stopped who true }) }
+        ensures { Did who (only_records (Event.Stop who) (running_at who self.old) self.old.memory)
+            (record self.old { stopped = slice_set self.old.stopped who true }) result self.new }
     {
         self.stopped[who as usize] = true;
         alone(Event::Stop(who))
@@ -215,12 +205,8 @@ impl<R: Register> Config<R> {
     /// A process invokes an operation, if it has none pending.
     fn invoke(&mut self, who: u32, op: Op) -> StepEvents
         requires { (R.is self.old.register).suits who op ≡ true }
-        ensures events { result
-            ≡ (invoking (R.is self.old.register) who op
-            (running_at who self.old) self.old.memory).events }
-        ensures after { self.new
-            ≡ put_acted who (invoking (R.is self.old.register) who op
-            (running_at who self.old) self.old.memory) self.old }
+        ensures { Did who (invoking (R.is self.old.register) who op
+            (running_at who self.old) self.old.memory) self.old result self.new }
     {
         let stack = &mut self.stacks[who as usize];
         invoke(&self.register, &mut self.store, who, op, stack)
@@ -230,12 +216,8 @@ impl<R: Register> Config<R> {
     #[inline(always)]
     fn proceed(&mut self, who: u32, choice: bool) -> StepEvents
         requires { who < (R.is self.old.register).processes }
-        ensures events { result
-            ≡ (going (R.is self.old.register) who choice
-            (running_at who self.old) self.old.memory).events }
-        ensures after { self.new
-            ≡ put_acted who (going (R.is self.old.register) who choice
-            (running_at who self.old) self.old.memory) self.old }
+        ensures { Did who (going (R.is self.old.register) who choice
+            (running_at who self.old) self.old.memory) self.old result self.new }
     {
         let stack = &mut self.stacks[who as usize];
         proceed(&self.register, &mut self.store, who, stack, choice)

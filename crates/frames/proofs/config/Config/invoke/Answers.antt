@@ -14,14 +14,9 @@ invariant_of-self g c =
     (invokes (g.met.R.Register.lawful c.self.inside.register) (g.met.R.Register.tells c.self.inside.register) c.self.invariant c.args.who ((g.met.R.Register.lawful c.self.inside.register).nobody_else c.args.who c.args.op fits)
     c.index_mut-stack.result.now c.index_mut-stack.ensures.value c.invoke.result c.invoke.new.stack c.invoke.new.store c.args.op fits c.invoke.ensures).flat
 
-pub returns-clause-events : goal.returns-clause-events
-returns-clause-events g c =
+pub returns : goal.returns
+returns g c =
     let fits = subst (λ x. (g.R.Behaves.is x.register).suits c.args.who c.args.op ≡ true) (sym c.self.view_is) c.requires in
-    rw (← c.self.view_is) (invokes (g.met.R.Register.lawful c.self.inside.register) (g.met.R.Register.tells c.self.inside.register) c.self.invariant c.args.who ((g.met.R.Register.lawful c.self.inside.register).nobody_else c.args.who c.args.op fits)
-    c.index_mut-stack.result.now c.index_mut-stack.ensures.value c.invoke.result c.invoke.new.stack c.invoke.new.store c.args.op fits c.invoke.ensures).events
-
-pub returns-clause-after : goal.returns-clause-after
-returns-clause-after g c =
-    let fits = subst (λ x. (g.R.Behaves.is x.register).suits c.args.who c.args.op ≡ true) (sym c.self.view_is) c.requires in
-    rw (← c.self.view_is) (invokes (g.met.R.Register.lawful c.self.inside.register) (g.met.R.Register.tells c.self.inside.register) c.self.invariant c.args.who ((g.met.R.Register.lawful c.self.inside.register).nobody_else c.args.who c.args.op fits)
-    c.index_mut-stack.result.now c.index_mut-stack.ensures.value c.invoke.result c.invoke.new.stack c.invoke.new.store c.args.op fits c.invoke.ensures).after
+    let did = invokes (g.met.R.Register.lawful c.self.inside.register) (g.met.R.Register.tells c.self.inside.register) c.self.invariant c.args.who ((g.met.R.Register.lawful c.self.inside.register).nobody_else c.args.who c.args.op fits)
+    c.index_mut-stack.result.now c.index_mut-stack.ensures.value c.invoke.result c.invoke.new.stack c.invoke.new.store c.args.op fits c.invoke.ensures in
+    record { events = rw (← c.self.view_is) did.events; after = rw (← c.self.view_is) did.after }

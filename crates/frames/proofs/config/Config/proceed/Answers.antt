@@ -19,14 +19,9 @@ invariant_of-self g c =
     (proceeds (g.met.R.Register.lawful c.self.inside.register) (g.met.R.Register.tells c.self.inside.register) c.self.invariant c.args.who lt
     c.index_mut-stack.result.now c.index_mut-stack.ensures.value c.proceed.result c.proceed.new.stack c.proceed.new.store c.args.choice c.proceed.ensures).flat
 
-pub returns-clause-events : goal.returns-clause-events
-returns-clause-events g c =
+pub returns : goal.returns
+returns g c =
     let lt = subst (λ x. c.args.who < (g.R.Behaves.is x.register).processes) (sym c.self.view_is) c.requires in
-    rw (← c.self.view_is) (proceeds (g.met.R.Register.lawful c.self.inside.register) (g.met.R.Register.tells c.self.inside.register) c.self.invariant c.args.who lt
-    c.index_mut-stack.result.now c.index_mut-stack.ensures.value c.proceed.result c.proceed.new.stack c.proceed.new.store c.args.choice c.proceed.ensures).events
-
-pub returns-clause-after : goal.returns-clause-after
-returns-clause-after g c =
-    let lt = subst (λ x. c.args.who < (g.R.Behaves.is x.register).processes) (sym c.self.view_is) c.requires in
-    rw (← c.self.view_is) (proceeds (g.met.R.Register.lawful c.self.inside.register) (g.met.R.Register.tells c.self.inside.register) c.self.invariant c.args.who lt
-    c.index_mut-stack.result.now c.index_mut-stack.ensures.value c.proceed.result c.proceed.new.stack c.proceed.new.store c.args.choice c.proceed.ensures).after
+    let did = proceeds (g.met.R.Register.lawful c.self.inside.register) (g.met.R.Register.tells c.self.inside.register) c.self.invariant c.args.who lt
+    c.index_mut-stack.result.now c.index_mut-stack.ensures.value c.proceed.result c.proceed.new.stack c.proceed.new.store c.args.choice c.proceed.ensures in
+    record { events = rw (← c.self.view_is) did.events; after = rw (← c.self.view_is) did.after }
