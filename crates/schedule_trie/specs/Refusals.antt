@@ -3,36 +3,26 @@ use Rattle.std.specs.Prelude.{ℕ, List, codes}
 use Rattle.schedule_trie.specs.declared.refusal.Refusal.{Refusal}
 use Rattle.schedule_trie.specs.declared.refusal.Refusal.TheVariants.{NoBranch, NameTaken, BadName, NoPlace, Full, LastBranch, TooManyBranches, BadStep, Occupied, NoBreak, NoSession, Newer, LogFull, BadLine, Memory}
 
+-- each with its number and its name
+abbrev pub told : Refusal → ℕ × List ℕ
+told NoBranch = (20, codes "NoBranch")
+told NameTaken = (21, codes "NameTaken")
+told BadName = (22, codes "BadName")
+told NoPlace = (23, codes "NoPlace")
+told Full = (24, codes "Full")
+told LastBranch = (25, codes "LastBranch")
+told TooManyBranches = (26, codes "TooManyBranches")
+told BadStep = (30, codes "BadStep")
+told Occupied = (31, codes "Occupied")
+told NoBreak = (32, codes "NoBreak")
+told NoSession = (33, codes "NoSession")
+told (Newer edits) = (34, codes "Newer")
+told LogFull = (35, codes "LogFull")
+told BadLine = (36, codes "BadLine")
+told Memory = (40, codes "Memory")
+
 abbrev pub number : Refusal → ℕ
-number NoBranch = 20
-number NameTaken = 21
-number BadName = 22
-number NoPlace = 23
-number Full = 24
-number LastBranch = 25
-number TooManyBranches = 26
-number BadStep = 30
-number Occupied = 31
-number NoBreak = 32
-number NoSession = 33
-number (Newer edits) = 34
-number LogFull = 35
-number BadLine = 36
-number Memory = 40
+number r = (told r).0
 
 abbrev pub name : Refusal → List ℕ
-name NoBranch = codes "NoBranch"
-name NameTaken = codes "NameTaken"
-name BadName = codes "BadName"
-name NoPlace = codes "NoPlace"
-name Full = codes "Full"
-name LastBranch = codes "LastBranch"
-name TooManyBranches = codes "TooManyBranches"
-name BadStep = codes "BadStep"
-name Occupied = codes "Occupied"
-name NoBreak = codes "NoBreak"
-name NoSession = codes "NoSession"
-name (Newer edits) = codes "Newer"
-name LogFull = codes "LogFull"
-name BadLine = codes "BadLine"
-name Memory = codes "Memory"
+name r = (told r).1

@@ -33,45 +33,37 @@ impl Refusal {
     pub fn number(self) -> u32
         ensures { result ≡ spec.number self }
     {
-        match self {
-            Refusal::NoBranch => 20,
-            Refusal::NameTaken => 21,
-            Refusal::BadName => 22,
-            Refusal::NoPlace => 23,
-            Refusal::Full => 24,
-            Refusal::LastBranch => 25,
-            Refusal::TooManyBranches => 26,
-            Refusal::BadStep => 30,
-            Refusal::Occupied => 31,
-            Refusal::NoBreak => 32,
-            Refusal::NoSession => 33,
-            Refusal::Newer(_) => 34,
-            Refusal::LogFull => 35,
-            Refusal::BadLine => 36,
-            Refusal::Memory => 40,
-        }
+        self.told().0
     }
 
     /// Its name.
     pub fn name(self) -> &'static str
         ensures { result.now ≡ spec.name self }
     {
+        self.told().1
+    }
+
+    /// Its number and its name.
+    fn told(self) -> (u32, &'static str)
+        ensures number { result.0 ≡ spec.number self }
+        ensures name { result.1.now ≡ spec.name self }
+    {
         match self {
-            Refusal::NoBranch => "NoBranch",
-            Refusal::NameTaken => "NameTaken",
-            Refusal::BadName => "BadName",
-            Refusal::NoPlace => "NoPlace",
-            Refusal::Full => "Full",
-            Refusal::LastBranch => "LastBranch",
-            Refusal::TooManyBranches => "TooManyBranches",
-            Refusal::BadStep => "BadStep",
-            Refusal::Occupied => "Occupied",
-            Refusal::NoBreak => "NoBreak",
-            Refusal::NoSession => "NoSession",
-            Refusal::Newer(_) => "Newer",
-            Refusal::LogFull => "LogFull",
-            Refusal::BadLine => "BadLine",
-            Refusal::Memory => "Memory",
+            Refusal::NoBranch => (20, "NoBranch"),
+            Refusal::NameTaken => (21, "NameTaken"),
+            Refusal::BadName => (22, "BadName"),
+            Refusal::NoPlace => (23, "NoPlace"),
+            Refusal::Full => (24, "Full"),
+            Refusal::LastBranch => (25, "LastBranch"),
+            Refusal::TooManyBranches => (26, "TooManyBranches"),
+            Refusal::BadStep => (30, "BadStep"),
+            Refusal::Occupied => (31, "Occupied"),
+            Refusal::NoBreak => (32, "NoBreak"),
+            Refusal::NoSession => (33, "NoSession"),
+            Refusal::Newer(_) => (34, "Newer"),
+            Refusal::LogFull => (35, "LogFull"),
+            Refusal::BadLine => (36, "BadLine"),
+            Refusal::Memory => (40, "Memory"),
         }
     }
 }

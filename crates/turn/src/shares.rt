@@ -9,6 +9,7 @@ pub(crate) struct Shares {
     pub(crate) marks: [bool; 16],
 }
 
+#[tactic(auto, using(crate::specs::ShareLaws::marked_none, crate::specs::ShareLaws::marked_more, crate::specs::ShareLaws::marked_all))]
 impl Shares {
     pub(crate) fn every() -> Shares
         ensures { result.marks ≡ every_share }
@@ -52,7 +53,6 @@ impl Shares {
     }
 
     /// The next least shares after the least.
-    #[tactic(auto, using(crate::specs::ShareLaws::marked_none, crate::specs::ShareLaws::marked_more, crate::specs::ShareLaws::marked_all))]
     pub(crate) fn next_least(&self, many: usize) -> Shares
         ensures { result.marks ≡ next_least many self.now.marks }
     {
@@ -64,7 +64,6 @@ impl Shares {
         Shares { marks }
     }
 
-    #[tactic(auto, using(crate::specs::ShareLaws::marked_none, crate::specs::ShareLaws::marked_more, crate::specs::ShareLaws::marked_all))]
     pub(crate) fn without(&self, given: &Shares) -> Shares
         ensures { result.marks ≡ without self.now.marks given.now.marks }
     {
@@ -75,7 +74,6 @@ impl Shares {
         Shares { marks }
     }
 
-    #[tactic(auto, using(crate::specs::ShareLaws::marked_none, crate::specs::ShareLaws::marked_more, crate::specs::ShareLaws::marked_all))]
     pub(crate) fn together(&self, others: &Shares) -> Shares
         ensures { result.marks ≡ together self.now.marks others.now.marks }
     {
