@@ -13,4 +13,8 @@ mod files;
 #[cfg(test)]
 mod replays;
 #[cfg(test)]
+mod spelling;
+#[cfg(test)]
+mod steps;
+#[cfg(test)]
 mod stores;

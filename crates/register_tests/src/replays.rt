@@ -1,5 +1,6 @@
 //! Replays and runs on one safe bit, against histories worked out by hand.
 
+use crate::steps::{GO_0, GO_1, READ_1, WRITE};
 use checkpoints::replay::replay;
 use checkpoints::run::{Run, run_segment};
 use frames::config::Config;
@@ -9,14 +10,7 @@ use safe_bit::Store;
 use std::test::Fail;
 
 /// A read that a write overlaps, and that ends after it.
-const OVERLAPPED_READ: [Step; 6] = [
-    Step::Write { p: 0, v: 1 },
-    Step::Go { p: 0, c: 0 },
-    Step::Read { p: 1 },
-    Step::Go { p: 1, c: 0 },
-    Step::Go { p: 0, c: 0 },
-    Step::Go { p: 1, c: 0 },
-];
+const OVERLAPPED_READ: [Step; 6] = [WRITE, GO_0, READ_1, GO_1, GO_0, GO_1];
 
 #[test]
 fn overlapped_read(rt: HostRuntime) -> Result<(), Fail> {
@@ -43,12 +37,7 @@ fn overlapped_read(rt: HostRuntime) -> Result<(), Fail> {
 
 #[test]
 fn voids(rt: HostRuntime) -> Result<(), Fail> {
-    let steps = [
-        Step::Read { p: 1 },
-        Step::Read { p: 1 },
-        Step::Go { p: 0, c: 0 },
-    ];
-    let replayed = replay(rt.alloc(), Safe, 0, &steps)?;
+    let replayed = replay(rt.alloc(), Safe, 0, &[READ_1, READ_1, GO_0])?;
     let history = replayed.events.indexed(rt.alloc())?;
     assert_eq!(rt;
         history.as_slice(),

@@ -1,5 +1,6 @@
 //! Registers are equal where they have the same numbers, and a configuration tells its register.
 
+use crate::steps::{GO_0, GO_1, GO_2, READ_1, READ_2, WRITE};
 use checkpoints::replay::replay;
 use frames::config::Config;
 use frames::register::Register;
@@ -13,17 +14,7 @@ use towers::regular;
 
 /// A write of 1 to two copies, a read between them, and one beside the second.
 const STEPS: [Step; 11] = [
-    Step::Write { p: 0, v: 1 },
-    Step::Go { p: 0, c: 0 },
-    Step::Go { p: 0, c: 0 },
-    Step::Read { p: 1 },
-    Step::Go { p: 1, c: 0 },
-    Step::Go { p: 1, c: 0 },
-    Step::Go { p: 0, c: 0 },
-    Step::Read { p: 2 },
-    Step::Go { p: 2, c: 0 },
-    Step::Go { p: 0, c: 0 },
-    Step::Go { p: 2, c: 0 },
+    WRITE, GO_0, GO_0, READ_1, GO_1, GO_1, GO_0, READ_2, GO_2, GO_0, GO_2,
 ];
 
 /// Compares registers of one kind for two and four readers, and what a replay tells of the first.

@@ -93,24 +93,19 @@ impl<R: Register> Neighbours<R> {
         progress.end
     }
 
-    /// The cells of one of them.
-    fn cells(&self, alloc: Global, side: Side) -> Result<Vec<Cell>, AllocError> {
+    /// The cells and the words of one of them.
+    fn content(&self, alloc: Global, side: Side) -> Result<(Vec<Cell>, Vec<u32>), AllocError> {
         let at = self.place(side);
+        let size = self.register.size();
         let mut cells = Vec::new(alloc);
-        for i in 0..self.register.size().cell {
+        for i in 0..size.cell {
             cells.push(self.store.cell(at.cell + i))?;
         }
-        Ok(cells)
-    }
-
-    /// The words of one of them.
-    fn words(&self, alloc: Global, side: Side) -> Result<Vec<u32>, AllocError> {
-        let at = self.place(side);
         let mut words = Vec::new(alloc);
-        for i in 0..self.register.size().word {
+        for i in 0..size.word {
             words.push(self.store.word(at.word + i))?;
         }
-        Ok(words)
+        Ok((cells, words))
     }
 
     /// An operation of one of them that stays pending behind its first bit action.
@@ -144,8 +139,7 @@ fn work_on_one_leaves_the_other(rt: HostRuntime) -> Result<(), Fail> {
         let written = both.whole(&rt, beside, 0, Op::Write(2));
         assert_eq!(rt; written, Some(Outcome::Written));
         both.leave_pending(&rt, beside, 0, Op::Write(0));
-        let cells = both.cells(rt.alloc(), beside)?;
-        let words = both.words(rt.alloc(), beside)?;
+        let (cells, words) = both.content(rt.alloc(), beside)?;
         assert_eq!(rt; (cells.len(), words.as_slice()), (6, [1, 0, 1].as_slice()));
         for value in [2, 0, 1, 1] {
             let written = both.whole(&rt, side, 0, Op::Write(value));
@@ -154,8 +148,9 @@ fn work_on_one_leaves_the_other(rt: HostRuntime) -> Result<(), Fail> {
                 let read = both.whole(&rt, side, who, Op::Read);
                 assert_eq!(rt; read, Some(Outcome::Value(value)));
             }
-            assert_eq!(rt; both.cells(rt.alloc(), beside)?, cells);
-            assert_eq!(rt; both.words(rt.alloc(), beside)?, words);
+            let content = both.content(rt.alloc(), beside)?;
+            assert_eq!(rt; content.0, cells);
+            assert_eq!(rt; content.1, words);
         }
     }
     Ok(())

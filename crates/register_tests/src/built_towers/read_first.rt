@@ -11,6 +11,16 @@ use safe_bit::Store;
 #[derive(Clone, Copy, Debug, PartialEq, Eq)]
 pub struct ReadFirst;
 
+/// One part and one word; its values and processes are those of the part.
+const SHAPE: Shape = Shape {
+    parts: 1,
+    words: 1,
+    values: 8,
+    processes: 2,
+    inner_values: 8,
+    inner_processes: 2,
+};
+
 impl Rules for ReadFirst {
     ghost use Rattle.register_tests.specs.ReadFirst.{read_first_table};
 
@@ -31,14 +41,7 @@ impl Construction for ReadFirst {
     ghost left = { λ _ _. 0 };
 
     fn shape(&self) -> Shape {
-        Shape {
-            parts: 1,
-            words: 1,
-            values: 8,
-            processes: 2,
-            inner_values: 8,
-            inner_processes: 2,
-        }
+        SHAPE
     }
 
     fn fits(&self, who: u32, op: Op) -> bool {
@@ -59,17 +62,14 @@ impl Construction for ReadFirst {
     }
 
     fn asks(&self, task: Op) -> Ask {
-        match task {
-            Op::Write(v) => Ask {
-                part: 0,
-                who: 0,
-                op: Op::Write(v),
-            },
-            Op::Read => Ask {
-                part: 0,
-                who: 1,
-                op: Op::Read,
-            },
+        let who = match task {
+            Op::Write(_) => 0,
+            Op::Read => 1,
+        };
+        Ask {
+            part: 0,
+            who,
+            op: task,
         }
     }
 
@@ -81,13 +81,7 @@ impl Construction for ReadFirst {
         value
     }
 
-    fn after(
-        &self,
-        _store: &mut Store,
-        _base: u32,
-        _task: Op,
-        outcome: Outcome,
-    ) -> Continuation<Op> {
+    fn after(&self, _: &mut Store, _: u32, _: Op, outcome: Outcome) -> Continuation<Op> {
         Continuation::Ends(outcome)
     }
 

@@ -41,15 +41,11 @@ fn shape_of<R: Register>(built: Result<R, LayerError>) -> Built {
 
 /// How many readers copies of a safe bit can have.
 fn copies_of<S: Register>(rt: &impl Abort, bit: S) {
-    for (readers, wanted) in [
-        (0, BAD_SIZE),
-        (1, Ok((size(1, 0), 2, 2, 2))),
-        (2, Ok((size(2, 0), 2, 3, 2))),
-        (3, Ok((size(3, 0), 2, 4, 2))),
-        (4, Ok((size(4, 0), 2, 5, 2))),
-        (5, BAD_SIZE),
-        (u32::MAX, BAD_SIZE),
-    ] {
+    for readers in [0, 5, u32::MAX] {
+        assert_eq!(rt; shape_of(Copies::new(bit, readers)), BAD_SIZE, "{readers}");
+    }
+    for (readers, cells, processes) in [(1, 1, 2), (2, 2, 3), (3, 3, 4), (4, 4, 5)] {
+        let wanted = Ok((size(cells, 0), 2, processes, 2));
         assert_eq!(rt; shape_of(Copies::new(bit, readers)), wanted, "{readers}");
     }
 }
@@ -72,15 +68,11 @@ fn over_safe_bits(rt: HostRuntime) -> Result<(), Fail> {
 
 /// Which unary numbers there can be over bits for four readers, of four cells and a word each.
 fn numbers_of<S: Register>(rt: &impl Abort, bits: S) {
-    for (values, wanted) in [
-        (0, BAD_SIZE),
-        (1, BAD_SIZE),
-        (2, Ok((size(8, 2), 2, 5, 4))),
-        (3, Ok((size(12, 3), 3, 5, 4))),
-        (512, Ok((size(2048, 512), 512, 5, 4))),
-        (513, BAD_SIZE),
-        (u32::MAX, BAD_SIZE),
-    ] {
+    for values in [0, 1, 513, u32::MAX] {
+        assert_eq!(rt; shape_of(Unary::new(bits, values)), BAD_SIZE, "{values}");
+    }
+    for (values, cells, words) in [(2, 8, 2), (3, 12, 3), (512, 2048, 512)] {
+        let wanted = Ok((size(cells, words), values, 5, 4));
         assert_eq!(rt; shape_of(Unary::new(bits, values)), wanted, "{values}");
     }
 }

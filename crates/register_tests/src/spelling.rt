@@ -1,0 +1,237 @@
+//! What the tests of tower files and of bench files ask alike: that bytes are refused for a fault, or
+//! read and then printed as they were.
+
+use crate::{benches, files};
+use std::alloc::{AllocError, Global};
+use std::process::Abort;
+use std::test::Fail;
+use tower_file::{FaultKind, FileFault, parse, parse_bench, print, print_bench};
+
+/// A kind of file.
+#[derive(Clone, Copy)]
+pub(crate) enum Kind {
+    Tower,
+    Bench,
+}
+
+/// The fault that bytes have, if they are no file of a kind.
+pub(crate) fn fault_of(alloc: Global, kind: Kind, bytes: &[u8]) -> Option<FileFault> {
+    match kind {
+        Kind::Tower => parse(alloc, bytes).err(),
+        Kind::Bench => parse_bench(alloc, bytes).err(),
+    }
+}
+
+/// What is read of bytes, as it is printed.
+fn printed(alloc: Global, kind: Kind, bytes: &[u8]) -> Result<Vec<u8>, Fail> {
+    match kind {
+        Kind::Tower => {
+            let file = parse(alloc, bytes)?;
+            Ok(print(alloc, &file)?)
+        }
+        Kind::Bench => {
+            let file = parse_bench(alloc, bytes)?;
+            Ok(print_bench(alloc, &file)?)
+        }
+    }
+}
+
+/// Asserts that bytes have this fault.
+pub(crate) fn assert_fault(
+    rt: &(impl Abort + AllocGlobal),
+    file: Kind,
+    bytes: &[u8],
+    kind: FaultKind,
+    line: u64,
+) {
+    let fault = fault_of(rt.alloc(), file, bytes);
+    assert_eq!(rt; fault, Some(FileFault { kind, line }));
+}
+
+/// Asserts that bytes are a file, and that it is printed as it was read.
+pub(crate) fn assert_same(
+    rt: &(impl Abort + AllocGlobal),
+    file: Kind,
+    bytes: &[u8],
+) -> Result<(), Fail> {
+    let printed = printed(rt.alloc(), file, bytes)?;
+    assert_eq!(rt; printed.as_slice(), bytes);
+    Ok(())
+}
+
+/// Asserts that each is a file, and is printed as it was read.
+pub(crate) fn assert_all_same(
+    rt: &(impl Abort + AllocGlobal),
+    file: Kind,
+    files: &[&[u8]],
+) -> Result<(), Fail> {
+    for bytes in files {
+        assert_same(rt, file, bytes)?;
+    }
+    Ok(())
+}
+
+/// What stands before some texts, and a text of them.
+fn joined(alloc: Global, before: &[u8], text: &[u8]) -> Result<Vec<u8>, AllocError> {
+    let mut bytes = Vec::from_slice(alloc, before)?;
+    bytes.extend_from_slice(text)?;
+    Ok(bytes)
+}
+
+/// Asserts that each text, parted by bars, is a file behind what stands before it, and is printed as
+/// it was read.
+pub(crate) fn assert_same_behind(
+    rt: &(impl Abort + AllocGlobal),
+    file: Kind,
+    before: &[u8],
+    texts: &[u8],
+) -> Result<(), Fail> {
+    for text in texts.split(|byte| *byte == b'|') {
+        assert_same(rt, file, &joined(rt.alloc(), before, text)?)?;
+    }
+    Ok(())
+}
+
+/// What stands before each of some texts, these, parted by bars, and the fault that each then has,
+/// with its line.
+pub(crate) type Refused = (&'static [u8], &'static [u8], FaultKind, u64);
+
+/// Asserts which fault each text has; where it ends a line, with more behind it too.
+pub(crate) fn assert_faults(
+    rt: &(impl Abort + AllocGlobal),
+    file: Kind,
+    rows: &[Refused],
+) -> Result<(), Fail> {
+    for (before, texts, kind, line) in rows {
+        for text in texts.split(|byte| *byte == b'|') {
+            let mut bytes = joined(rt.alloc(), before, text)?;
+            assert_fault(rt, file, &bytes, *kind, *line);
+            if text.ends_with(b"\n") {
+                bytes.extend_from_slice(b"g 1 1\nbranch\n")?;
+                assert_fault(rt, file, &bytes, *kind, *line);
+            }
+        }
+    }
+    Ok(())
+}
+
+/// The fault of a file that is cut within a line behind the second one, by what of it is there; none
+/// where it is whole.
+fn fault_of_cut(file: Kind, line: u64, text: &[u8]) -> Option<FaultKind> {
+    match file {
+        Kind::Bench if line == 3 || text.starts_with(b"branch") => Some(FaultKind::BadBranch),
+        _ if text.is_empty() => None,
+        _ => Some(FaultKind::BadStep),
+    }
+}
+
+/// A file, and how it is made up: the first line has 8 bytes, the tower's name ends at one place, the
+/// second line at another, and there are so many lines.
+pub(crate) struct Sample {
+    pub(crate) file: Kind,
+    pub(crate) bytes: &'static [u8],
+    pub(crate) name_end: usize,
+    pub(crate) second_end: usize,
+    pub(crate) lines: u64,
+}
+
+/// Asserts what a file is that is cut before any of its bytes.
+fn assert_cut_anywhere(rt: &(impl Abort + AllocGlobal), sample: &Sample) -> Result<(), Fail> {
+    let file = sample.file;
+    let mut line = 1;
+    let mut start = 0;
+    for (end, byte) in sample.bytes.iter().enumerate() {
+        let bytes = &sample.bytes[..end];
+        if end < 8 {
+            assert_fault(rt, file, bytes, FaultKind::BadHeader, 1);
+        } else if end < sample.name_end {
+            assert_fault(rt, file, bytes, FaultKind::UnknownTower, 2);
+        } else if end < sample.second_end {
+            assert_fault(rt, file, bytes, FaultKind::BadField, 2);
+        } else {
+            match fault_of_cut(file, line, bytes.get(start..).unwrap_or_default()) {
+                Some(kind) => assert_fault(rt, file, bytes, kind, line),
+                None => assert_same(rt, file, bytes)?,
+            }
+        }
+        if *byte == b'\n' {
+            line = line.saturating_add(1);
+            start = end.saturating_add(1);
+        }
+    }
+    assert_eq!(rt; line, sample.lines.saturating_add(1));
+    assert_same(rt, file, sample.bytes)
+}
+
+/// Asserts that a byte which is no ASCII is the fault on its line, whichever byte it stands for.
+fn assert_broken_anywhere(rt: &(impl Abort + AllocGlobal), sample: &Sample) -> Result<(), Fail> {
+    let mut line = 1;
+    for (at, byte) in sample.bytes.iter().enumerate() {
+        let mut bytes = Vec::from_slice(rt.alloc(), &sample.bytes[..at])?;
+        bytes.push(0x80)?;
+        bytes.extend_from_slice(&sample.bytes[at + 1..])?;
+        assert_fault(rt, sample.file, &bytes, FaultKind::NotAscii, line);
+        if *byte == b'\n' {
+            line = line.saturating_add(1);
+        }
+    }
+    assert_eq!(rt; line, sample.lines.saturating_add(1));
+    Ok(())
+}
+
+/// Asserts the number and the name of a kind of fault, its text, and that of such a fault on line 4.
+pub(crate) fn assert_texts(
+    rt: &(impl Abort + AllocGlobal),
+    kind: FaultKind,
+    number: u32,
+    name: &str,
+    texts: [&str; 2],
+) -> Result<(), Fail> {
+    assert_eq!(rt; kind.number(), number);
+    assert_eq!(rt; kind.name(), name);
+    let alone = format!(in rt.alloc(); "{kind}")?;
+    assert_eq!(rt; alone.as_str(), texts[0]);
+    let fault = FileFault { kind, line: 4 };
+    let on_line = format!(in rt.alloc(); "{fault}")?;
+    assert_eq!(rt; on_line.as_str(), texts[1]);
+    Ok(())
+}
+
+/// Lines that are no second line of a file, some of them cut off and some with faults behind them,
+/// and their faults.
+const LINE_2: [(&[u8], FaultKind); 3] = [
+    (
+        b"|atom 0| safe 0\n|atom 0\n|atom\nw 0|atom 0\nr 1\n",
+        FaultKind::UnknownTower,
+    ),
+    (
+        b"safe|safe 0|safe\n|safe  0\n|safe 0 \n|safe 0 0\n|safe 00\n|unary 1 x 0\nw 0|safe 0 0\nr 1\n",
+        FaultKind::BadField,
+    ),
+    (
+        b"safe 2\n|unary 1 1 0\nw 0|safe 2\nr 1\n",
+        FaultKind::BadSize,
+    ),
+];
+
+#[test]
+fn faults_of_line_2(rt: HostRuntime) -> Result<(), Fail> {
+    for (texts, kind) in LINE_2 {
+        assert_faults(&rt, Kind::Tower, &[(b"tower 1\n", texts, kind, 2)])?;
+        assert_faults(&rt, Kind::Tower, &[(b"tower 2\n", texts, kind, 2)])?;
+        assert_faults(&rt, Kind::Bench, &[(b"bench 1\n", texts, kind, 2)])?;
+    }
+    Ok(())
+}
+
+#[test]
+fn cut_anywhere(rt: HostRuntime) -> Result<(), Fail> {
+    assert_cut_anywhere(&rt, &files::SAMPLE)?;
+    assert_cut_anywhere(&rt, &benches::SAMPLE)
+}
+
+#[test]
+fn broken_anywhere(rt: HostRuntime) -> Result<(), Fail> {
+    assert_broken_anywhere(&rt, &files::SAMPLE)?;
+    assert_broken_anywhere(&rt, &benches::SAMPLE)
+}
