@@ -4,4 +4,4 @@
 mod rules;
 pub mod task;
 
-pub use rules::Matrix;
+pub use rules::{Matrix, MatrixRules};

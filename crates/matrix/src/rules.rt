@@ -19,8 +19,11 @@ use safe_bit::Store;
 /// A register that each of n processes writes and reads, over n * n registers of tagged codes: an
 /// operation reads its column, and then writes the greatest code, or a write its own with a greater
 /// tag, to its row. It is this project's own, after an idea of Vitanyi and Awerbuch (1986).
+pub type Matrix<S> = Layered<MatrixRules, S>;
+
+/// The rules of a matrix.
 #[derive(Debug, PartialEq, Eq)]
-pub struct Matrix {
+pub struct MatrixRules {
     /// How many processes it has; there are as many rows and columns.
     pub n: u32,
     /// How many values it has.
@@ -35,15 +38,15 @@ pub struct Matrix {
     ghost few_codes: { (last + 1) * n * values ≤ MOST_VALUES },
 }
 
-impl Clone for Matrix {
+impl Clone for MatrixRules {
     fn clone(&self) -> Result<Self, std::alloc::AllocError> {
         Ok(*self)
     }
 }
 
-impl Copy for Matrix {}
+impl Copy for MatrixRules {}
 
-impl Matrix {
+impl MatrixRules {
     /// The matrix of n processes, 2 to 4, and so many values, 2 to 512, with tags up to `last_tag`,
     /// at most 511, over a register of `(last_tag + 1) * n * values` values, at most 512, and 2
     /// processes. Refused as BadSize where one of these is broken or the register below has depth 8,
@@ -53,10 +56,10 @@ impl Matrix {
         n: u32,
         values: u32,
         last_tag: u32,
-    ) -> Result<Layered<Matrix, S>, LayerError>
+    ) -> Result<Matrix<S>, LayerError>
         ensures refused { MatchResult result (λ _. matrix_refusal n values last_tag (S.is below)
             ≡ None) (λ e. matrix_refusal n values last_tag (S.is below) ≡ Some e) }
-        ensures built { IfOk result (λ r. ⟦<Layered<Matrix, S> as Behaves>⟧.is r
+        ensures built { IfOk result (λ r. ⟦<Layered<MatrixRules, S> as Behaves>⟧.is r
             ≡ layered (matrix_table n values last_tag) (S.is below)) }
         ensures below { IfOk result (λ r. r.below ≡ below) }
     {
@@ -69,7 +72,7 @@ impl Matrix {
         if (last_tag + 1) * n * values > MOST_VALUES {
             return Err(LayerError::BadSize);
         }
-        let layer = Matrix {
+        let layer = MatrixRules {
             n,
             values,
             last: last_tag,
@@ -78,7 +81,7 @@ impl Matrix {
     }
 }
 
-impl Matrix {
+impl MatrixRules {
     ghost use Rattle.matrix.specs.Program.{codes, code_of, tag_of, row_from, behind_column, column_from, ValueFits, InWork, RowFits};
     ghost use Rattle.std.specs.Bool.{Decides};
     ghost use Rattle.matrix.specs.Turns.{ComesTo};
@@ -202,13 +205,13 @@ impl Matrix {
     }
 }
 
-impl Rules for Matrix {
+impl Rules for MatrixRules {
     type Task = MatrixTask;
 
     ghost table = { λ l. matrix_table l.n l.values l.last };
 }
 
-impl Construction for Matrix {
+impl Construction for MatrixRules {
     ghost use Rattle.std.specs.Prelude.{refl};
     ghost use Rattle.matrix.specs.Program.{matrix_table, MatrixStands};
     ghost use Rattle.matrix.specs.Sound.{matrix_left, matrix_sound, task_eq, task_decides, table_alike};

@@ -19,8 +19,11 @@ use safe_bit::Store;
 /// A register of several readers: a copy of a register of one reader for each of them. A write writes
 /// them one after the other, that for reader 1 first; a reader reads its own (Lamport 1986; Herlihy
 /// and Shavit, chapter 4).
+pub type Copies<S> = Layered<CopiesRules, S>;
+
+/// The rules of copies.
 #[derive(Debug, PartialEq, Eq)]
-pub struct Copies {
+pub struct CopiesRules {
     /// How many readers there are, each with a copy of its own.
     pub readers: u32,
     /// How many values each copy has.
@@ -29,29 +32,29 @@ pub struct Copies {
     ghost few: { readers ≤ MOST_READERS },
 }
 
-impl Clone for Copies {
+impl Clone for CopiesRules {
     fn clone(&self) -> Result<Self, std::alloc::AllocError> {
         Ok(*self)
     }
 }
 
-impl Copy for Copies {}
+impl Copy for CopiesRules {}
 
-impl Copies {
+impl CopiesRules {
     /// Copies of the register below for 1 to 4 readers. Refused as BadSize for any other number of
     /// readers, or where the register below has fewer than 2 values, hasn't 2 processes or has depth
     /// 8, else as TooManyBits where there would be more than 4,096 cells or 65,536 words.
-    pub fn new<S: Register>(below: S, readers: u32) -> Result<Layered<Copies, S>, LayerError>
+    pub fn new<S: Register>(below: S, readers: u32) -> Result<Copies<S>, LayerError>
         ensures refused { MatchResult result (λ _. copies_refusal readers (S.is below) ≡ None)
             (λ e. copies_refusal readers (S.is below) ≡ Some e) }
-        ensures built { IfOk result (λ r. ⟦<Layered<Copies, S> as Behaves>⟧.is r
+        ensures built { IfOk result (λ r. ⟦<Layered<CopiesRules, S> as Behaves>⟧.is r
             ≡ layered (copies_table readers (S.is below).values) (S.is below)) }
         ensures below { IfOk result (λ r. r.below ≡ below) }
     {
         if readers == 0 || readers > MOST_READERS {
             return Err(LayerError::BadSize);
         }
-        let layer = Copies {
+        let layer = CopiesRules {
             readers,
             values: below.values(),
         };
@@ -59,13 +62,13 @@ impl Copies {
     }
 }
 
-impl Rules for Copies {
+impl Rules for CopiesRules {
     type Task = CopiesTask;
 
     ghost table = { λ l. copies_table l.readers l.values };
 }
 
-impl Construction for Copies {
+impl Construction for CopiesRules {
     ghost use Rattle.std.specs.Prelude.{refl};
     ghost use Rattle.reader_copies.specs.Program.{copies_table, CopiesStands};
     ghost use Rattle.reader_copies.specs.Sound.{copies_left, copies_sound, task_eq, task_decides, layers_alike};

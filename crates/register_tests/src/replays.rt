@@ -66,8 +66,7 @@ fn run_of_a_segment(rt: HostRuntime) -> Result<(), Fail> {
     assert!(rt; *run.entry() == initial);
     assert_eq!(rt; run.steps(), OVERLAPPED_READ.as_slice());
     assert!(rt; *run.exit() == replayed.config);
-    assert_eq!(
-        rt;
+    assert_eq!(rt;
         run.events().indexed(rt.alloc())?.as_slice(),
         replayed.events.indexed(rt.alloc())?.as_slice()
     );

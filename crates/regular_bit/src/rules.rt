@@ -17,30 +17,33 @@ use safe_bit::Store;
 
 /// A regular bit over a register of two values: a write of the last value is done at once, any other
 /// writes below; a read reads below (Lamport 1986; Herlihy and Shavit, chapter 4).
+pub type RegularBit<S> = Layered<RegularBitRules, S>;
+
+/// The rules of a regular bit.
 #[derive(Debug, PartialEq, Eq)]
-pub struct RegularBit {
+pub struct RegularBitRules {
     /// How many processes it has: one writes, the others read.
     pub processes: u32,
     ghost some: { 0 < processes },
 }
 
-impl Clone for RegularBit {
+impl Clone for RegularBitRules {
     fn clone(&self) -> Result<Self, std::alloc::AllocError> {
         Ok(*self)
     }
 }
 
-impl Copy for RegularBit {}
+impl Copy for RegularBitRules {}
 
-impl RegularBit {
+impl RegularBitRules {
     /// The regular bit over a register of two values, with that register's 2 to 5 processes. Refused
     /// as BadSize where the register below hasn't two values, hasn't so many processes or has depth
     /// 8, else as TooManyBits where there would be more than 4,096 cells or 65,536 words.
-    pub fn new<S: Register>(below: S) -> Result<Layered<RegularBit, S>, LayerError>
+    pub fn new<S: Register>(below: S) -> Result<RegularBit<S>, LayerError>
         ensures refused { MatchResult result
             (λ _. refusal_below (regular_table (S.is below).processes) (S.is below) ≡ None)
             (λ e. refusal_below (regular_table (S.is below).processes) (S.is below) ≡ Some e) }
-        ensures built { IfOk result (λ r. ⟦<Layered<RegularBit, S> as Behaves>⟧.is r
+        ensures built { IfOk result (λ r. ⟦<Layered<RegularBitRules, S> as Behaves>⟧.is r
             ≡ layered (regular_table (S.is below).processes) (S.is below)) }
         ensures below { IfOk result (λ r. r.below ≡ below) }
     {
@@ -48,18 +51,18 @@ impl RegularBit {
         if processes == 0 {
             return Err(LayerError::BadSize);
         }
-        let layer = RegularBit { processes };
+        let layer = RegularBitRules { processes };
         Layered::new(below, layer)
     }
 }
 
-impl Rules for RegularBit {
+impl Rules for RegularBitRules {
     type Task = RegularTask;
 
     ghost table = { λ l. regular_table l.processes };
 }
 
-impl Construction for RegularBit {
+impl Construction for RegularBitRules {
     ghost use Rattle.std.specs.Prelude.{refl};
     ghost use Rattle.regular_bit.specs.Program.{regular_table, RegularStands};
     ghost use Rattle.regular_bit.specs.Sound.{regular_sound, task_eq, task_decides, table_alike};

@@ -19,8 +19,11 @@ use safe_bit::Store;
 /// A stamped register over a register of `(last + 1) * values` codes: a write raises the stamp and
 /// writes its code below, and is spent at the last stamp; a read keeps the greatest code that it has
 /// read, and returns its value (Lamport 1986; Herlihy and Shavit, chapter 4).
+pub type Stamped<S> = Layered<StampedRules, S>;
+
+/// The rules of a stamped register.
 #[derive(Debug, PartialEq, Eq)]
-pub struct Stamped {
+pub struct StampedRules {
     /// How many values it has.
     pub values: u32,
     /// The last stamp.
@@ -31,27 +34,23 @@ pub struct Stamped {
     ghost few_codes: { (last + 1) * values ≤ MOST_VALUES },
 }
 
-impl Clone for Stamped {
+impl Clone for StampedRules {
     fn clone(&self) -> Result<Self, std::alloc::AllocError> {
         Ok(*self)
     }
 }
 
-impl Copy for Stamped {}
+impl Copy for StampedRules {}
 
-impl Stamped {
+impl StampedRules {
     /// The stamped register of so many values, 2 to 512, with stamps up to `last`, at most 511, over
     /// a register of `(last + 1) * values` values, at most 512, and 2 processes. Refused as BadSize
     /// where one of these is broken or the register below has depth 8, else as TooManyBits where
     /// there would be more than 4,096 cells or 65,536 words.
-    pub fn new<S: Register>(
-        below: S,
-        values: u32,
-        last: u32,
-    ) -> Result<Layered<Stamped, S>, LayerError>
+    pub fn new<S: Register>(below: S, values: u32, last: u32) -> Result<Stamped<S>, LayerError>
         ensures refused { MatchResult result (λ _. stamped_refusal values last (S.is below) ≡ None)
             (λ e. stamped_refusal values last (S.is below) ≡ Some e) }
-        ensures built { IfOk result (λ r. ⟦<Layered<Stamped, S> as Behaves>⟧.is r
+        ensures built { IfOk result (λ r. ⟦<Layered<StampedRules, S> as Behaves>⟧.is r
             ≡ layered (stamped_table values last) (S.is below)) }
         ensures below { IfOk result (λ r. r.below ≡ below) }
     {
@@ -61,18 +60,18 @@ impl Stamped {
         if (last + 1) * values > MOST_VALUES {
             return Err(LayerError::BadSize);
         }
-        let layer = Stamped { values, last };
+        let layer = StampedRules { values, last };
         Layered::new(below, layer)
     }
 }
 
-impl Rules for Stamped {
+impl Rules for StampedRules {
     type Task = StampedTask;
 
     ghost table = { λ l. stamped_table l.values l.last };
 }
 
-impl Construction for Stamped {
+impl Construction for StampedRules {
     ghost use Rattle.std.specs.Prelude.{refl};
     ghost use Rattle.stamped.specs.Program.{stamped_table, StampedStands};
     ghost use Rattle.stamped.specs.Sound.{stamped_sound, task_eq, task_decides, table_alike};

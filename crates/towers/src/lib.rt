@@ -14,25 +14,24 @@ ghost use Rattle.towers.specs.Towers.{copies_tower, regular_tower, unary_tower, 
 
 use frames::register::Behaves;
 use frames::safe::Safe;
-use layers::layered::Layered;
-use matrix::Matrix;
-use reader_copies::Copies;
-use regular_bit::RegularBit;
-use stamped::Stamped;
-use unary_number::Unary;
+use matrix::{Matrix, MatrixRules};
+use reader_copies::{Copies, CopiesRules};
+use regular_bit::{RegularBit, RegularBitRules};
+use stamped::{Stamped, StampedRules};
+use unary_number::UnaryRules;
 pub use unary_tower::UnaryTower;
 
 /// Copies of a safe bit.
-pub type CopiesTower = Layered<Copies, Safe>;
+pub type CopiesTower = Copies<Safe>;
 
 /// A regular bit over copies.
-pub type RegularTower = Layered<RegularBit, CopiesTower>;
+pub type RegularTower = RegularBit<CopiesTower>;
 
 /// A stamped register over a unary number.
-pub type StampedTower = Layered<Stamped, UnaryTower>;
+pub type StampedTower = Stamped<UnaryTower>;
 
 /// A matrix of stamped registers.
-pub type MatrixTower = Layered<Matrix, StampedTower>;
+pub type MatrixTower = Matrix<StampedTower>;
 
 /// Copies of a safe bit for 1 to 4 readers.
 pub fn copies(readers: u32) -> CopiesTower
@@ -40,7 +39,7 @@ pub fn copies(readers: u32) -> CopiesTower
     requires few { readers ≤ MOST_READERS }
     ensures { ⟦<CopiesTower as Behaves>⟧.is result ≡ copies_tower readers }
 {
-    Copies::new(Safe, readers).unwrap()
+    CopiesRules::new(Safe, readers).unwrap()
 }
 
 /// A regular bit for 1 to 4 readers.
@@ -49,7 +48,7 @@ pub fn regular(readers: u32) -> RegularTower
     requires few { readers ≤ MOST_READERS }
     ensures { ⟦<RegularTower as Behaves>⟧.is result ≡ regular_tower readers }
 {
-    RegularBit::new(copies(readers)).unwrap()
+    RegularBitRules::new(copies(readers)).unwrap()
 }
 
 /// A unary number of 2 to 512 values for 1 to 4 readers.
@@ -61,7 +60,7 @@ pub fn unary(values: u32, readers: u32) -> UnaryTower
     ensures { ⟦<UnaryTower as Behaves>⟧.is result ≡ unary_tower values readers }
 {
     UnaryTower {
-        layers: Unary::new(regular(readers), values).unwrap(),
+        layers: UnaryRules::new(regular(readers), values).unwrap(),
     }
 }
 
@@ -74,7 +73,7 @@ pub fn stamped(values: u32, last: u32) -> StampedTower
     ensures { ⟦<StampedTower as Behaves>⟧.is result ≡ stamped_tower values last }
 {
     let codes = unary((last + 1) * values, 1);
-    Stamped::new(codes, values, last).unwrap()
+    StampedRules::new(codes, values, last).unwrap()
 }
 
 /// A matrix of 2 to 4 processes, 2 to 512 values and a last tag of at most 511, over stamped registers
@@ -92,7 +91,7 @@ pub fn matrix(processes: u32, values: u32, tag: u32, stamp: u32) -> MatrixTower
     ensures { ⟦<MatrixTower as Behaves>⟧.is result ≡ matrix_tower processes values tag stamp }
 {
     let part = stamped((tag + 1) * processes * values, stamp);
-    Matrix::new(part, processes, values, tag).unwrap()
+    MatrixRules::new(part, processes, values, tag).unwrap()
 }
 
 /// The five towers below the matrix have one writer, whatever their numbers: process 0 alone writes them, and the others read.

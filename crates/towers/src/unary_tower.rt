@@ -1,21 +1,18 @@
 //! The unary number over regular bits under a name of its own: what stands on it names it, and none of the layers below it.
 
-use crate::{CopiesTower, RegularTower};
+use crate::RegularTower;
 use frames::flat::FlatStack;
 use frames::register::{Behaves, Register};
 use frames::safe::{Safe, SafePoint};
 use frames::types::{Action, Op, Outcome, Progress};
-use layers::layered::Layered;
-use reader_copies::Copies;
 use reader_copies::task::CopiesTask;
-use regular_bit::RegularBit;
 use regular_bit::task::RegularTask;
 use safe_bit::{Place, Store};
 use unary_number::Unary;
 use unary_number::task::UnaryTask;
 
 /// A unary number over the layers below it.
-type UnaryLayers = Layered<Unary, RegularTower>;
+type UnaryLayers = Unary<RegularTower>;
 
 /// A unary number over regular bits. It does what its layers do.
 #[derive(Clone, Copy, Debug, PartialEq, Eq)]

@@ -21,8 +21,11 @@ use safe_bit::Store;
 /// A unary number of 2 to 512 values over as many registers of two values, its bits: a write of x
 /// sets bit x and then clears the bits below it, downward; a read looks from bit 0 upward for the
 /// first 1 (Lamport 1986; Herlihy and Shavit, chapter 4).
+pub type Unary<S> = Layered<UnaryRules, S>;
+
+/// The rules of a unary number.
 #[derive(Debug, PartialEq, Eq)]
-pub struct Unary {
+pub struct UnaryRules {
     /// How many values it has, and so how many bits.
     pub values: u32,
     /// How many processes it has: one writes, the others read.
@@ -32,24 +35,24 @@ pub struct Unary {
     ghost some: { 0 < processes },
 }
 
-impl Clone for Unary {
+impl Clone for UnaryRules {
     fn clone(&self) -> Result<Self, std::alloc::AllocError> {
         Ok(*self)
     }
 }
 
-impl Copy for Unary {}
+impl Copy for UnaryRules {}
 
-impl Unary {
+impl UnaryRules {
     /// The unary number of this many values over registers of two values, with those registers'
     /// processes. Refused as BadSize where the values aren't 2 to 512, or where the register below
     /// hasn't two values, hasn't 2 to 5
     /// processes or has depth 8, else as TooManyBits where there would be more than 4,096
     /// cells or 65,536 words.
-    pub fn new<S: Register>(below: S, values: u32) -> Result<Layered<Unary, S>, LayerError>
+    pub fn new<S: Register>(below: S, values: u32) -> Result<Unary<S>, LayerError>
         ensures refused { MatchResult result (λ _. unary_refusal values (S.is below) ≡ None)
             (λ e. unary_refusal values (S.is below) ≡ Some e) }
-        ensures built { IfOk result (λ r. ⟦<Layered<Unary, S> as Behaves>⟧.is r
+        ensures built { IfOk result (λ r. ⟦<Layered<UnaryRules, S> as Behaves>⟧.is r
             ≡ layered (unary_table values (S.is below).processes) (S.is below)) }
         ensures below { IfOk result (λ r. r.below ≡ below) }
     {
@@ -60,12 +63,12 @@ impl Unary {
         if processes == 0 {
             return Err(LayerError::BadSize);
         }
-        let layer = Unary { values, processes };
+        let layer = UnaryRules { values, processes };
         Layered::new(below, layer)
     }
 }
 
-impl Unary {
+impl UnaryRules {
     /// A read by process `who` found 0 in bit `i`, behind which there are `left` more.
     fn look_above(&self, who: u32, i: u32, left: u32) -> Continuation<UnaryTask>
         requires { i + left < self.now.values }
@@ -95,13 +98,13 @@ fn clear_below(x: u32, i: u32) -> Continuation<UnaryTask>
     Continuation::Asks(UnaryTask::Clearing { x, i: i - 1 })
 }
 
-impl Rules for Unary {
+impl Rules for UnaryRules {
     type Task = UnaryTask;
 
     ghost table = { λ l. unary_table l.values l.processes };
 }
 
-impl Construction for Unary {
+impl Construction for UnaryRules {
     ghost use Rattle.std.specs.Prelude.{refl};
     ghost use Rattle.unary_number.specs.Program.{unary_table, UnaryStands};
     ghost use Rattle.unary_number.specs.Sound.{unary_left, unary_sound, task_eq, task_decides, table_alike};

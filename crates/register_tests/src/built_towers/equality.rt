@@ -6,7 +6,7 @@ use frames::config::Config;
 use frames::register::Register;
 use frames::safe::Safe;
 use frames::types::Step;
-use reader_copies::Copies;
+use reader_copies::CopiesRules;
 use std::alloc::{AllocError, Global};
 use std::process::Abort;
 use std::test::Fail;
@@ -40,8 +40,8 @@ fn equal_by_their_numbers(rt: HostRuntime) -> Result<(), Fail> {
     compared(
         &rt,
         rt.alloc(),
-        Copies::new(Safe, 2)?,
-        Copies::new(Safe, 4)?,
+        CopiesRules::new(Safe, 2)?,
+        CopiesRules::new(Safe, 4)?,
         &STEPS,
     )?;
     compared(&rt, rt.alloc(), regular(2), regular(4), &STEPS)?;

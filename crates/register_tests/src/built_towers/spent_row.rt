@@ -7,12 +7,12 @@ use frames::register::Register;
 use frames::safe::Safe;
 use frames::types::{Event, Layer, Op, Step};
 use layers::layered::Layered;
-use matrix::Matrix;
+use matrix::MatrixRules;
 use safe_bit::Store;
 use std::alloc::{AllocError, Global};
 use std::process::Abort;
 use std::test::Fail;
-use unary_number::Unary;
+use unary_number::UnaryRules;
 
 /// The cells and words behind a write of 1 by process 0 to the first part of its row.
 fn first_part_written(alloc: Global) -> Result<Store, AllocError> {
@@ -68,7 +68,7 @@ fn spent_part_of_a_row<R: Register>(
 
 #[test]
 fn row_of_parts_to_be_read_first(rt: HostRuntime) -> Result<(), Fail> {
-    let parts = Layered::new(Unary::new(Safe, 8)?, ReadFirst)?;
-    spent_part_of_a_row(&rt, rt.alloc(), Matrix::new(parts, 2, 2, 1)?)?;
+    let parts = Layered::new(UnaryRules::new(Safe, 8)?, ReadFirst)?;
+    spent_part_of_a_row(&rt, rt.alloc(), MatrixRules::new(parts, 2, 2, 1)?)?;
     Ok(())
 }

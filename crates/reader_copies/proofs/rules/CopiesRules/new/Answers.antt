@@ -2,7 +2,7 @@ use Rattle.std.proofs.Common.{◌≡◌, subst}
 use Rattle.std.specs.Prelude.{IfOk}
 use Rattle.layers.specs.Nested.{layered}
 use Rattle.reader_copies.specs.Program.{copies_table}
-use Rattle.reader_copies.proofs.rules.Copies.new.Goals as goal
+use Rattle.reader_copies.proofs.rules.CopiesRules.new.Goals as goal
 
 pub returns-clause-built : goal.returns-clause-built
 returns-clause-built g c =

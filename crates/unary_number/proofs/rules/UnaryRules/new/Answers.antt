@@ -2,7 +2,7 @@ use Rattle.std.proofs.Common.{◌≡◌, subst}
 use Rattle.std.specs.Prelude.{IfOk}
 use Rattle.layers.specs.Nested.{layered}
 use Rattle.unary_number.specs.Program.{unary_table}
-use Rattle.unary_number.proofs.rules.Unary.new.Goals as goal
+use Rattle.unary_number.proofs.rules.UnaryRules.new.Goals as goal
 
 pub returns-clause-built : goal.returns-clause-built
 returns-clause-built g c =
