@@ -39,6 +39,8 @@ enum Ask<'a> {
     Refuses(Command, Refusal),
     /// Each command of a session, with a guard that isn't met, is refused.
     RefusesEach(u32, &'a [Command], Refusal),
+    /// Each command of session 0 without a guard is refused.
+    RefusesLate(&'a [Command], Refusal),
     /// Each command of session 0 without a guard is refused so.
     RefusesAll(&'a [(Command, Refusal)]),
     /// A look has a page of this text.
@@ -72,16 +74,17 @@ fn answer(
     book.act(alloc, 0, who, if_at, command)
 }
 
-/// Whether each command of a session that missed its guard is refused so.
+/// Whether each command of a session with a guard is refused so.
 fn refuses_each(
     alloc: Global,
     book: &mut Book<Safe>,
     who: u32,
+    if_at: Option<u64>,
     commands: &[Command],
     refusal: Refusal,
 ) -> bool {
     for command in commands {
-        if answer(alloc, book, who, MISSED, command) != Reply::No(refusal) {
+        if answer(alloc, book, who, if_at, command) != Reply::No(refusal) {
             return false;
         }
     }
@@ -219,7 +222,10 @@ fn answers(alloc: Global, book: &mut Book<Safe>, ask: &Ask<'_>) -> Result<bool, 
             Ok(answer(alloc, book, 0, None, command) == Reply::No(*refusal))
         }
         Ask::RefusesEach(who, commands, refusal) => {
-            Ok(refuses_each(alloc, book, *who, commands, *refusal))
+            Ok(refuses_each(alloc, book, *who, MISSED, commands, *refusal))
+        }
+        Ask::RefusesLate(commands, refusal) => {
+            Ok(refuses_each(alloc, book, 0, None, commands, *refusal))
         }
         Ask::RefusesAll(rows) => Ok(refuses_all(alloc, book, rows)),
         Ask::Shows(query, text) => shows(alloc, book, *query, text),

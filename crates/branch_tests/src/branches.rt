@@ -5,7 +5,7 @@ ghost use Rattle.std.specs.Prelude.{◌<◌, ◌≤◌};
 ghost use Rattle.schedule_trie.specs.Cut.{AreLimits};
 ghost use Rattle.schedule_trie.specs.declared.limits.TheConstants.{MOST_CELLS_MADE};
 
-use crate::given::{GO, READ, name, none_wrong};
+use crate::given::{Branch, Change, Edit, GO, READ, edited_by, name, none_wrong};
 use frames::types::Step;
 use schedule_trie::limits::Limits;
 use schedule_trie::name::Name;
@@ -67,85 +67,6 @@ fn is_itself(rt: &impl Abort, name: &Name, other: &Name) -> bool {
 fn a_name_is_its_clone(rt: HostRuntime) {
     let (a1, digit) = (name(&rt, b"a1"), name(&rt, b"9x"));
     assert!(rt; is_itself(&rt, &a1, &digit));
-}
-
-/// A branch: the first one, or another by its number.
-#[derive(Clone, Copy)]
-enum Branch {
-    Main,
-    Other(u32),
-}
-
-/// What is done to a branch.
-#[derive(Clone, Copy)]
-enum Change {
-    Insert(u32),
-    /// A branch of this number gets the first cells.
-    Fork(u32, u32),
-    Detach,
-    Drop,
-}
-
-/// One edit.
-#[derive(Clone, Copy)]
-struct Edit {
-    branch: Branch,
-    change: Change,
-}
-
-/// An edit of `main`.
-fn on_main(change: Change) -> Edit {
-    Edit {
-        branch: Branch::Main,
-        change,
-    }
-}
-
-/// An edit of another branch.
-fn on(number: u32, change: Change) -> Edit {
-    Edit {
-        branch: Branch::Other(number),
-        change,
-    }
-}
-
-fn name_of(rt: &impl Abort, alloc: Global, branch: Branch) -> Name {
-    match branch {
-        Branch::Main => name(rt, b"main"),
-        Branch::Other(number) => numbered(rt, alloc, number),
-    }
-}
-
-/// The name of a branch by its number.
-fn numbered(rt: &impl Abort, alloc: Global, number: u32) -> Name {
-    let text = format!(in alloc; "b{number}").expect(rt, "memory");
-    name(rt, text.as_bytes())
-}
-
-/// Makes an edit.
-fn edited(rt: &impl Abort, alloc: Global, trie: &mut Trie<u32>, edit: Edit) -> Result<(), Refusal> {
-    let branch = name_of(rt, alloc, edit.branch);
-    match edit.change {
-        Change::Insert(place) => trie.insert(alloc, &branch, place, GO),
-        Change::Fork(place, number) => {
-            trie.fork(alloc, &branch, place, numbered(rt, alloc, number))
-        }
-        Change::Detach => trie.detach(alloc, &branch),
-        Change::Drop => trie.drop_branch(&branch),
-    }
-}
-
-/// Makes edits one after the other.
-fn edited_by(
-    rt: &impl Abort,
-    alloc: Global,
-    trie: &mut Trie<u32>,
-    edits: &[Edit],
-) -> Result<(), Refusal> {
-    for edit in edits {
-        edited(rt, alloc, trie, *edit)?;
-    }
-    Ok(())
 }
 
 /// What is told of a trie: the steps of `main`, into how many segments it is cut, how many cells
@@ -231,15 +152,15 @@ const CUTS: [Cut; 15] = [
     (128, None, (1, 128, 128)),
     (129, None, (2, 129, 129)),
     (300, None, (3, 300, 300)),
-    (128, Some(Change::Insert(0)), (2, 129, 129)),
-    (128, Some(Change::Insert(63)), (2, 129, 129)),
-    (128, Some(Change::Insert(64)), (2, 129, 129)),
-    (128, Some(Change::Insert(127)), (2, 129, 129)),
-    (128, Some(Change::Insert(128)), (2, 129, 129)),
-    (128, Some(Change::Fork(0, 0)), (1, 128, 128)),
-    (128, Some(Change::Fork(1, 0)), (2, 128, 128)),
-    (128, Some(Change::Fork(127, 0)), (2, 128, 128)),
-    (128, Some(Change::Fork(128, 0)), (1, 128, 128)),
+    (128, Some(Change::Insert(0, GO)), (2, 129, 129)),
+    (128, Some(Change::Insert(63, GO)), (2, 129, 129)),
+    (128, Some(Change::Insert(64, GO)), (2, 129, 129)),
+    (128, Some(Change::Insert(127, GO)), (2, 129, 129)),
+    (128, Some(Change::Insert(128, GO)), (2, 129, 129)),
+    (128, Some(Change::Fork(0, Branch::A)), (1, 128, 128)),
+    (128, Some(Change::Fork(1, Branch::A)), (2, 128, 128)),
+    (128, Some(Change::Fork(127, Branch::A)), (2, 128, 128)),
+    (128, Some(Change::Fork(128, Branch::A)), (1, 128, 128)),
     (1023, Some(Change::Detach), (8, 1023, 2046)),
 ];
 
@@ -252,7 +173,7 @@ fn changed(
 ) -> Result<Told, Refusal> {
     let steps = reads(alloc, count).expect(rt, "memory");
     match change {
-        Some(change) => tried(rt, alloc, &steps, &[on_main(change)]),
+        Some(change) => tried(rt, alloc, &steps, &[(Branch::Main, change)]),
         None => tried(rt, alloc, &steps, &[]),
     }
 }
@@ -300,11 +221,12 @@ impl Order {
 fn branches_and_drops(alloc: Global, order: Order) -> Result<Vec<Edit>, AllocError> {
     let mut edits = Vec::new(alloc);
     for number in 0..1023 {
-        edits.push(on_main(Change::Fork(number + 1, number)))?;
-        edits.push(on(number, Change::Insert(number + 1)))?;
+        let branch = Branch::Other(number);
+        edits.push((Branch::Main, Change::Fork(number + 1, branch)))?;
+        edits.push((branch, Change::Insert(number + 1, GO)))?;
     }
     for turn in 0..1023 {
-        edits.push(on(order.at(turn), Change::Drop))?;
+        edits.push((Branch::Other(order.at(turn)), Change::Drop))?;
     }
     Ok(edits)
 }

@@ -1,8 +1,10 @@
-//! What the tests of each crate give to it.
+//! What the tests of each crate give to it, and edits of branches as data.
 
 use frames::types::Step;
 use schedule_trie::name::Name;
 use schedule_trie::refusal::Refusal;
+use schedule_trie::trie::Trie;
+use std::alloc::Global;
 use std::process::Abort;
 
 /// A read by process 1 of a safe bit.
@@ -13,6 +15,68 @@ pub(crate) const GO: Step = Step::Go { p: 1, c: 0 };
 
 pub(crate) fn name(rt: &impl Abort, text: &[u8]) -> Name {
     Name::new(text).expect(rt, "a short name")
+}
+
+/// A branch: the first one, one by its letter, or one by its number.
+#[derive(Clone, Copy)]
+pub(crate) enum Branch {
+    Main,
+    A,
+    B,
+    Other(u32),
+}
+
+pub(crate) fn name_of(rt: &impl Abort, alloc: Global, branch: Branch) -> Name {
+    match branch {
+        Branch::Main => name(rt, b"main"),
+        Branch::A => name(rt, b"a"),
+        Branch::B => name(rt, b"b"),
+        Branch::Other(number) => numbered(rt, alloc, number),
+    }
+}
+
+/// The name of a branch by its number.
+fn numbered(rt: &impl Abort, alloc: Global, number: u32) -> Name {
+    let text = format!(in alloc; "b{number}").expect(rt, "memory");
+    name(rt, text.as_bytes())
+}
+
+/// What is done to a branch.
+#[derive(Clone, Copy)]
+pub(crate) enum Change {
+    Insert(u32, Step),
+    /// A new branch gets the first cells.
+    Fork(u32, Branch),
+    Detach,
+    Drop,
+}
+
+/// A branch, and what is done to it.
+pub(crate) type Edit = (Branch, Change);
+
+/// Makes an edit.
+fn edited(rt: &impl Abort, alloc: Global, trie: &mut Trie<u32>, edit: Edit) -> Result<(), Refusal> {
+    let (branch, change) = edit;
+    let branch = name_of(rt, alloc, branch);
+    match change {
+        Change::Insert(place, step) => trie.insert(alloc, &branch, place, step),
+        Change::Fork(place, fresh) => trie.fork(alloc, &branch, place, name_of(rt, alloc, fresh)),
+        Change::Detach => trie.detach(alloc, &branch),
+        Change::Drop => trie.drop_branch(&branch),
+    }
+}
+
+/// Makes edits one after the other.
+pub(crate) fn edited_by(
+    rt: &impl Abort,
+    alloc: Global,
+    trie: &mut Trie<u32>,
+    edits: &[Edit],
+) -> Result<(), Refusal> {
+    for edit in edits {
+        edited(rt, alloc, trie, *edit)?;
+    }
+    Ok(())
 }
 
 /// Stops where a row went wrong, or a call was refused. Tests end by this alone, since each has to

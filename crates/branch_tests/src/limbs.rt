@@ -5,7 +5,7 @@ ghost use Rattle.schedule_trie.specs.Cut.{AreLimits};
 ghost use Rattle.schedule_trie.specs.Limbs.{IsLawful};
 ghost use Rattle.schedule_trie.specs.declared.limits.TheConstants.{MOST_CELLS_MADE};
 
-use crate::given::{GO, READ, name};
+use crate::given::{Branch, Change, Edit, GO, READ, edited_by};
 use frames::types::Step;
 use schedule_trie::limb::Limb;
 use schedule_trie::limits::Limits;
@@ -23,27 +23,15 @@ const CLEAR: Step = Step::Write { p: 0, v: 0 };
 /// The next bit action of process 1, with choice 1.
 const GO_ON: Step = Step::Go { p: 1, c: 1 };
 
-/// What is done to a branch.
-#[derive(Clone, Copy)]
-enum Change {
-    Insert(u32, Step),
-    /// A branch of this name gets the first cells.
-    Fork(u32, &'static [u8]),
-    Drop,
-}
-
-/// A branch by its name, and what is done to it.
-type Edit = (&'static [u8], Change);
-
 /// Of a limb: its name, the branch that it is from, how many cells it shares, and its steps.
 type Row = (&'static [u8], u32, u32, &'static [Step]);
 
 /// Edits of a read and a write on `main` that make `a`, which shares the first cell of `main`, and `b`, which shares both of `a`.
 const THREE_BRANCHES: [Edit; 4] = [
-    (b"main", Change::Fork(1, b"a")),
-    (b"a", Change::Insert(1, GO)),
-    (b"a", Change::Fork(2, b"b")),
-    (b"b", Change::Insert(2, GO_ON)),
+    (Branch::Main, Change::Fork(1, Branch::A)),
+    (Branch::A, Change::Insert(1, GO)),
+    (Branch::A, Change::Fork(2, Branch::B)),
+    (Branch::B, Change::Insert(2, GO_ON)),
 ];
 
 /// Their limbs.
@@ -78,17 +66,6 @@ fn limits(cells: u32, branches: u32) -> Limits
     }
 }
 
-/// Makes an edit.
-fn edited(rt: &impl Abort, alloc: Global, trie: &mut Trie<u32>, edit: Edit) -> Result<(), Refusal> {
-    let (branch, change) = edit;
-    let branch = name(rt, branch);
-    match change {
-        Change::Insert(place, step) => trie.insert(alloc, &branch, place, step),
-        Change::Fork(place, fresh) => trie.fork(alloc, &branch, place, name(rt, fresh)),
-        Change::Drop => trie.drop_branch(&branch),
-    }
-}
-
 /// The limbs of a trie behind edits.
 fn limbs_behind(
     rt: &impl Abort,
@@ -99,9 +76,7 @@ fn limbs_behind(
     ensures lawful { IfOk result (λ r. IsLawful r.items) }
     ensures some { IfOk result (λ r. 0 < length r.items) }
 {
-    for edit in edits {
-        edited(rt, alloc, trie, *edit)?;
-    }
+    edited_by(rt, alloc, trie, edits)?;
     Ok(trie.limbs(alloc)?)
 }
 
@@ -146,9 +121,9 @@ fn are(limbs: &[Limb], rows: &[Row]) -> bool {
 fn are_kept(rt: &impl Abort, alloc: Global) -> Result<bool, Refusal> {
     let limbs = limbs_of(rt, alloc, &THREE_BRANCHES)?;
     let again = limbs_again(rt, alloc, limits(64, 64), &limbs, &[])?;
-    let insert: Edit = (b"a", Change::Insert(1, CLEAR));
+    let insert = (Branch::A, Change::Insert(1, CLEAR));
     let inserted = limbs_again(rt, alloc, limits(64, 64), &limbs, &[insert])?;
-    let drop: Edit = (b"a", Change::Drop);
+    let drop = (Branch::A, Change::Drop);
     let dropped = limbs_again(rt, alloc, limits(64, 64), &limbs, &[insert, drop])?;
     Ok(
         are(&limbs, &LIMBS)

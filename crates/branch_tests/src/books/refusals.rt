@@ -14,6 +14,8 @@
 //!
 //! A `fork` is refused as BadName before NoPlace too: a name that is taken is no bad one.
 
+ghost use Rattle.std.specs.Prelude.{◌<◌};
+
 use super::commands::{detach, drop_branch, fork, go, insert, remove, replace};
 use super::{Ask, tried};
 use crate::given::{GO, READ, name, none_wrong};
@@ -27,6 +29,18 @@ use views::breakpoint::Break;
 
 /// A step that doesn't fit: process 1 writes.
 const BAD: Step = Step::Write { p: 1, v: 0 };
+
+/// Edits just behind so many cells of a branch, and a fork there.
+fn behind(branch: &Name, cells: u32, step: Step, name: &Name) -> [Command; 4]
+    requires { cells < 100 }
+{
+    [
+        insert(branch, cells + 1, step),
+        remove(branch, cells),
+        replace(branch, cells, step),
+        fork(branch, cells + 1, name),
+    ]
+}
 
 /// The commands of any session, refused for every late reason that they can meet.
 fn open_commands(main: &Name, zed: &Name) -> [Command; 7] {
@@ -93,42 +107,46 @@ fn a_log_of_one_entry(rt: HostRuntime) {
     none_wrong(&rt, tried(rt.alloc(), limits, &[], &rows, 1));
 }
 
-/// Commands and their refusals in a book with one branch of three cells, room for no more of
-/// either, and session 0's cursor on it.
-fn late_rows(main: &Name, zed: &Name, new: &Name, bad: &Name) -> [(Command, Refusal); 21] {
-    [
+/// Commands that are refused late in a book with one branch of three cells, room for no more of
+/// either, and session 0's cursor on it: for want of a branch, of a place, and for each reason.
+#[derive(Drop)]
+struct Late {
+    branchless: [Command; 4],
+    placeless: [Command; 4],
+    others: [(Command, Refusal); 13],
+}
+
+fn late_commands(main: &Name, zed: &Name, new: &Name, bad: &Name) -> Late {
+    let others = [
         (insert(zed, 9, BAD), Refusal::BadStep),
         (replace(zed, 9, BAD), Refusal::BadStep),
-        (insert(zed, 9, READ), Refusal::NoBranch),
-        (remove(zed, 9), Refusal::NoBranch),
-        (replace(zed, 9, READ), Refusal::NoBranch),
-        (fork(zed, 9, main), Refusal::NoBranch),
         (detach(zed), Refusal::NoBranch),
         (drop_branch(zed), Refusal::NoBranch),
         (go(zed, 9), Refusal::NoBranch),
         (fork(main, 4, main), Refusal::NameTaken),
         (fork(main, 4, bad), Refusal::BadName),
-        (insert(main, 4, READ), Refusal::NoPlace),
-        (remove(main, 3), Refusal::NoPlace),
-        (replace(main, 3, READ), Refusal::NoPlace),
-        (fork(main, 4, new), Refusal::NoPlace),
         (go(main, 4), Refusal::NoPlace),
         (insert(main, 3, READ), Refusal::Full),
         (detach(main), Refusal::Full),
         (drop_branch(main), Refusal::LastBranch),
         (fork(main, 3, new), Refusal::TooManyBranches),
         (Command::Clear(Break::Void), Refusal::NoBreak),
-    ]
+    ];
+    Late {
+        branchless: behind(zed, 9, READ, main),
+        placeless: behind(main, 3, READ, new),
+        others,
+    }
 }
 
 /// Commands that miss their guards, and commands that are refused late.
 #[derive(Drop)]
 struct Refused {
     early: Early,
-    late: [(Command, Refusal); 21],
+    late: Late,
 }
 
-fn rows_in_order(refused: &Refused) -> [Ask<'_>; 9] {
+fn rows_in_order(refused: &Refused) -> [Ask<'_>; 11] {
     [
         Ask::Replies(Command::Join, Reply::Joined),
         Ask::RefusesEach(16, &refused.early.open, Refusal::NoSession),
@@ -137,7 +155,9 @@ fn rows_in_order(refused: &Refused) -> [Ask<'_>; 9] {
         Ask::RefusesEach(5, &refused.early.own, Refusal::NoSession),
         Ask::RefusesEach(0, &refused.early.open, Refusal::Newer(0)),
         Ask::RefusesEach(0, &refused.early.own, Refusal::Newer(0)),
-        Ask::RefusesAll(&refused.late),
+        Ask::RefusesLate(&refused.late.branchless, Refusal::NoBranch),
+        Ask::RefusesLate(&refused.late.placeless, Refusal::NoPlace),
+        Ask::RefusesAll(&refused.late.others),
         Ask::Logs(61),
     ]
 }
@@ -152,7 +172,7 @@ fn refusals_in_order(rt: HostRuntime) {
     };
     let refused = Refused {
         early: early_commands(&main, &zed),
-        late: late_rows(&main, &zed, &name(&rt, b"a"), &name(&rt, b"9x")),
+        late: late_commands(&main, &zed, &name(&rt, b"a"), &name(&rt, b"9x")),
     };
     let rows = rows_in_order(&refused);
     none_wrong(&rt, tried(rt.alloc(), limits, &[READ, GO, GO], &rows, 61));

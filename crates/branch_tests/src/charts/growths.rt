@@ -4,12 +4,9 @@
 ghost use Rattle.frames.specs.SafeBit.{safe_behaviour};
 ghost use Rattle.frames.specs.Recorded.{AllFit};
 
-use super::rows::{
-    Ask, Bench, Branch, Kind, LATE, Row, Wanted, bench_of, name_of, step_of, told, writes,
-};
-use crate::given::none_wrong;
+use super::rows::{Ask, Kind, LATE, Row, Wanted, bench_of, step_of, writes};
+use crate::given::{Branch, none_wrong};
 use frames::types::Step;
-use schedule_trie::name::Name;
 use schedule_trie::refusal::Refusal;
 use std::alloc::Global;
 use std::cell::Cell;
@@ -17,39 +14,6 @@ use std::process::Abort;
 
 /// How often a call is made at most: more often than growths are refused in a row.
 const TRIES: u32 = 10;
-
-/// Whether a chart tells what it has to, which it is asked until it isn't refused memory.
-fn tells_again(
-    rt: &impl Abort,
-    alloc: Global,
-    bench: &mut Bench<'_>,
-    branch: &Name,
-    ask: Ask,
-) -> Result<bool, Refusal> {
-    for _ in 0..TRIES {
-        match told(rt, alloc, bench, branch, ask) {
-            Ok((is_wanted, _)) => return Ok(is_wanted),
-            Err(Refusal::Memory) => {}
-            Err(refusal) => return Err(refusal),
-        }
-    }
-    Err(Refusal::Memory)
-}
-
-/// The first of these rows where a chart tells something else.
-fn first_wrong_again(
-    rt: &impl Abort,
-    alloc: Global,
-    bench: &mut Bench<'_>,
-    rows: &[Row],
-) -> Result<Option<usize>, Refusal> {
-    for (i, (branch, ask)) in rows.iter().enumerate() {
-        if !tells_again(rt, alloc, bench, &name_of(rt, *branch), *ask)? {
-            return Ok(Some(i));
-        }
-    }
-    Ok(None)
-}
 
 /// The first of these rows that goes wrong in a chart of these steps; none where it isn't opened for
 /// want of memory.
@@ -63,8 +27,8 @@ fn tried(
     requires { AllFit safe_behaviour steps.now }
 {
     let calls = Cell::new(0);
-    match bench_of(alloc, &calls, steps, wanted) {
-        Ok(mut bench) => first_wrong_again(rt, alloc, &mut bench, rows),
+    match bench_of(alloc, &calls, steps, wanted, TRIES) {
+        Ok(mut bench) => bench.first_wrong(rt, rows),
         Err(Refusal::Memory) => Ok(None),
         Err(refusal) => Err(refusal),
     }

@@ -4,8 +4,8 @@ ghost use Rattle.std.specs.Prelude.{◌≡◌, true};
 ghost use Rattle.frames.specs.Configuration.{fits_step};
 ghost use Rattle.frames.specs.SafeBit.{safe_behaviour};
 
-use super::rows::{Branch, Kind, limits, name_of, step_of};
-use crate::given::none_wrong;
+use super::rows::{Kind, limits, step_of};
+use crate::given::{Branch, name_of, none_wrong};
 use checkpoints::run::{Run, run_segment};
 use cutoff::chart::Chart;
 use cutoff::install::Installation;
@@ -199,15 +199,15 @@ fn forks(
     is_a: bool,
     is_one: bool,
 ) -> Result<bool, Refusal> {
-    let main = name_of(rt, Branch::Main);
-    let branch = branch_of(rt, is_a);
+    let main = name_of(rt, alloc, Branch::Main);
+    let branch = branch_of(rt, alloc, is_a);
     let piece = forked(alloc, shelf, &main, &branch, is_one)?;
     put(&mut shelf.pieces, is_a, piece);
     Ok(piece.is_some())
 }
 
-fn branch_of(rt: &impl Abort, is_a: bool) -> Name {
-    name_of(rt, if is_a { Branch::A } else { Branch::B })
+fn branch_of(rt: &impl Abort, alloc: Global, is_a: bool) -> Name {
+    name_of(rt, alloc, if is_a { Branch::A } else { Branch::B })
 }
 
 fn put(pieces: &mut Pieces, is_a: bool, piece: Option<Piece>) {
@@ -224,18 +224,18 @@ fn shows(rt: &impl Abort, alloc: Global, shelf: &mut Shelf, is_a: bool) -> Resul
     let Some(piece) = piece else {
         return Ok(false);
     };
-    let text = text_of(alloc, &mut shelf.chart, branch_of(rt, is_a), 2)?;
+    let text = text_of(alloc, &mut shelf.chart, branch_of(rt, alloc, is_a), 2)?;
     Ok(text.as_slice() == state_of(is_a, piece.is_one))
 }
 
 /// Does what is asked, and tells whether it goes as it has to.
 fn goes(rt: &impl Abort, alloc: Global, shelf: &mut Shelf, ask: Ask) -> Result<bool, Refusal> {
-    let main = name_of(rt, Branch::Main);
+    let main = name_of(rt, alloc, Branch::Main);
     match ask {
         Ask::Forks(is_a, is_one) => return forks(rt, alloc, shelf, is_a, is_one),
         Ask::Shows(is_a) => return shows(rt, alloc, shelf, is_a),
         Ask::Drops(is_a) => {
-            shelf.chart.drop_branch(&branch_of(rt, is_a))?;
+            shelf.chart.drop_branch(&branch_of(rt, alloc, is_a))?;
             put(&mut shelf.pieces, is_a, None);
         }
         Ask::Unsettles => {
@@ -270,7 +270,7 @@ fn first_wrong(
 fn tried(rt: &impl Abort, alloc: Global, asks: &[Ask]) -> Result<Option<usize>, Refusal> {
     let steps = [step_of(Kind::Read)];
     let chart = Chart::new(alloc, Safe, 0, limits(), &steps)?;
-    let jobs = chart.plan(alloc, &name_of(rt, Branch::Main))?;
+    let jobs = chart.plan(alloc, &name_of(rt, alloc, Branch::Main))?;
     let Some(job) = jobs.first() else {
         return Ok(Some(0));
     };

@@ -1,6 +1,8 @@
 //! Pages through a lens, place by place: each is that of a new lens, and hardly a step is made for
 //! it.
 
+ghost use Rattle.std.specs.Prelude.{◌<◌};
+
 use super::counting::Counting;
 use super::rows::{limits, writes};
 use crate::given::{name, none_wrong};
@@ -44,76 +46,96 @@ fn steps_for<'a>(
     }
 }
 
-/// The same of the page of a place.
-fn steps_at<'a>(
+/// A chart of the 1,000 writes on `main`, on a register that counts calls there.
+#[derive(Drop)]
+struct Counted<'a> {
     alloc: Global,
-    calls: &Cell<u32>,
-    chart: &mut Chart<Counting<'a>>,
-    lens: &mut Lens<Counting<'a>>,
-    branch: &Name,
-    place: u32,
-) -> Result<Option<u32>, Refusal> {
-    let branch = *branch;
-    let slip = Slip::at(alloc, chart, Query::State { branch, place })?;
-    match steps_for(alloc, calls, &slip, lens) {
-        Ok(made) => Ok(made),
-        Err(_) => Err(Refusal::Memory),
-    }
+    calls: &'a Cell<u32>,
+    main: Name,
+    chart: Chart<Counting<'a>>,
 }
 
-/// The first of these places, upwards, whose page isn't that of a new lens, or takes two steps.
-fn first_wrong_up<'a>(
-    alloc: Global,
-    calls: &Cell<u32>,
-    chart: &mut Chart<Counting<'a>>,
-    lens: &mut Lens<Counting<'a>>,
-    branch: &Name,
-    places: u32,
-) -> Result<Option<usize>, Refusal> {
-    for place in 0..places {
-        match steps_at(alloc, calls, chart, lens, branch, place)? {
-            Some(made) if made <= 1 => {}
-            _ => return Ok(Some(place as usize)),
-        }
+impl<'a> Counted<'a> {
+    /// Such a chart, whose register was at a value.
+    fn new(
+        rt: &impl Abort,
+        alloc: Global,
+        calls: &'a Cell<u32>,
+        value: u32,
+    ) -> Result<Counted<'a>, Refusal>
+        requires { value < 2 }
+    {
+        let steps = writes(alloc).expect(rt, "memory");
+        let chart = Chart::new(alloc, Counting::new(calls), value, limits(), &steps)?;
+        let main = name(rt, b"main");
+        Ok(Counted {
+            alloc,
+            calls,
+            main,
+            chart,
+        })
     }
-    Ok(None)
-}
 
-/// The first of these places, downwards, whose page isn't that of a new lens; the one above them
-/// where they take more than six steps each.
-fn first_wrong_down<'a>(
-    alloc: Global,
-    calls: &Cell<u32>,
-    chart: &mut Chart<Counting<'a>>,
-    lens: &mut Lens<Counting<'a>>,
-    branch: &Name,
-    places: u32,
-) -> Result<Option<usize>, Refusal> {
-    let mut steps = 0u64;
-    for passed in 0..places {
-        let place = places - 1 - passed;
-        match steps_at(alloc, calls, chart, lens, branch, place)? {
-            Some(made) => steps = steps.saturating_add(made as u64),
-            None => return Ok(Some(place as usize)),
+    /// How many steps are made for the page of a place; none where it isn't that of a new lens.
+    fn steps_at(
+        &mut self,
+        lens: &mut Lens<Counting<'a>>,
+        place: u32,
+    ) -> Result<Option<u32>, Refusal> {
+        let branch = self.main;
+        let slip = Slip::at(self.alloc, &mut self.chart, Query::State { branch, place })?;
+        match steps_for(self.alloc, self.calls, &slip, lens) {
+            Ok(made) => Ok(made),
+            Err(_) => Err(Refusal::Memory),
         }
     }
-    if steps <= 6 * places as u64 {
+
+    /// The first of these places, upwards, whose page isn't that of a new lens, or takes two steps.
+    fn first_wrong_up(
+        &mut self,
+        lens: &mut Lens<Counting<'a>>,
+        places: u32,
+    ) -> Result<Option<usize>, Refusal> {
+        for place in 0..places {
+            match self.steps_at(lens, place)? {
+                Some(made) if made <= 1 => {}
+                _ => return Ok(Some(place as usize)),
+            }
+        }
         Ok(None)
-    } else {
-        Ok(Some(places as usize))
+    }
+
+    /// The first of these places, downwards, whose page isn't that of a new lens; the one above them
+    /// where they take more than six steps each.
+    fn first_wrong_down(
+        &mut self,
+        lens: &mut Lens<Counting<'a>>,
+        places: u32,
+    ) -> Result<Option<usize>, Refusal> {
+        let mut steps = 0u64;
+        for passed in 0..places {
+            let place = places - 1 - passed;
+            match self.steps_at(lens, place)? {
+                Some(made) => steps = steps.saturating_add(made as u64),
+                None => return Ok(Some(place as usize)),
+            }
+        }
+        if steps <= 6 * places as u64 {
+            Ok(None)
+        } else {
+            Ok(Some(places as usize))
+        }
     }
 }
 
 /// The first place that goes wrong, up to one and down again through one lens.
 fn first_wrong(rt: &impl Abort, alloc: Global, places: u32) -> Result<Option<usize>, Refusal> {
     let calls = Cell::new(0);
-    let steps = writes(alloc).expect(rt, "memory");
-    let main = name(rt, b"main");
-    let mut chart = Chart::new(alloc, Counting::new(&calls), 0, limits(), &steps)?;
+    let mut chart = Counted::new(rt, alloc, &calls, 0)?;
     let mut lens = Lens::new(alloc).expect(rt, "memory");
-    match first_wrong_up(alloc, &calls, &mut chart, &mut lens, &main, places)? {
+    match chart.first_wrong_up(&mut lens, places)? {
         Some(place) => Ok(Some(place)),
-        None => first_wrong_down(alloc, &calls, &mut chart, &mut lens, &main, places),
+        None => chart.first_wrong_down(&mut lens, places),
     }
 }
 
@@ -129,20 +151,17 @@ fn three_hundred_places_up_and_down(rt: HostRuntime) {
 }
 
 /// The first place, upwards, where the page of one of two charts isn't its own: both through the
-/// one lens by turns, and each through its own.
+/// one lens by turns, and the second through its own.
 fn first_foreign<'a>(
-    alloc: Global,
-    calls: &Cell<u32>,
-    charts: (&mut Chart<Counting<'a>>, &mut Chart<Counting<'a>>),
-    lenses: (&mut Lens<Counting<'a>>, &mut Lens<Counting<'a>>),
-    branch: &Name,
+    zero: &mut Counted<'a>,
+    one: &mut Counted<'a>,
+    shared: &mut Lens<Counting<'a>>,
+    own: &mut Lens<Counting<'a>>,
 ) -> Result<Option<usize>, Refusal> {
-    let (zero, one) = charts;
-    let (shared, own) = lenses;
     for place in 0..40 {
-        let of_zero = steps_at(alloc, calls, zero, shared, branch, place)?;
-        let of_one = steps_at(alloc, calls, one, shared, branch, place)?;
-        let alone = steps_at(alloc, calls, one, own, branch, place)?;
+        let of_zero = zero.steps_at(shared, place)?;
+        let of_one = one.steps_at(shared, place)?;
+        let alone = one.steps_at(own, place)?;
         if of_zero.is_none() || of_one.is_none() || alone.is_none() {
             return Ok(Some(place as usize));
         }
@@ -153,19 +172,11 @@ fn first_foreign<'a>(
 /// The same of charts of the same steps from 0 and from 1, whose cells and words are as many.
 fn first_foreign_place(rt: &impl Abort, alloc: Global) -> Result<Option<usize>, Refusal> {
     let calls = Cell::new(0);
-    let steps = writes(alloc).expect(rt, "memory");
-    let main = name(rt, b"main");
-    let mut zero = Chart::new(alloc, Counting::new(&calls), 0, limits(), &steps)?;
-    let mut one = Chart::new(alloc, Counting::new(&calls), 1, limits(), &steps)?;
+    let mut zero = Counted::new(rt, alloc, &calls, 0)?;
+    let mut one = Counted::new(rt, alloc, &calls, 1)?;
     let mut shared = Lens::new(alloc).expect(rt, "memory");
     let mut own = Lens::new(alloc).expect(rt, "memory");
-    first_foreign(
-        alloc,
-        &calls,
-        (&mut zero, &mut one),
-        (&mut shared, &mut own),
-        &main,
-    )
+    first_foreign(&mut zero, &mut one, &mut shared, &mut own)
 }
 
 #[test]

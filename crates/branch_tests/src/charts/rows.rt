@@ -8,7 +8,7 @@ ghost use Rattle.frames.specs.Recorded.{AllFit};
 ghost use Rattle.schedule_trie.specs.Cut.{AreLimits};
 
 use super::counting::Counting;
-use crate::given::{name, none_wrong};
+use crate::given::{Branch, name, name_of, none_wrong};
 use checkpoints::run::{Run, run_segment};
 use cutoff::chart::Chart;
 use cutoff::install::Installation;
@@ -77,21 +77,6 @@ pub(super) fn writes(alloc: Global) -> Result<Vec<Step>, AllocError>
     Ok(steps)
 }
 
-#[derive(Clone, Copy)]
-pub(super) enum Branch {
-    Main,
-    A,
-    B,
-}
-
-pub(super) fn name_of(rt: &impl Abort, branch: Branch) -> Name {
-    match branch {
-        Branch::Main => name(rt, b"main"),
-        Branch::A => name(rt, b"a"),
-        Branch::B => name(rt, b"b"),
-    }
-}
-
 /// What a chart is asked, and what it has to tell.
 #[derive(Clone, Copy)]
 pub(super) enum Ask {
@@ -120,26 +105,16 @@ pub(super) enum Wanted {
     Last,
 }
 
-/// A chart on a register that counts calls, and runs that were made elsewhere.
+/// A chart on a register that counts calls, and runs that were made elsewhere. What is refused memory
+/// is asked again, until it was tried so often.
 #[derive(Drop)]
 pub(super) struct Bench<'a> {
+    alloc: Global,
     calls: &'a Cell<u32>,
     wanted: Wanted,
+    tries: u32,
     chart: Chart<Counting<'a>>,
     runs: Vec<Kept<'a>>,
-}
-
-/// What a settle tells that it replayed.
-fn replayed(
-    alloc: Global,
-    bench: &mut Bench<'_>,
-    branch: &Name,
-    place: u32,
-) -> Result<u32, Refusal> {
-    match bench.wanted {
-        Wanted::All => Ok(bench.chart.settle(alloc, branch, place)?.replayed),
-        Wanted::Last => Ok(bench.chart.settle_last(alloc, branch, place)?.replayed),
-    }
 }
 
 /// How many jobs there are.
@@ -170,32 +145,6 @@ fn run_of<'a>(alloc: Global, job: &Job<Counting<'a>>) -> Result<Kept<'a>, Refusa
     }
 }
 
-/// Keeps the run of a branch's one job, where it is of this step alone.
-fn keeps_run(
-    alloc: Global,
-    bench: &mut Bench<'_>,
-    branch: &Name,
-    kind: Kind,
-) -> Result<bool, Refusal> {
-    let jobs = bench.chart.plan(alloc, branch)?;
-    let Some(kept) = only_run(alloc, &jobs, step_of(kind))? else {
-        return Ok(false);
-    };
-    match bench.runs.push(kept) {
-        Ok(()) => Ok(true),
-        Err(_) => Err(Refusal::Memory),
-    }
-}
-
-/// Whether the first run that is kept is installed.
-fn installs(bench: &mut Bench<'_>) -> bool {
-    if bench.runs.is_empty() {
-        return false;
-    }
-    let (key, run) = bench.runs.remove(0);
-    bench.chart.install(key, run) == Installation::Installed
-}
-
 /// Makes an edit of a branch; none where something else is asked.
 fn edited(
     rt: &impl Abort,
@@ -213,49 +162,90 @@ fn edited(
     }
 }
 
-/// Whether a chart tells what it has to, and how many steps it tells to have replayed, or were made
-/// of a run.
-pub(super) fn told(
-    rt: &impl Abort,
-    alloc: Global,
-    bench: &mut Bench<'_>,
-    branch: &Name,
-    ask: Ask,
-) -> Result<(bool, u32), Refusal> {
-    match ask {
-        Ask::Settle(place, least, most) => {
-            let steps = replayed(alloc, bench, branch, place)?;
-            Ok((least <= steps && steps <= most, steps))
-        }
-        Ask::Plan(kind) => Ok((keeps_run(alloc, bench, branch, kind)?, 1)),
-        Ask::Install(is_wanted) => Ok((installs(bench) == is_wanted, 0)),
-        Ask::Left(jobs) => Ok((jobs_left(alloc, &bench.chart, branch)? == jobs, 0)),
-        _ => {
-            edited(rt, alloc, &mut bench.chart, branch, ask)?;
-            Ok((true, 0))
-        }
-    }
-}
-
 /// What a branch is asked.
 pub(super) type Row = (Branch, Ask);
 
-/// The first row where a chart tells something else, or where other calls are made than one for
-/// each such step.
-fn first_wrong_at(
-    rt: &impl Abort,
-    alloc: Global,
-    bench: &mut Bench<'_>,
-    rows: &[Row],
-) -> Result<Option<usize>, Refusal> {
-    for (i, (branch, ask)) in rows.iter().enumerate() {
-        let before = bench.calls.get();
-        let (is_wanted, steps) = told(rt, alloc, bench, &name_of(rt, *branch), *ask)?;
-        if !is_wanted || bench.calls.get().wrapping_sub(before) != steps {
-            return Ok(Some(i));
+impl Bench<'_> {
+    /// What a settle tells that it replayed.
+    fn replayed(&mut self, branch: &Name, place: u32) -> Result<u32, Refusal> {
+        match self.wanted {
+            Wanted::All => Ok(self.chart.settle(self.alloc, branch, place)?.replayed),
+            Wanted::Last => Ok(self.chart.settle_last(self.alloc, branch, place)?.replayed),
         }
     }
-    Ok(None)
+
+    /// Keeps the run of a branch's one job, where it is of this step alone.
+    fn keeps_run(&mut self, branch: &Name, kind: Kind) -> Result<bool, Refusal> {
+        let jobs = self.chart.plan(self.alloc, branch)?;
+        let Some(kept) = only_run(self.alloc, &jobs, step_of(kind))? else {
+            return Ok(false);
+        };
+        match self.runs.push(kept) {
+            Ok(()) => Ok(true),
+            Err(_) => Err(Refusal::Memory),
+        }
+    }
+
+    /// Whether the first run that is kept is installed.
+    fn installs(&mut self) -> bool {
+        if self.runs.is_empty() {
+            return false;
+        }
+        let (key, run) = self.runs.remove(0);
+        self.chart.install(key, run) == Installation::Installed
+    }
+
+    /// Whether the chart tells what it has to, and how many steps it tells to have replayed, or were
+    /// made of a run.
+    fn told(&mut self, rt: &impl Abort, branch: &Name, ask: Ask) -> Result<(bool, u32), Refusal> {
+        match ask {
+            Ask::Settle(place, least, most) => {
+                let steps = self.replayed(branch, place)?;
+                Ok((least <= steps && steps <= most, steps))
+            }
+            Ask::Plan(kind) => Ok((self.keeps_run(branch, kind)?, 1)),
+            Ask::Install(is_wanted) => Ok((self.installs() == is_wanted, 0)),
+            Ask::Left(jobs) => Ok((jobs_left(self.alloc, &self.chart, branch)? == jobs, 0)),
+            _ => {
+                edited(rt, self.alloc, &mut self.chart, branch, ask)?;
+                Ok((true, 0))
+            }
+        }
+    }
+
+    /// Whether the chart tells what it has to, and just one call is made for each such step.
+    fn is_told(&mut self, rt: &impl Abort, row: Row) -> Result<bool, Refusal> {
+        let (branch, ask) = row;
+        let branch = name_of(rt, self.alloc, branch);
+        let before = self.calls.get();
+        let (is_wanted, steps) = self.told(rt, &branch, ask)?;
+        Ok(is_wanted && self.calls.get().wrapping_sub(before) == steps)
+    }
+
+    /// The same of a chart that is asked until it isn't refused memory.
+    fn is_told_at_last(&mut self, rt: &impl Abort, row: Row) -> Result<bool, Refusal> {
+        for _ in 0..self.tries {
+            match self.is_told(rt, row) {
+                Err(Refusal::Memory) => {}
+                told => return told,
+            }
+        }
+        Err(Refusal::Memory)
+    }
+
+    /// The first row where the chart tells something else, or where other calls are made.
+    pub(super) fn first_wrong(
+        &mut self,
+        rt: &impl Abort,
+        rows: &[Row],
+    ) -> Result<Option<usize>, Refusal> {
+        for (i, row) in rows.iter().enumerate() {
+            if !self.is_told_at_last(rt, *row)? {
+                return Ok(Some(i));
+            }
+        }
+        Ok(None)
+    }
 }
 
 /// A chart of these steps, on a register that counts its calls there.
@@ -264,18 +254,22 @@ pub(super) fn bench_of<'a>(
     calls: &'a Cell<u32>,
     steps: &[Step],
     wanted: Wanted,
+    tries: u32,
 ) -> Result<Bench<'a>, Refusal>
     requires { AllFit safe_behaviour steps.now }
 {
     Ok(Bench {
+        alloc,
         calls,
         wanted,
+        tries,
         chart: Chart::new(alloc, Counting::new(calls), 0, limits(), steps)?,
         runs: Vec::new(alloc),
     })
 }
 
-/// The first row that goes wrong in a chart of these steps, whether all runs are wanted or the last one.
+/// The first row that goes wrong in a chart of these steps, whether all runs are wanted or the last
+/// one. Each call is made once.
 fn first_wrong(
     rt: &impl Abort,
     alloc: Global,
@@ -286,8 +280,8 @@ fn first_wrong(
 {
     for wanted in [Wanted::All, Wanted::Last] {
         let calls = Cell::new(0);
-        let mut bench = bench_of(alloc, &calls, steps, wanted)?;
-        let wrong = first_wrong_at(rt, alloc, &mut bench, rows)?;
+        let mut bench = bench_of(alloc, &calls, steps, wanted, 1)?;
+        let wrong = bench.first_wrong(rt, rows)?;
         if wrong.is_some() {
             return Ok(wrong);
         }
@@ -295,40 +289,39 @@ fn first_wrong(
     Ok(None)
 }
 
-/// The first row that goes wrong in a chart of 1,000 steps.
-fn first_wrong_of_writes(
+/// The first row that goes wrong in a chart of 1,000 steps which is settled, edited, and settled twice
+/// up to a place: so many steps are replayed the first time, at least and at most, and none the second
+/// time.
+fn first_wrong_around(
     rt: &impl Abort,
     alloc: Global,
-    rows: &[Row],
+    edit: Ask,
+    place: u32,
+    least: u32,
+    most: u32,
 ) -> Result<Option<usize>, Refusal> {
+    let rows = [
+        (Branch::Main, Ask::Settle(1000, 1000, 1000)),
+        (Branch::Main, edit),
+        (Branch::Main, Ask::Settle(place, least, most)),
+        (Branch::Main, Ask::Settle(place, 0, 0)),
+    ];
     let steps = writes(alloc).expect(rt, "memory");
-    first_wrong(rt, alloc, &steps, rows)
+    first_wrong(rt, alloc, &steps, &rows)
 }
-
-const ALL: Row = (Branch::Main, Ask::Settle(1000, 1000, 1000));
 
 #[test]
 fn thousand_steps(rt: HostRuntime) {
-    let rows = [
-        ALL,
-        (Branch::Main, Ask::Replace(10, Kind::Go1)),
-        (Branch::Main, Ask::Settle(1000, 1, 128)),
-        (Branch::Main, Ask::Settle(1000, 0, 0)),
-    ];
-    none_wrong(&rt, first_wrong_of_writes(&rt, rt.alloc(), &rows));
+    let edit = Ask::Replace(10, Kind::Go1);
+    none_wrong(&rt, first_wrong_around(&rt, rt.alloc(), edit, 1000, 1, 128));
 }
 
 /// A write of 1 in the place of one of 0: the next write is one of 1 too, and behind it all is as
 /// before.
 #[test]
 fn rejoined_suffix(rt: HostRuntime) {
-    let rows = [
-        ALL,
-        (Branch::Main, Ask::Replace(3, Kind::Write1)),
-        (Branch::Main, Ask::Settle(1000, 1, 256)),
-        (Branch::Main, Ask::Settle(1000, 0, 0)),
-    ];
-    none_wrong(&rt, first_wrong_of_writes(&rt, rt.alloc(), &rows));
+    let edit = Ask::Replace(3, Kind::Write1);
+    none_wrong(&rt, first_wrong_around(&rt, rt.alloc(), edit, 1000, 1, 256));
 }
 
 /// Places of a read that is put into 1,000 cells, and how many steps then differ. The read stays
@@ -337,25 +330,11 @@ fn rejoined_suffix(rt: HostRuntime) {
 /// at 0, 128, .. and 896, and a full one is cut in two new ones; each step makes one call.
 const READS: [(u32, u32); 4] = [(0, 1001), (512, 489), (630, 489), (1000, 105)];
 
-fn first_wrong_with_read(
-    rt: &impl Abort,
-    alloc: Global,
-    place: u32,
-    differ: u32,
-) -> Result<Option<usize>, Refusal> {
-    let rows = [
-        ALL,
-        (Branch::Main, Ask::Insert(place, Kind::Read)),
-        (Branch::Main, Ask::Settle(1001, differ, differ)),
-        (Branch::Main, Ask::Settle(1001, 0, 0)),
-    ];
-    first_wrong_of_writes(rt, alloc, &rows)
-}
-
 /// The first of these places where something goes wrong.
 fn first_wrong_read(rt: &impl Abort, alloc: Global) -> Result<Option<usize>, Refusal> {
     for (i, (place, differ)) in READS.iter().enumerate() {
-        if first_wrong_with_read(rt, alloc, *place, *differ)?.is_some() {
+        let edit = Ask::Insert(*place, Kind::Read);
+        if first_wrong_around(rt, alloc, edit, 1001, *differ, *differ)?.is_some() {
             return Ok(Some(i));
         }
     }
