@@ -15,47 +15,47 @@ fn split(alloc: Global, line: &str) -> Result<Vec<String>, Fail> {
     Ok(words)
 }
 
-/// Asserts that a line asks for a run that saves nothing.
-fn check_run(
-    rt: &impl Abort,
-    alloc: Global,
-    line: &str,
-    want: Option<&str>,
-    wanted: Options,
-) -> Result<(), Fail> {
+/// What a run has to be: its file, its options, and where it saves.
+type Run<'a> = (Option<&'a str>, Options, Option<&'a str>);
+
+/// Asserts that a line asks for this run.
+fn check_run(rt: &impl Abort, alloc: Global, line: &str, wanted: Run<'_>) -> Result<(), Fail> {
     let words = split(alloc, line)?;
     match parse(alloc, words.as_slice()) {
         Invocation::Run {
             file,
             options,
             save,
-        } => {
-            assert_eq!(rt; file, want, "{line}");
-            assert_eq!(rt; options, wanted, "{line}");
-            assert_eq!(rt; save, None, "{line}");
-        }
+        } => assert_eq!(rt; (file, options, save), wanted, "{line}"),
         _ => panic!(rt; "{line}"),
     }
     Ok(())
 }
 
+/// What a line is refused with.
+fn refused(rt: &impl Abort, alloc: Global, line: &str) -> Result<String, Fail> {
+    let words = split(alloc, line)?;
+    match parse(alloc, words.as_slice()) {
+        Invocation::Refused(text) => Ok(text),
+        _ => panic!(rt; "{line}"),
+    }
+}
+
 #[test]
 fn saves(rt: HostRuntime) -> Result<(), Fail> {
-    for (line, named, path) in [
-        ("--save kept", None, "kept"),
-        ("--save=kept tower", Some("tower"), "kept"),
-        ("tower --save tower", Some("tower"), "tower"),
-        ("--workers 4 --save kept --cells 4", None, "kept"),
-        ("--save -", None, "-"),
+    for (line, file, path, workers, cells) in [
+        ("--save kept", None, "kept", 0, 65536),
+        ("--save=kept tower", Some("tower"), "kept", 0, 65536),
+        ("tower --save tower", Some("tower"), "tower", 0, 65536),
+        ("--workers 4 --save kept --cells 4", None, "kept", 4, 4),
+        ("--save -", None, "-", 0, 65536),
     ] {
-        let words = split(rt.alloc(), line)?;
-        match parse(rt.alloc(), words.as_slice()) {
-            Invocation::Run { file, save, .. } => {
-                assert_eq!(rt; file, named, "{line}");
-                assert_eq!(rt; save, Some(path), "{line}");
-            }
-            _ => panic!(rt; "{line}"),
-        }
+        let options = Options {
+            workers,
+            cells,
+            branches: 64,
+        };
+        check_run(&rt, rt.alloc(), line, (file, options, Some(path)))?;
     }
     Ok(())
 }
@@ -93,70 +93,70 @@ fn runs(rt: HostRuntime) -> Result<(), Fail> {
             2,
         ),
     ] {
-        let wanted = Options {
+        let options = Options {
             workers,
             cells,
             branches,
         };
-        check_run(&rt, rt.alloc(), line, file, wanted)?;
+        check_run(&rt, rt.alloc(), line, (file, options, None))?;
     }
     Ok(())
 }
 
+/// Lines that are refused, each on a line of its own.
+const REFUSED: &str = "\
+one two
+one -- two
+--cells
+--cells=
+tower --cells
+--cells 0
+--cells 268435457
+--cells 99999999999999999999
+--cells -1
+--cells=-1
+--cells x
+--cells 4x
+--cells 0x4
+--cells 4.0
+--cells --help
+--cells 4 --cells 4
+--cell 4
+--Cells 4
+-c 4
+--workers
+--workers=
+tower --workers
+--workers 5
+--workers -1
+--workers=-1
+--workers x
+--workers 4 --workers 4
+--workers 4 one two
+--worker 4
+--branches
+--branches 0
+--branches 1025
+--branches x
+--branches 4 --branches 4
+--branches 4 one two
+--save
+tower --save
+--save kept --save kept
+--save one two three
+--version
+-V
+-x
+--help=1
+one two --help
+--cells 0 --help
+";
+
 #[test]
 fn refusals(rt: HostRuntime) -> Result<(), Fail> {
-    for line in [
-        "one two",
-        "one -- two",
-        "--cells",
-        "--cells=",
-        "tower --cells",
-        "--cells 0",
-        "--cells 268435457",
-        "--cells 99999999999999999999",
-        "--cells -1",
-        "--cells=-1",
-        "--cells x",
-        "--cells 4x",
-        "--cells 0x4",
-        "--cells 4.0",
-        "--cells --help",
-        "--cells 4 --cells 4",
-        "--cell 4",
-        "--Cells 4",
-        "-c 4",
-        "--workers",
-        "--workers=",
-        "tower --workers",
-        "--workers 5",
-        "--workers -1",
-        "--workers=-1",
-        "--workers x",
-        "--workers 4 --workers 4",
-        "--workers 4 one two",
-        "--worker 4",
-        "--branches",
-        "--branches 0",
-        "--branches 1025",
-        "--branches x",
-        "--branches 4 --branches 4",
-        "--branches 4 one two",
-        "--save",
-        "tower --save",
-        "--save kept --save kept",
-        "--save one two three",
-        "--version",
-        "-V",
-        "-x",
-        "--help=1",
-        "one two --help",
-        "--cells 0 --help",
-    ] {
-        let words = split(rt.alloc(), line)?;
-        match parse(rt.alloc(), words.as_slice()) {
-            Invocation::Refused(text) => assert!(rt; text.contains("--help"), "{line}: {text}"),
-            _ => panic!(rt; "{line}"),
-        }
+    for line in REFUSED.lines() {
+        let text = refused(&rt, rt.alloc(), line)?;
+        assert!(rt; text.contains("--help"), "{line}: {text}");
     }
     Ok(())
 }
@@ -177,16 +177,13 @@ Options:
   -h, --help          Print help
 ";
 
+/// Lines that ask for it, each on a line of its own.
+const ASKING: &str =
+    "--help\n-h\ntower --help\n--cells 4 -h\n--workers 4 --help\n--help --workers 5\n";
+
 #[test]
 fn help(rt: HostRuntime) -> Result<(), Fail> {
-    for line in [
-        "--help",
-        "-h",
-        "tower --help",
-        "--cells 4 -h",
-        "--workers 4 --help",
-        "--help --workers 5",
-    ] {
+    for line in ASKING.lines() {
         let words = split(rt.alloc(), line)?;
         match parse(rt.alloc(), words.as_slice()) {
             Invocation::Help(text) => assert_eq!(rt; text.as_str(), HELP, "{line}"),
@@ -250,11 +247,7 @@ fn what_is_wrong_is_named(rt: HostRuntime) -> Result<(), Fail> {
              For more information, try '--help'.\n",
         ),
     ] {
-        let words = split(rt.alloc(), line)?;
-        match parse(rt.alloc(), words.as_slice()) {
-            Invocation::Refused(text) => assert_eq!(rt; text.as_str(), want, "{line}"),
-            _ => panic!(rt; "{line}"),
-        }
+        assert_eq!(rt; refused(&rt, rt.alloc(), line)?.as_str(), want, "{line}");
     }
     Ok(())
 }

@@ -34,23 +34,24 @@ fn check(
     Ok(())
 }
 
+/// Counts of bytes, and limits under which so many are read.
+const WITHIN: [(usize, usize); 7] = [
+    (0, 0),
+    (1, 1),
+    (5, 9),
+    (4096, 4096),
+    (4097, 4097),
+    (8192, 8192),
+    (10_000, 10_000),
+];
+
 #[test]
 fn limits(rt: HostRuntime) -> Result<(), Fail> {
-    for (count, limit, fits) in [
-        (0, 0, true),
-        (1, 0, false),
-        (1, 1, true),
-        (2, 1, false),
-        (5, 9, true),
-        (4096, 4096, true),
-        (4097, 4096, false),
-        (4097, 4097, true),
-        (8192, 8192, true),
-        (8192, 8191, false),
-        (10_000, 10_000, true),
-        (10_000, 9_999, false),
-    ] {
-        check(&rt, rt.alloc(), count, limit, fits)?;
+    for (count, limit) in WITHIN {
+        check(&rt, rt.alloc(), count, limit, true)?;
+    }
+    for (count, limit) in [(1, 0), (2, 1), (4097, 4096), (8192, 8191), (10_000, 9_999)] {
+        check(&rt, rt.alloc(), count, limit, false)?;
     }
     Ok(())
 }
