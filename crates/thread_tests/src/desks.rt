@@ -1,9 +1,8 @@
 //! Desks on one safe bit: rows of calls, and chairs on threads of their own.
 
-ghost use Rattle.std.specs.Prelude.{◌≡◌, ◌<◌, ◌≤◌, IfOk};
+ghost use Rattle.std.specs.Prelude.{◌≡◌};
 ghost use Rattle.frames.specs.SafeBit.{safe_behaviour};
 ghost use Rattle.frames.specs.Recorded.{AllFit};
-ghost use Rattle.schedule_trie.specs.Cut.{AreLimits};
 ghost use Rattle.turn.specs.Shares.{every_share};
 ghost use Rattle.turn.specs.Chairs.{view};
 ghost use Rattle.desk.specs.Chairs.{IsAt};
@@ -15,13 +14,15 @@ mod guarded;
 mod limbs;
 mod measured;
 mod news;
+mod openings;
 mod rows;
+mod side_by_side;
 mod threads;
 
+use self::openings::limits;
 use desk::{Chair, Desk, Receipt};
 use frames::safe::Safe;
 use frames::types::Step;
-use schedule_trie::limits::Limits;
 use schedule_trie::name::Name;
 use schedule_trie::refusal::Refusal;
 use sessions::book::Book;
@@ -35,27 +36,6 @@ use views::page::page_text;
 use views::query::Query;
 
 const READ: Step = Step::Read { p: 1 };
-
-/// Limits with so many calls in the log.
-fn limits(log: u32) -> Limits
-    requires { (0 < log) × (log ≤ 1048576) }
-    ensures { AreLimits result }
-{
-    Limits {
-        cells: 4096,
-        branches: 4,
-        log,
-    }
-}
-
-/// A desk with no steps, and its first chair.
-fn opened(alloc: Global, log: u32) -> Result<(Desk<Safe>, Chair<Safe>), Refusal>
-    requires { (0 < log) × (log ≤ 1048576) }
-    ensures { IfOk result (λ r. IsAt (λ _. safe_behaviour) r.0 r.1
-        × ((view r.1).shares ≡ every_share)) }
-{
-    Desk::open(alloc, Safe, 0, limits(log), &[])
-}
 
 /// A chair with every share, and another one that is given half of them.
 fn halves(desk: &Desk<Safe>, mut chair: Chair<Safe>) -> (Chair<Safe>, Chair<Safe>)
@@ -81,22 +61,54 @@ fn insert_at(rt: &impl Abort, place: u32) -> Command {
     }
 }
 
+/// A desk, and by what its calls wait and take memory.
+#[derive(Drop)]
+struct Room<'a, R> {
+    rt: &'a R,
+    alloc: Global,
+    desk: &'a Desk<Safe>,
+}
+
+impl<'a, R> Room<'a, R> {
+    fn new(rt: &'a R, alloc: Global, desk: &'a Desk<Safe>) -> Room<'a, R>
+        ensures { result.desk.now ≡ desk.now }
+    {
+        Room { rt, alloc, desk }
+    }
+}
+
 /// A session, its guard, and its command.
 type Call<'a> = (u32, Option<u64>, &'a Command);
 
-/// Brings a command; what the call promises of histories is forgotten.
-fn bring<W: Wait>(
-    rt: &W,
-    alloc: Global,
-    desk: &Desk<Safe>,
-    chair: &mut Chair<Safe>,
-    call: Call<'_>,
-) -> Receipt
-    requires { IsAt (λ _. safe_behaviour) desk.now chair.old }
-    ensures { IsAt (λ _. safe_behaviour) desk.now chair.new }
-{
-    let (who, if_at, command) = call;
-    desk.act(rt, alloc, chair, who, if_at, command)
+impl<R: Wait> Room<'_, R> {
+    /// Brings a command; what the call promises of histories is forgotten.
+    fn bring(&self, chair: &mut Chair<Safe>, call: Call<'_>) -> Receipt
+        requires { IsAt (λ _. safe_behaviour) self.now.desk.now chair.old }
+        ensures { IsAt (λ _. safe_behaviour) self.now.desk.now chair.new }
+    {
+        let (who, if_at, command) = call;
+        self.desk
+            .act(self.rt, self.alloc, chair, who, if_at, command)
+    }
+
+    /// How long the history is, and the text of a look's page.
+    fn text_at(&self, chair: &mut Chair<Safe>, query: &Query) -> Result<(u64, Vec<u8>), Refusal>
+        requires { IsAt (λ _. safe_behaviour) self.now.desk.now chair.old }
+        ensures { IsAt (λ _. safe_behaviour) self.now.desk.now chair.new }
+    {
+        let Ok(mut lens) = Lens::new(self.alloc) else {
+            return Err(Refusal::Memory);
+        };
+        let answer = self
+            .desk
+            .look(self.rt, self.alloc, chair, &mut lens, *query);
+        let at = answer.at;
+        let page = answer.result?;
+        let Ok(text) = page_text(self.alloc, 0, &page) else {
+            return Err(Refusal::Memory);
+        };
+        Ok((at, text))
+    }
 }
 
 /// The news; what they promise is forgotten.
@@ -121,29 +133,6 @@ fn closed(desk: Desk<Safe>, chair: Chair<Safe>) -> Option<Log>
     requires { IsAt (λ _. safe_behaviour) desk chair }
 {
     desk.close(chair).ok()
-}
-
-/// How long the history is, and the text of a look's page.
-fn text_at<R: Wait>(
-    rt: &R,
-    alloc: Global,
-    desk: &Desk<Safe>,
-    chair: &mut Chair<Safe>,
-    query: &Query,
-) -> Result<(u64, Vec<u8>), Refusal>
-    requires { IsAt (λ _. safe_behaviour) desk.now chair.old }
-    ensures { IsAt (λ _. safe_behaviour) desk.now chair.new }
-{
-    let Ok(mut lens) = Lens::new(alloc) else {
-        return Err(Refusal::Memory);
-    };
-    let answer = desk.look(rt, alloc, chair, &mut lens, *query);
-    let at = answer.at;
-    let page = answer.result?;
-    let Ok(text) = page_text(alloc, 0, &page) else {
-        return Err(Refusal::Memory);
-    };
-    Ok((at, text))
 }
 
 /// Whether a book replies to a call of a log as the log says.

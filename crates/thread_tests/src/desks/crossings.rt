@@ -6,9 +6,8 @@ ghost use Rattle.turn.specs.Shares.{every_share};
 ghost use Rattle.turn.specs.Chairs.{view};
 ghost use Rattle.desk.specs.Chairs.{IsAt};
 
-use super::fills::thousand;
-use super::growths::text_again;
-use super::{READ, halves, limits, name, text_at};
+use super::openings::{limits, thousand};
+use super::{READ, Room, halves, name};
 use desk::{Chair, Desk, Item, Journal, Report};
 use frames::register::Register;
 use frames::safe::Safe;
@@ -142,7 +141,8 @@ fn crossing_install(rt: HostRuntime) -> Result<(), Fail> {
         branch: name(&rt, b"main"),
         place: 2,
     };
-    let (at, text) = text_at(&rt, rt.alloc(), &desk, &mut first, &query)?;
+    let room = Room::new(&rt, rt.alloc(), &desk);
+    let (at, text) = room.text_at(&mut first, &query)?;
     assert_eq!(rt; at, 1);
     assert!(rt; text.as_slice() == STATE);
     Ok(())
@@ -183,6 +183,7 @@ fn crossing_wanting_memory(rt: HostRuntime) {
         branch: name(&rt, b"main"),
         place: 0,
     };
-    let (at, _) = text_again(&rt, alloc, &desk, first, &query);
+    let room = Room::new(&rt, alloc, &desk);
+    let (at, _) = room.text_again(&mut first, &query);
     assert!(rt; at <= 1);
 }

@@ -6,10 +6,10 @@ ghost use Rattle.std.specs.Prelude.{◌≤◌};
 ghost use Rattle.frames.specs.SafeBit.{safe_behaviour};
 ghost use Rattle.desk.specs.Chairs.{IsAt};
 
-use super::fills::{filled, thousand};
+use super::openings::{opened, thousand};
 use super::rows::{STATE, state_after_one};
-use super::{asked, bring, halves, insert_at, name, opened, text_at};
-use desk::{Chair, Desk, Receipt};
+use super::{Room, asked, halves, insert_at, name};
+use desk::{Chair, Receipt};
 use frames::safe::Safe;
 use schedule_trie::refusal::Refusal;
 use sessions::command::Command;
@@ -30,21 +30,18 @@ fn are_allowed(first: Receipt, second: Receipt) -> bool {
     }
 }
 
-/// The text of the state after the first step of `main`; none where memory was refused.
-fn shown<R: Abort + Wait>(
-    rt: &R,
-    alloc: Global,
-    desk: &Desk<Safe>,
-    chair: &mut Chair<Safe>,
-) -> Option<Vec<u8>>
-    requires { IsAt (λ _. safe_behaviour) desk.now chair.old }
-    ensures { IsAt (λ _. safe_behaviour) desk.now chair.new }
-{
-    match text_at(rt, alloc, desk, chair, &state_after_one(rt)) {
-        Ok((_, text)) => Some(text),
-        Err(refusal) => {
-            assert!(rt; refusal == Refusal::Memory);
-            None
+impl<R: Abort + Wait> Room<'_, R> {
+    /// The text of the state after the first step of `main`; none where memory was refused.
+    fn shown(&self, chair: &mut Chair<Safe>) -> Option<Vec<u8>>
+        requires { IsAt (λ _. safe_behaviour) self.now.desk.now chair.old }
+        ensures { IsAt (λ _. safe_behaviour) self.now.desk.now chair.new }
+    {
+        match self.text_at(chair, &state_after_one(self.rt)) {
+            Ok((_, text)) => Some(text),
+            Err(refusal) => {
+                assert!(self.rt; refusal == Refusal::Memory);
+                None
+            }
         }
     }
 }
@@ -60,12 +57,13 @@ fn two_chairs_wanting_memory(rt: HostRuntime) {
         }
     };
     let (mut first, mut second) = halves(&desk, first);
+    let room = Room::new(&rt, alloc, &desk);
     let insert = insert_at(&rt, 0);
-    let done = bring(&rt, alloc, &desk, &mut first, (0, Some(0), &insert));
-    let late = bring(&rt, alloc, &desk, &mut second, (1, Some(0), &insert));
+    let done = room.bring(&mut first, (0, Some(0), &insert));
+    let late = room.bring(&mut second, (1, Some(0), &insert));
     assert!(rt; are_allowed(done, late));
     assert_eq!(rt; asked(&desk, &mut first), late.at);
-    if let Some(text) = shown(&rt, alloc, &desk, &mut first) {
+    if let Some(text) = room.shown(&mut first) {
         assert!(rt; text.as_slice() == STATE);
     }
 }
@@ -73,44 +71,35 @@ fn two_chairs_wanting_memory(rt: HostRuntime) {
 /// How often a call is made at most: more often than growths are refused in a row.
 const TRIES: u32 = 10;
 
-/// Brings a command guarded by no edit, until it isn't refused memory.
-fn bring_again<R: Abort + Wait>(
-    rt: &R,
-    alloc: Global,
-    desk: &Desk<Safe>,
-    mut chair: Chair<Safe>,
-    who: u32,
-    command: &Command,
-) -> (Chair<Safe>, Receipt)
-    requires { IsAt (λ _. safe_behaviour) desk.now chair }
-    ensures { IsAt (λ _. safe_behaviour) desk.now result.0 }
-{
-    for _ in 0..TRIES {
-        let receipt = bring(rt, alloc, desk, &mut chair, (who, Some(0), command));
-        if receipt.reply != Reply::No(Refusal::Memory) {
-            return (chair, receipt);
+impl<R: Abort + Wait> Room<'_, R> {
+    /// Brings a command guarded by no edit, until it isn't refused memory.
+    fn bring_again(&self, chair: &mut Chair<Safe>, who: u32, command: &Command) -> Receipt
+        requires { IsAt (λ _. safe_behaviour) self.now.desk.now chair.old }
+        ensures { IsAt (λ _. safe_behaviour) self.now.desk.now chair.new }
+    {
+        for _ in 0..TRIES {
+            let receipt = self.bring(chair, (who, Some(0), command));
+            if receipt.reply != Reply::No(Refusal::Memory) {
+                return receipt;
+            }
         }
+        panic!(self.rt; "a command that isn't refused memory")
     }
-    panic!(rt; "a command that isn't refused memory")
-}
 
-/// The text of a look's page, which is asked for until memory isn't refused, and how long the history is.
-pub(super) fn text_again<R: Abort + Wait>(
-    rt: &R,
-    alloc: Global,
-    desk: &Desk<Safe>,
-    mut chair: Chair<Safe>,
-    query: &Query,
-) -> (u64, Vec<u8>)
-    requires { IsAt (λ _. safe_behaviour) desk.now chair }
-{
-    for _ in 0..TRIES {
-        match text_at(rt, alloc, desk, &mut chair, query) {
-            Ok(told) => return told,
-            Err(refusal) => assert!(rt; refusal == Refusal::Memory),
+    /// The text of a look's page, which is asked for until memory isn't refused, and how long the
+    /// history is.
+    pub(super) fn text_again(&self, chair: &mut Chair<Safe>, query: &Query) -> (u64, Vec<u8>)
+        requires { IsAt (λ _. safe_behaviour) self.now.desk.now chair.old }
+        ensures { IsAt (λ _. safe_behaviour) self.now.desk.now chair.new }
+    {
+        for _ in 0..TRIES {
+            match self.text_at(chair, query) {
+                Ok(told) => return told,
+                Err(refusal) => assert!(self.rt; refusal == Refusal::Memory),
+            }
         }
+        panic!(self.rt; "a page that isn't refused memory")
     }
-    panic!(rt; "a page that isn't refused memory")
 }
 
 #[test]
@@ -119,47 +108,45 @@ fn two_chairs_asking_again(rt: HostRuntime) {
     let Ok((desk, first)) = opened(alloc, 16) else {
         return;
     };
-    let (first, second) = halves(&desk, first);
+    let (mut first, mut second) = halves(&desk, first);
+    let room = Room::new(&rt, alloc, &desk);
     let insert = insert_at(&rt, 0);
-    let (first, done) = bring_again(&rt, alloc, &desk, first, 0, &insert);
+    let done = room.bring_again(&mut first, 0, &insert);
     assert!(rt; (done.at, done.reply) == (1, Reply::Edited(1)));
-    let (_, late) = bring_again(&rt, alloc, &desk, second, 1, &insert);
+    let late = room.bring_again(&mut second, 1, &insert);
     assert!(rt; (late.at, late.reply) == (2, Reply::No(Refusal::Newer(1))));
-    let (at, text) = text_again(&rt, alloc, &desk, first, &state_after_one(&rt));
+    let (at, text) = room.text_again(&mut first, &state_after_one(&rt));
     assert!(rt; at == 2 && text.as_slice() == STATE);
 }
 
-/// Fills `main`, of which each run fits, until there is no job. The answer is how many runs were installed, and whether no fill was refused.
-fn fill_again<R: Abort + Threads + Wait + Sync>(
-    rt: &R,
-    alloc: Global,
-    desk: &Desk<Safe>,
-    mut chair: Chair<Safe>,
-    thieves: u32,
-) -> (Chair<Safe>, u64, bool)
-    requires at { IsAt (λ _. safe_behaviour) desk.now chair }
-    requires thieves { thieves ≤ 4 }
-    ensures { IsAt (λ _. safe_behaviour) desk.now result.0 }
-{
-    let branch = name(rt, b"main");
-    let mut installed = 0u64;
-    let mut all = true;
-    for _ in 0..TRIES {
-        match filled(rt, alloc, desk, &mut chair, &branch, thieves) {
-            Ok(report) => {
-                assert!(rt; report.stale == 0 && report.gone == 0);
-                if report.planned == 0 {
-                    return (chair, installed, all);
+impl<R: Abort + Threads + Wait + Sync> Room<'_, R> {
+    /// Fills `main`, of which each run fits, until there is no job. The answer is how many runs were
+    /// installed, and whether no fill was refused.
+    fn fill_again(&self, chair: &mut Chair<Safe>, thieves: u32) -> (u64, bool)
+        requires at { IsAt (λ _. safe_behaviour) self.now.desk.now chair.old }
+        requires thieves { thieves ≤ 4 }
+        ensures { IsAt (λ _. safe_behaviour) self.now.desk.now chair.new }
+    {
+        let branch = name(self.rt, b"main");
+        let mut installed = 0u64;
+        let mut all = true;
+        for _ in 0..TRIES {
+            match self.filled(chair, &branch, thieves) {
+                Ok(report) => {
+                    assert!(self.rt; report.stale == 0 && report.gone == 0);
+                    if report.planned == 0 {
+                        return (installed, all);
+                    }
+                    installed = installed.wrapping_add(report.installed);
                 }
-                installed = installed.wrapping_add(report.installed);
-            }
-            Err(refusal) => {
-                assert!(rt; refusal == Refusal::Memory);
-                all = false;
+                Err(refusal) => {
+                    assert!(self.rt; refusal == Refusal::Memory);
+                    all = false;
+                }
             }
         }
+        panic!(self.rt; "a fill that has no job")
     }
-    panic!(rt; "a fill that has no job")
 }
 
 /// The page of the state after the thousand steps.
@@ -170,16 +157,17 @@ const FILLED: &[u8] =
 fn thousand_with<R: Abort + Threads + Wait + Sync>(rt: &R, alloc: Global, thieves: u32)
     requires { thieves ≤ 4 }
 {
-    let Ok((desk, chair)) = thousand(alloc, 1024) else {
+    let Ok((desk, mut chair)) = thousand(alloc, 1024) else {
         return;
     };
-    let (chair, installed, all) = fill_again(rt, alloc, &desk, chair, thieves);
+    let room = Room::new(rt, alloc, &desk);
+    let (installed, all) = room.fill_again(&mut chair, thieves);
     assert!(rt; installed == 8 || (installed < 8 && !all));
     let state = Query::State {
         branch: name(rt, b"main"),
         place: 1000,
     };
-    let (at, text) = text_again(rt, alloc, &desk, chair, &state);
+    let (at, text) = room.text_again(&mut chair, &state);
     assert!(rt; at == 0 && text.as_slice() == FILLED);
 }
 

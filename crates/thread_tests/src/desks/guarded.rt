@@ -1,13 +1,14 @@
 //! Two chairs at guarded edits of one branch, each of which asks again with the count that a refusal
 //! tells.
 
-ghost use denote.Param.Send.{IsSync};
 ghost use Rattle.frames.specs.SafeBit.{safe_behaviour};
 ghost use Rattle.desk.specs.Chairs.{IsAt};
 
 use super::fills::text_on;
-use super::{READ, bring, closed, halves, name, opened, replayed, take_in, text_at};
-use desk::{Chair, Desk, Receipt};
+use super::openings::opened;
+use super::side_by_side::{Work, log_and_text};
+use super::{READ, Room, halves, name, replayed};
+use desk::{Chair, Receipt};
 use frames::safe::Safe;
 use frames::types::Step;
 use schedule_trie::refusal::Refusal;
@@ -18,8 +19,6 @@ use std::alloc::Global;
 use std::process::Abort;
 use std::sync::Wait;
 use std::test::Fail;
-use std::thread;
-use std::thread::Threads;
 use views::query::Query;
 
 /// How many edits each chair makes.
@@ -45,76 +44,29 @@ fn count_told(receipt: Receipt) -> Option<(u64, bool)> {
     }
 }
 
-/// A session's inserts, each guarded by the count that the reply before it tells. The answer is
-/// whether so many were made, one of the other chair's edits behind each that was refused.
-fn insert_guarded<R: Abort + Wait>(
-    rt: &R,
-    alloc: Global,
-    desk: &Desk<Safe>,
-    mut chair: Chair<Safe>,
-    who: u32,
-) -> (Chair<Safe>, bool)
-    requires { IsAt (λ _. safe_behaviour) desk.now chair }
-    ensures { IsAt (λ _. safe_behaviour) desk.now result.0 }
-{
-    let insert = insert_of(rt, who);
-    let mut guard = 0u64;
-    let mut made = 0u32;
-    for _ in 0..2 * EDITS {
-        let receipt = bring(rt, alloc, desk, &mut chair, (who, Some(guard), &insert));
-        let Some((count, is_made)) = count_told(receipt) else {
-            return (chair, false);
-        };
-        guard = count;
-        made = made.wrapping_add(u32::from(is_made));
-        if made == EDITS {
-            return (chair, true);
+impl<R: Abort + Wait> Room<'_, R> {
+    /// A session's inserts, each guarded by the count that the reply before it tells. The answer is
+    /// whether so many were made, one of the other chair's edits behind each that was refused.
+    pub(super) fn insert_guarded(&self, chair: &mut Chair<Safe>, who: u32) -> bool
+        requires { IsAt (λ _. safe_behaviour) self.now.desk.now chair.old }
+        ensures { IsAt (λ _. safe_behaviour) self.now.desk.now chair.new }
+    {
+        let insert = insert_of(self.rt, who);
+        let mut guard = 0u64;
+        let mut made = 0u32;
+        for _ in 0..2 * EDITS {
+            let receipt = self.bring(chair, (who, Some(guard), &insert));
+            let Some((count, is_made)) = count_told(receipt) else {
+                return false;
+            };
+            guard = count;
+            made = made.wrapping_add(u32::from(is_made));
+            if made == EDITS {
+                return true;
+            }
         }
+        false
     }
-    (chair, false)
-}
-
-/// Two threads at their guarded inserts, and the chair that they leave.
-fn guarded_by_two<R: Abort + Threads + Wait + Sync>(
-    rt: &R,
-    alloc: Global,
-    desk: &Desk<Safe>,
-    first: Chair<Safe>,
-    second: Chair<Safe>,
-) -> (Chair<Safe>, bool)
-    requires { IsAt (λ _. safe_behaviour) desk.now first
-        × IsAt (λ _. safe_behaviour) desk.now second }
-    ensures { IsAt (λ _. safe_behaviour) desk.now result.0 }
-{
-    let ((mut first, one), (second, other)) = thread::join(
-        rt,
-        move || -> (Chair<Safe>, bool)
-            requires { IsAt (λ _. safe_behaviour) desk.now first }
-            ensures { IsAt (λ _. safe_behaviour) desk.entry.now result.0 }
-        { insert_guarded(rt, alloc, desk, first, 0) },
-        move || -> (Chair<Safe>, bool)
-            requires { IsAt (λ _. safe_behaviour) desk.now second }
-            ensures { IsAt (λ _. safe_behaviour) desk.entry.now result.0 }
-        { insert_guarded(rt, alloc, desk, second, 1) },
-    );
-    take_in(desk, &mut first, second);
-    (first, one && other)
-}
-
-/// The log of two chairs' guarded inserts, and the text of a page behind them.
-fn log_and_text<R: Abort + Threads + Wait + Sync>(
-    rt: &R,
-    alloc: Global,
-    query: &Query,
-) -> Result<Option<(Log, Vec<u8>)>, Refusal> {
-    let (desk, chair) = opened(alloc, 1024)?;
-    let (chair, second) = halves(&desk, chair);
-    let (mut chair, fine) = guarded_by_two(rt, alloc, &desk, chair, second);
-    let (_, text) = text_at(rt, alloc, &desk, &mut chair, query)?;
-    let Some(log) = closed(desk, chair) else {
-        return Ok(None);
-    };
-    Ok(if fine { Some((log, text)) } else { None })
 }
 
 /// Whether an entry is an edit of a chair that was made.
@@ -145,7 +97,12 @@ fn fifty_guarded_edits_each(rt: HostRuntime) -> Result<(), Fail> {
         branch: name(&rt, b"main"),
     };
     for _ in 0..10 {
-        let Some((log, text)) = log_and_text(&rt, rt.alloc(), &query)? else {
+        let (desk, chair) = opened(rt.alloc(), 1024)?;
+        let (first, second) = halves(&desk, chair);
+        let first = (first, Work::GuardedInserts(0));
+        let second = (second, Work::GuardedInserts(1));
+        let told = log_and_text(&rt, rt.alloc(), desk, first, second, &query)?;
+        let Some((log, text)) = told else {
             panic!(rt; "guarded edits that are made or newer, and a log")
         };
         assert!(rt; edits_of(&log, 0) == 50 && edits_of(&log, 1) == 50);

@@ -6,7 +6,8 @@ ghost use Rattle.schedule_trie.specs.Names.{name};
 ghost use Rattle.schedule_trie.specs.Limbs.{IsLawful};
 ghost use Rattle.cutoff.specs.Held.{LimbsFit};
 
-use super::{READ, limits};
+use super::READ;
+use super::openings::limits;
 use cutoff::chart::Chart;
 use desk::Desk;
 use frames::safe::Safe;
@@ -74,9 +75,7 @@ fn are_same(some: &[Limb], others: &[Limb]) -> bool {
 
 /// Whether a chart that is loaded from limbs tells these.
 fn chart_keeps(alloc: Global, limbs: &[Limb]) -> Result<bool, Refusal>
-    requires lawful { IsLawful limbs.now }
-    requires some { 0 < length limbs.now }
-    requires fit { LimbsFit safe_behaviour limbs.now }
+    requires { IsLawful limbs.now × (0 < length limbs.now) × LimbsFit safe_behaviour limbs.now }
 {
     let chart = Chart::load(alloc, Safe, 0, limits(1), limbs)?;
     Ok(are_same(&chart.limbs(alloc)?, limbs))
@@ -84,9 +83,7 @@ fn chart_keeps(alloc: Global, limbs: &[Limb]) -> Result<bool, Refusal>
 
 /// Whether a book does.
 fn book_keeps(alloc: Global, limbs: &[Limb]) -> Result<bool, Refusal>
-    requires lawful { IsLawful limbs.now }
-    requires some { 0 < length limbs.now }
-    requires fit { LimbsFit safe_behaviour limbs.now }
+    requires { IsLawful limbs.now × (0 < length limbs.now) × LimbsFit safe_behaviour limbs.now }
 {
     let book = Book::load(alloc, Safe, 0, limits(1), limbs)?;
     Ok(are_same(&book.limbs(alloc)?, limbs))
@@ -94,9 +91,7 @@ fn book_keeps(alloc: Global, limbs: &[Limb]) -> Result<bool, Refusal>
 
 /// Whether a desk does, behind no call.
 fn desk_keeps<R: Wait>(rt: &R, alloc: Global, limbs: &[Limb]) -> Result<bool, Refusal>
-    requires lawful { IsLawful limbs.now }
-    requires some { 0 < length limbs.now }
-    requires fit { LimbsFit safe_behaviour limbs.now }
+    requires { IsLawful limbs.now × (0 < length limbs.now) × LimbsFit safe_behaviour limbs.now }
 {
     let (desk, mut chair) = Desk::open_limbs(alloc, Safe, 0, limits(1), limbs)?;
     let saved = desk.limbs(rt, alloc, &mut chair)?;

@@ -7,8 +7,8 @@ ghost use Rattle.std.specs.Prelude.{◌≡◌, IfOk};
 ghost use Rattle.desk.specs.Chairs.{IsAt};
 ghost use Rattle.schedule_trie.specs.Cut.{AreLimits};
 
-use super::threads::{insert_all, inserted_by_two};
-use super::{halves, insert_at};
+use super::threads::inserted_by_two;
+use super::{Room, insert_at};
 use desk::{Chair, Desk};
 use frames::safe::Safe;
 use schedule_trie::limits::Limits;
@@ -17,6 +17,7 @@ use sessions::book::Book;
 use sessions::reply::Reply;
 use std::alloc::Global;
 use std::process::Abort;
+use std::sync::Wait;
 use std::test::Fail;
 
 /// How many edits a thread makes.
@@ -58,27 +59,28 @@ fn on_a_book(rt: HostRuntime) -> Result<(), Fail> {
     Ok(())
 }
 
+/// Makes so many inserts at a desk.
+fn insert_at_a_desk<R: Abort + Wait>(rt: &R, alloc: Global, count: u32) -> Result<(), Fail> {
+    let (desk, mut chair) = opened_wide(alloc)?;
+    let room = Room::new(rt, alloc, &desk);
+    assert!(rt; room.insert_all(&mut chair, count));
+    Ok(())
+}
+
 #[test]
 fn at_a_desk(rt: HostRuntime) -> Result<(), Fail> {
-    let (desk, chair) = opened_wide(rt.alloc())?;
-    let (_, all) = insert_all(&rt, rt.alloc(), &desk, chair, EDITS);
-    assert!(rt; all);
-    Ok(())
+    insert_at_a_desk(&rt, rt.alloc(), EDITS)
 }
 
 #[test]
 fn twice_as_many_by_one_thread(rt: HostRuntime) -> Result<(), Fail> {
-    let (desk, chair) = opened_wide(rt.alloc())?;
-    let (_, all) = insert_all(&rt, rt.alloc(), &desk, chair, 2 * EDITS);
-    assert!(rt; all);
-    Ok(())
+    insert_at_a_desk(&rt, rt.alloc(), 2 * EDITS)
 }
 
 #[test]
 fn as_many_by_each_of_two_threads(rt: HostRuntime) -> Result<(), Fail> {
-    let (desk, first) = opened_wide(rt.alloc())?;
-    let (first, second) = halves(&desk, first);
-    let log = inserted_by_two(&rt, rt.alloc(), desk, first, second, EDITS);
+    let (desk, chair) = opened_wide(rt.alloc())?;
+    let log = inserted_by_two(&rt, rt.alloc(), desk, chair, EDITS);
     assert!(rt; log.is_some());
     Ok(())
 }

@@ -4,7 +4,8 @@ ghost use Rattle.std.specs.Prelude.{IfOk};
 ghost use Rattle.frames.specs.SafeBit.{safe_behaviour};
 ghost use Rattle.desk.specs.Chairs.{IsAt};
 
-use super::{asked, bring, closed, halves, insert_at, name, opened, take_in, text_at};
+use super::openings::opened;
+use super::{Room, asked, closed, halves, insert_at, name, take_in};
 use desk::{Chair, Desk, Receipt};
 use frames::safe::Safe;
 use schedule_trie::refusal::Refusal;
@@ -31,15 +32,16 @@ fn two_inserts<R: Abort + Wait>(
 {
     let (desk, first) = opened(alloc, 16)?;
     let (mut first, mut second) = halves(&desk, first);
+    let room = Room::new(rt, alloc, &desk);
     let insert = insert_at(rt, 0);
-    let done = bring(rt, alloc, &desk, &mut first, (0, Some(0), &insert));
+    let done = room.bring(&mut first, (0, Some(0), &insert));
     assert!(rt;
         done == Receipt {
             at: 1,
             reply: Reply::Edited(1)
         }
     );
-    let late = bring(rt, alloc, &desk, &mut second, (1, Some(0), &insert));
+    let late = room.bring(&mut second, (1, Some(0), &insert));
     assert!(rt;
         late == Receipt {
             at: 2,
@@ -61,7 +63,8 @@ pub(super) fn state_after_one(rt: &impl Abort) -> Query {
 fn two_chairs(rt: HostRuntime) -> Result<(), Fail> {
     let (desk, mut first, second) = two_inserts(&rt, rt.alloc())?;
     assert_eq!(rt; asked(&desk, &mut first), 2);
-    let (at, text) = text_at(&rt, rt.alloc(), &desk, &mut first, &state_after_one(&rt))?;
+    let room = Room::new(&rt, rt.alloc(), &desk);
+    let (at, text) = room.text_at(&mut first, &state_after_one(&rt))?;
     assert_eq!(rt; at, 2);
     assert!(rt; text.as_slice() == STATE);
     assert!(rt; first.shares() == 8 && second.shares() == 8);
@@ -94,32 +97,12 @@ fn chairs_out(rt: HostRuntime) -> Result<(), Fail> {
     let chairs = log.entries().iter().map(|entry| entry.chair);
     assert!(rt; chairs.eq([0, 1]));
     let (desk, mut chair) = opened(rt.alloc(), 1)?;
-    let joined = bring(
-        &rt,
-        rt.alloc(),
-        &desk,
-        &mut chair,
-        (0, None, &Command::Join),
-    );
-    assert!(rt;
-        joined
-            == Receipt {
-                at: 1,
-                reply: Reply::Joined
-            }
-    );
-    let full = bring(
-        &rt,
-        rt.alloc(),
-        &desk,
-        &mut chair,
-        (0, None, &Command::Join),
-    );
-    assert!(rt;
-        full == Receipt {
-            at: 1,
-            reply: Reply::No(Refusal::LogFull)
-        }
-    );
+    let room = Room::new(&rt, rt.alloc(), &desk);
+    let joined = room.bring(&mut chair, (0, None, &Command::Join));
+    let reply = Reply::Joined;
+    assert!(rt; joined == Receipt { at: 1, reply });
+    let full = room.bring(&mut chair, (0, None, &Command::Join));
+    let reply = Reply::No(Refusal::LogFull);
+    assert!(rt; full == Receipt { at: 1, reply });
     Ok(())
 }

@@ -1,11 +1,15 @@
 //! Chairs on threads of their own.
 
-ghost use Rattle.std.specs.Prelude.{◌<◌, IfSome};
+ghost use Rattle.std.specs.Prelude.{◌≡◌, IfSome};
 ghost use denote.Param.Send.{IsSync};
 ghost use Rattle.frames.specs.SafeBit.{safe_behaviour};
+ghost use Rattle.turn.specs.Shares.{every_share};
+ghost use Rattle.turn.specs.Chairs.{view};
 ghost use Rattle.desk.specs.Chairs.{IsAt};
 
-use super::{asked, bring, closed, halves, insert_at, name, opened, replayed, take_in};
+use super::openings::opened;
+use super::side_by_side::Work;
+use super::{Room, asked, closed, halves, insert_at, name, replayed, take_in};
 use desk::{Chair, Desk};
 use frames::safe::Safe;
 use schedule_trie::refusal::Refusal;
@@ -21,29 +25,19 @@ use std::thread::Threads;
 use views::lens::Lens;
 use views::query::Query;
 
-/// Inserts a read at place 0, then at place 1, and so on; the answer is whether each was accepted.
-pub(super) fn insert_all<R: Abort + Wait>(
-    rt: &R,
-    alloc: Global,
-    desk: &Desk<Safe>,
-    mut chair: Chair<Safe>,
-    count: u32,
-) -> (Chair<Safe>, bool)
-    requires { IsAt (λ _. safe_behaviour) desk.now chair }
-    ensures { IsAt (λ _. safe_behaviour) desk.now result.0 }
-{
-    let mut all = true;
-    for place in 0..count {
-        let receipt = bring(
-            rt,
-            alloc,
-            desk,
-            &mut chair,
-            (0, None, &insert_at(rt, place)),
-        );
-        all &= matches!(receipt.reply, Reply::Edited(_));
+impl<R: Abort + Wait> Room<'_, R> {
+    /// Inserts a read at place 0, then at place 1, and so on; the answer is whether each was accepted.
+    pub(super) fn insert_all(&self, chair: &mut Chair<Safe>, count: u32) -> bool
+        requires { IsAt (λ _. safe_behaviour) self.now.desk.now chair.old }
+        ensures { IsAt (λ _. safe_behaviour) self.now.desk.now chair.new }
+    {
+        let mut all = true;
+        for place in 0..count {
+            let receipt = self.bring(chair, (0, None, &insert_at(self.rt, place)));
+            all &= matches!(receipt.reply, Reply::Edited(_));
+        }
+        all
     }
-    (chair, all)
 }
 
 /// Two threads make so many inserts each; then the chairs join and the desk is closed.
@@ -51,29 +45,20 @@ pub(super) fn inserted_by_two<R: Abort + Threads + Wait + Sync>(
     rt: &R,
     alloc: Global,
     desk: Desk<Safe>,
-    first: Chair<Safe>,
-    second: Chair<Safe>,
+    chair: Chair<Safe>,
     count: u32,
 ) -> Option<Log>
-    requires { IsAt (λ _. safe_behaviour) desk first × IsAt (λ _. safe_behaviour) desk second }
+    requires chair { IsAt (λ _. safe_behaviour) desk chair }
+    requires every { (view chair).shares ≡ every_share }
 {
-    let shared = &desk;
-    let ((mut first, one), (second, other)) = thread::join(
-        rt,
-        move || -> (Chair<Safe>, bool)
-            requires { IsAt (λ _. safe_behaviour) shared.now first }
-            ensures { IsAt (λ _. safe_behaviour) shared.entry.now result.0 }
-        { insert_all(rt, alloc, shared, first, count) },
-        move || -> (Chair<Safe>, bool)
-            requires { IsAt (λ _. safe_behaviour) shared.now second }
-            ensures { IsAt (λ _. safe_behaviour) shared.entry.now result.0 }
-        { insert_all(rt, alloc, shared, second, count) },
-    );
-    take_in(&desk, &mut first, second);
-    if !(one && other) {
+    let (first, second) = halves(&desk, chair);
+    let room = Room::new(rt, alloc, &desk);
+    let work = Work::Inserts(count);
+    let (chair, all) = room.side_by_side((first, work), (second, work));
+    if !all {
         return None;
     }
-    closed(desk, first)
+    closed(desk, chair)
 }
 
 /// The place of an insert.
@@ -94,9 +79,8 @@ fn has_inserts(log: &Log, chair: u32, count: u32) -> bool {
 fn two_threads(rt: HostRuntime) -> Result<(), Fail> {
     let alloc = rt.alloc();
     for _ in 0..50 {
-        let (desk, first) = opened(alloc, 1024)?;
-        let (first, second) = halves(&desk, first);
-        let Some(log) = inserted_by_two(&rt, alloc, desk, first, second, 100) else {
+        let (desk, chair) = opened(alloc, 1024)?;
+        let Some(log) = inserted_by_two(&rt, alloc, desk, chair, 100) else {
             panic!(rt; "accepted inserts")
         };
         assert_eq!(rt; log.entries().len(), 200);
@@ -120,102 +104,67 @@ fn part(desk: &Desk<Safe>, chair: &mut Chair<Safe>, shares: u32) -> Option<Chair
     Some(desk.split(chair, shares))
 }
 
-/// Looks at the steps of `main`, and answers how long the history was.
-fn looked<R: Abort + Wait>(
-    rt: &R,
-    alloc: Global,
-    desk: &Desk<Safe>,
-    chair: &mut Chair<Safe>,
-    lens: &mut Lens<Safe>,
-) -> u64
-    requires { IsAt (λ _. safe_behaviour) desk.now chair.old }
-    ensures { IsAt (λ _. safe_behaviour) desk.now chair.new }
-{
-    let branch = name(rt, b"main");
-    let query = Query::Steps { branch };
-    desk.look(rt, alloc, chair, lens, query).at
-}
-
-/// One round: a chair splits, its other half edits, both ask for news, it looks and edits under a guard, and they join. The answer is
-/// whether no length that was told is less than one before.
-fn round<R: Abort + Wait>(
-    rt: &R,
-    alloc: Global,
-    desk: &Desk<Safe>,
-    chair: &mut Chair<Safe>,
-    lens: &mut Lens<Safe>,
-    who: u32,
-) -> bool
-    requires { IsAt (λ _. safe_behaviour) desk.now chair.old }
-    ensures { IsAt (λ _. safe_behaviour) desk.now chair.new }
-{
-    let Some(mut other) = part(desk, chair, 2) else {
-        return false;
-    };
-    let edited = bring(rt, alloc, desk, &mut other, (who, None, &insert_at(rt, 0))).at;
-    let news = asked(desk, &mut other);
-    let seen = looked(rt, alloc, desk, chair, lens);
-    let later = asked(desk, chair);
-    let guarded = bring(
-        rt,
-        alloc,
-        desk,
-        chair,
-        (who, Some(later), &insert_at(rt, 1)),
-    )
-    .at;
-    take_in(desk, chair, other);
-    edited <= news && seen <= later && later <= guarded
-}
-
-/// So many rounds of a thread.
-fn rounds<R: Abort + Wait>(
-    rt: &R,
-    alloc: Global,
-    desk: &Desk<Safe>,
-    mut chair: Chair<Safe>,
-    who: u32,
-) -> (Chair<Safe>, bool)
-    requires { IsAt (λ _. safe_behaviour) desk.now chair }
-    ensures { IsAt (λ _. safe_behaviour) desk.now result.0 }
-{
-    let Ok(mut lens) = Lens::new(alloc) else {
-        return (chair, false);
-    };
-    let mut all = true;
-    for _ in 0..ROUNDS {
-        all &= round(rt, alloc, desk, &mut chair, &mut lens, who);
+impl<R: Abort + Wait> Room<'_, R> {
+    /// Looks at the steps of `main`, and answers how long the history was.
+    fn looked(&self, chair: &mut Chair<Safe>, lens: &mut Lens<Safe>) -> u64
+        requires { IsAt (λ _. safe_behaviour) self.now.desk.now chair.old }
+        ensures { IsAt (λ _. safe_behaviour) self.now.desk.now chair.new }
+    {
+        let branch = name(self.rt, b"main");
+        let query = Query::Steps { branch };
+        self.desk.look(self.rt, self.alloc, chair, lens, query).at
     }
-    (chair, all)
+
+    /// One round: a chair splits, its other half edits, both ask for news, it looks and edits under a
+    /// guard, and they join. The answer is whether no length that was told is less than one before.
+    fn round(&self, chair: &mut Chair<Safe>, lens: &mut Lens<Safe>, who: u32) -> bool
+        requires { IsAt (λ _. safe_behaviour) self.now.desk.now chair.old }
+        ensures { IsAt (λ _. safe_behaviour) self.now.desk.now chair.new }
+    {
+        let Some(mut other) = part(self.desk, chair, 2) else {
+            return false;
+        };
+        let insert = insert_at(self.rt, 0);
+        let edited = self.bring(&mut other, (who, None, &insert)).at;
+        let news = asked(self.desk, &mut other);
+        let seen = self.looked(chair, lens);
+        let later = asked(self.desk, chair);
+        let insert = insert_at(self.rt, 1);
+        let guarded = self.bring(chair, (who, Some(later), &insert)).at;
+        take_in(self.desk, chair, other);
+        edited <= news && seen <= later && later <= guarded
+    }
+
+    /// So many rounds of a thread.
+    pub(super) fn rounds(&self, chair: &mut Chair<Safe>, who: u32) -> bool
+        requires { IsAt (λ _. safe_behaviour) self.now.desk.now chair.old }
+        ensures { IsAt (λ _. safe_behaviour) self.now.desk.now chair.new }
+    {
+        let Ok(mut lens) = Lens::new(self.alloc) else {
+            return false;
+        };
+        let mut all = true;
+        for _ in 0..ROUNDS {
+            all &= self.round(chair, &mut lens, who);
+        }
+        all
+    }
 }
 
-/// Two threads at their rounds, and the chair that they leave.
+/// Two chairs at the rounds of two sessions, and the chair that they leave.
 fn rounds_of_two<R: Abort + Threads + Wait + Sync>(
-    rt: &R,
-    alloc: Global,
-    desk: &Desk<Safe>,
+    room: &Room<'_, R>,
     chairs: (Chair<Safe>, Chair<Safe>),
-    who: u32,
+    sessions: (u32, u32),
 ) -> (Chair<Safe>, bool)
-    requires sessions { who < 15 }
-    requires chairs { IsAt (λ _. safe_behaviour) desk.now chairs.0
-        × IsAt (λ _. safe_behaviour) desk.now chairs.1 }
-    ensures { IsAt (λ _. safe_behaviour) desk.now result.0 }
+    requires { IsAt (λ _. safe_behaviour) room.now.desk.now chairs.0
+        × IsAt (λ _. safe_behaviour) room.now.desk.now chairs.1 }
+    ensures { IsAt (λ _. safe_behaviour) room.now.desk.now result.0 }
 {
-    let (first, second) = chairs;
-    let ((mut first, one), (second, other)) = thread::join(
-        rt,
-        move || -> (Chair<Safe>, bool)
-            requires { IsAt (λ _. safe_behaviour) desk.now first }
-            ensures { IsAt (λ _. safe_behaviour) desk.entry.now result.0 }
-        { rounds(rt, alloc, desk, first, who) },
-        move || -> (Chair<Safe>, bool)
-            requires { IsAt (λ _. safe_behaviour) desk.now second × (who < 15) }
-            ensures { IsAt (λ _. safe_behaviour) desk.entry.now result.0 }
-        { rounds(rt, alloc, desk, second, who + 1) },
-    );
-    take_in(desk, &mut first, second);
-    (first, one && other)
+    room.side_by_side(
+        (chairs.0, Work::Rounds(sessions.0)),
+        (chairs.1, Work::Rounds(sessions.1)),
+    )
 }
 
 /// Four threads at their rounds; then the chairs join and the desk is closed.
@@ -238,13 +187,13 @@ fn rounds_of_four<R: Abort + Threads + Wait + Sync>(
             requires chairs { IsAt (λ _. safe_behaviour) shared.now one.0
                 × IsAt (λ _. safe_behaviour) shared.now one.1 }
             ensures { IsAt (λ _. safe_behaviour) shared.entry.now result.0 }
-        { rounds_of_two(rt, alloc, shared, one, 0) },
+        { rounds_of_two(&Room::new(rt, alloc, shared), one, (0, 1)) },
         move || -> (Chair<Safe>, bool)
             requires sync { IsSync R.row }
             requires chairs { IsAt (λ _. safe_behaviour) shared.now other.0
                 × IsAt (λ _. safe_behaviour) shared.now other.1 }
             ensures { IsAt (λ _. safe_behaviour) shared.entry.now result.0 }
-        { rounds_of_two(rt, alloc, shared, other, 2) },
+        { rounds_of_two(&Room::new(rt, alloc, shared), other, (2, 3)) },
     );
     take_in(&desk, &mut chair, last);
     if !(fine && well) {

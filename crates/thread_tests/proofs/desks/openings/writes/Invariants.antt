@@ -1,6 +1,6 @@
 use Rattle.frames.specs.SafeBit.{safe_behaviour}
 use Rattle.frames.specs.Recorded.{AllFit}
-use Rattle.thread_tests.proofs.desks.fills.writes.Given as goal
+use Rattle.thread_tests.proofs.desks.openings.writes.Given as goal
 
 abbrev pub invariant-loop-index : goal.invariant-loop-index
 invariant-loop-index l = AllFit safe_behaviour l.steps.items

@@ -1,0 +1,101 @@
+//! Two chairs of a desk, each at a work of its own on a thread of its own.
+
+ghost use denote.Param.Send.{IsSync};
+ghost use Rattle.frames.specs.SafeBit.{safe_behaviour};
+ghost use Rattle.desk.specs.Chairs.{IsAt};
+
+use super::{Room, closed, take_in};
+use desk::{Chair, Desk};
+use frames::safe::Safe;
+use schedule_trie::refusal::Refusal;
+use sessions::log::Log;
+use std::alloc::Global;
+use std::process::Abort;
+use std::sync::Wait;
+use std::thread;
+use std::thread::Threads;
+use views::query::Query;
+
+/// What a thread does with its chair.
+#[derive(Clone, Copy)]
+pub(super) enum Work {
+    /// So many inserts.
+    Inserts(u32),
+    /// A session's guarded inserts.
+    GuardedInserts(u32),
+    /// A session's rounds.
+    Rounds(u32),
+    /// Fills of the branch `a`.
+    Fills,
+    /// So many inserts, and then `a` is dropped.
+    InsertsAndDrop(u32),
+}
+
+impl<R: Abort + Threads + Wait + Sync> Room<'_, R> {
+    /// Does a work with a chair. The answer is whether all went as it has to.
+    fn done(&self, task: (Chair<Safe>, Work)) -> (Chair<Safe>, bool)
+        requires { IsAt (λ _. safe_behaviour) self.now.desk.now task.0 }
+        ensures { IsAt (λ _. safe_behaviour) self.now.desk.now result.0 }
+    {
+        let (mut chair, work) = task;
+        let fine = match work {
+            Work::Inserts(count) => self.insert_all(&mut chair, count),
+            Work::GuardedInserts(who) => self.insert_guarded(&mut chair, who),
+            Work::Rounds(who) => self.rounds(&mut chair, who),
+            Work::Fills => self.fill_all(&mut chair),
+            Work::InsertsAndDrop(count) => self.insert_and_drop(&mut chair, count),
+        };
+        (chair, fine)
+    }
+
+    /// Two threads do their works; then the first chair takes the second in. The answer is whether
+    /// all went as it has to.
+    pub(super) fn side_by_side(
+        &self,
+        first: (Chair<Safe>, Work),
+        second: (Chair<Safe>, Work),
+    ) -> (Chair<Safe>, bool)
+        requires { IsAt (λ _. safe_behaviour) self.now.desk.now first.0
+            × IsAt (λ _. safe_behaviour) self.now.desk.now second.0 }
+        ensures { IsAt (λ _. safe_behaviour) self.now.desk.now result.0 }
+    {
+        let (rt, alloc, desk) = (self.rt, self.alloc, self.desk);
+        let ((mut first, one), (second, other)) = thread::join(
+            rt,
+            move || -> (Chair<Safe>, bool)
+                requires sync { IsSync R.row }
+                requires chair { IsAt (λ _. safe_behaviour) desk.now first.0 }
+                ensures { IsAt (λ _. safe_behaviour) desk.entry.now result.0 }
+            { Room::new(rt, alloc, desk).done(first) },
+            move || -> (Chair<Safe>, bool)
+                requires sync { IsSync R.row }
+                requires chair { IsAt (λ _. safe_behaviour) desk.now second.0 }
+                ensures { IsAt (λ _. safe_behaviour) desk.entry.now result.0 }
+            { Room::new(rt, alloc, desk).done(second) },
+        );
+        take_in(desk, &mut first, second);
+        (first, one && other)
+    }
+}
+
+/// The log of two chairs of a desk that did their works side by side, and the text of a page behind
+/// them; none where something went wrong.
+pub(super) fn log_and_text<R: Abort + Threads + Wait + Sync>(
+    rt: &R,
+    alloc: Global,
+    desk: Desk<Safe>,
+    first: (Chair<Safe>, Work),
+    second: (Chair<Safe>, Work),
+    query: &Query,
+) -> Result<Option<(Log, Vec<u8>)>, Refusal>
+    requires { IsAt (λ _. safe_behaviour) desk first.0
+        × IsAt (λ _. safe_behaviour) desk second.0 }
+{
+    let room = Room::new(rt, alloc, &desk);
+    let (mut chair, fine) = room.side_by_side(first, second);
+    let (_, text) = room.text_at(&mut chair, query)?;
+    let Some(log) = closed(desk, chair) else {
+        return Ok(None);
+    };
+    Ok(if fine { Some((log, text)) } else { None })
+}
