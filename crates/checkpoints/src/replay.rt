@@ -45,6 +45,7 @@ pub(crate) fn replay_from<R: Register>(
     ensures config { IfOk result (λ r. r.config ≡ replayed (R.is entry.register) entry steps.now) }
     ensures events { IfOk result (λ r. r.events ≡ history (R.is entry.register) entry steps.now) }
 {
+    // room for two events of each step is taken first, so that no write of one asks for it
     let most = steps.len().checked_mul(2).ok_or(AllocError)?;
     let mut marks = Vec::with_capacity(alloc, steps.len())?;
     let mut events = Vec::with_capacity(alloc, most)?;

@@ -52,8 +52,9 @@ where
         (R.remaining reader.old) (R.remaining reader.new)
         (W.contents writer.old) (W.contents writer.new)) }
 {
-    let answering =
-        |seat: &mut Seat<'_, B, H>, number: u32, line: &[u8], out: &mut Vec<u8>| -> LineAnswer
+    let answering = |seat: &mut Seat<'_, B, H>, number: u32, line: &[u8], out: &mut Vec<
+        u8,
+    >| -> LineAnswer
         ensures { OnOk result (IsAnswer answer_line number line.now (world_at B.is seat.old)
             (world_at B.is seat.new) out.old.items out.new.items) }
     { answer(alloc, seat, number, line, out) };
