@@ -145,6 +145,18 @@ impl<X: Drop> Lineage<X> {
         Some((&node.item, node.above))
     }
 
+    /// The item at a key that is there, and the key that comes before it, as `step_up` tells them.
+    #[inline(always)]
+    pub fn step_up_from(&self, key: Key) -> (&X, Option<Key>)
+        requires { IsSome (item_at self.now key) }
+        ensures item { Some result.0.now ≡ item_at self.now key }
+        ensures each { (i : ℕ) (front back : List ℕ) → path_in self.now i ≡ front ++ key ∷ back
+            → result.1 ≡ last_of front }
+    {
+        let node = &self.nodes[key];
+        (&node.item, node.above)
+    }
+
     /// The keys of the path at an index, in order; none where there is no such path.
     pub fn keys(&self, alloc: Global, path: usize) -> Result<Vec<Key>, AllocError>
         ensures { IfOk result (λ keys. keys.items ≡ path_in self.now path) }

@@ -1,12 +1,13 @@
 -- A climb of a branch, by what the fields tell.
-use Rattle.std.proofs.Common.{◌≡◌, ℕ, ◌<◌, ◌≤◌, true, true≢false, List, [], ◌∷◌, ◌++◌, length, Option, None, IsSome, sym, ap, subst, ◌∙◌, arith}
+use Rattle.std.proofs.Common.{◌≡◌, ℕ, ◌<◌, ◌≤◌, true, true≢false, ◌+◌, List, [], ◌∷◌, ◌++◌, length, Option, Some, None, IsSome, sym, ap, subst, ◌∙◌, arith}
 use Rattle.std.proofs.lemmas.List.{length-append}
 use Rattle.lineage.specs.Family.{item_at, path_in, last_of}
 use Rattle.schedule_trie.specs.declared.trie.Trie.TheInside.{Inside}
 use Rattle.schedule_trie.specs.Cut.{Cut, Piece, piece_at, slots_of, line, keys_in, above_of, has, Once, IsWhole}
 use Rattle.schedule_trie.specs.Held.{cut_of, IsHeld}
 use Rattle.schedule_trie.proofs.Once.{Once-from_linked, has-head, has-tail}
-use Rattle.schedule_trie.proofs.Climbs.{IsLast, IsStepUp, last_is, step_up}
+use Rattle.schedule_trie.specs.Climbs.{keys_to, IsReached}
+use Rattle.schedule_trie.proofs.Climbs.{IsLast, IsStepUp, last_is, step_up, cells_up, shorter_up}
 use Rattle.schedule_trie.proofs.Lines.{keys_are, line_fits, sound_short}
 use Rattle.schedule_trie.proofs.Partings.{has-in}
 use Rattle.schedule_trie.proofs.Readings.{above_told, lacked_none}
@@ -33,6 +34,12 @@ module _ {T : Type 0} (t : Inside T) (c : Cut T) (seen : cut_of t ≡ c) (held :
       → ((i : ℕ) (front back : List ℕ) → path_in t.segments i ≡ front ++ key ∷ back → above ≡ last_of front) → IsStepUp (keys_in c.strands index) key above
   path_up key above h each = step_up (keys_in c.strands index) key above path_once h (λ front back e. each index front back (sym same ∙ e))
 
+-- what a climb knows of a turn: the key above is one of the path, with fewer keys down to it, and the cells add up
+pub record IsTurn {T : Type 0} (at : ℕ → Option (Piece T)) (keys : List ℕ) (last : Option ℕ) (key : ℕ) (above : Option ℕ) : Type 0 where
+  pub step : IsStepUp keys key above
+  pub fewer : length (keys_to keys above) < length (keys_to keys last)
+  pub cells : length (line at (keys_to keys last)) ≡ length (line at (keys_to keys above)) + length (slots_of (at key))
+
 -- the same, where each branch tells what is above a key
 module _ {T : Type 0} (c : Cut T) (whole : IsWhole c) (index : ℕ) where
   pub branch_once : Once (keys_in c.strands index)
@@ -41,6 +48,24 @@ module _ {T : Type 0} (c : Cut T) (whole : IsWhole c) (index : ℕ) where
   pub branch_up : (key : ℕ) (above : Option ℕ) → has key (keys_in c.strands index) ≡ true
       → ((i : ℕ) (front back : List ℕ) → keys_in c.strands i ≡ front ++ key ∷ back → above ≡ last_of front) → IsStepUp (keys_in c.strands index) key above
   branch_up key above h each = step_up (keys_in c.strands index) key above branch_once h (λ front back e. each index front back e)
+
+  -- a turn of a climb: from one segment to the one above it
+  module _ (last : Option ℕ) (key : ℕ) where
+    pub turn_there : IsReached (keys_in c.strands index) last → last ≡ Some key → IsSome (piece_at c.pieces key)
+    turn_there reached at = whole.sound.held index key (subst (IsReached (keys_in c.strands index)) at reached)
+
+    pub turn : (above : Option ℕ) → IsReached (keys_in c.strands index) last → last ≡ Some key
+        → ((i : ℕ) (front back : List ℕ) → keys_in c.strands i ≡ front ++ key ∷ back → above ≡ last_of front)
+        → IsTurn (piece_at c.pieces) (keys_in c.strands index) last key above
+    turn above reached at each =
+        let s = branch_up key above (subst (IsReached (keys_in c.strands index)) at reached) each in
+        record {
+          step = s;
+          fewer = subst (λ o. length (keys_to (keys_in c.strands index) above) < length (keys_to (keys_in c.strands index) o)) (sym at)
+              (shorter_up (piece_at c.pieces) (keys_in c.strands index) key above s);
+          cells = ap (λ o. length (line (piece_at c.pieces) (keys_to (keys_in c.strands index) o))) at
+              ∙ cells_up (piece_at c.pieces) (keys_in c.strands index) key above s;
+        }
 
   pub branch_short : length (line (piece_at c.pieces) (keys_in c.strands index)) ≤ MOST_CELLS_MADE
   branch_short =

@@ -1,5 +1,5 @@
 -- A path seen from one of its keys, upwards.
-use Rattle.std.proofs.Common.{◌≡◌, ℕ, suc, ◌+◌, ◌-◌, ◌<◌, ◌≤◌, Bool, true, false, ◌||◌, nat_eq, cond, List, [], ◌∷◌, ◌++◌, length, map, position, not, nat_lt, slice_get, Option, Some, None, refl, sym, ap, subst, ◌∙◌, true≢false, arith, eq-eqb, append_assoc, append-nil}
+use Rattle.std.proofs.Common.{◌≡◌, ℕ, suc, ◌+◌, ◌<◌, ◌≤◌, Bool, true, false, ◌||◌, nat_eq, cond, List, [], ◌∷◌, ◌++◌, length, map, position, not, nat_lt, slice_get, Option, Some, None, refl, sym, ap, subst, ◌∙◌, true≢false, arith, eq-eqb, append_assoc, append-nil}
 use Rattle.std.proofs.lemmas.Bool.{eqb-true}
 use Rattle.std.proofs.lemmas.List.{length-append}
 use Rattle.std.specs.List.{position_or_len}
@@ -161,10 +161,10 @@ module _ {T : Type 0} (at : ℕ → Option (Piece T)) where
       omega (arith, own, named)
 
   -- the place lies in this segment
-  pub lies_here : (keys : List ℕ) (last : Option ℕ) (key place rest len : ℕ) → IsReached keys last → last ≡ Some key → length (line at (keys_to keys last)) ≡ place + rest
-      → 0 < rest → rest ≤ len → len ≡ length (slots_of (at key)) → LiesIn at keys place (key, len - rest)
-  lies_here keys None key place rest len h e behind some fits same = absurd (cc)
-  lies_here keys (Some k) key place rest len h e behind some fits same =
+  pub lies_here : (keys : List ℕ) (last : Option ℕ) (key place offset : ℕ) → IsReached keys last → last ≡ Some key
+      → length (line at (keys_to keys last)) + offset ≡ place + length (slots_of (at key)) → offset < length (slots_of (at key)) → LiesIn at keys place (key, offset)
+  lies_here keys None key place offset h e behind within = absurd (cc)
+  lies_here keys (Some k) key place offset h e behind within =
       let one : k ≡ key = cc in
       let p = parting keys k h in
       let own : length (line at (keys_up_to k keys)) ≡ length (line at p.front) + length (slots_of (at k)) =
@@ -176,7 +176,7 @@ module _ {T : Type 0} (at : ℕ → Option (Piece T)) where
         is = p.is ∙ ap (λ j. p.front ++ j ∷ p.back) one;
         first = subst (λ j. has j p.front ≡ false) one p.lacks;
         before = omega (arith, own, named, behind);
-        within = omega (arith, same);
+        within = within;
       }
 
   -- the cells down to the segment of a place: those before it there, and its own

@@ -1,6 +1,6 @@
 //! The trie: segments that branches share.
 
-ghost use Rattle.std.specs.Prelude.{ℕ, List, ◌∷◌, ◌<◌, ◌≤◌, length, IfSome, IfNone, Ok, Err, OnOk, IfErr, OnErr, IfOk, true, false, [], Some, None, map, slice_get, ◌++◌, ◌≡◌};
+ghost use Rattle.std.specs.Prelude.{ℕ, List, ◌∷◌, ◌<◌, ◌≤◌, length, IfSome, IfNone, Ok, Err, OnOk, IfErr, OnErr, IfOk, IsSome, true, false, [], Some, None, map, slice_get, ◌++◌, ◌≡◌};
 ghost use Rattle.std.specs.Option.{option_map, option_copied};
 ghost use Rattle.schedule_trie.specs.Climbs.{last_of};
 ghost use Rattle.std.specs.List.{position};
@@ -272,6 +272,19 @@ impl<T: Drop> Trie<T> {
             Some((segment, above)) => (segment.note.as_ref(), above),
             None => (None, None),
         }
+    }
+
+    /// What `step_up` tells, of a segment that is there.
+    #[inline(always)]
+    pub fn step_up_from(&self, key: SegKey) -> (Option<&T>, Option<SegKey>)
+        requires { IsSome (piece_at self.now.pieces key) }
+        ensures note { option_copied result.0 ≡ note_of (piece_at self.now.pieces key) }
+        ensures first { result.1 ≡ above_of self.now.strands key }
+        ensures each { (i : ℕ) (front back : List ℕ)
+            → keys_in self.now.strands i ≡ front ++ key ∷ back → result.1 ≡ last_of front }
+    {
+        let (segment, above) = self.segments.step_up_from(key);
+        (segment.note.as_ref(), above)
     }
 
     /// Notes something else at a segment, or nothing. Where no segment has the key nothing is changed. It takes no memory.

@@ -54,15 +54,15 @@ impl<T: Drop> Trie<T> {
         if len <= place {
             return None;
         }
-        let mut rest = (len - place) as usize;
+        let wanted = (len - place) as usize;
+        let mut passed = 0;
         let mut at = self.segments.last(index);
         while let Some(key) = at {
             let (slots, above) = self.slots_up(key);
-            let len = slots.len();
-            if rest <= len {
-                return Some((key, len - rest));
+            passed += slots.len();
+            if wanted <= passed {
+                return Some((key, passed - wanted));
             }
-            rest -= len;
             at = above;
         }
         None
@@ -92,10 +92,8 @@ impl<T: Drop> Trie<T> {
         ensures each { (i : ℕ) (front back : List ℕ)
             → keys_in self.now.strands i ≡ front ++ key ∷ back → result.1 ≡ last_of front }
     {
-        match self.segments.step_up(key) {
-            Some((segment, above)) => (segment.slots.as_slice(), above),
-            None => unreachable!(),
-        }
+        let (segment, above) = self.segments.step_up_from(key);
+        (segment.slots.as_slice(), above)
     }
 }
 

@@ -1,8 +1,7 @@
-use Rattle.std.proofs.Common.{◌-◌, ◌<◌, length, sym, ap, subst, ◌∙◌, arith}
+use Rattle.std.proofs.Common.{◌+◌, ◌-◌, length, ap, ◌∙◌, arith}
 use Rattle.schedule_trie.specs.Cut.{piece_at, keys_in, line}
-use Rattle.schedule_trie.specs.Climbs.{keys_to, IsReached}
-use Rattle.schedule_trie.proofs.Climbs.{cells_up, lies_here, stands_here, shorter_up}
-use Rattle.schedule_trie.proofs.ClimbSteps.{path_last, branch_up}
+use Rattle.schedule_trie.proofs.Climbs.{lies_here, stands_here}
+use Rattle.schedule_trie.proofs.ClimbSteps.{path_last, turn}
 use Rattle.schedule_trie.proofs.Lines.{slots_in_on}
 use Rattle.schedule_trie.proofs.trie.Trie.find_cell.Goals as goal
 
@@ -12,43 +11,32 @@ loop-at-init g c =
     let l = path_last c.self.inside now c.self.view_is c.self.invariant.held c.args.index c.last-at.result c.last-at.ensures in
     let all = ap (λ ks. length (line (piece_at now.pieces) ks)) l.all in
     let len = c.len_at-len.ensures.len ∙ ap length (slots_in_on (piece_at now.pieces) now.strands c.args.index) in
-    record { reached = l.reached; behind = omega (arith, all, len); some = omega arith }
+    record { reached = l.reached; behind = omega (arith, all, len); short = omega arith }
 
-pub returns-then-rest-len-clause-lies : goal.returns-then-rest-len-clause-lies
-returns-then-rest-len-clause-lies g c =
+pub returns-then-wanted-passed-clause-lies : goal.returns-then-wanted-passed-clause-lies
+returns-then-wanted-passed-clause-lies g c =
     let now = c.args.self.now in
     let was = c.loop-at.invariant in
-    lies_here (piece_at now.pieces) (keys_in now.strands c.args.index) c.loop-at.at c.in-Some.key c.args.place c.loop-at.rest (length c.slots_up-above.result.0.now) was.reached c.in-Some.is
-    was.behind was.some c.if-rest-len.true (ap length c.slots_up-above.ensures.slots)
+    let len = ap length c.slots_up-above.ensures.slots in
+    lies_here (piece_at now.pieces) (keys_in now.strands c.args.index) c.loop-at.at c.in-Some.key c.args.place
+    (c.loop-at.passed + length c.slots_up-above.result.0.now - (c.len_at-len.result - c.args.place)) was.reached c.in-Some.is
+    (omega (arith, len, was.behind, was.short, c.if-wanted-passed.true)) (omega (arith, len, was.short, c.if-wanted-passed.true))
 
-pub returns-then-rest-len-clause-found : goal.returns-then-rest-len-clause-found
-returns-then-rest-len-clause-found g c =
-    let now = c.args.self.now in
-    let was = c.loop-at.invariant in
-    stands_here (piece_at now.pieces) (keys_in now.strands c.args.index) c.args.place (c.in-Some.key, length c.slots_up-above.result.0.now - c.loop-at.rest)
-    (lies_here (piece_at now.pieces) (keys_in now.strands c.args.index) c.loop-at.at c.in-Some.key c.args.place c.loop-at.rest (length c.slots_up-above.result.0.now) was.reached c.in-Some.is
-    was.behind was.some c.if-rest-len.true (ap length c.slots_up-above.ensures.slots))
+pub returns-then-wanted-passed-clause-found : goal.returns-then-wanted-passed-clause-found
+returns-then-wanted-passed-clause-found g c =
+    stands_here (piece_at c.args.self.now.pieces) (keys_in c.args.self.now.strands c.args.index) c.args.place
+    (c.in-Some.key, c.loop-at.passed + length c.slots_up-above.result.0.now - (c.len_at-len.result - c.args.place)) (returns-then-wanted-passed-clause-lies g c)
 
 pub loop-at-smaller : goal.loop-at-smaller
 loop-at-smaller g c =
-    let keys = keys_in c.args.self.now.strands c.args.index in
-    let s = branch_up c.args.self.now c.slots_up-above.ensures.whole c.args.index c.in-Some.key c.slots_up-above.result.1
-    (subst (IsReached (keys_in c.args.self.now.strands c.args.index)) c.in-Some.is c.loop-at.invariant.reached) c.slots_up-above.ensures.each in
-    subst (λ o. length (keys_to keys c.slots_up-above.result.1) < length (keys_to keys o)) (sym c.in-Some.is)
-    (shorter_up (piece_at c.args.self.now.pieces) keys c.in-Some.key c.slots_up-above.result.1 s)
+    let was = c.loop-at.invariant in
+    let up = c.slots_up-above in
+    (turn c.args.self.now up.ensures.whole c.args.index c.loop-at.at c.in-Some.key up.result.1 was.reached c.in-Some.is up.ensures.each).fewer
 
 pub loop-at-preserved : goal.loop-at-preserved
 loop-at-preserved g c =
-    let now = c.args.self.now in
-    let keys = keys_in now.strands c.args.index in
-    let s = branch_up c.args.self.now c.slots_up-above.ensures.whole c.args.index c.in-Some.key c.slots_up-above.result.1
-    (subst (IsReached (keys_in c.args.self.now.strands c.args.index)) c.in-Some.is c.loop-at.invariant.reached) c.slots_up-above.ensures.each in
-    let up = cells_up (piece_at now.pieces) keys c.in-Some.key c.slots_up-above.result.1 s in
-    let len = ap length c.slots_up-above.ensures.slots in
-    let at = ap (λ o. length (line (piece_at now.pieces) (keys_to keys o))) c.in-Some.is in
-    record { reached = s.reached; behind = omega (arith, up, len, at, c.loop-at.invariant.behind); some = omega arith }
-
-pub slots_up-above-requires : goal.slots_up-above-requires
-slots_up-above-requires g c =
-    c.len_at-len.ensures.whole.sound.held c.args.index c.in-Some.key
-    (subst (IsReached (keys_in c.args.self.now.strands c.args.index)) c.in-Some.is c.loop-at.invariant.reached)
+    let was = c.loop-at.invariant in
+    let up = c.slots_up-above in
+    let t = turn c.args.self.now up.ensures.whole c.args.index c.loop-at.at c.in-Some.key up.result.1 was.reached c.in-Some.is up.ensures.each in
+    let len = ap length up.ensures.slots in
+    record { reached = t.step.reached; behind = omega (arith, t.cells, len, was.behind); short = omega arith }

@@ -1,8 +1,7 @@
-use Rattle.std.proofs.Common.{◌<◌, length, sym, ap, subst, arith}
-use Rattle.schedule_trie.specs.Cut.{piece_at, keys_in, line}
-use Rattle.schedule_trie.specs.Climbs.{keys_to, IsReached}
-use Rattle.schedule_trie.proofs.Climbs.{cells_up, cells_own, cells_within, shorter_up}
-use Rattle.schedule_trie.proofs.ClimbSteps.{branch_up, branch_short}
+use Rattle.std.proofs.Common.{length, ap, arith}
+use Rattle.schedule_trie.specs.Cut.{piece_at, keys_in}
+use Rattle.schedule_trie.proofs.Climbs.{cells_own, cells_within}
+use Rattle.schedule_trie.proofs.ClimbSteps.{branch_short, turn}
 use Rattle.schedule_trie.proofs.trie.Trie.len_to.Goals as goal
 
 pub overflow_cast-len : goal.overflow_cast-len
@@ -28,24 +27,12 @@ overflow_add-len g c =
 
 pub loop-at-smaller : goal.loop-at-smaller
 loop-at-smaller g c =
-    let keys = keys_in c.args.self.now.strands c.args.index in
-    let s = branch_up c.args.self.now c.slots_up-above.ensures.whole c.args.index c.in-Some.key c.slots_up-above.result.1
-    (subst (IsReached (keys_in c.args.self.now.strands c.args.index)) c.in-Some.is c.loop-at.invariant.reached) c.slots_up-above.ensures.each in
-    subst (λ o. length (keys_to keys c.slots_up-above.result.1) < length (keys_to keys o)) (sym c.in-Some.is)
-    (shorter_up (piece_at c.args.self.now.pieces) keys c.in-Some.key c.slots_up-above.result.1 s)
+    (turn c.args.self.now c.slots_up-above.ensures.whole c.args.index c.loop-at.at c.in-Some.key c.slots_up-above.result.1 c.loop-at.invariant.reached c.in-Some.is
+    c.slots_up-above.ensures.each).fewer
 
 pub loop-at-preserved : goal.loop-at-preserved
 loop-at-preserved g c =
-    let now = c.args.self.now in
-    let keys = keys_in now.strands c.args.index in
-    let s = branch_up c.args.self.now c.slots_up-above.ensures.whole c.args.index c.in-Some.key c.slots_up-above.result.1
-    (subst (IsReached (keys_in c.args.self.now.strands c.args.index)) c.in-Some.is c.loop-at.invariant.reached) c.slots_up-above.ensures.each in
-    let up = cells_up (piece_at now.pieces) keys c.in-Some.key c.slots_up-above.result.1 s in
+    let t = turn c.args.self.now c.slots_up-above.ensures.whole c.args.index c.loop-at.at c.in-Some.key c.slots_up-above.result.1 c.loop-at.invariant.reached c.in-Some.is
+    c.slots_up-above.ensures.each in
     let len = ap length c.slots_up-above.ensures.slots in
-    let at = ap (λ o. length (line (piece_at now.pieces) (keys_to keys o))) c.in-Some.is in
-    record { reached = s.reached; sum = omega (arith, up, len, at, c.loop-at.invariant.sum) }
-
-pub slots_up-above-requires : goal.slots_up-above-requires
-slots_up-above-requires g c =
-    c.held.ensures.whole.sound.held c.args.index c.in-Some.key
-    (subst (IsReached (keys_in c.args.self.now.strands c.args.index)) c.in-Some.is c.loop-at.invariant.reached)
+    record { reached = t.step.reached; sum = omega (arith, t.cells, len, c.loop-at.invariant.sum) }

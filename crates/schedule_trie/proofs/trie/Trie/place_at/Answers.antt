@@ -1,10 +1,10 @@
-use Rattle.std.proofs.Common.{◌+◌, ◌<◌, Some, length, sym, ap, subst, ◌∙◌, arith}
+use Rattle.std.proofs.Common.{◌+◌, Some, length, sym, ap, subst, ◌∙◌, arith}
 use Rattle.std.specs.List.{position}
 use Rattle.schedule_trie.specs.Forest.{is_cell}
 use Rattle.schedule_trie.specs.Cut.{piece_at, keys_in, line, IsWhole}
-use Rattle.schedule_trie.specs.Climbs.{keys_to, IsReached}
-use Rattle.schedule_trie.proofs.Climbs.{cells_up, cells_within, place_up, place_above, shorter_up}
-use Rattle.schedule_trie.proofs.ClimbSteps.{path_last, branch_once, branch_short, branch_up}
+use Rattle.schedule_trie.specs.Climbs.{keys_to}
+use Rattle.schedule_trie.proofs.Climbs.{cells_within, place_up, place_above}
+use Rattle.schedule_trie.proofs.ClimbSteps.{path_last, branch_once, branch_short, turn, turn_there}
 use Rattle.schedule_trie.proofs.Lines.{slots_in_on}
 use Rattle.schedule_trie.proofs.Readings.{first_within}
 use Rattle.schedule_trie.proofs.trie.Trie.place_at.Goals as goal
@@ -17,32 +17,30 @@ loop-at-init g c =
 
 pub len_to-requires : goal.len_to-requires
 len_to-requires g c =
-    let s = branch_up c.args.self.now c.slots_up-above.ensures.whole c.args.index c.in-Some.key c.slots_up-above.result.1
-    (subst (IsReached (keys_in c.args.self.now.strands c.args.index)) c.in-Some.is c.loop-at.invariant.reached) c.slots_up-above.ensures.each in
-    s.reached
+    let t = turn c.args.self.now c.slots_up-above.ensures.whole c.args.index c.loop-at.at c.in-Some.key c.slots_up-above.result.1 c.loop-at.invariant.reached c.in-Some.is
+    c.slots_up-above.ensures.each in
+    t.step.reached
 
 pub overflow_add-result : goal.overflow_add-result
 overflow_add-result g c =
     let now = c.args.self.now in
     let keys = keys_in now.strands c.args.index in
-    let s = branch_up c.args.self.now c.slots_up-above.ensures.whole c.args.index c.in-Some.key c.slots_up-above.result.1
-    (subst (IsReached (keys_in c.args.self.now.strands c.args.index)) c.in-Some.is c.loop-at.invariant.reached) c.slots_up-above.ensures.each in
-    let up = cells_up (piece_at now.pieces) keys c.in-Some.key c.slots_up-above.result.1 s in
+    let t = turn c.args.self.now c.slots_up-above.ensures.whole c.args.index c.loop-at.at c.in-Some.key c.slots_up-above.result.1 c.loop-at.invariant.reached c.in-Some.is
+    c.slots_up-above.ensures.each in
     let inside = first_within (is_cell c.args.cell) c.slots_up-above.result.0.now c.in-Some-offset_of.offset c.in-Some-offset_of.ensures in
     let len = ap length c.slots_up-above.ensures.slots in
-    let at = ap (λ o. length (line (piece_at now.pieces) (keys_to keys o))) c.in-Some.is in
     let within = cells_within (piece_at now.pieces) keys c.loop-at.at c.loop-at.invariant.reached in
     let short = branch_short now c.slots_up-above.ensures.whole c.args.index in
-    omega (arith, up, inside, len, at, within, short, c.len_to.ensures)
+    omega (arith, t.cells, inside, len, within, short, c.len_to.ensures)
 
 pub returns-in-Some-offset_of : goal.returns-in-Some-offset_of
 returns-in-Some-offset_of g c =
     let now = c.args.self.now in
     let keys = keys_in now.strands c.args.index in
     let sound = c.slots_up-above.ensures.whole.sound in
-    let s = branch_up c.args.self.now c.slots_up-above.ensures.whole c.args.index c.in-Some.key c.slots_up-above.result.1
-    (subst (IsReached (keys_in c.args.self.now.strands c.args.index)) c.in-Some.is c.loop-at.invariant.reached) c.slots_up-above.ensures.each in
-    let here = place_up (piece_at now.pieces) c.args.cell keys c.in-Some.key c.slots_up-above.result.1 s sound.apart
+    let t = turn c.args.self.now c.slots_up-above.ensures.whole c.args.index c.loop-at.at c.in-Some.key c.slots_up-above.result.1 c.loop-at.invariant.reached c.in-Some.is
+    c.slots_up-above.ensures.each in
+    let here = place_up (piece_at now.pieces) c.args.cell keys c.in-Some.key c.slots_up-above.result.1 t.step sound.apart
     (branch_once now c.slots_up-above.ensures.whole c.args.index) c.in-Some-offset_of.offset
     (c.in-Some-offset_of.ensures ∙ ap (position (is_cell c.args.cell)) c.slots_up-above.ensures.slots) in
     ap (λ n. Some (n + c.in-Some-offset_of.offset)) c.len_to.ensures ∙ sym here
@@ -51,22 +49,20 @@ returns-in-Some-offset_of g c =
 
 pub loop-at-smaller : goal.loop-at-smaller
 loop-at-smaller g c =
-    let keys = keys_in c.args.self.now.strands c.args.index in
-    let s = branch_up c.args.self.now c.slots_up-above.ensures.whole c.args.index c.in-Some.key c.slots_up-above.result.1
-    (subst (IsReached (keys_in c.args.self.now.strands c.args.index)) c.in-Some.is c.loop-at.invariant.reached) c.slots_up-above.ensures.each in
-    subst (λ o. length (keys_to keys c.slots_up-above.result.1) < length (keys_to keys o)) (sym c.in-Some.is)
-    (shorter_up (piece_at c.args.self.now.pieces) keys c.in-Some.key c.slots_up-above.result.1 s)
+    let t = turn c.args.self.now c.slots_up-above.ensures.whole c.args.index c.loop-at.at c.in-Some.key c.slots_up-above.result.1 c.loop-at.invariant.reached c.in-Some.is
+    c.slots_up-above.ensures.each in
+    t.fewer
 
 pub loop-at-preserved : goal.loop-at-preserved
 loop-at-preserved g c =
     let now = c.args.self.now in
     let keys = keys_in now.strands c.args.index in
-    let s = branch_up c.args.self.now c.slots_up-above.ensures.whole c.args.index c.in-Some.key c.slots_up-above.result.1
-    (subst (IsReached (keys_in c.args.self.now.strands c.args.index)) c.in-Some.is c.loop-at.invariant.reached) c.slots_up-above.ensures.each in
+    let t = turn c.args.self.now c.slots_up-above.ensures.whole c.args.index c.loop-at.at c.in-Some.key c.slots_up-above.result.1 c.loop-at.invariant.reached c.in-Some.is
+    c.slots_up-above.ensures.each in
     let sound = c.slots_up-above.ensures.whole.sound in
     record {
-      reached = s.reached;
-      same = sym (place_above (piece_at now.pieces) c.args.cell keys c.in-Some.key c.slots_up-above.result.1 s sound.apart
+      reached = t.step.reached;
+      same = sym (place_above (piece_at now.pieces) c.args.cell keys c.in-Some.key c.slots_up-above.result.1 t.step sound.apart
           (branch_once now c.slots_up-above.ensures.whole c.args.index)
           (c.in_default-offset_of.ensures ∙ ap (position (is_cell c.args.cell)) c.slots_up-above.ensures.slots))
           ∙ ap (λ o. position (is_cell c.args.cell) (line (piece_at now.pieces) (keys_to keys o))) (sym c.in-Some.is) ∙ c.loop-at.invariant.same;
@@ -81,5 +77,4 @@ returns g c =
 
 pub slots_up-above-requires : goal.slots_up-above-requires
 slots_up-above-requires g c =
-    (subst IsWhole c.self.view_is c.self.invariant.held.whole).sound.held c.args.index c.in-Some.key
-    (subst (IsReached (keys_in c.args.self.now.strands c.args.index)) c.in-Some.is c.loop-at.invariant.reached)
+    turn_there c.args.self.now (subst IsWhole c.self.view_is c.self.invariant.held.whole) c.args.index c.loop-at.at c.in-Some.key c.loop-at.invariant.reached c.in-Some.is
