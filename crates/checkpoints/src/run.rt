@@ -1,6 +1,7 @@
 //! Runs of a segment: its steps, made from where it begins.
 
 ghost use Rattle.std.specs.Prelude.{◌≡◌, IfOk};
+ghost use Rattle.std.specs.Arc.{arc_value};
 ghost use Rattle.checkpoints.specs.Segment.{IsRun};
 ghost use Rattle.frames.specs.Recorded.{AllFit};
 
@@ -11,26 +12,29 @@ use frames::register::Register;
 use frames::types::Step;
 use std::alloc::{AllocError, Global};
 use std::marker::Model;
+use std::sync::Arc;
 
 /// A run of a segment: the configuration that it begins from, its steps, the configuration that it
 /// comes to, and the events of each step by its offset. It is true by its type: its steps fit, and
-/// made from its entry they give its exit and its events.
+/// made from its entry they give its exit and its events. Where one run ends and the next begins they
+/// share the configuration.
 #[derive(Drop)]
 pub struct Run<R: Register> {
-    entry: Config<R>,
+    entry: Arc<Config<R>>,
     steps: Vec<Step>,
-    exit: Config<R>,
+    exit: Arc<Config<R>>,
     events: Events,
 }
 
 impl<R: Register> Model for Run<R> {
+    ghost use Rattle.std.specs.Arc.{arc_value};
     ghost use Rattle.checkpoints.specs.Segment.{SegmentRun, IsRun};
 
     ghost Value = { SegmentRun R R.Pending };
 
-    ghost view = { λ r. record { entry = r.entry; steps = r.steps.items; exit = r.exit; events = r.events } };
+    ghost view = { λ r. record { entry = arc_value r.entry; steps = r.steps.items; exit = arc_value r.exit; events = r.events } };
 
-    ghost invariant = { λ r. IsRun (R.is r.entry.register) (record { entry = r.entry; steps = r.steps.items; exit = r.exit; events = r.events }) };
+    ghost invariant = { λ r. IsRun (R.is (arc_value r.entry).register) (record { entry = arc_value r.entry; steps = r.steps.items; exit = arc_value r.exit; events = r.events }) };
 }
 
 impl<R: Register> Run<R> {
@@ -58,6 +62,14 @@ impl<R: Register> Run<R> {
         &self.exit
     }
 
+    /// The configuration that it comes to, for a run that begins there.
+    pub fn shared_exit(&self) -> &Arc<Config<R>>
+        ensures exit { arc_value result.now ≡ self.now.exit }
+        ensures kept { IsRun (R.is self.now.entry.register) self.now }
+    {
+        &self.exit
+    }
+
     /// The events of each step, by its offset in the segment.
     pub fn events(&self) -> &Events
         ensures events { result.now ≡ self.now.events }
@@ -67,27 +79,29 @@ impl<R: Register> Run<R> {
     }
 }
 
-/// Makes steps one after another, from the configuration that they begin from, and keeps them as they are.
+/// Makes steps one after another, from the configuration that they begin from, and keeps both as they are.
 pub fn run_of<R: Register>(
     alloc: Global,
-    entry: &Config<R>,
+    entry: &Arc<Config<R>>,
     steps: Vec<Step>,
 ) -> Result<Run<R>, AllocError>
-    requires { AllFit (R.is entry.now.register) steps.items }
-    ensures entry { IfOk result (λ run. run.entry ≡ entry.now) }
+    requires { AllFit (R.is (arc_value entry.now).register) steps.items }
+    ensures entry { IfOk result (λ run. run.entry ≡ arc_value entry.now) }
     ensures steps { IfOk result (λ run. run.steps ≡ steps.items) }
 {
     let replayed = replay_from(alloc, entry.copy(alloc)?, &steps)?;
+    let exit = Arc::new(alloc, replayed.config)?;
+    let entry = Arc::try_clone(entry)?;
     Ok(Run {
-        entry: entry.copy(alloc)?,
+        entry,
         steps,
-        exit: replayed.config,
+        exit,
         events: replayed.events,
     })
 }
 
-/// Makes a copy of the steps of a segment one after another, from the configuration that it begins
-/// from.
+/// Makes a copy of the steps of a segment one after another, from a copy of the configuration that it
+/// begins from.
 pub fn run_segment<R: Register>(
     alloc: Global,
     entry: &Config<R>,
@@ -97,5 +111,6 @@ pub fn run_segment<R: Register>(
     ensures entry { IfOk result (λ run. run.entry ≡ entry.now) }
     ensures steps { IfOk result (λ run. run.steps ≡ steps.now) }
 {
-    run_of(alloc, entry, Vec::from_slice(alloc, steps)?)
+    let entry = Arc::new(alloc, entry.copy(alloc)?)?;
+    run_of(alloc, &entry, Vec::from_slice(alloc, steps)?)
 }

@@ -70,14 +70,19 @@ fn exit_named<'a, R: Register>(
     }
 }
 
-/// What a run comes to; where there is none, this configuration.
-fn exit_or<'a, R: Register>(config: &'a Config<R>, run: &'a Option<Arc<Run<R>>>) -> &'a Config<R>
-    ensures { result.now ≡ exit_or config.now (option_map arc_value run.now) }
+/// What a run comes to; where there is none, a copy of this configuration.
+fn exit_or<R: Register>(
+    alloc: Global,
+    config: &Config<R>,
+    run: Option<Arc<Run<R>>>,
+) -> Result<Arc<Config<R>>, AllocError>
+    ensures { IfOk result (λ c. arc_value c ≡ exit_or config.now (option_map arc_value run)) }
 {
-    match run {
-        Some(run) => run.exit(),
-        None => config,
-    }
+    let Some(run) = run else {
+        return Ok(Arc::new(alloc, config.copy(alloc)?)?);
+    };
+    let exit = Arc::try_clone(run.shared_exit())?;
+    Ok(exit)
 }
 
 /// Whether a segment's stored run is known to fit behind the one that is stored above it, if a segment is named.
@@ -128,8 +133,8 @@ fn settle_behind<R: Register>(
     }
     let (_, number) = exit_named(trie, start, above);
     let run = run_named(trie, above)?;
-    let config = exit_or(start, &run);
-    let settled = settle_segment(alloc, trie, next, key, config, number)?;
+    let config = exit_or(alloc, start, run)?;
+    let settled = settle_segment(alloc, trie, next, key, &config, number)?;
     let _steps = settled.run().steps();
     Ok(settled.replayed())
 }

@@ -108,19 +108,19 @@ fn replay_segment<R: Register>(
     trie: &mut Trie<Stored<R>>,
     next: &mut u64,
     key: SegKey,
-    config: &Config<R>,
+    config: &Arc<Config<R>>,
     above: Option<u64>,
 ) -> Result<Settled<R>, AllocError>
-    requires linked { IsLinked R.PartialEq.eq config.now.register next.old above
-        (alone config.now) trie.old }
+    requires linked { IsLinked R.PartialEq.eq (arc_value config.now).register next.old above
+        (alone (arc_value config.now)) trie.old }
     requires short { length (steps_at trie.old key) ≤ 128 }
-    requires fits { AllFit (R.is config.now.register) (steps_at trie.old key) }
-    requires misses { Fits R.PartialEq.eq trie.old config.now key → ⊥ }
+    requires fits { AllFit (R.is (arc_value config.now).register) (steps_at trie.old key) }
+    requires misses { Fits R.PartialEq.eq trie.old (arc_value config.now) key → ⊥ }
     ensures settled { IfOk result
-        (λ s. IsSegmentSettled R.PartialEq.eq trie.old trie.new config.now key
+        (λ s. IsSegmentSettled R.PartialEq.eq trie.old trie.new (arc_value config.now) key
         (arc_value s.run) s.replayed) }
     ensures linked { IfOk result
-        (λ s. IsLinked R.PartialEq.eq config.now.register next.new s.id
+        (λ s. IsLinked R.PartialEq.eq (arc_value config.now).register next.new s.id
         (alone (arc_value s.run).exit) trie.new) }
     ensures unchanged { OnErr result ((trie.new ≡ trie.old) × (next.new ≡ next.old)) }
 {
@@ -140,18 +140,18 @@ pub(crate) fn settle_segment<R: Register>(
     trie: &mut Trie<Stored<R>>,
     next: &mut u64,
     key: SegKey,
-    config: &Config<R>,
+    config: &Arc<Config<R>>,
     above: Option<u64>,
 ) -> Result<Settled<R>, AllocError>
-    requires linked { IsLinked R.PartialEq.eq config.now.register next.old above
-        (alone config.now) trie.old }
+    requires linked { IsLinked R.PartialEq.eq (arc_value config.now).register next.old above
+        (alone (arc_value config.now)) trie.old }
     requires short { length (steps_at trie.old key) ≤ 128 }
-    requires fits { AllFit (R.is config.now.register) (steps_at trie.old key) }
+    requires fits { AllFit (R.is (arc_value config.now).register) (steps_at trie.old key) }
     ensures settled { IfOk result
-        (λ s. IsSegmentSettled R.PartialEq.eq trie.old trie.new config.now key
+        (λ s. IsSegmentSettled R.PartialEq.eq trie.old trie.new (arc_value config.now) key
         (arc_value s.run) s.replayed) }
     ensures linked { IfOk result
-        (λ s. IsLinked R.PartialEq.eq config.now.register next.new s.id
+        (λ s. IsLinked R.PartialEq.eq (arc_value config.now).register next.new s.id
         (alone (arc_value s.run).exit) trie.new) }
     ensures unchanged { OnErr result ((trie.new ≡ trie.old) × (next.new ≡ next.old)) }
 {
@@ -177,13 +177,18 @@ pub(crate) fn settle_segment<R: Register>(
 }
 
 /// The configuration that runs one after the other come to, from a first one on.
-fn come_to<'a, R: Register>(start: &'a Config<R>, runs: &'a [(Arc<Run<R>>, u32)]) -> &'a Config<R>
-    ensures { result.now ≡ exit_of start.now (map part_of runs.now) }
+fn come_to<R: Register>(
+    alloc: Global,
+    start: &Config<R>,
+    runs: &[(Arc<Run<R>>, u32)],
+) -> Result<Arc<Config<R>>, AllocError>
+    ensures { IfOk result (λ c. arc_value c ≡ exit_of start.now (map part_of runs.now)) }
 {
-    match runs.last() {
-        Some((run, _)) => run.exit(),
-        None => start,
-    }
+    let Some((run, _)) = runs.last() else {
+        return Ok(Arc::new(alloc, start.copy(alloc)?)?);
+    };
+    let exit = Arc::try_clone(run.shared_exit())?;
+    Ok(exit)
 }
 
 /// Settles the segments with these keys, as far as they hold one of the first `place` cells: their runs, each with how many of its
@@ -221,7 +226,8 @@ pub(crate) fn settle_along<R: Register>(
         if rest == 0 {
             break;
         }
-        let settled = settle_segment(alloc, trie, next, *key, come_to(start, &runs), above)?;
+        let config = come_to(alloc, start, &runs)?;
+        let settled = settle_segment(alloc, trie, next, *key, &config, above)?;
         let count = rest.min(settled.run.steps().len() as u32);
         replayed += settled.replayed;
         rest -= count;

@@ -13,7 +13,7 @@ returns-clause-settled g c =
     let E = g.R.PartialEq.eq in
     let start = c.args.start.now in
     let run = arc_value c.in_ok-settled.settled.run in
-    let came : c.exit_or-config.result.now ≡ come_to c.args.trie.now start c.args.above = c.exit_or-config.ensures ∙ ap (exit_or start) c.in_ok-run.ensures in (
+    let came : arc_value c.in_ok-config.config ≡ come_to c.args.trie.now start c.args.above = c.in_ok-config.ensures ∙ ap (exit_or start) c.in_ok-run.ensures in (
       run,
       subst (IsSegmentSettled E c.args.trie.now c.settle_segment.new.trie (come_to c.args.trie.now start c.args.above) c.args.key run) (sym c.replayed.ensures)
           (subst (λ d. IsSegmentSettled E c.args.trie.now c.settle_segment.new.trie d c.args.key run c.in_ok-settled.settled.replayed) came c.in_ok-settled.ensures.settled),
@@ -24,8 +24,8 @@ pub returns-clause-linked : goal.returns-clause-linked
 returns-clause-linked g c =
     let E = g.R.PartialEq.eq in
     let start = c.args.start.now in
-    let came : c.exit_or-config.result.now ≡ c.exit_named-number.result.0.now =
-    c.exit_or-config.ensures ∙ ap (exit_or start) c.in_ok-run.ensures ∙ sym c.exit_named-number.ensures.exit in
+    let came : arc_value c.in_ok-config.config ≡ c.exit_named-number.result.0.now =
+    c.in_ok-config.ensures ∙ ap (exit_or start) c.in_ok-run.ensures ∙ sym c.exit_named-number.ensures.exit in
     let own = subst (λ d. E d.register start.register ≡ true) (sym came) c.exit_named-number.ensures.own in
-    linked_home E g.met.R.PartialEq.laws c.exit_or-config.result.now.register start.register c.settle_segment.new.next None (alone start) c.settle_segment.new.trie own
-    (linked_none E c.exit_or-config.result.now.register c.settle_segment.new.next _ _ (alone start) c.settle_segment.new.trie c.in_ok-settled.ensures.linked)
+    linked_home E g.met.R.PartialEq.laws (arc_value c.in_ok-config.config).register start.register c.settle_segment.new.next None (alone start) c.settle_segment.new.trie own
+    (linked_none E (arc_value c.in_ok-config.config).register c.settle_segment.new.next _ _ (alone start) c.settle_segment.new.trie c.in_ok-settled.ensures.linked)

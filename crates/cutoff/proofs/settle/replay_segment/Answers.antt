@@ -9,7 +9,7 @@ returns-clause-settled g c =
     let kept : c.new-2.result.run ≡ arc_value c.in_ok-run.run' = c.new-2.ensures.run ∙ c.in_ok-kept.ensures in
     let steps : (arc_value c.in_ok-run.run').steps ≡ steps_at c.args.trie.now c.args.key =
     ap (λ r. r.steps) c.in_ok-run.ensures.ok ∙ c.in_ok-run_of.ensures.steps ∙ c.in_ok-steps.ensures in
-    segment_replayed g.R.PartialEq.eq c.args.trie.now c.set_note.new.self c.args.config.now c.args.key _ c.new-2.result c.set_note.ensures kept g.met.R.Eq.laws
+    segment_replayed g.R.PartialEq.eq c.args.trie.now c.set_note.new.self (arc_value c.args.config.now) c.args.key _ c.new-2.result c.set_note.ensures kept g.met.R.Eq.laws
     steps (ap (λ r. r.entry) c.in_ok-run.ensures.ok ∙ c.in_ok-run_of.ensures.entry) c.requires.misses c.len-replayed.result (c.len-replayed.ensures ∙ c.in_ok-steps.steps.ok.0 ∙ ap length c.in_ok-steps.ensures)
 
 pub returns-clause-linked : goal.returns-clause-linked
@@ -17,6 +17,6 @@ returns-clause-linked g c =
     let kept : c.new-2.result.run ≡ arc_value c.in_ok-run.run' = c.new-2.ensures.run ∙ c.in_ok-kept.ensures in
     let steps : (arc_value c.in_ok-run.run').steps ≡ steps_at c.args.trie.now c.args.key =
     ap (λ r. r.steps) c.in_ok-run.ensures.ok ∙ c.in_ok-run_of.ensures.steps ∙ c.in_ok-steps.ensures in
-    replayed_linked g.R.PartialEq.eq c.args.trie.now c.set_note.new.self c.args.config.now c.args.key _ c.new-2.result c.set_note.ensures kept
+    replayed_linked g.R.PartialEq.eq c.args.trie.now c.set_note.new.self (arc_value c.args.config.now) c.args.key _ c.new-2.result c.set_note.ensures kept
     c.args.next.now c.take_number-id.new.next c.args.above c.take_number-id.result g.met.R.Eq.laws c.requires.linked
     steps (ap (λ r. r.entry) c.in_ok-run.ensures.ok ∙ c.in_ok-run_of.ensures.entry) c.new-2.ensures.link c.new-2.ensures.id c.take_number-id.ensures
