@@ -47,7 +47,7 @@ fn known_prefix<R: Register>(
         if is_marked(mark, top) {
             return Some(front);
         }
-        let (note, above) = trie.step_up(top);
+        let (note, above) = trie.step_up_from(top);
         let Some(next) = above else {
             let stored = note?;
             let begun = stored.entry();
@@ -64,10 +64,11 @@ fn hung_from<R: Register>(trie: &Trie<Stored<R>>, mark: Option<SegKey>, key: Seg
     requires linked { (start : Configuration R R.Pending) × (next : ℕ)
         × IsLinked R.PartialEq.eq start.register next None (alone start) trie.now }
     requires cut { IsCut trie.now }
+    requires there { (i : ℕ) × (has key (keys_in trie.now.strands i) ≡ true) }
     ensures { (i : ℕ) → has key (keys_in trie.now.strands i) ≡ true
         → IsHung R.PartialEq.eq R.is trie.now result key i }
 {
-    let (note, above) = trie.step_up(key);
+    let (note, above) = trie.step_up_from(key);
     let Some(stored) = note else {
         return key;
     };
@@ -83,7 +84,7 @@ fn hung_from<R: Register>(trie: &Trie<Stored<R>>, mark: Option<SegKey>, key: Seg
         let Some(key) = at else {
             break;
         };
-        let (note, above) = trie.step_up(key);
+        let (note, above) = trie.step_up_from(key);
         let Some(stored) = note else {
             break;
         };

@@ -1,6 +1,7 @@
-use Rattle.std.proofs.Common.{◌≡◌, ℕ, true, Some, sym, ap, ◌∙◌}
+use Rattle.std.proofs.Common.{◌≡◌, ℕ, true, Some, sym, ap, subst, ◌∙◌}
 use Rattle.std.specs.Option.{option_copied}
 use Rattle.schedule_trie.specs.Cut.{has, keys_in, note_of, piece_at}
+use Rattle.schedule_trie.specs.Climbs.{IsReached}
 use Rattle.schedule_trie.proofs.Climbs.{step_up}
 use Rattle.cutoff.specs.Prefixes.{IsHung}
 use Rattle.cutoff.proofs.Climbs.{path_once}
@@ -15,11 +16,11 @@ loop-init g c =
     let E = g.R.PartialEq.eq in
     let trie = c.args.trie.now in
     record {
-      up = λ i h. step_up (keys_in trie.strands i) c.args.key c.step_up-above.result.1 (path_once trie c.requires.cut i) h (λ front back e. c.step_up-above.ensures.each i front back e);
+      up = λ i h. step_up (keys_in trie.strands i) c.args.key c.step_up_from-above.result.1 (path_once trie c.requires.cut i) h (λ front back e. c.step_up_from-above.ensures.each i front back e);
       hung = λ i h. hung_here E g.R.Behaves.is trie c.args.key i h;
       stored = record {
         stored = c.in-Some.stored.now;
-        noted = sym c.step_up-above.ensures.note ∙ ap option_copied c.in-Some.is;
+        noted = sym c.step_up_from-above.ensures.note ∙ ap option_copied c.in-Some.is;
         true_run = c.entry-entry.ensures.kept;
         linked = sym c.link-link.ensures;
       };
@@ -32,15 +33,15 @@ loop-preserved g c =
     let trie = c.args.trie.now in
     let was = c.loop.invariant in
     let s = c.in-Some-note.stored.now in
-    let noted : note_of (piece_at trie.pieces c.in-Some-at.key) ≡ Some s = sym c.step_up-above-in-loop.ensures.note ∙ ap option_copied c.in-Some-note.is in
+    let noted : note_of (piece_at trie.pieces c.in-Some-at.key) ≡ Some s = sym c.step_up_from-above-in-loop.ensures.note ∙ ap option_copied c.in-Some-note.is in
     let before = c.is_before.ensures.0 c.if-not-is_before.false in
     let told = c.requires.linked in
     let hung : (i : ℕ) → has c.args.key (keys_in trie.strands i) ≡ true → IsHung E is trie c.in-Some-at.key c.args.key i =
     λ i h. hung_more E is trie g.met.R.PartialEq.laws c.loop.hung c.in-Some-at.key c.args.key i told.1 before.0 told.0 c.loop.at c.loop.link s told.2 was.stored noted c.entry-entry-in-loop.ensures.kept
     before.1 before.2 c.in-Some-at.is (was.up i h) (was.hung i h) in
     record {
-      up = λ i h. step_up (keys_in trie.strands i) c.in-Some-at.key c.step_up-above-in-loop.result.1 (path_once trie c.requires.cut i) (hung i h).there
-          (λ front back e. c.step_up-above-in-loop.ensures.each i front back e);
+      up = λ i h. step_up (keys_in trie.strands i) c.in-Some-at.key c.step_up_from-above-in-loop.result.1 (path_once trie c.requires.cut i) (hung i h).there
+          (λ front back e. c.step_up_from-above-in-loop.ensures.each i front back e);
       hung = hung;
       stored = record {
         stored = s;
@@ -49,3 +50,12 @@ loop-preserved g c =
         linked = sym c.link-link-in-loop.ensures;
       };
     }
+
+pub step_up_from-above-requires : goal.step_up_from-above-requires
+step_up_from-above-requires g c = c.requires.cut.held c.requires.there.0 c.args.key c.requires.there.1
+
+pub step_up_from-above-requires-in-loop : goal.step_up_from-above-requires-in-loop
+step_up_from-above-requires-in-loop g c =
+    let i = c.requires.there.0 in
+    let up = c.loop.invariant.up i c.requires.there.1 in
+    c.requires.cut.held i c.in-Some-at.key (subst (IsReached (keys_in c.args.trie.now.strands i)) c.in-Some-at.is up.reached)

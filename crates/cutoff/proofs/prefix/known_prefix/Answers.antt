@@ -34,11 +34,11 @@ returns-then-eq g c = λ i h.
     let there = c.loop.invariant i h in
     let hung = c.hung_from-top.ensures i there in
     let told = c.requires.linked.1 in
-    let noted : note_of (piece_at trie.pieces top) ≡ Some s = sym c.step_up-above.ensures.note ∙ ap option_copied c.in_ok-stored.was in
-    let step = step_up keys top c.step_up-above.result.1 (path_once trie c.requires.cut i) hung.there (λ front back e. c.step_up-above.ensures.each i front back e) in
+    let noted : note_of (piece_at trie.pieces top) ≡ Some s = sym c.step_up_from-above.ensures.note ∙ ap option_copied c.in_ok-stored.was in
+    let step = step_up keys top c.step_up_from-above.result.1 (path_once trie c.requires.cut i) hung.there (λ front back e. c.step_up_from-above.ensures.each i front back e) in
     let begun : SameConfiguration E s.run.entry start = subst (λ d. SameConfiguration E d start) c.entry-begun.ensures.entry (c.eq.ensures.same.0 c.if-eq.true) in
     let down = up_new E g.met.R.PartialEq.laws is g.met.R.Register.alike trie top s noted c.entry-begun.ensures.kept (stored_at E start.register told.exits trie top s (told.each top) noted).covers
-    start keys c.step_up-above.result.1 step (subst (λ o. RunsDown E is trie (is start.register) start (keys_to keys o) s.run.entry) (sym c.in_default.is) begun) in
+    start keys c.step_up_from-above.result.1 step (subst (λ o. RunsDown E is trie (is start.register) start (keys_to keys o) s.run.entry) (sym c.in_default.is) begun) in
     (there, hung_runs E g.met.R.PartialEq.laws is g.met.R.Register.alike trie start top c.loop.front i hung there down)
 
 pub loop-preserved : goal.loop-preserved
@@ -46,5 +46,13 @@ loop-preserved g c = λ i h.
     let trie = c.args.trie.now in
     let keys = keys_in trie.strands i in
     let hung = c.hung_from-top.ensures i (c.loop.invariant i h) in
-    let step = step_up keys c.hung_from-top.result c.step_up-above.result.1 (path_once trie c.requires.cut i) hung.there (λ front back e. c.step_up-above.ensures.each i front back e) in
+    let step = step_up keys c.hung_from-top.result c.step_up_from-above.result.1 (path_once trie c.requires.cut i) hung.there (λ front back e. c.step_up_from-above.ensures.each i front back e) in
     subst (IsReached keys) c.in-Some.is step.reached
+
+pub hung_from-top-requires-clause-there : goal.hung_from-top-requires-clause-there
+hung_from-top-requires-clause-there g c = (c.requires.there.0, c.loop.invariant c.requires.there.0 c.requires.there.1)
+
+pub step_up_from-above-requires : goal.step_up_from-above-requires
+step_up_from-above-requires g c =
+    let i = c.requires.there.0 in
+    c.requires.cut.held i c.hung_from-top.result (c.hung_from-top.ensures i (c.loop.invariant i c.requires.there.1)).there
