@@ -3,9 +3,11 @@
 ghost use Rattle.std.specs.Prelude.{◌≡◌, [], ◌∷◌, ◌++◌, List, IfOk, OnOk, OnErr, IfSome, IfNone, take, length, ◌+◌, ◌<◌, ◌≤◌, vec_len, vec_capacity};
 ghost use Rattle.frames.specs.Recorded.{at_index, indexed};
 ghost use Rattle.checkpoints.specs.declared.events.Mark.{Mark as MarkSpec};
+ghost use Rattle.checkpoints.specs.Kept.{recorded};
 ghost use Rattle.checkpoints.specs.Told.{IsTold};
 ghost use Rattle.checkpoints.specs.Told as spec;
 
+use crate::kept::{Kept, event_of, kept_of};
 use frames::types::{Event, StepEvents};
 use std::alloc::{AllocError, Global};
 use std::marker::Model;
@@ -24,44 +26,46 @@ pub(crate) enum Mark {
 #[derive(Debug, Drop)]
 pub struct Events {
     marks: Vec<Mark>,
-    events: Vec<Event>,
+    events: Vec<Kept>,
 }
 
 impl Model for Events {
     ghost use Rattle.std.specs.Prelude.{List};
     ghost use Rattle.frames.specs.declared.types.StepEvents.{StepEvents};
+    ghost use Rattle.checkpoints.specs.Kept.{recorded};
     ghost use Rattle.checkpoints.specs.Told.{told, IsTold};
 
     ghost Value = { List StepEvents };
 
-    ghost view = { λ e. told e.marks.items e.events.items };
+    ghost view = { λ e. told e.marks.items (recorded e.events.items) };
 
-    ghost invariant = { λ e. IsTold e.marks.items e.events.items };
+    ghost invariant = { λ e. IsTold e.marks.items (recorded e.events.items) };
 }
 
 /// A walk over the events of steps, one step after the other. A contract sees those that are left.
 #[derive(Drop)]
 pub struct EventWalk<'a> {
     marks: &'a [Mark],
-    events: &'a [Event],
+    events: &'a [Kept],
 }
 
 impl<'a> Model for EventWalk<'a> {
     ghost use Rattle.std.specs.Prelude.{List};
     ghost use Rattle.frames.specs.declared.types.StepEvents.{StepEvents};
+    ghost use Rattle.checkpoints.specs.Kept.{recorded};
     ghost use Rattle.checkpoints.specs.Told.{told};
 
     ghost Value = { List StepEvents };
 
-    ghost view = { λ w. told w.marks.now w.events.now };
+    ghost view = { λ w. told w.marks.now (recorded w.events.now) };
 }
 
 impl Events {
     /// The events that are told so, in no more room than they need.
     #[inline(never)]
-    pub(crate) fn told_by(marks: Vec<Mark>, events: Vec<Event>) -> Events
-        requires { IsTold marks.items events.items }
-        ensures { result ≡ spec.told marks.items events.items }
+    pub(crate) fn told_by(marks: Vec<Mark>, events: Vec<Kept>) -> Events
+        requires { IsTold marks.items (recorded events.items) }
+        ensures { result ≡ spec.told marks.items (recorded events.items) }
     {
         let mut events = events;
         events.shrink_to_fit();
@@ -129,23 +133,23 @@ impl EventWalk<'_> {
 
 /// Adds the events of the next step, and its mark, for which there is room.
 #[inline(always)]
-pub(crate) fn push_told(marks: &mut Vec<Mark>, events: &mut Vec<Event>, told: StepEvents)
+pub(crate) fn push_told(marks: &mut Vec<Mark>, events: &mut Vec<Kept>, told: StepEvents)
     requires mark { vec_len marks.old < vec_capacity marks.old }
     requires two { vec_len events.old + 2 ≤ vec_capacity events.old }
     ensures mark { marks.new.items ≡ marks.old.items ++ spec.mark_of told ∷ [] }
     ensures marks { vec_len marks.new ≡ vec_len marks.old + 1 }
     ensures marks_room { vec_capacity marks.new ≡ vec_capacity marks.old }
-    ensures told { events.new.items
-        ≡ (events.old.items ++ spec.listed told.first) ++ spec.listed told.second }
+    ensures told { recorded events.new.items
+        ≡ (recorded events.old.items ++ spec.listed told.first) ++ spec.listed told.second }
     ensures events { vec_len events.new ≤ vec_len events.old + 2 }
     ensures events_room { vec_capacity events.new ≡ vec_capacity events.old }
 {
     match told.first {
         Some(first) => {
-            events.push_reserved(first);
+            push_kept(events, first);
             match told.second {
                 Some(second) => {
-                    events.push_reserved(second);
+                    push_kept(events, second);
                     marks.push_reserved(Mark::Both);
                 }
                 None => marks.push_reserved(Mark::First),
@@ -153,12 +157,23 @@ pub(crate) fn push_told(marks: &mut Vec<Mark>, events: &mut Vec<Event>, told: St
         }
         None => match told.second {
             Some(second) => {
-                events.push_reserved(second);
+                push_kept(events, second);
                 marks.push_reserved(Mark::Second);
             }
             None => marks.push_reserved(Mark::Nothing),
         },
     }
+}
+
+/// Adds an event, for which there is room.
+#[inline(always)]
+fn push_kept(events: &mut Vec<Kept>, event: Event)
+    requires { vec_len events.old < vec_capacity events.old }
+    ensures event { recorded events.new.items ≡ recorded events.old.items ++ event ∷ [] }
+    ensures len { vec_len events.new ≡ vec_len events.old + 1 }
+    ensures room { vec_capacity events.new ≡ vec_capacity events.old }
+{
+    events.push_reserved(kept_of(event));
 }
 
 /// The first `count` marks; all where there are fewer.
@@ -170,9 +185,9 @@ fn front(marks: &[Mark], count: usize) -> &[Mark]
 
 /// The events of a step with a mark, where its own are the next, and those behind.
 #[inline(always)]
-fn split(mark: Mark, events: &[Event]) -> (StepEvents, &[Event])
-    ensures { (marks : List MarkSpec)
-        → spec.told (mark ∷ marks) events.now ≡ result.0 ∷ spec.told marks result.1.now }
+fn split(mark: Mark, events: &[Kept]) -> (StepEvents, &[Kept])
+    ensures { (marks : List MarkSpec) → spec.told (mark ∷ marks) (recorded events.now)
+        ≡ result.0 ∷ spec.told marks (recorded result.1.now) }
 {
     match mark {
         Mark::Nothing => (told_of(None, None), events),
@@ -194,12 +209,12 @@ fn split(mark: Mark, events: &[Event]) -> (StepEvents, &[Event])
 
 /// The next event, if one is left, and those behind.
 #[inline(always)]
-fn take_next(events: &[Event]) -> (Option<Event>, &[Event])
-    ensures next { result.0 ≡ spec.next_of events.now }
-    ensures behind { result.1.now ≡ spec.behind events.now }
+fn take_next(events: &[Kept]) -> (Option<Event>, &[Kept])
+    ensures next { result.0 ≡ spec.next_of (recorded events.now) }
+    ensures behind { recorded result.1.now ≡ spec.behind (recorded events.now) }
 {
     match events.split_first() {
-        Some((event, behind)) => (Some(*event), behind),
+        Some((kept, behind)) => (Some(event_of(*kept)), behind),
         None => (None, events),
     }
 }

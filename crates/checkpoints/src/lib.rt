@@ -2,5 +2,6 @@
 #![tactic(auto)]
 
 pub mod events;
+mod kept;
 pub mod replay;
 pub mod run;
