@@ -59,7 +59,7 @@ impl<R: Register> Run<R> {
         ensures exit { result.now ≡ self.now.exit }
         ensures kept { IsRun (R.is self.now.entry.register) self.now }
     {
-        &self.exit
+        self.shared_exit()
     }
 
     /// The configuration that it comes to, for a run that begins there.

@@ -13,6 +13,7 @@ use checkpoints::run::{Run, run_of};
 use frames::config::Config;
 use frames::register::Register;
 use frames::types::Step;
+use schedule_trie::slot::Slot;
 use schedule_trie::trie::{SegKey, Trie};
 use std::alloc::{AllocError, Global};
 use std::sync::Arc;
@@ -84,9 +85,20 @@ pub(crate) fn segment_steps<R: Register>(
     ensures { IfOk result (λ steps. steps.items ≡ steps_at trie.now key) }
 {
     match trie.cells_of(key) {
-        Some(slots) => slots.iter().map(|slot| slot.step).collect(alloc),
+        Some(slots) => steps_in(alloc, slots),
         None => Ok(Vec::new(alloc)),
     }
+}
+
+/// The steps of cells, in order.
+fn steps_in(alloc: Global, slots: &[Slot]) -> Result<Vec<Step>, AllocError>
+    ensures { IfOk result (λ steps. steps.items ≡ map step_of slots.now) }
+{
+    let mut steps = Vec::with_capacity(alloc, slots.len())?;
+    for slot in slots {
+        steps.push_reserved(slot.step);
+    }
+    Ok(steps)
 }
 
 /// The next number, if there is one left.

@@ -1,0 +1,11 @@
+use Rattle.std.proofs.Common.{◌≡◌, ◌++◌, length, drop, map, vec_len, vec_capacity}
+use Rattle.schedule_trie.specs.Forest.{step_of}
+use Rattle.cutoff.proofs.settle.steps_in.Given as goal
+
+-- with what is still to come they are all, and there is room for it
+abbrev pub invariant-loop-slot : goal.invariant-loop-slot
+invariant-loop-slot l = record {
+  steps : l.steps.items ++ map step_of (drop l.slot-index l.slots) ≡ map step_of l.slots;
+  taken : vec_len l.steps ≡ l.slot-index;
+  room : vec_capacity l.steps ≡ length l.slots;
+}
