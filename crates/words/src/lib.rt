@@ -12,3 +12,4 @@ pub mod lines;
 pub mod number;
 pub mod parts;
 pub mod step;
+pub mod text;

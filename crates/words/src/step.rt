@@ -1,11 +1,12 @@
 //! Steps in words.
 
-ghost use Rattle.std.specs.Prelude.{◌≡◌, ◌++◌, ◌∷◌, [], OnOk, decimal};
+ghost use Rattle.std.specs.Prelude.{◌≡◌, ◌++◌, ◌∷◌, [], OnOk};
 ghost use Rattle.std.specs.Str.{bytes_eq};
 ghost use Rattle.words.specs.Steps as spec;
 
 use crate::number::{one_number, two_numbers};
 use crate::parts::Parts;
+use crate::text::push_number;
 use frames::types::Step;
 use std::alloc::AllocError;
 use std::io;
@@ -83,21 +84,8 @@ fn append_numbers(out: &mut Vec<u8>, numbers: &[u32]) -> Result<(), AllocError>
 {
     for number in numbers {
         out.push(b' ')?;
-        append_number(out, *number)?;
+        push_number(out, u64::from(*number))?;
     }
-    Ok(())
-}
-
-/// Adds the digits of a number.
-fn append_number(out: &mut Vec<u8>, number: u32) -> Result<(), AllocError>
-    ensures { OnOk result (out.new.items ≡ out.old.items ++ decimal number) }
-{
-    if number < 10 {
-        out.push(b'0' + number as u8)?;
-        return Ok(());
-    }
-    append_number(out, number / 10)?;
-    out.push(b'0' + (number % 10) as u8)?;
     Ok(())
 }
 

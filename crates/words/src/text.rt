@@ -1,0 +1,34 @@
+//! Texts that are put together from pieces.
+
+ghost use Rattle.std.specs.Prelude.{◌≡◌, ◌++◌, OnOk, decimal};
+
+use std::alloc::AllocError;
+
+/// Adds bytes.
+#[inline]
+pub fn push_bytes(out: &mut Vec<u8>, bytes: &[u8]) -> Result<(), AllocError>
+    ensures { OnOk result (out.new.items ≡ out.old.items ++ bytes.now) }
+{
+    out.extend_from_slice(bytes)
+}
+
+/// Adds a text.
+#[inline]
+pub fn push_text(out: &mut Vec<u8>, text: &str) -> Result<(), AllocError>
+    ensures { OnOk result (out.new.items ≡ out.old.items ++ text.now) }
+{
+    push_bytes(out, text.as_bytes())
+}
+
+/// Adds the digits of a number.
+pub fn push_number(out: &mut Vec<u8>, number: u64) -> Result<(), AllocError>
+    ensures { OnOk result (out.new.items ≡ out.old.items ++ decimal number) }
+{
+    if number < 10 {
+        out.push(b'0' + number as u8)?;
+        return Ok(());
+    }
+    push_number(out, number / 10)?;
+    out.push(b'0' + (number % 10) as u8)?;
+    Ok(())
+}
