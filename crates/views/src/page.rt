@@ -24,7 +24,6 @@ use pending::{PendingPage, push_pending};
 use process::{ProcessPage, push_process};
 use state::{StatePage, push_state};
 use std::alloc::{AllocError, Global};
-use std::io;
 use steps::{StepsPage, push_steps};
 use verdict::{VerdictPage, push_verdict};
 
@@ -47,14 +46,12 @@ pub fn page_text(alloc: Global, who: u32, page: &Page) -> Result<Vec<u8>, AllocE
     ensures { IfOk result (λ text. text.items ≡ spec.page_text who page.now) }
 {
     let mut out = Vec::new(alloc);
-    let Ok(()) = push_page(&mut out, who, page) else {
-        return Err(AllocError);
-    };
+    push_page(&mut out, who, page)?;
     Ok(out)
 }
 
 /// Adds the text of a page.
-fn push_page(out: &mut Vec<u8>, session: u32, page: &Page) -> io::Result<()>
+fn push_page(out: &mut Vec<u8>, session: u32, page: &Page) -> Result<(), AllocError>
     ensures { OnOk result (out.new.items ≡ out.old.items ++ spec.page_text session page.now) }
 {
     match page {

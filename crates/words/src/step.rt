@@ -36,14 +36,6 @@ pub fn step_of(words: &mut Parts<'_>) -> Option<Step>
     None
 }
 
-/// Adds the words of a step. An error comes only where there is no memory.
-pub fn push_step(out: &mut Vec<u8>, step: Step) -> io::Result<()>
-    ensures { OnOk result (out.new.items ≡ out.old.items ++ spec.step_text step) }
-{
-    append_step(out, step)?;
-    Ok(())
-}
-
 /// Adds the words of a step.
 ///
 /// # Errors

@@ -1,6 +1,6 @@
 //! Texts that are put together from pieces.
 
-ghost use Rattle.std.specs.Prelude.{◌≡◌, ◌++◌, OnOk, decimal};
+ghost use Rattle.std.specs.Prelude.{◌≡◌, ◌++◌, OnOk, codes, decimal};
 
 use std::alloc::AllocError;
 
@@ -18,6 +18,22 @@ pub fn push_text(out: &mut Vec<u8>, text: &str) -> Result<(), AllocError>
     ensures { OnOk result (out.new.items ≡ out.old.items ++ text.now) }
 {
     push_bytes(out, text.as_bytes())
+}
+
+/// Adds a text behind a space.
+pub fn push_word(out: &mut Vec<u8>, word: &str) -> Result<(), AllocError>
+    ensures { OnOk result (out.new.items ≡ out.old.items ++ codes " " ++ word.now) }
+{
+    push_text(out, " ")?;
+    push_text(out, word)
+}
+
+/// Adds a number behind a text.
+pub fn push_labelled(out: &mut Vec<u8>, label: &str, number: u64) -> Result<(), AllocError>
+    ensures { OnOk result (out.new.items ≡ out.old.items ++ label.now ++ decimal number) }
+{
+    push_text(out, label)?;
+    push_number(out, number)
 }
 
 /// Adds the digits of a number.

@@ -1,18 +1,19 @@
 //! The page of the branches.
 
-ghost use Rattle.std.specs.Prelude.{◌≡◌, ◌++◌, ◌<◌, IfOk, OnOk, Some, length, map, slice_get};
+ghost use Rattle.std.specs.Prelude.{◌≡◌, ◌++◌, ◌<◌, IfOk, OnOk, Some, codes, decimal, length, map, slice_get};
 ghost use Rattle.std.specs.List.{flat_map};
 ghost use Rattle.schedule_trie.specs.Forest.{Branch, AreNamedApart};
 ghost use Rattle.schedule_trie.specs.Cut.{forest};
 ghost use Rattle.views.specs.page.Branches as spec;
+ghost use Rattle.views.specs.page.Head.{line_end};
 
 use crate::listed::Listed;
+use crate::page::head::push_pair;
 use cutoff::chart::Chart;
 use frames::register::Register;
 use schedule_trie::name::Name;
 use std::alloc::{AllocError, Global};
-use std::io;
-use std::io::Write;
+use words::text::{push_bytes, push_labelled, push_number, push_text};
 
 /// A branch, and how many cells it has.
 #[derive(Clone, Copy, Debug, PartialEq, Eq)]
@@ -76,7 +77,11 @@ fn length_at<R: Register>(chart: &Chart<R>, index: u32) -> BranchLength
 }
 
 /// Adds the page of the branches.
-pub(crate) fn push_branches(out: &mut Vec<u8>, session: u32, page: &BranchesPage) -> io::Result<()>
+pub(crate) fn push_branches(
+    out: &mut Vec<u8>,
+    session: u32,
+    page: &BranchesPage,
+) -> Result<(), AllocError>
     ensures { OnOk result (out.new.items ≡ out.old.items ++ spec.branches_text session page.now) }
 {
     let branches = page.branches.as_slice();
@@ -91,16 +96,26 @@ fn push_counts(
     count: usize,
     edits: u64,
     made: u32,
-) -> io::Result<()>
+) -> Result<(), AllocError>
     ensures { OnOk result (out.new.items ≡ out.old.items
         ++ spec.counts_line session count edits made) }
 {
-    write!(out, "{session}: branches {count}")?;
-    writeln!(out, " edits {edits} made {made}")
+    push_number(out, u64::from(session))?;
+    push_labelled(out, ": branches ", count as u64)?;
+    push_made(out, edits, made)
+}
+
+/// Adds how many edits were accepted and how many cells were ever made, and the end of the line.
+fn push_made(out: &mut Vec<u8>, edits: u64, made: u32) -> Result<(), AllocError>
+    ensures { OnOk result (out.new.items ≡ out.old.items
+        ++ codes " edits " ++ decimal edits ++ codes " made " ++ decimal made ++ line_end) }
+{
+    push_text(out, " edits ")?;
+    push_pair(out, edits, " made ", u64::from(made))
 }
 
 /// Adds a line for each branch.
-fn push_lengths(out: &mut Vec<u8>, branches: &[BranchLength]) -> io::Result<()>
+fn push_lengths(out: &mut Vec<u8>, branches: &[BranchLength]) -> Result<(), AllocError>
     ensures { OnOk result (out.new.items ≡ out.old.items
         ++ flat_map spec.branch_line branches.now) }
 {
@@ -111,11 +126,11 @@ fn push_lengths(out: &mut Vec<u8>, branches: &[BranchLength]) -> io::Result<()>
 }
 
 /// Adds the line of a branch: its name and its length.
-fn push_branch(out: &mut Vec<u8>, branch: &BranchLength) -> io::Result<()>
+fn push_branch(out: &mut Vec<u8>, branch: &BranchLength) -> Result<(), AllocError>
     ensures { OnOk result (out.new.items ≡ out.old.items ++ spec.branch_line branch.now) }
 {
-    let len = branch.len;
-    write!(out, "  ")?;
-    out.extend_from_slice(branch.name.as_bytes())?;
-    writeln!(out, " {len}")
+    push_text(out, "  ")?;
+    push_bytes(out, branch.name.as_bytes())?;
+    push_labelled(out, " ", u64::from(branch.len))?;
+    push_text(out, "\n")
 }

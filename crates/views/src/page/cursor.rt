@@ -5,11 +5,10 @@ ghost use Rattle.views.specs.page.Cursor as spec;
 
 use crate::breakpoint::Break;
 use crate::listed::Listed;
-use crate::page::head::push_title;
+use crate::page::head::{push_pair, push_title};
 use schedule_trie::name::Name;
 use std::alloc::{AllocError, Global};
-use std::io;
-use std::io::Write;
+use words::text::{push_labelled, push_text};
 
 /// Where a session's cursor stands, and the session's breaks in order.
 #[derive(Clone, Drop)]
@@ -20,7 +19,11 @@ pub struct CursorPage {
 }
 
 /// Adds the page of a session's cursor.
-pub(crate) fn push_cursor(out: &mut Vec<u8>, session: u32, page: &CursorPage) -> io::Result<()>
+pub(crate) fn push_cursor(
+    out: &mut Vec<u8>,
+    session: u32,
+    page: &CursorPage,
+) -> Result<(), AllocError>
     ensures { OnOk result (out.new.items ≡ out.old.items ++ spec.cursor_text session page.now) }
 {
     let breaks = page.breaks.as_slice();
@@ -35,16 +38,16 @@ fn push_cursor_head(
     branch: &Name,
     place: u32,
     count: usize,
-) -> io::Result<()>
+) -> Result<(), AllocError>
     ensures { OnOk result (out.new.items ≡ out.old.items
         ++ spec.cursor_head session branch.now place count) }
 {
     push_title(out, session, "cursor", branch)?;
-    writeln!(out, "{place} breaks {count}")
+    push_pair(out, u64::from(place), " breaks ", count as u64)
 }
 
 /// Adds a line for each break.
-fn push_breaks(out: &mut Vec<u8>, breaks: &[Break]) -> io::Result<()>
+fn push_breaks(out: &mut Vec<u8>, breaks: &[Break]) -> Result<(), AllocError>
     ensures { OnOk result (out.new.items ≡ out.old.items ++ spec.break_lines breaks.now) }
 {
     for at in breaks {
@@ -54,23 +57,31 @@ fn push_breaks(out: &mut Vec<u8>, breaks: &[Break]) -> io::Result<()>
 }
 
 /// Adds the line of a break.
-fn push_break(out: &mut Vec<u8>, at: Break) -> io::Result<()>
+fn push_break(out: &mut Vec<u8>, at: Break) -> Result<(), AllocError>
     ensures { OnOk result (out.new.items ≡ out.old.items ++ spec.break_line at) }
 {
-    write!(out, "  ")?;
+    push_text(out, "  ")?;
     push_break_text(out, at)?;
-    writeln!(out)
+    push_text(out, "\n")
 }
 
 /// Adds a break.
-fn push_break_text(out: &mut Vec<u8>, at: Break) -> io::Result<()>
+fn push_break_text(out: &mut Vec<u8>, at: Break) -> Result<(), AllocError>
     ensures { OnOk result (out.new.items ≡ out.old.items ++ spec.break_text at) }
 {
     match at {
-        Break::Returns(p) => write!(out, "returns {p}"),
-        Break::Bit(j, v) => write!(out, "bit {j} {v}"),
-        Break::Chosen => write!(out, "chosen"),
-        Break::Void => write!(out, "void"),
-        Break::Refused => write!(out, "refused"),
+        Break::Returns(p) => push_labelled(out, "returns ", u64::from(p)),
+        Break::Bit(j, v) => push_bit(out, j, v),
+        Break::Chosen => push_text(out, "chosen"),
+        Break::Void => push_text(out, "void"),
+        Break::Refused => push_text(out, "refused"),
     }
+}
+
+/// Adds a break on a bit.
+fn push_bit(out: &mut Vec<u8>, j: u32, v: u32) -> Result<(), AllocError>
+    ensures { OnOk result (out.new.items ≡ out.old.items ++ spec.break_text (Break.Bit j v)) }
+{
+    push_labelled(out, "bit ", u64::from(j))?;
+    push_labelled(out, " ", u64::from(v))
 }

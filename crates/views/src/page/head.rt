@@ -1,11 +1,11 @@
 //! The first line of a page.
 
-ghost use Rattle.std.specs.Prelude.{◌≡◌, ◌++◌, OnOk};
+ghost use Rattle.std.specs.Prelude.{◌≡◌, ◌++◌, OnOk, decimal};
 ghost use Rattle.views.specs.page.Head as spec;
 
 use schedule_trie::name::Name;
-use std::io;
-use std::io::Write;
+use std::alloc::AllocError;
+use words::text::{push_bytes, push_labelled, push_number, push_text};
 
 /// Where a page was made: at a place of a branch that is so long. A place is after so many steps.
 #[derive(Clone, Copy, Debug, PartialEq, Eq)]
@@ -21,22 +21,43 @@ pub(crate) fn push_title(
     session: u32,
     kind: &str,
     branch: &Name,
-) -> io::Result<()>
+) -> Result<(), AllocError>
     ensures { OnOk result (out.new.items ≡ out.old.items
         ++ spec.page_title session kind.now branch.now) }
 {
-    write!(out, "{session}: {kind} ")?;
-    out.extend_from_slice(branch.as_bytes())?;
-    write!(out, " ")
+    push_number(out, u64::from(session))?;
+    push_text(out, ": ")?;
+    push_text(out, kind)?;
+    push_text(out, " ")?;
+    push_bytes(out, branch.as_bytes())?;
+    push_text(out, " ")
 }
 
 /// Adds the first line of a page at a place.
-pub(crate) fn push_head(out: &mut Vec<u8>, session: u32, kind: &str, head: &Head) -> io::Result<()>
+pub(crate) fn push_head(
+    out: &mut Vec<u8>,
+    session: u32,
+    kind: &str,
+    head: &Head,
+) -> Result<(), AllocError>
     ensures { OnOk result (out.new.items ≡ out.old.items
         ++ spec.head_line session kind.now head.now) }
 {
     push_title(out, session, kind, &head.branch)?;
-    let place = head.place;
-    let len = head.len;
-    writeln!(out, "{place} of {len}")
+    push_pair(out, u64::from(head.place), " of ", u64::from(head.len))
+}
+
+/// Adds two numbers with a text between them, and the end of the line.
+pub(super) fn push_pair(
+    out: &mut Vec<u8>,
+    first: u64,
+    between: &str,
+    second: u64,
+) -> Result<(), AllocError>
+    ensures { OnOk result (out.new.items ≡ out.old.items
+        ++ decimal first ++ between.now ++ decimal second ++ spec.line_end) }
+{
+    push_number(out, first)?;
+    push_labelled(out, between, second)?;
+    push_text(out, "\n")
 }

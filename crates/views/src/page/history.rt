@@ -9,8 +9,8 @@ use crate::page::memory::bit_name;
 use crate::page::names::{layer_name, reason_name};
 use crate::page::process::push_op;
 use frames::types::Event;
-use std::io;
-use std::io::Write;
+use std::alloc::AllocError;
+use words::text::{push_labelled, push_text};
 
 /// The events up to a place, each with the index of its step.
 #[derive(Drop)]
@@ -20,7 +20,11 @@ pub struct HistoryPage {
 }
 
 /// Adds the page of events.
-pub(crate) fn push_history(out: &mut Vec<u8>, session: u32, page: &HistoryPage) -> io::Result<()>
+pub(crate) fn push_history(
+    out: &mut Vec<u8>,
+    session: u32,
+    page: &HistoryPage,
+) -> Result<(), AllocError>
     ensures { OnOk result (out.new.items ≡ out.old.items ++ spec.history_text session page.now) }
 {
     push_head(out, session, "history", &page.head)?;
@@ -28,11 +32,11 @@ pub(crate) fn push_history(out: &mut Vec<u8>, session: u32, page: &HistoryPage) 
 }
 
 /// Adds the lines of events, each with the index of its step; `none` where there are none.
-fn push_events(out: &mut Vec<u8>, events: &[(usize, Event)]) -> io::Result<()>
+fn push_events(out: &mut Vec<u8>, events: &[(usize, Event)]) -> Result<(), AllocError>
     ensures { OnOk result (out.new.items ≡ out.old.items ++ spec.history_lines events.now) }
 {
     if events.is_empty() {
-        return writeln!(out, "  none");
+        return push_text(out, "  none\n");
     }
     for (index, event) in events {
         push_event(out, *index, *event)?;
@@ -41,13 +45,14 @@ fn push_events(out: &mut Vec<u8>, events: &[(usize, Event)]) -> io::Result<()>
 }
 
 /// Adds the line of an event of the step with this index.
-fn push_event(out: &mut Vec<u8>, index: usize, event: Event) -> io::Result<()>
+fn push_event(out: &mut Vec<u8>, index: usize, event: Event) -> Result<(), AllocError>
     ensures { OnOk result (out.new.items ≡ out.old.items ++ spec.event_line (index, event)) }
 {
-    let p = event_process(event);
-    write!(out, "  {index} p{p} ")?;
+    push_labelled(out, "  ", index as u64)?;
+    push_labelled(out, " p", u64::from(event_process(event)))?;
+    push_text(out, " ")?;
     push_event_name(out, event)?;
-    writeln!(out)
+    push_text(out, "\n")
 }
 
 /// The process of an event.
@@ -66,28 +71,29 @@ fn event_process(event: Event) -> u32
 }
 
 /// Adds what happened to the process of an event.
-fn push_event_name(out: &mut Vec<u8>, event: Event) -> io::Result<()>
+fn push_event_name(out: &mut Vec<u8>, event: Event) -> Result<(), AllocError>
     ensures { OnOk result (out.new.items ≡ out.old.items ++ spec.event_name event) }
 {
     match event {
         Event::Invoke(_, op) => {
-            write!(out, "invoke ")?;
+            push_text(out, "invoke ")?;
             push_op(out, op)
         }
-        Event::Got(_, v) => write!(out, "return {v}"),
-        Event::Wrote(_) => write!(out, "return written"),
+        Event::Got(_, v) => push_labelled(out, "return ", u64::from(v)),
+        Event::Wrote(_) => push_text(out, "return written"),
         Event::Refused(_, layer) => {
-            let layer = layer_name(layer);
-            write!(out, "refused spent {layer}")
+            push_text(out, "refused spent ")?;
+            push_text(out, layer_name(layer))
         }
         Event::Void(_, reason) => {
-            let reason = reason_name(reason);
-            write!(out, "void {reason}")
+            push_text(out, "void ")?;
+            push_text(out, reason_name(reason))
         }
-        Event::Stop(_) => write!(out, "stop"),
+        Event::Stop(_) => push_text(out, "stop"),
         Event::Chosen(_, bit, value) => {
-            let value = bit_name(value);
-            write!(out, "chosen bit {bit} value {value}")
+            push_labelled(out, "chosen bit ", u64::from(bit))?;
+            push_text(out, " value ")?;
+            push_text(out, bit_name(value))
         }
     }
 }

@@ -7,8 +7,7 @@ ghost use Rattle.views.specs.page.Memory as spec;
 use crate::listed::Listed;
 use safe_bit::Cell;
 use std::alloc::{AllocError, Global};
-use std::io;
-use std::io::Write;
+use words::text::{push_labelled, push_text, push_word};
 
 /// The values of bit cells.
 pub(crate) fn bits(alloc: Global, cells: &[Cell]) -> Result<Listed<bool>, AllocError>
@@ -29,33 +28,32 @@ pub(crate) fn bit_name(value: bool) -> &'static str
 }
 
 /// Adds the line of the values of all bit cells.
-pub(crate) fn push_bits(out: &mut Vec<u8>, bits: &[bool]) -> io::Result<()>
+pub(crate) fn push_bits(out: &mut Vec<u8>, bits: &[bool]) -> Result<(), AllocError>
     ensures { OnOk result (out.new.items ≡ out.old.items ++ spec.bits_line bits.now) }
 {
-    write!(out, "  bits ")?;
+    push_text(out, "  bits ")?;
     for bit in bits {
-        let value = bit_name(*bit);
-        write!(out, "{value}")?;
+        push_text(out, bit_name(*bit))?;
     }
-    writeln!(out)
+    push_text(out, "\n")
 }
 
 /// Adds the line of all words.
-pub(crate) fn push_words(out: &mut Vec<u8>, words: &[u32]) -> io::Result<()>
+pub(crate) fn push_words(out: &mut Vec<u8>, words: &[u32]) -> Result<(), AllocError>
     ensures { OnOk result (out.new.items ≡ out.old.items ++ spec.words_line words.now) }
 {
     if words.is_empty() {
-        return writeln!(out, "  words -");
+        return push_text(out, "  words -\n");
     }
-    write!(out, "  words")?;
+    push_text(out, "  words")?;
     for word in words {
-        write!(out, " {word}")?;
+        push_labelled(out, " ", u64::from(*word))?;
     }
-    writeln!(out)
+    push_text(out, "\n")
 }
 
 /// Adds a line for each bit cell.
-pub(crate) fn push_bit_cells(out: &mut Vec<u8>, cells: &[Cell]) -> io::Result<()>
+pub(crate) fn push_bit_cells(out: &mut Vec<u8>, cells: &[Cell]) -> Result<(), AllocError>
     ensures { OnOk result (out.new.items ≡ out.old.items ++ spec.bit_cell_lines cells.now) }
 {
     for (i, cell) in cells.iter().enumerate() {
@@ -65,14 +63,14 @@ pub(crate) fn push_bit_cells(out: &mut Vec<u8>, cells: &[Cell]) -> io::Result<()
 }
 
 /// Adds the line of a bit cell.
-fn push_bit_cell(out: &mut Vec<u8>, i: usize, cell: Cell) -> io::Result<()>
+fn push_bit_cell(out: &mut Vec<u8>, i: usize, cell: Cell) -> Result<(), AllocError>
     ensures { OnOk result (out.new.items ≡ out.old.items ++ spec.bit_cell_line i cell) }
 {
-    let value = bit_name(cell.value);
-    let writing = writing_name(cell.writing);
-    let reading = reading_name(cell);
-    write!(out, "  {i} {value} ")?;
-    writeln!(out, "{writing} {reading}")
+    push_labelled(out, "  ", i as u64)?;
+    push_word(out, bit_name(cell.value))?;
+    push_word(out, writing_name(cell.writing))?;
+    push_word(out, reading_name(cell))?;
+    push_text(out, "\n")
 }
 
 /// The value being written, or a dash.

@@ -1,18 +1,17 @@
 //! What a page tells of pending operations, in frames.
 
-ghost use Rattle.std.specs.Prelude.{◌≡◌, ◌++◌, IfOk, OnOk};
+ghost use Rattle.std.specs.Prelude.{◌≡◌, ◌++◌, IfOk, OnOk, decimal};
 ghost use Rattle.views.specs.page.Pending as spec;
 
 use crate::listed::Listed;
 use crate::page::head::{Head, push_head};
 use crate::page::names::frame_name;
-use crate::page::process::{push_idle, stopped_text};
+use crate::page::process::{push_idle, push_name, stopped_text};
 use frames::config::Config;
 use frames::register::Register;
 use frames::types::{Frame, FrameLayer, Op};
 use std::alloc::{AllocError, Global};
-use std::io;
-use std::io::Write;
+use words::text::{push_labelled, push_text};
 
 /// What a process has pending.
 #[derive(Drop)]
@@ -31,7 +30,11 @@ pub struct PendingPage {
 }
 
 /// Adds the page of pending operations.
-pub(crate) fn push_pending(out: &mut Vec<u8>, session: u32, page: &PendingPage) -> io::Result<()>
+pub(crate) fn push_pending(
+    out: &mut Vec<u8>,
+    session: u32,
+    page: &PendingPage,
+) -> Result<(), AllocError>
     ensures { OnOk result (out.new.items ≡ out.old.items ++ spec.pending_text session page.now) }
 {
     push_head(out, session, "pending", &page.head)?;
@@ -72,7 +75,7 @@ fn pending_at<R: Register>(
 }
 
 /// Adds a line for each process.
-fn push_operations(out: &mut Vec<u8>, statuses: &[PendingStatus]) -> io::Result<()>
+fn push_operations(out: &mut Vec<u8>, statuses: &[PendingStatus]) -> Result<(), AllocError>
     ensures { OnOk result (out.new.items ≡ out.old.items ++ spec.pending_lines statuses.now) }
 {
     for (p, status) in statuses.iter().enumerate() {
@@ -82,7 +85,7 @@ fn push_operations(out: &mut Vec<u8>, statuses: &[PendingStatus]) -> io::Result<
 }
 
 /// Adds the line of a process.
-fn push_process(out: &mut Vec<u8>, p: usize, status: &PendingStatus) -> io::Result<()>
+fn push_process(out: &mut Vec<u8>, p: usize, status: &PendingStatus) -> Result<(), AllocError>
     ensures { OnOk result (out.new.items ≡ out.old.items ++ spec.pending_line p status.now) }
 {
     match &status.frames {
@@ -92,17 +95,22 @@ fn push_process(out: &mut Vec<u8>, p: usize, status: &PendingStatus) -> io::Resu
 }
 
 /// Adds the line of a process with frames.
-fn push_frames(out: &mut Vec<u8>, p: usize, frames: &[Frame], stopped: bool) -> io::Result<()>
+fn push_frames(
+    out: &mut Vec<u8>,
+    p: usize,
+    frames: &[Frame],
+    stopped: bool,
+) -> Result<(), AllocError>
     ensures { OnOk result (out.new.items ≡ out.old.items ++ spec.frames_line p frames.now stopped) }
 {
-    let stopped = stopped_text(stopped);
-    write!(out, "  p{p} ")?;
+    push_name(out, p)?;
     push_nested(out, frames)?;
-    writeln!(out, "{stopped}")
+    push_text(out, stopped_text(stopped))?;
+    push_text(out, "\n")
 }
 
 /// Adds frames, outermost first.
-fn push_nested(out: &mut Vec<u8>, frames: &[Frame]) -> io::Result<()>
+fn push_nested(out: &mut Vec<u8>, frames: &[Frame]) -> Result<(), AllocError>
     ensures { OnOk result (out.new.items ≡ out.old.items ++ spec.frames_text frames.now) }
 {
     let Some((outermost, inner)) = frames.split_first() else {
@@ -110,43 +118,54 @@ fn push_nested(out: &mut Vec<u8>, frames: &[Frame]) -> io::Result<()>
     };
     push_frame(out, *outermost)?;
     for frame in inner {
-        write!(out, " > ")?;
+        push_text(out, " > ")?;
         push_frame(out, *frame)?;
     }
     Ok(())
 }
 
 /// Adds a frame.
-fn push_frame(out: &mut Vec<u8>, frame: Frame) -> io::Result<()>
+fn push_frame(out: &mut Vec<u8>, frame: Frame) -> Result<(), AllocError>
     ensures { OnOk result (out.new.items ≡ out.old.items ++ spec.frame_text frame) }
 {
-    let name = frame_name(frame.layer);
-    write!(out, "{name} ")?;
+    push_text(out, frame_name(frame.layer))?;
+    push_text(out, " ")?;
     push_frame_op(out, frame.layer, frame.op, frame.x)?;
     push_frame_rest(out, frame.layer, frame.i, frame.x)
 }
 
 /// Adds the operation of a frame: a stamped register writes its code, every other layer its value.
-fn push_frame_op(out: &mut Vec<u8>, layer: FrameLayer, op: Op, x: u32) -> io::Result<()>
+fn push_frame_op(out: &mut Vec<u8>, layer: FrameLayer, op: Op, x: u32) -> Result<(), AllocError>
     ensures { OnOk result (out.new.items ≡ out.old.items ++ spec.frame_op layer op x) }
 {
     match op {
         Op::Write(v) => {
             let written = if layer == FrameLayer::Stamped { x } else { v };
-            write!(out, "w {written}")
+            push_labelled(out, "w ", u64::from(written))
         }
-        Op::Read => write!(out, "r"),
+        Op::Read => push_text(out, "r"),
     }
 }
 
 /// Adds what stands behind the operation of a frame.
-fn push_frame_rest(out: &mut Vec<u8>, layer: FrameLayer, i: u32, x: u32) -> io::Result<()>
+fn push_frame_rest(out: &mut Vec<u8>, layer: FrameLayer, i: u32, x: u32) -> Result<(), AllocError>
     ensures { OnOk result (out.new.items ≡ out.old.items ++ spec.frame_rest layer i x) }
 {
     match layer {
-        FrameLayer::Safe | FrameLayer::Copies | FrameLayer::Unary => write!(out, " {i}"),
+        FrameLayer::Safe | FrameLayer::Copies | FrameLayer::Unary => {
+            push_labelled(out, " ", u64::from(i))
+        }
         FrameLayer::Regular | FrameLayer::Stamped => Ok(()),
-        FrameLayer::MatrixRead => write!(out, " read {i} {x}"),
-        FrameLayer::MatrixWrite => write!(out, " write {i} {x}"),
+        FrameLayer::MatrixRead => push_part(out, " read ", i, x),
+        FrameLayer::MatrixWrite => push_part(out, " write ", i, x),
     }
+}
+
+/// Adds the phase of a matrix, the part in work and the code.
+fn push_part(out: &mut Vec<u8>, phase: &str, i: u32, x: u32) -> Result<(), AllocError>
+    ensures { OnOk result (out.new.items ≡ out.old.items
+        ++ phase.now ++ decimal i ++ spec.behind_space x) }
+{
+    push_labelled(out, phase, u64::from(i))?;
+    push_labelled(out, " ", u64::from(x))
 }

@@ -1,7 +1,9 @@
 //! What a page tells of a process.
 
-ghost use Rattle.std.specs.Prelude.{◌≡◌, ◌++◌, IfOk, OnOk};
+ghost use Rattle.std.specs.Prelude.{◌≡◌, ◌++◌, IfOk, None, OnOk, codes, decimal};
 ghost use Rattle.views.specs.Numbered.{numbered};
+ghost use Rattle.views.specs.page.Head.{line_end};
+ghost use Rattle.views.specs.page.Names as names;
 ghost use Rattle.views.specs.page.Process as spec;
 
 use crate::listed::Listed;
@@ -11,8 +13,7 @@ use frames::config::Config;
 use frames::register::Register;
 use frames::types::{Action, Op};
 use std::alloc::{AllocError, Global};
-use std::io;
-use std::io::Write;
+use words::text::{push_labelled, push_text};
 
 /// What a process is at.
 #[derive(Clone, Copy, Debug, PartialEq, Eq)]
@@ -49,7 +50,11 @@ pub(crate) fn process_page<R: Register>(
 }
 
 /// Adds the page of one process.
-pub(crate) fn push_process(out: &mut Vec<u8>, session: u32, page: &ProcessPage) -> io::Result<()>
+pub(crate) fn push_process(
+    out: &mut Vec<u8>,
+    session: u32,
+    page: &ProcessPage,
+) -> Result<(), AllocError>
     ensures { OnOk result (out.new.items ≡ out.old.items ++ spec.process_text session page.now) }
 {
     push_head(out, session, "process", &page.head)?;
@@ -99,7 +104,7 @@ fn status_at<R: Register>(config: &Config<R>, p: u32) -> ProcessStatus
 }
 
 /// Adds a line for each process.
-pub(crate) fn push_statuses(out: &mut Vec<u8>, statuses: &[ProcessStatus]) -> io::Result<()>
+pub(crate) fn push_statuses(out: &mut Vec<u8>, statuses: &[ProcessStatus]) -> Result<(), AllocError>
     ensures { OnOk result (out.new.items ≡ out.old.items
         ++ numbered spec.status_line 0 statuses.now) }
 {
@@ -110,17 +115,25 @@ pub(crate) fn push_statuses(out: &mut Vec<u8>, statuses: &[ProcessStatus]) -> io
 }
 
 /// Adds the line of one process, which may not be there.
-fn push_one(out: &mut Vec<u8>, p: u32, status: Option<ProcessStatus>) -> io::Result<()>
+fn push_one(out: &mut Vec<u8>, p: u32, status: Option<ProcessStatus>) -> Result<(), AllocError>
     ensures { OnOk result (out.new.items ≡ out.old.items ++ spec.one_line p status) }
 {
     match status {
-        None => writeln!(out, "  p{p} none"),
+        None => push_none(out, p),
         Some(status) => push_status(out, p as usize, status),
     }
 }
 
+/// Adds the line of a process that isn't there.
+fn push_none(out: &mut Vec<u8>, p: u32) -> Result<(), AllocError>
+    ensures { OnOk result (out.new.items ≡ out.old.items ++ spec.one_line p None) }
+{
+    push_labelled(out, "  p", u64::from(p))?;
+    push_text(out, " none\n")
+}
+
 /// Adds the line of a process.
-fn push_status(out: &mut Vec<u8>, p: usize, status: ProcessStatus) -> io::Result<()>
+fn push_status(out: &mut Vec<u8>, p: usize, status: ProcessStatus) -> Result<(), AllocError>
     ensures { OnOk result (out.new.items ≡ out.old.items ++ spec.status_line p status) }
 {
     match status {
@@ -131,11 +144,13 @@ fn push_status(out: &mut Vec<u8>, p: usize, status: ProcessStatus) -> io::Result
 }
 
 /// Adds the line of a process that is idle.
-pub(crate) fn push_idle(out: &mut Vec<u8>, p: usize, stopped: bool) -> io::Result<()>
+pub(crate) fn push_idle(out: &mut Vec<u8>, p: usize, stopped: bool) -> Result<(), AllocError>
     ensures { OnOk result (out.new.items ≡ out.old.items ++ spec.idle_line p stopped) }
 {
-    let stopped = stopped_text(stopped);
-    writeln!(out, "  p{p} idle{stopped}")
+    push_labelled(out, "  p", p as u64)?;
+    push_text(out, " idle")?;
+    push_text(out, stopped_text(stopped))?;
+    push_text(out, "\n")
 }
 
 /// What stands behind a process that has stopped.
@@ -146,31 +161,49 @@ pub(crate) fn stopped_text(stopped: bool) -> &'static str
 }
 
 /// Adds the line of a process with an operation pending.
-fn push_busy(out: &mut Vec<u8>, p: usize, op: Op, next: Action) -> io::Result<()>
+fn push_busy(out: &mut Vec<u8>, p: usize, op: Op, next: Action) -> Result<(), AllocError>
     ensures { OnOk result (out.new.items ≡ out.old.items ++ spec.busy_line p op next) }
 {
-    let kind = kind_name(next.kind);
-    let bit = next.cell;
-    write!(out, "  p{p} ")?;
+    push_name(out, p)?;
     push_op(out, op)?;
-    writeln!(out, " next {kind} {bit}")
+    push_next(out, next)
+}
+
+/// Adds a process, before its operation.
+pub(super) fn push_name(out: &mut Vec<u8>, p: usize) -> Result<(), AllocError>
+    ensures { OnOk result
+        (out.new.items ≡ out.old.items ++ codes "  p" ++ decimal p ++ codes " ") }
+{
+    push_labelled(out, "  p", p as u64)?;
+    push_text(out, " ")
+}
+
+/// Adds the next bit action of an operation, and the end of its line.
+fn push_next(out: &mut Vec<u8>, next: Action) -> Result<(), AllocError>
+    ensures { OnOk result (out.new.items ≡ out.old.items ++ codes " next "
+        ++ names.kind_name next.kind ++ codes " " ++ decimal next.cell ++ line_end) }
+{
+    push_text(out, " next ")?;
+    push_text(out, kind_name(next.kind))?;
+    push_labelled(out, " ", u64::from(next.cell))?;
+    push_text(out, "\n")
 }
 
 /// Adds the line of a process that has stopped with an operation pending.
-fn push_stopped(out: &mut Vec<u8>, p: usize, op: Op) -> io::Result<()>
+fn push_stopped(out: &mut Vec<u8>, p: usize, op: Op) -> Result<(), AllocError>
     ensures { OnOk result (out.new.items ≡ out.old.items ++ spec.stopped_line p op) }
 {
-    write!(out, "  p{p} ")?;
+    push_name(out, p)?;
     push_op(out, op)?;
-    writeln!(out, " stopped")
+    push_text(out, " stopped\n")
 }
 
 /// Adds an operation.
-pub(crate) fn push_op(out: &mut Vec<u8>, op: Op) -> io::Result<()>
+pub(crate) fn push_op(out: &mut Vec<u8>, op: Op) -> Result<(), AllocError>
     ensures { OnOk result (out.new.items ≡ out.old.items ++ spec.op_text op) }
 {
     match op {
-        Op::Write(v) => write!(out, "write {v}"),
-        Op::Read => write!(out, "read"),
+        Op::Write(v) => push_labelled(out, "write ", u64::from(v)),
+        Op::Read => push_text(out, "read"),
     }
 }

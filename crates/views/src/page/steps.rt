@@ -8,9 +8,8 @@ use crate::page::head::push_title;
 use frames::types::Step;
 use schedule_trie::name::Name;
 use std::alloc::{AllocError, Global};
-use std::io;
-use std::io::Write;
-use words::step::push_step;
+use words::step::append_step;
+use words::text::{push_labelled, push_number, push_text};
 
 /// The steps of a branch, in order.
 #[derive(Clone, Drop)]
@@ -20,7 +19,11 @@ pub struct StepsPage {
 }
 
 /// Adds the page of a branch's steps.
-pub(crate) fn push_steps(out: &mut Vec<u8>, session: u32, page: &StepsPage) -> io::Result<()>
+pub(crate) fn push_steps(
+    out: &mut Vec<u8>,
+    session: u32,
+    page: &StepsPage,
+) -> Result<(), AllocError>
     ensures { OnOk result (out.new.items ≡ out.old.items ++ spec.steps_text session page.now) }
 {
     let steps = page.steps.as_slice();
@@ -29,22 +32,36 @@ pub(crate) fn push_steps(out: &mut Vec<u8>, session: u32, page: &StepsPage) -> i
 }
 
 /// Adds the first line of the page of a branch's steps.
-fn push_steps_head(out: &mut Vec<u8>, session: u32, branch: &Name, len: usize) -> io::Result<()>
+fn push_steps_head(
+    out: &mut Vec<u8>,
+    session: u32,
+    branch: &Name,
+    len: usize,
+) -> Result<(), AllocError>
     ensures { OnOk result (out.new.items ≡ out.old.items
         ++ spec.steps_head session branch.now len) }
 {
     push_title(out, session, "steps", branch)?;
-    writeln!(out, "{len}")
+    push_number(out, len as u64)?;
+    push_text(out, "\n")
 }
 
 /// Adds a line for each step, with its index.
-fn push_step_lines(out: &mut Vec<u8>, steps: &[Step]) -> io::Result<()>
+fn push_step_lines(out: &mut Vec<u8>, steps: &[Step]) -> Result<(), AllocError>
     ensures { OnOk result (out.new.items ≡ out.old.items ++ spec.step_lines steps.now) }
 {
     for (index, step) in steps.iter().enumerate() {
-        write!(out, "  {index} ")?;
-        push_step(out, *step)?;
-        writeln!(out)?;
+        push_step_line(out, index, *step)?;
     }
     Ok(())
+}
+
+/// Adds the line of a step with this index.
+fn push_step_line(out: &mut Vec<u8>, index: usize, step: Step) -> Result<(), AllocError>
+    ensures { OnOk result (out.new.items ≡ out.old.items ++ spec.step_line index step) }
+{
+    push_labelled(out, "  ", index as u64)?;
+    push_text(out, " ")?;
+    append_step(out, step)?;
+    push_text(out, "\n")
 }

@@ -10,8 +10,7 @@ use crate::verdict::verdicts;
 use frames::types::Event;
 use frames::verdict::ReadVerdict;
 use std::alloc::{AllocError, Global};
-use std::io;
-use std::io::Write;
+use words::text::{push_labelled, push_text, push_word};
 
 /// The returned reads up to a place, each with the verdict on it; none on a tower with several writers, for which no verdict is
 /// defined.
@@ -39,7 +38,11 @@ pub(crate) fn verdict_page(
 }
 
 /// Adds the page of verdicts.
-pub(crate) fn push_verdict(out: &mut Vec<u8>, session: u32, page: &VerdictPage) -> io::Result<()>
+pub(crate) fn push_verdict(
+    out: &mut Vec<u8>,
+    session: u32,
+    page: &VerdictPage,
+) -> Result<(), AllocError>
     ensures { OnOk result (out.new.items ≡ out.old.items ++ spec.verdict_text session page.now) }
 {
     push_head(out, session, "verdict", &page.head)?;
@@ -47,21 +50,21 @@ pub(crate) fn push_verdict(out: &mut Vec<u8>, session: u32, page: &VerdictPage) 
 }
 
 /// Adds the lines of returned reads, where verdicts are defined.
-fn push_reads(out: &mut Vec<u8>, reads: &Option<Listed<ReadVerdict>>) -> io::Result<()>
+fn push_reads(out: &mut Vec<u8>, reads: &Option<Listed<ReadVerdict>>) -> Result<(), AllocError>
     ensures { OnOk result (out.new.items ≡ out.old.items ++ spec.reads_text reads.now) }
 {
     match reads {
-        None => writeln!(out, "  undefined for matrix"),
+        None => push_text(out, "  undefined for matrix\n"),
         Some(reads) => push_verdicts(out, reads.as_slice()),
     }
 }
 
 /// Adds the lines of returned reads, or of none.
-fn push_verdicts(out: &mut Vec<u8>, verdicts: &[ReadVerdict]) -> io::Result<()>
+fn push_verdicts(out: &mut Vec<u8>, verdicts: &[ReadVerdict]) -> Result<(), AllocError>
     ensures { OnOk result (out.new.items ≡ out.old.items ++ spec.verdict_lines verdicts.now) }
 {
     if verdicts.is_empty() {
-        return writeln!(out, "  none");
+        return push_text(out, "  none\n");
     }
     for read in verdicts {
         push_read(out, *read)?;
@@ -70,13 +73,12 @@ fn push_verdicts(out: &mut Vec<u8>, verdicts: &[ReadVerdict]) -> io::Result<()>
 }
 
 /// Adds the line of a returned read.
-fn push_read(out: &mut Vec<u8>, read: ReadVerdict) -> io::Result<()>
+fn push_read(out: &mut Vec<u8>, read: ReadVerdict) -> Result<(), AllocError>
     ensures { OnOk result (out.new.items ≡ out.old.items ++ spec.verdict_line read) }
 {
-    let step = read.step;
-    let process = read.process;
-    let value = read.value;
-    let name = verdict_name(read.verdict);
-    write!(out, "  {step} p{process} ")?;
-    writeln!(out, "{value} {name}")
+    push_labelled(out, "  ", read.step as u64)?;
+    push_labelled(out, " p", u64::from(read.process))?;
+    push_labelled(out, " ", u64::from(read.value))?;
+    push_word(out, verdict_name(read.verdict))?;
+    push_text(out, "\n")
 }
