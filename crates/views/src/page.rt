@@ -27,6 +27,9 @@ use std::alloc::{AllocError, Global};
 use steps::{StepsPage, push_steps};
 use verdict::{VerdictPage, push_verdict};
 
+/// How many bytes a page has room for from its beginning on: most have fewer.
+const SHORT_PAGE: usize = 256;
+
 /// What a look shows.
 #[derive(Drop)]
 pub enum Page {
@@ -45,7 +48,7 @@ pub enum Page {
 pub fn page_text(alloc: Global, who: u32, page: &Page) -> Result<Vec<u8>, AllocError>
     ensures { IfOk result (λ text. text.items ≡ spec.page_text who page.now) }
 {
-    let mut out = Vec::new(alloc);
+    let mut out = Vec::with_capacity(alloc, SHORT_PAGE)?;
     push_page(&mut out, who, page)?;
     Ok(out)
 }
