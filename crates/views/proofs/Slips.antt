@@ -1,66 +1,88 @@
 -- What a settled place's slip stands for.
-use Rattle.std.proofs.Common.{◌≡◌, ℕ, List, [], ◌∷◌, Option, Some, None, take, length, map, refl, sym, ap, ◌∙◌}
+use Rattle.std.proofs.Common.{◌≡◌, ℕ, Bool, true, false, List, [], ◌∷◌, Option, Some, None, take, length, map, refl, sym, ap, ◌∙◌}
 use Rattle.std.specs.Option.{option_map}
+use Rattle.std.specs.declared.alloc.Global.{Global}
 use Rattle.std.specs.declared.sync.Arc.{Arc}
+use Rattle.std.specs.declared.vec.Vec.{Vec}
 use Rattle.checkpoints.specs.Segment.{SegmentRun}
 use Rattle.frames.specs.declared.types.Event.{Event}
 use Rattle.frames.specs.declared.types.Step.{Step}
 use Rattle.frames.specs.Behaviour.{Behaviour}
 use Rattle.frames.specs.Configuration.{Configuration}
-use Rattle.frames.specs.Recorded.{indexed}
+use Rattle.frames.specs.Recorded.{indexed, shown}
 use Rattle.cutoff.specs.Fitting.{RunPart, part_of}
 use Rattle.cutoff.specs.Held.{last_part}
 use Rattle.views.specs.declared.query.PlaceKind.{PlaceKind}
 use Rattle.views.specs.declared.query.PlaceKind.TheVariants.{State, Process, Bits, Pending, History, Verdict}
 use Rattle.views.specs.declared.page.head.Head.{Head}
-use Rattle.frames.specs.Recorded.{shown}
-use Rattle.views.specs.Spots.{part_end, end_of, events_of, listed, IsSpotOf}
+use Rattle.views.specs.declared.slip.content.Found.TheVariants.{Runs}
+use Rattle.views.specs.Spots.{part_end, end_of, events_of, IsSpotOf}
 use Rattle.views.specs.Pages.{page_at}
-use Rattle.views.specs.RunPages.{run_page, IsOfConfig, ShowAlike}
+use Rattle.views.specs.RunPages.{run_page, shows_events, found_last, Shows}
 use Rattle.views.specs.Looks.{place_page}
 use Rattle.views.proofs.Alone.{page_alone}
 
-pub slip_told : {R P : Type 0} (is : R → Behaviour P) (start from : Configuration R P) (value : ℕ) (steps : List Step) (place len : ℕ) (parts : List (RunPart R P))
-    → IsSpotOf is start value steps place len parts → from ≡ start → (kind : PlaceKind) (branch : List ℕ)
-    → run_page is kind (record { branch = branch; place = place; len = len }) from parts ≡ place_page (is start.register) value kind branch place steps
-slip_told is start from value steps place len parts spot is_start kind branch =
-    ap (λ c. run_page is kind (record { branch = branch; place = place; len = len }) c parts) is_start
-    ∙ ap (λ n. run_page is kind (record { branch = branch; place = place; len = n }) start parts) spot.counted
+pub slip_told : {R P : Type 0} (is : R → Behaviour P) (start : Configuration R P) (value : ℕ) (steps : List Step) (place len : ℕ) (parts : List (RunPart R P))
+    → IsSpotOf is start value steps place len parts → (kind : PlaceKind) (branch : List ℕ)
+    → run_page is kind (record { branch = branch; place = place; len = len }) start parts ≡ place_page (is start.register) value kind branch place steps
+slip_told is start value steps place len parts spot kind branch =
+    ap (λ n. run_page is kind (record { branch = branch; place = place; len = n }) start parts) spot.counted
     ∙ page_alone (is (end_of is start parts).register) (is start.register) kind (record { branch = branch; place = place; len = length steps }) (end_of is start parts)
     (shown (is start.register) value (take place steps)) (indexed 0 (events_of is parts)) spot.home spot.comes
     ∙ ap (λ events. page_at (is start.register) kind (record { branch = branch; place = place; len = length steps }) (shown (is start.register) value (take place steps)) (indexed 0 events)) spot.records
 
--- the end of parts is that of their last one
-end_of_last : {R P : Type 0} (is : R → Behaviour P) (c : Configuration R P) (parts : List (RunPart R P)) (last : Option (RunPart R P)) → last_part parts ≡ last
-    → end_of is c (listed last) ≡ end_of is c parts
-end_of_last {R} {P} is c [] last e = ap (λ l. end_of is c (listed l)) (sym e)
-end_of_last {R} {P} is c (part ∷ []) last e = ap (λ l. end_of is c (listed l)) (sym e)
-end_of_last {R} {P} is c (part ∷ next ∷ parts) last e = last_alone last (part_end is part) (end_of_last is (part_end is part) (next ∷ parts) last e) e
+-- parts of which none is the last are none
+no_last : {R P : Type 0} (parts : List (RunPart R P)) → last_part parts ≡ None → parts ≡ []
+no_last [] e = refl
+no_last (part ∷ parts) e = absurd (some_last part parts e)
   where
-    some_last : (q : RunPart R P) (qs : List (RunPart R P)) → last_part (q ∷ qs) ≡ None → ⊥
+    some_last : {R P : Type 0} (q : RunPart R P) (qs : List (RunPart R P)) → last_part (q ∷ qs) ≡ None → ⊥
     some_last q [] f = cc
     some_last q (r ∷ qs) f = some_last r qs f
 
-    last_alone : (l : Option (RunPart R P)) (d : Configuration R P) → end_of is d (listed l) ≡ end_of is (part_end is part) (next ∷ parts) → last_part (next ∷ parts) ≡ l
-        → end_of is c (listed l) ≡ end_of is (part_end is part) (next ∷ parts)
-    last_alone None d same f = absurd (some_last next parts f)
-    last_alone (Some q) d same f = same
+-- the end of parts is that of their last one
+end_of_last : {R P : Type 0} (is : R → Behaviour P) (c : Configuration R P) (parts : List (RunPart R P)) (last : RunPart R P) → last_part parts ≡ Some last
+    → end_of is c parts ≡ part_end is last
+end_of_last is c [] last e = cc
+end_of_last is c (part ∷ []) last e = let same : part ≡ last = cc in ap (part_end is) same
+end_of_last is c (part ∷ next ∷ parts) last e = end_of_last is (part_end is part) (next ∷ parts) last e
 
--- on a page that a configuration is enough for, the last part shows what all do
-pub show_last : {R P : Type 0} (is : R → Behaviour P) (kind : PlaceKind) → IsOfConfig kind → (parts : List (RunPart R P)) (last : Option (RunPart R P)) → last_part parts ≡ last
-    → ShowAlike is kind parts (listed last)
-show_last {R} {P} is kind of_config parts last e head first =
-    ap (λ (c : Configuration R P). page_at (is c.register) kind head c (indexed 0 (events_of is (listed last)))) (end_of_last is first parts last e)
-    ∙ config_alone kind of_config (is (end_of is first parts).register) head (end_of is first parts) (indexed 0 (events_of is (listed last))) (indexed 0 (events_of is parts))
-  where
-    config_alone : (kind : PlaceKind) → IsOfConfig kind → (b : Behaviour P) (head : Head) (c : Configuration R P) (some others : List (ℕ × Event)) → page_at b kind head c some ≡ page_at b kind head c others
-    config_alone State h b head c some others = refl
-    config_alone (Process p) h b head c some others = refl
-    config_alone Bits h b head c some others = refl
-    config_alone Pending h b head c some others = refl
-    config_alone History h b head c some others = absurd h
-    config_alone (Verdict value) h b head c some others = absurd h
+no_events : false ≡ true → ⊥
+no_events e = cc
 
-pub listed_parts : {R P Z : Type 0} (last : Option (Arc (SegmentRun R P) Z × ℕ)) → map part_of (listed last) ≡ listed (option_map part_of last)
-listed_parts None = refl
-listed_parts (Some x) = refl
+no_config : true ≡ false → ⊥
+no_config e = cc
+
+-- a page that shows no events is of a configuration alone
+config_alone : {R P : Type 0} (kind : PlaceKind) → shows_events kind ≡ false → (b : Behaviour P) (head : Head) (c : Configuration R P) (some others : List (ℕ × Event))
+    → page_at b kind head c some ≡ page_at b kind head c others
+config_alone State e b head c some others = refl
+config_alone (Process p) e b head c some others = refl
+config_alone Bits e b head c some others = refl
+config_alone Pending e b head c some others = refl
+config_alone History e b head c some others = absurd (no_config e)
+config_alone (Verdict value) e b head c some others = absurd (no_config e)
+
+-- on such a page the last run shows what all do
+pub shows_last : {R P : Type 0} (is : R → Behaviour P) (kind : PlaceKind) → shows_events kind ≡ false → (first : Configuration R P) (parts : List (RunPart R P))
+    (last : Option (Arc (SegmentRun R P) Global × ℕ)) → last_part parts ≡ option_map part_of last → Shows is kind first parts (found_last first last)
+shows_last is kind alone first parts None e = record {
+  page = λ head. ap (run_page is kind head first) (sym (no_last parts e));
+  enough = alone;
+}
+shows_last {R} {P} is kind alone first parts (Some x) e = record {
+  page = λ head.
+      ap (λ (c : Configuration R P). page_at (is c.register) kind head c []) (sym (end_of_last is first parts (part_of x) e))
+      ∙ config_alone kind alone (is (end_of is first parts).register) head (end_of is first parts) [] (indexed 0 (events_of is parts));
+  enough = alone;
+}
+
+-- on a page of events all runs show what they record
+pub shows_all : {R P : Type 0} (is : R → Behaviour P) (kind : PlaceKind) → shows_events kind ≡ true → (first : Configuration R P) (runs : Vec (Arc (SegmentRun R P) Global × ℕ) Global)
+    → Shows is kind first (map part_of runs.items) (Runs runs)
+shows_all is History e first runs = record { page = λ head. refl; enough = tt }
+shows_all is (Verdict value) e first runs = record { page = λ head. refl; enough = tt }
+shows_all is State e first runs = absurd (no_events e)
+shows_all is (Process p) e first runs = absurd (no_events e)
+shows_all is Bits e first runs = absurd (no_events e)
+shows_all is Pending e first runs = absurd (no_events e)

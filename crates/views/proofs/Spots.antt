@@ -1,5 +1,5 @@
 -- What a settled place's runs come to and record.
-use Rattle.std.proofs.Common.{◌≡◌, ℕ, zero, suc, ◌+◌, ◌-◌, ◌<◌, ◌≤◌, Bool, true, false, nat_eq, cond, List, [], ◌∷◌, ◌++◌, length, map, take, Option, Some, None, refl, sym, ap, subst, ◌∙◌, arith, inl, inr, append-nil, append_assoc, slice_get, get_or, eqb-true}
+use Rattle.std.proofs.Common.{◌≡◌, ℕ, zero, suc, ◌+◌, ◌-◌, ◌<◌, ◌≤◌, Bool, true, false, nat_eq, cond, List, [], ◌∷◌, ◌++◌, length, map, take, Option, Some, None, refl, sym, ap, subst, ◌∙◌, arith, inl, inr, append-nil, append_assoc, get_or, eqb-true}
 use Rattle.std.specs.Option.{option_map, unwrap_or}
 use Rattle.std.specs.Cmp.{IsEquivalence}
 use Rattle.std.specs.Arc.{arc_value}
@@ -130,27 +130,6 @@ module _ {R P : Type 0} (E : R → R → Bool) (equal : IsEquivalence E) (is : R
       by later true e parts sum h = nothing c d parts place (along (k ∷ ks)) same h.0 (eqb-true place 0 e)
       by later false e [] sum h = absurd h
       by later false e (part ∷ rest) sum h = some later part rest n sum h
-
--- the end of parts is that of the last one
-pub end_last : {R P Z : Type 0} (is : R → Behaviour P) (c : Configuration R P) (runs : List (Arc (SegmentRun R P) Z × ℕ)) (x : Arc (SegmentRun R P) Z × ℕ)
-    → Some x ≡ slice_get runs (length runs - 1) → end_of is c (map part_of runs) ≡ part_end is (part_of x)
-end_last is c [] x e = cc
-end_last {R} {P} {Z} is c (y ∷ []) x e = let same : y ≡ x = cc in ap (λ (z : Arc (SegmentRun R P) Z × ℕ). part_end is (part_of z)) same
-end_last is c (y ∷ z ∷ rs) x e =
-    let less : length (y ∷ z ∷ rs) - 1 ≡ suc (length (z ∷ rs) - 1) = omega arith in
-    end_last is (part_end is (part_of y)) (z ∷ rs) x (e ∙ ap (slice_get (y ∷ z ∷ rs)) less)
-
-none_last : {X : Type 0} (x : X) (xs : List X) → None ≡ slice_get (x ∷ xs) (length (x ∷ xs) - 1) → ⊥
-none_last x [] e = cc
-none_last x (y ∷ ys) e =
-    let less : length (x ∷ y ∷ ys) - 1 ≡ suc (length (y ∷ ys) - 1) = omega arith in
-    none_last y ys (e ∙ ap (slice_get (x ∷ y ∷ ys)) less)
-
--- where there is none, it is where they begin
-pub end_none : {R P Z : Type 0} (is : R → Behaviour P) (c : Configuration R P) (runs : List (Arc (SegmentRun R P) Z × ℕ))
-    → None ≡ slice_get runs (length runs - 1) → end_of is c (map part_of runs) ≡ c
-end_none is c [] e = refl
-end_none is c (x ∷ runs) e = absurd (none_last x runs e)
 
 history-take : {R P : Type 0} (b : Behaviour P) (c : Configuration R P) (n : ℕ) (steps : List Step) → take n (history b c steps) ≡ history b c (take n steps)
 history-take b c zero steps = refl

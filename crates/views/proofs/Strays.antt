@@ -111,11 +111,11 @@ place_judges b value kind.Pending branch place steps within fit h = tt
 place_judges b value kind.History branch place steps within fit h = tt
 
 -- and so does what a settled place's slip stands for
-pub slip_judges : {R P : Type 0} (is : R → Behaviour P) (start from : Configuration R P) (value : ℕ) (steps : List Step) (place len : ℕ) (parts : List (RunPart R P))
-    → IsSpotOf is start value steps place len parts → from ≡ start → value < (is start.register).values → AllFit (is start.register) steps → (what : PlaceKind) (branch : List ℕ) → JudgesFrom value what
-    → Judges (is start.register) (run_page is what (record { branch = branch; place = place; len = len }) from parts)
-slip_judges is start from value steps place len parts spot is_start within fit what branch judged =
-    subst (Judges (is start.register)) (sym (slip_told is start from value steps place len parts spot is_start what branch))
+pub slip_judges : {R P : Type 0} (is : R → Behaviour P) (start : Configuration R P) (value : ℕ) (steps : List Step) (place len : ℕ) (parts : List (RunPart R P))
+    → IsSpotOf is start value steps place len parts → value < (is start.register).values → AllFit (is start.register) steps → (what : PlaceKind) (branch : List ℕ) → JudgesFrom value what
+    → Judges (is start.register) (run_page is what (record { branch = branch; place = place; len = len }) start parts)
+slip_judges is start value steps place len parts spot within fit what branch judged =
+    subst (Judges (is start.register)) (sym (slip_told is start value steps place len parts spot what branch))
     (place_judges (is start.register) value what branch place steps within fit judged)
 
 -- each step of a branch fits

@@ -1,29 +1,68 @@
 -- Pages of what runs come to.
-use Rattle.std.specs.Prelude.{⊤, ◌≡◌, List}
+use Rattle.std.specs.Prelude.{ℕ, ⊤, ◌≡◌, Bool, true, false, List, [], Option, Some, None, map}
+use Rattle.std.specs.declared.alloc.Global.{Global}
+use Rattle.std.specs.declared.sync.Arc.{Arc}
+use Rattle.checkpoints.specs.Segment.{SegmentRun}
+use Rattle.frames.specs.declared.types.Event.{Event}
 use Rattle.frames.specs.Behaviour.{Behaviour}
 use Rattle.frames.specs.Configuration.{Configuration}
 use Rattle.frames.specs.Recorded.{indexed}
-use Rattle.cutoff.specs.Fitting.{RunPart}
+use Rattle.cutoff.specs.Fitting.{RunPart, part_of}
 use Rattle.views.specs.declared.query.PlaceKind.{PlaceKind}
 use Rattle.views.specs.declared.query.PlaceKind.TheVariants.{State, Process, Bits, Pending, History, Verdict}
 use Rattle.views.specs.declared.page.head.Head.{Head}
 use Rattle.views.specs.declared.page.Page.{Page}
+use Rattle.views.specs.declared.page.Page.TheVariants as page
+use Rattle.views.specs.declared.slip.content.Found.{Found}
+use Rattle.views.specs.declared.slip.content.Found.TheVariants.{Initial, Last, Runs}
+use Rattle.views.specs.page.Verdict.{verdict_page}
 use Rattle.views.specs.Pages.{page_at}
-use Rattle.views.specs.Spots.{end_of, events_of}
+use Rattle.views.specs.Spots.{part_end, end_of, events_of}
 
--- the page of what runs come to from a first configuration on
-abbrev pub run_page : {R P : Type 0} → (R → Behaviour P) → PlaceKind → Head → Configuration R P → List (RunPart R P) → Page
-run_page is kind head first parts = page_at (is (end_of is first parts).register) kind head (end_of is first parts) (indexed 0 (events_of is parts))
+-- whether a page shows events; else a configuration alone is enough for it
+abbrev pub shows_events : PlaceKind → Bool
+shows_events State = false
+shows_events (Process p) = false
+shows_events Bits = false
+shows_events Pending = false
+shows_events History = true
+shows_events (Verdict value) = true
 
--- a page that a configuration alone is enough for
-abbrev pub IsOfConfig : PlaceKind → Type 0
-IsOfConfig State = ⊤
-IsOfConfig (Process p) = ⊤
-IsOfConfig Bits = ⊤
-IsOfConfig Pending = ⊤
-IsOfConfig History = ⊥
-IsOfConfig (Verdict value) = ⊥
+-- the page of a configuration, where that is enough; the page of events, where it shows them
+abbrev pub config_page : {R P : Type 0} → Behaviour P → PlaceKind → Head → Configuration R P → Page
+config_page b kind head c = page_at b kind head c []
 
--- parts that show on a page of a kind what others do, whatever they begin from
-abbrev pub ShowAlike : {R P : Type 0} → (R → Behaviour P) → PlaceKind → List (RunPart R P) → List (RunPart R P) → Type 0
-ShowAlike {R} {P} is kind parts others = (head : Head) (first : Configuration R P) → run_page is kind head first others ≡ run_page is kind head first parts
+abbrev pub events_page : PlaceKind → Head → List (ℕ × Event) → Page
+events_page (Verdict value) head events = page.Verdict (verdict_page head value events)
+events_page kind head events = page.History (record { head = head; events = events })
+
+module _ {R P : Type 0} (is : R → Behaviour P) where
+  -- the page of what runs come to from a first configuration on
+  abbrev pub run_page : PlaceKind → Head → Configuration R P → List (RunPart R P) → Page
+  run_page kind head first parts = page_at (is (end_of is first parts).register) kind head (end_of is first parts) (indexed 0 (events_of is parts))
+
+  -- the page of the configuration that a part of a run comes to
+  abbrev pub part_page : PlaceKind → Head → RunPart R P → Page
+  part_page kind head part = config_page (is (part_end is part).register) kind head (part_end is part)
+
+  -- the page of what was found at a place
+  abbrev pub found_page : PlaceKind → Head → Found R P → Page
+  found_page kind head (Initial c) = config_page (is c.register) kind head c
+  found_page kind head (Last run count) = part_page kind head (part_of (run, count))
+  found_page kind head (Runs runs) = events_page kind head (indexed 0 (events_of is (map part_of runs.items)))
+
+-- a configuration is found only for a page that it is enough for
+abbrev pub IsFor : {R P : Type 0} → PlaceKind → Found R P → Type 0
+IsFor kind (Initial c) = shows_events kind ≡ false
+IsFor kind (Last run count) = shows_events kind ≡ false
+IsFor kind (Runs runs) = ⊤
+
+-- what is found where a configuration is enough: the last run, and the first configuration where there is none
+abbrev pub found_last : {R P : Type 0} → Configuration R P → Option (Arc (SegmentRun R P) Global × ℕ) → Found R P
+found_last first None = Initial first
+found_last first (Some part) = Last part.0 part.1
+
+-- what was found at a place shows what parts do
+pub record Shows {R P : Type 0} (is : R → Behaviour P) (kind : PlaceKind) (first : Configuration R P) (parts : List (RunPart R P)) (found : Found R P) : Type 0 where
+  pub page : (head : Head) → found_page is kind head found ≡ run_page is kind head first parts
+  pub enough : IsFor kind found

@@ -1,5 +1,5 @@
 -- What runs one after the other come to and record, each as far as it counts.
-use Rattle.std.specs.Prelude.{ℕ, ◌≡◌, List, [], ◌∷◌, ◌++◌, Option, Some, None, length, take}
+use Rattle.std.specs.Prelude.{ℕ, ◌≡◌, List, [], ◌∷◌, ◌++◌, length, take}
 use Rattle.frames.specs.declared.types.Step.{Step}
 use Rattle.frames.specs.declared.types.StepEvents.{StepEvents}
 use Rattle.frames.specs.Behaviour.{Behaviour}
@@ -25,11 +25,6 @@ module _ {R P : Type 0} (is : R → Behaviour P) where
   abbrev pub events_of : List (RunPart R P) → List StepEvents
   events_of [] = []
   events_of (part ∷ parts) = part_events part ++ events_of parts
-
--- the last part alone, if there is one
-abbrev pub listed : {X : Type 0} → Option X → List X
-listed None = []
-listed (Some x) = x ∷ []
 
 -- a configuration like another one: registers that answer alike, and the same cells, words, pending operations and stopped marks
 pub record IsAlike {R P : Type 0} (is : R → Behaviour P) (c d : Configuration R P) : Type 0 where

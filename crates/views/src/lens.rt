@@ -7,7 +7,7 @@ ghost use Rattle.views.specs.declared.lens.TheConstants.{PLACES};
 ghost use Rattle.views.specs.Lenses.{IsAt};
 
 use crate::run_place::RunPlace;
-use crate::spot::{front, make};
+use crate::spot::{exit_at, front, make};
 use checkpoints::run::Run;
 use frames::config::Config;
 use frames::register::Register;
@@ -174,7 +174,7 @@ fn ended<R: Register>(alloc: Global, run: &Run<R>, count: u32) -> Result<Config<
     requires { length run.now.steps ≤ count }
     ensures { IfOk result (λ c. IsAt R.is run.now count c) }
 {
-    run.exit().copy(alloc)
+    exit_at(run, count).copy(alloc)
 }
 
 /// Goes on from a place of a run to a later one.

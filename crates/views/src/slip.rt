@@ -1,16 +1,16 @@
 //! Slips: what a look found, from which its page is made later.
 
-ghost use Rattle.std.specs.Prelude.{◌≡◌, ◌<◌, List, Some, true, false, Ok, IfOk, OnOk, IfErr, map};
+ghost use Rattle.std.specs.Prelude.{◌≡◌, ◌<◌, List, Some, true, false, Ok, IfOk, OnOk, IfErr};
 ghost use Rattle.schedule_trie.specs.Forest.{IsRefused};
 ghost use Rattle.schedule_trie.specs.Cut.{forest};
-ghost use Rattle.cutoff.specs.Fitting.{RunPart, part_of};
+ghost use Rattle.cutoff.specs.Fitting.{RunPart};
 ghost use Rattle.cutoff.specs.Held.{look};
 ghost use Rattle.views.specs.Looks as spec;
 ghost use Rattle.views.specs.Looks.{looked, steps_in, IsKept};
 ghost use Rattle.views.specs.ChartLooks.{shown_by, page_in, steps_page, IsSpotIn};
-ghost use Rattle.views.specs.RunPages.{IsOfConfig, ShowAlike};
+ghost use Rattle.views.specs.RunPages as pages;
+ghost use Rattle.views.specs.RunPages.{Shows};
 ghost use Rattle.views.specs.Slips.{IsReady};
-ghost use Rattle.views.specs.Spots.{listed};
 ghost use Rattle.frames.specs.Recorded.{AllFit};
 ghost use Rattle.frames.specs.Regularity.{NeverStray};
 ghost use Rattle.views.specs.Strays.{Judges, JudgesSome, JudgesFrom, ShowsNoStray};
@@ -23,6 +23,7 @@ use crate::page::steps::StepsPage;
 use crate::query::{PlaceKind, Query};
 use checkpoints::run::Run;
 use cutoff::chart::Chart;
+use frames::config::Config;
 use frames::register::Register;
 use frames::types::Op;
 use schedule_trie::name::Name;
@@ -33,7 +34,7 @@ use std::sync::Arc;
 
 mod content;
 
-use content::{Content, PlaceSlip};
+use content::{Content, Found, PlaceSlip};
 
 /// What a look found. It stands for the page that is made of it, whatever happens to the branches meanwhile; a page of verdicts
 /// judges what a register of its type records.
@@ -162,32 +163,23 @@ fn place_slip<R: Register>(
     ensures kept { IsKept chart.old chart.new }
     ensures judges { IfOk result (Judges (R.is chart.old.start.register)) }
 {
-    let (len, runs) = settled(alloc, chart, kind, &branch, place)?;
-    let Ok(first) = chart.initial().copy(alloc) else {
-        return Err(Refusal::Memory);
-    };
+    let (len, found) = settled(alloc, chart, kind, &branch, place)?;
     let head = Head { branch, place, len };
-    let content = Content::Place(PlaceSlip {
-        kind,
-        head,
-        first,
-        runs,
-    });
+    let content = Content::Place(PlaceSlip { kind, head, found });
     Ok(Slip { content })
 }
 
-/// Settles a place of a branch: the branch's length, and the runs that come to the place; where a page of this kind shows no
-/// events, the last of them alone.
+/// Settles a place of a branch: the branch's length, and what a page of this kind shows of the place.
 fn settled<R: Register>(
     alloc: Global,
     chart: &mut Chart<R>,
     kind: PlaceKind,
     branch: &Name,
     place: u32,
-) -> Result<(u32, Vec<(Arc<Run<R>>, u32)>), Refusal>
+) -> Result<(u32, Found<R>), Refusal>
     ensures spot { IfOk result (λ s. (parts : List (RunPart R R.Pending))
         × IsSpotIn R.is chart.old branch.now place s.0 parts
-        × ShowAlike R.is kind parts (map part_of s.1.items)) }
+        × Shows R.is kind chart.old.start parts s.1) }
     ensures found { OnOk result (look (forest chart.old.cut) branch.now place
         ≡ Ok (forest chart.old.cut)) }
     ensures err { IfErr result (IsRefused (look (forest chart.old.cut) branch.now place)) }
@@ -199,16 +191,16 @@ fn settled<R: Register>(
     chart.steps_fit();
     if shows_events(kind) {
         let spot = chart.settle(alloc, branch, place)?;
-        return Ok((spot.len, spot.runs));
+        return Ok((spot.len, Found::Runs(spot.runs)));
     }
     let last = chart.settle_last(alloc, branch, place)?;
-    let runs = listed(alloc, last.part)?;
-    Ok((last.len, runs))
+    let found = found_last(alloc, chart.initial(), last.part)?;
+    Ok((last.len, found))
 }
 
 /// Whether a page of a kind shows events, and so more than a configuration.
 fn shows_events(kind: PlaceKind) -> bool
-    ensures { result ≡ false → IsOfConfig kind }
+    ensures { result ≡ pages.shows_events kind }
 {
     match kind {
         PlaceKind::History | PlaceKind::Verdict(_) => true,
@@ -216,15 +208,18 @@ fn shows_events(kind: PlaceKind) -> bool
     }
 }
 
-/// An item as a list of it alone, or of none.
-fn listed<T: Drop>(alloc: Global, item: Option<T>) -> Result<Vec<T>, AllocError>
-    ensures { IfOk result (λ list. list.items ≡ listed item) }
+/// What a page that shows no events is made of: the last run, and the first configuration where there is none.
+fn found_last<R: Register>(
+    alloc: Global,
+    first: &Config<R>,
+    last: Option<(Arc<Run<R>>, u32)>,
+) -> Result<Found<R>, AllocError>
+    ensures { IfOk result (λ found. found ≡ pages.found_last first.now last) }
 {
-    let mut list = Vec::new(alloc);
-    if let Some(item) = item {
-        list.push(item)?;
+    match last {
+        None => Ok(Found::Initial(first.copy(alloc)?)),
+        Some((run, count)) => Ok(Found::Last(run, count)),
     }
-    Ok(list)
 }
 
 /// Looks at the steps of a branch.

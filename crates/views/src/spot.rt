@@ -1,12 +1,11 @@
-//! What a settled place shows: the configuration that its runs come to, and their events.
+//! What a settled place shows: the configuration that a run comes to, and the events of runs.
 
-ghost use Rattle.std.specs.Prelude.{◌≡◌, IfOk, map, take};
+ghost use Rattle.std.specs.Prelude.{◌≡◌, ◌≤◌, IfOk, length, map, take};
 ghost use Rattle.frames.specs.Configuration.{replayed};
 ghost use Rattle.frames.specs.Recorded.{AllFit, indexed};
 ghost use Rattle.cutoff.specs.Fitting.{part_of};
-ghost use Rattle.views.specs.Spots.{IsAlike, end_of, events_of};
+ghost use Rattle.views.specs.Spots.{part_end, events_of};
 
-use crate::lens::Lens;
 use checkpoints::run::Run;
 use frames::config::Config;
 use frames::register::Register;
@@ -14,19 +13,13 @@ use frames::types::{Event, Step};
 use std::alloc::{AllocError, Global};
 use std::sync::Arc;
 
-/// A configuration like the one that runs one after the other come to, each as far as it counts; like the first one where there are none.
-pub(crate) fn config_of<R: Register>(
-    alloc: Global,
-    lens: &mut Lens<R>,
-    first: &Config<R>,
-    runs: &[(Arc<Run<R>>, u32)],
-) -> Result<Config<R>, AllocError>
-    ensures { IfOk result (λ c. IsAlike R.is c (end_of R.is first.now (map part_of runs.now))) }
+/// The configuration that the first `count` steps of a run come to, where these are all.
+#[tactic(auto, using(std::proofs::lemmas::List::take_all))]
+pub(crate) fn exit_at<R: Register>(run: &Run<R>, count: u32) -> &Config<R>
+    requires { length run.now.steps ≤ count }
+    ensures { result.now ≡ part_end R.is (record { run = run.now; count = count }) }
 {
-    match runs.last() {
-        None => first.copy(alloc),
-        Some((run, count)) => lens.config_in(alloc, run, *count),
-    }
+    run.exit()
 }
 
 /// Makes steps one after another.

@@ -1,11 +1,10 @@
 //! What a slip holds.
 
-ghost use Rattle.std.specs.Prelude.{◌≡◌, ℕ, List, IfOk, map};
+ghost use Rattle.std.specs.Prelude.{◌≡◌, IfOk, false, map};
 ghost use Rattle.cutoff.specs.Fitting.{part_of};
-ghost use Rattle.frames.specs.declared.types.Event.{Event as RecordedEvent};
-ghost use Rattle.views.specs.Pages.{page_at};
+ghost use Rattle.frames.specs.Recorded.{indexed};
 ghost use Rattle.views.specs.RunPages as spec;
-ghost use Rattle.views.specs.RunPages.{IsOfConfig};
+ghost use Rattle.views.specs.Spots.{events_of};
 ghost use Rattle.views.specs.declared.page.Page.TheVariants as spec_page;
 
 use crate::lens::Lens;
@@ -22,7 +21,7 @@ use crate::page::state::state_page;
 use crate::page::steps::StepsPage;
 use crate::page::verdict::verdict_page;
 use crate::query::PlaceKind;
-use crate::spot::{config_of, history_of};
+use crate::spot::{exit_at, history_of};
 use checkpoints::run::Run;
 use frames::config::Config;
 use frames::register::Register;
@@ -39,24 +38,34 @@ pub(super) enum Content<R: Register> {
     Steps(StepsPage),
 }
 
-/// A place of a branch: the runs that come to it from the first configuration on.
+/// A place of a branch, as a page of a kind shows it.
 #[derive(Drop)]
 pub(super) struct PlaceSlip<R: Register> {
     pub(super) kind: PlaceKind,
     pub(super) head: Head,
-    pub(super) first: Config<R>,
-    pub(super) runs: Vec<(Arc<Run<R>>, u32)>,
+    pub(super) found: Found<R>,
 }
 
 impl<R: Register> Model for PlaceSlip<R> {
-    ghost use Rattle.std.specs.Prelude.{map};
-    ghost use Rattle.cutoff.specs.Fitting.{part_of};
     ghost use Rattle.views.specs.declared.page.Page.{Page};
-    ghost use Rattle.views.specs.RunPages.{run_page};
+    ghost use Rattle.views.specs.RunPages.{found_page, IsFor};
 
     ghost Value = { Page };
 
-    ghost view = { λ s. run_page R.is s.kind s.head s.first (map part_of s.runs.items) };
+    ghost view = { λ s. found_page R.is s.kind s.head s.found };
+
+    ghost invariant = { λ s. IsFor s.kind s.found };
+}
+
+/// What was found at a place.
+#[derive(Drop)]
+pub(super) enum Found<R: Register> {
+    /// No step is made there: the configuration, for a page that shows no events.
+    Initial(Config<R>),
+    /// The run that comes to it, as far as it counts, for a page that shows no events.
+    Last(Arc<Run<R>>, u32),
+    /// The runs that come to it, each as far as it counts, for a page of events.
+    Runs(Vec<(Arc<Run<R>>, u32)>),
 }
 
 impl<R: Register> PlaceSlip<R> {
@@ -64,32 +73,54 @@ impl<R: Register> PlaceSlip<R> {
     pub(super) fn page(&self, alloc: Global, lens: &mut Lens<R>) -> Result<Page, AllocError>
         ensures { IfOk result (λ page. page ≡ self.now) }
     {
-        run_page(alloc, lens, self.kind, &self.head, &self.first, &self.runs)
+        match &self.found {
+            Found::Initial(config) => config_page(alloc, self.kind, &self.head, config),
+            Found::Last(run, count) => part_page(alloc, lens, self.kind, &self.head, run, *count),
+            Found::Runs(runs) => events_page(alloc, self.kind, &self.head, runs),
+        }
     }
 }
 
-/// The page of what runs come to from a first configuration on.
-fn run_page<R: Register>(
+/// The page of what the first `count` steps of a run come to: of its end, which isn't copied, or of a place that the lens makes.
+fn part_page<R: Register>(
     alloc: Global,
     lens: &mut Lens<R>,
     kind: PlaceKind,
     head: &Head,
-    first: &Config<R>,
+    run: &Arc<Run<R>>,
+    count: u32,
+) -> Result<Page, AllocError>
+    requires { spec.shows_events kind ≡ false }
+    ensures { IfOk result
+        (λ page. page ≡ spec.part_page R.is kind head.now (part_of (run.now, count))) }
+{
+    if count as usize >= run.steps().len() {
+        return config_page(alloc, kind, head, exit_at(run, count));
+    }
+    let config = lens.config_in(alloc, run, count)?;
+    config_page(alloc, kind, head, &config)
+}
+
+/// The page of the events of runs one after the other, each run as far as it counts: their verdicts, or themselves.
+fn events_page<R: Register>(
+    alloc: Global,
+    kind: PlaceKind,
+    head: &Head,
     runs: &[(Arc<Run<R>>, u32)],
 ) -> Result<Page, AllocError>
-    ensures { IfOk result
-        (λ page. page ≡ spec.run_page R.is kind head.now first.now (map part_of runs.now)) }
+    ensures { IfOk result (λ page. page
+        ≡ spec.events_page kind head.now (indexed 0 (events_of R.is (map part_of runs.now)))) }
 {
+    let events = history_of(alloc, runs)?;
     match kind {
-        PlaceKind::History => Ok(history_page(head, history_of(alloc, runs)?)),
         PlaceKind::Verdict(value) => {
-            let events = history_of(alloc, runs)?;
             Ok(Page::Verdict(verdict_page(alloc, head, value, &events)?))
         }
-        PlaceKind::State | PlaceKind::Process(_) | PlaceKind::Bits | PlaceKind::Pending => {
-            let config = config_of(alloc, lens, first, runs)?;
-            config_page(alloc, kind, head, &config)
-        }
+        PlaceKind::State
+        | PlaceKind::Process(_)
+        | PlaceKind::Bits
+        | PlaceKind::Pending
+        | PlaceKind::History => Ok(history_page(head, events)),
     }
 }
 
@@ -109,9 +140,9 @@ fn config_page<R: Register>(
     head: &Head,
     config: &Config<R>,
 ) -> Result<Page, AllocError>
-    requires { IsOfConfig kind }
-    ensures { IfOk result (λ page. (events : List (ℕ × RecordedEvent))
-        → page ≡ page_at (R.is config.now.register) kind head.now config.now events) }
+    requires { spec.shows_events kind ≡ false }
+    ensures { IfOk result (λ page. page
+        ≡ spec.config_page (R.is config.now.register) kind head.now config.now) }
 {
     match kind {
         PlaceKind::State => Ok(Page::State(state_page(alloc, head, config)?)),

@@ -9,23 +9,21 @@ use Rattle.views.proofs.slip.place_slip.Goals as goal
 pub returns-clause-page : goal.returns-clause-page
 returns-clause-page g c =
     let s = c.in_ok-len.ensures.spot in
-    s.2 _ c.in-Ok.first
-    ∙ slip_told g.R.Behaves.is c.args.chart.now.start c.in-Ok.first c.args.chart.now.value (steps_in (forest c.args.chart.now.cut) c.args.branch) c.args.place c.in_ok-len.len
-    s.0 s.1 (c.in-Ok.ensures ∙ c.initial.ensures.start ∙ c.in_ok-len.ensures.kept.start) c.args.kind c.args.branch
+    s.2.page _
+    ∙ slip_told g.R.Behaves.is c.args.chart.now.start c.args.chart.now.value (steps_in (forest c.args.chart.now.cut) c.args.branch) c.args.place c.in_ok-len.len
+    s.0 s.1 c.args.kind c.args.branch
 
 pub returns-clause-judges : goal.returns-clause-judges
 returns-clause-judges g c =
     let s = c.in_ok-len.ensures.spot in
-    subst (Judges (g.R.Behaves.is c.args.chart.now.start.register)) (sym (s.2 _ c.in-Ok.first))
-    (slip_judges g.R.Behaves.is c.args.chart.now.start c.in-Ok.first c.args.chart.now.value (steps_in (forest c.args.chart.now.cut) c.args.branch) c.args.place c.in_ok-len.len
-    s.0 s.1 (c.in-Ok.ensures ∙ c.initial.ensures.start ∙ c.in_ok-len.ensures.kept.start) c.in_ok-len.ensures.within c.in_ok-len.ensures.fit
-    c.args.kind c.args.branch c.requires)
+    subst (Judges (g.R.Behaves.is c.args.chart.now.start.register)) (sym (s.2.page _))
+    (slip_judges g.R.Behaves.is c.args.chart.now.start c.args.chart.now.value (steps_in (forest c.args.chart.now.cut) c.args.branch) c.args.place c.in_ok-len.len
+    s.0 s.1 c.in_ok-len.ensures.within c.in_ok-len.ensures.fit c.args.kind c.args.branch c.requires)
 
 pub invariant_of-result : goal.invariant_of-result
 invariant_of-result g c =
     let s = c.in_ok-len.ensures.spot in
     judges_some g.R.Behaves.is c.args.chart.now.start.register _
-    (subst (Judges (g.R.Behaves.is c.args.chart.now.start.register)) (sym (s.2 _ c.in-Ok.first))
-    (slip_judges g.R.Behaves.is c.args.chart.now.start c.in-Ok.first c.args.chart.now.value (steps_in (forest c.args.chart.now.cut) c.args.branch) c.args.place c.in_ok-len.len
-    s.0 s.1 (c.in-Ok.ensures ∙ c.initial.ensures.start ∙ c.in_ok-len.ensures.kept.start) c.in_ok-len.ensures.within c.in_ok-len.ensures.fit
-    c.args.kind c.args.branch c.requires))
+    (subst (Judges (g.R.Behaves.is c.args.chart.now.start.register)) (sym (s.2.page _))
+    (slip_judges g.R.Behaves.is c.args.chart.now.start c.args.chart.now.value (steps_in (forest c.args.chart.now.cut) c.args.branch) c.args.place c.in_ok-len.len
+    s.0 s.1 c.in_ok-len.ensures.within c.in_ok-len.ensures.fit c.args.kind c.args.branch c.requires))
