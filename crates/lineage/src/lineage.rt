@@ -14,7 +14,7 @@ mod release;
 mod take_out;
 
 pub use crate::node::Key;
-use crate::node::Node;
+use crate::node::{Above, Node};
 use slab::Slab;
 use std::alloc::{AllocError, Global};
 use std::marker::Model;
@@ -24,7 +24,7 @@ use std::mem;
 #[derive(Drop)]
 pub struct Lineage<X> {
     nodes: Slab<Node<X>>,
-    tips: Vec<Option<Key>>,
+    tips: Vec<Above>,
 }
 
 impl<X> Model for Lineage<X> {
@@ -130,7 +130,7 @@ impl<X: Drop> Lineage<X> {
             → result ≡ last_of front }
         ensures none { item_at self.now key ≡ None → result ≡ None }
     {
-        self.nodes.get(key)?.above
+        self.nodes.get(key)?.above.get()
     }
 
     /// The item at a key, and the key that comes before it, the same in each path that has it, or none for a path's first. None
@@ -142,7 +142,7 @@ impl<X: Drop> Lineage<X> {
             → path_in self.now i ≡ front ++ key ∷ back → s.1 ≡ last_of front) }
     {
         let node = self.nodes.get(key)?;
-        Some((&node.item, node.above))
+        Some((&node.item, node.above.get()))
     }
 
     /// The item at a key that is there, and the key that comes before it, as `step_up` tells them.
@@ -154,7 +154,7 @@ impl<X: Drop> Lineage<X> {
             → result.1 ≡ last_of front }
     {
         let node = &self.nodes[key];
-        (&node.item, node.above)
+        (&node.item, node.above.get())
     }
 
     /// The keys of the path at an index, in order; none where there is no such path.
@@ -166,11 +166,11 @@ impl<X: Drop> Lineage<X> {
 }
 
 /// The last key of the path at an index.
-fn tip_at(tips: &[Option<Key>], path: usize) -> Option<Key>
+fn tip_at(tips: &[Above], path: usize) -> Option<Key>
     ensures { result ≡ tip_at tips.now path }
 {
     match tips.get(path) {
-        Some(tip) => *tip,
+        Some(tip) => tip.get(),
         None => None,
     }
 }
@@ -189,7 +189,7 @@ fn keys_down_to<X>(
     while let Some(key) = at {
         keys.push(key)?;
         at = match nodes.get(key) {
-            Some(node) => node.above,
+            Some(node) => node.above.get(),
             None => None,
         };
     }

@@ -1,12 +1,77 @@
 //! Items, each with what it stands on.
 
+ghost use Rattle.std.specs.Prelude.{◌≡◌, ◌<◌, ◌-◌, ◌^◌, Some, None};
+
+use std::alloc::AllocError;
+use std::marker::Model;
+
 /// The key of an item.
 pub type Key = usize;
+
+/// A key or none, in one word. Contracts see the key as an option.
+#[derive(Debug, Drop)]
+pub(crate) struct Above {
+    // No slab has this many slots, so that no key is `usize::MAX`.
+    word: usize,
+}
+
+impl Model for Above {
+    ghost use Rattle.std.specs.Prelude.{ℕ, Option};
+
+    ghost Value = { Option ℕ };
+
+    ghost use Rattle.lineage.specs.Words.{key_of, word_of};
+
+    ghost view = { λ a. key_of a.word };
+
+    ghost inverse = { λ o. record { word = word_of o } };
+}
+
+impl Copy for Above {}
+
+impl Clone for Above {
+    ghost is_clone = { λ above copy. copy ≡ above };
+
+    fn clone(&self) -> Result<Above, AllocError> {
+        Ok(*self)
+    }
+}
+
+impl Above {
+    /// No key.
+    #[inline(always)]
+    pub(crate) fn none() -> Above
+        ensures { result ≡ None }
+    {
+        Above { word: usize::MAX }
+    }
+
+    /// A key.
+    #[inline(always)]
+    pub(crate) fn of(key: Key) -> Above
+        requires { key < 2 ^ 64 - 1 }
+        ensures { result ≡ Some key }
+    {
+        Above { word: key }
+    }
+
+    /// The key, or none.
+    #[inline(always)]
+    pub(crate) fn get(self) -> Option<Key>
+        ensures { result ≡ self }
+    {
+        if self.word == usize::MAX {
+            None
+        } else {
+            Some(self.word)
+        }
+    }
+}
 
 /// An item, the key of what it stands on, and how many items and tips of paths stand right on it.
 #[derive(Debug, Drop)]
 pub(crate) struct Node<X> {
     pub(crate) item: X,
-    pub(crate) above: Option<Key>,
+    pub(crate) above: Above,
     pub(crate) holders: usize,
 }

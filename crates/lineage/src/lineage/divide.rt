@@ -1,13 +1,13 @@
 //! A new item right above another.
 
-ghost use Rattle.std.specs.Prelude.{◌≡◌, ◌≢◌, ◌<◌, ◌+◌, ◌^◌, ℕ, length, map, Some, None, IsSome, IfOk, OnOk, OnErr};
+ghost use Rattle.std.specs.Prelude.{◌≡◌, ◌≢◌, ◌<◌, ◌+◌, ◌-◌, ◌^◌, ℕ, length, map, Some, None, IsSome, IfOk, OnOk, OnErr};
 ghost use Rattle.slab.specs.Slab.{get, slab_len, HasRoomFor, ContainsKey};
 ghost use Rattle.lineage.specs.Family.{IsAdded, item_at, divided_keys};
 ghost use Rattle.lineage.specs.Held.{over, under};
 
 use super::push::reserve_node;
 use super::{Key, Lineage};
-use crate::node::Node;
+use crate::node::{Above, Node};
 use slab::Slab;
 use std::alloc::AllocError;
 
@@ -38,13 +38,15 @@ pub(super) fn put_above<X>(nodes: &mut Slab<Node<X>>, key: Key, item: X) -> Key
     ensures below { get nodes.new key ≡ under result (get nodes.old key) }
     ensures others { (k : ℕ) → k ≢ key → k ≢ result → get nodes.new k ≡ get nodes.old k }
     ensures len { slab_len nodes.new ≡ slab_len nodes.old + 1 }
+    ensures few { result < 2 ^ 64 - 1 }
 {
+    let _most = nodes.capacity();
     let above = nodes[key].above;
     let fresh = nodes.insert_reserved(Node {
         item,
         above,
         holders: 1,
     });
-    nodes[key].above = Some(fresh);
+    nodes[key].above = Above::of(fresh);
     fresh
 }

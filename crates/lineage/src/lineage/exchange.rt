@@ -5,10 +5,10 @@ ghost use Rattle.slab.specs.Slab.{slab_len, HasRoomFor};
 ghost use Rattle.lineage.specs.Family.{IsExchanged};
 ghost use Rattle.lineage.specs.Held.{IsSound, IsPutLast};
 
+use super::Lineage;
 use super::push::push_node;
 use super::release::let_go_up;
-use super::{Key, Lineage};
-use crate::node::Node;
+use crate::node::{Above, Node};
 use slab::Slab;
 use std::alloc::AllocError;
 
@@ -34,7 +34,7 @@ impl<X: Drop> Lineage<X> {
 /// Makes room for one more path of so many new nodes.
 pub(super) fn reserve_path<X>(
     nodes: &mut Slab<Node<X>>,
-    tips: &mut Vec<Option<Key>>,
+    tips: &mut Vec<Above>,
     count: usize,
 ) -> Result<(), AllocError>
     ensures slots { nodes.new.slots ≡ nodes.old.slots }
@@ -56,7 +56,7 @@ pub(super) fn reserve_path<X>(
 }
 
 /// Puts a path of new items last.
-fn put_last<X: Drop>(nodes: &mut Slab<Node<X>>, tips: &mut Vec<Option<Key>>, items: Vec<X>)
+fn put_last<X: Drop>(nodes: &mut Slab<Node<X>>, tips: &mut Vec<Above>, items: Vec<X>)
     requires sound { IsSound nodes.old.slots tips.old.items }
     requires room { HasRoomFor nodes.old (length items.items) }
     requires space { length tips.old.items < vec_capacity tips.old }
@@ -64,7 +64,7 @@ fn put_last<X: Drop>(nodes: &mut Slab<Node<X>>, tips: &mut Vec<Option<Key>>, ite
     ensures { IsPutLast nodes.old.slots nodes.new.slots tips.old.items tips.new.items items.items }
 {
     let last = tips.len();
-    tips.push_reserved(None);
+    tips.push_reserved(Above::none());
     for item in items {
         push_node(nodes, tips, last, item);
     }

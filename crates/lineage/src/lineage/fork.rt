@@ -8,7 +8,7 @@ ghost use Rattle.lineage.specs.Held.{is_key, with_holder};
 use super::divide::put_above;
 use super::exchange::reserve_path;
 use super::{Key, Lineage};
-use crate::node::Node;
+use crate::node::{Above, Node};
 use slab::Slab;
 use std::alloc::AllocError;
 
@@ -26,7 +26,7 @@ impl<X: Drop> Lineage<X> {
     {
         reserve_tip(&mut self.tips, self.nodes.len())?;
         hold(&mut self.nodes, key);
-        self.tips.push_reserved(key);
+        self.tips.push_reserved(end_at(&self.nodes, key));
         Ok(())
     }
 
@@ -44,13 +44,13 @@ impl<X: Drop> Lineage<X> {
         reserve_path(&mut self.nodes, &mut self.tips, 1)?;
         let fresh = put_above(&mut self.nodes, key, item);
         hold(&mut self.nodes, Some(fresh));
-        self.tips.push_reserved(Some(fresh));
+        self.tips.push_reserved(Above::of(fresh));
         Ok(fresh)
     }
 }
 
 /// Makes room for one more path.
-fn reserve_tip(tips: &mut Vec<Option<Key>>, nodes: usize) -> Result<(), AllocError>
+fn reserve_tip(tips: &mut Vec<Above>, nodes: usize) -> Result<(), AllocError>
     ensures items { tips.new.items ≡ tips.old.items }
     ensures room { OnOk result (length tips.new.items < vec_capacity tips.new) }
     ensures few { OnOk result (length tips.old.items + nodes + 1 < 2 ^ 64) }
@@ -60,6 +60,18 @@ fn reserve_tip(tips: &mut Vec<Option<Key>>, nodes: usize) -> Result<(), AllocErr
         return Err(AllocError);
     }
     tips.reserve(1)
+}
+
+/// A key that is there, or none, in one word.
+fn end_at<X>(nodes: &Slab<Node<X>>, key: Option<Key>) -> Above
+    requires { IfSome key (λ k. ContainsKey nodes.now k) }
+    ensures { result ≡ key }
+{
+    let _most = nodes.capacity();
+    match key {
+        Some(key) => Above::of(key),
+        None => Above::none(),
+    }
 }
 
 /// Counts one more that stands on a key.

@@ -6,7 +6,7 @@ ghost use Rattle.lineage.specs.Family.{IsAdded, path_in};
 ghost use Rattle.lineage.specs.Held.{node, tip_at};
 
 use super::{Key, Lineage};
-use crate::node::Node;
+use crate::node::{Above, Node};
 use slab::Slab;
 use std::alloc::AllocError;
 
@@ -44,7 +44,7 @@ pub(super) fn reserve_node<X>(nodes: &mut Slab<Node<X>>, tips: usize) -> Result<
 /// Puts a new item last in a path. Its key.
 pub(super) fn push_node<X>(
     nodes: &mut Slab<Node<X>>,
-    tips: &mut Vec<Option<Key>>,
+    tips: &mut Vec<Above>,
     path: usize,
     item: X,
 ) -> Key
@@ -57,12 +57,13 @@ pub(super) fn push_node<X>(
     ensures capacity { nodes.new.capacity ≡ nodes.old.capacity }
     ensures tips { tips.new.items ≡ slice_set tips.old.items path (Some result) }
 {
+    let _most = nodes.capacity();
     let above = tips[path];
     let key = nodes.insert_reserved(Node {
         item,
         above,
         holders: 1,
     });
-    tips[path] = Some(key);
+    tips[path] = Above::of(key);
     key
 }

@@ -7,7 +7,7 @@ ghost use Rattle.lineage.specs.Family.{IsReleased};
 ghost use Rattle.lineage.specs.Held.{IsReleasing, IsSound, Stays, next_up, less_one};
 
 use super::{Key, Lineage};
-use crate::node::Node;
+use crate::node::{Above, Node};
 use slab::Slab;
 
 impl<X: Drop> Lineage<X> {
@@ -23,7 +23,7 @@ impl<X: Drop> Lineage<X> {
 }
 
 /// Lets go of a tip, and of each node on the way up that nothing stands on any more.
-pub(super) fn let_go_up<X: Drop>(nodes: &mut Slab<Node<X>>, tip: Option<Key>)
+pub(super) fn let_go_up<X: Drop>(nodes: &mut Slab<Node<X>>, tip: Above)
     requires { (tips : List (Option ℕ))
         × IsReleasing nodes.old.slots nodes.old.slots tips tip }
     ensures sound { (tips : List (Option ℕ)) → IsReleasing nodes.old.slots nodes.old.slots tips tip
@@ -31,13 +31,13 @@ pub(super) fn let_go_up<X: Drop>(nodes: &mut Slab<Node<X>>, tip: Option<Key>)
     ensures stays { Stays nodes.old.slots nodes.new.slots }
 {
     let mut at = tip;
-    while let Some(key) = at {
+    while let Some(key) = at.get() {
         at = let_go(nodes, key);
     }
 }
 
 /// Counts one less that stands on a key; the node goes with the last one. The key that it stood on then has one less too.
-fn let_go<X: Drop>(nodes: &mut Slab<Node<X>>, key: Key) -> Option<Key>
+fn let_go<X: Drop>(nodes: &mut Slab<Node<X>>, key: Key) -> Above
     requires { ContainsKey nodes.old key }
     ensures next { result ≡ next_up (get nodes.old key) }
     ensures here { get nodes.new key ≡ less_one (get nodes.old key) }
@@ -46,7 +46,7 @@ fn let_go<X: Drop>(nodes: &mut Slab<Node<X>>, key: Key) -> Option<Key>
     let node = &mut nodes[key];
     if node.holders > 1 {
         node.holders -= 1;
-        return None;
+        return Above::none();
     }
     let above = node.above;
     nodes.remove(key);

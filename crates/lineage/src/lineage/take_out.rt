@@ -6,7 +6,7 @@ ghost use Rattle.lineage.specs.Family.{item_at, keys_without};
 ghost use Rattle.lineage.specs.Held.{is_key, past, past_node, passed_on};
 
 use super::{Key, Lineage};
-use crate::node::Node;
+use crate::node::{Above, Node};
 use slab::Slab;
 
 impl<X: Drop> Lineage<X> {
@@ -28,29 +28,29 @@ impl<X: Drop> Lineage<X> {
 }
 
 /// What is stood on where a key is skipped.
-fn past(at: Option<Key>, key: Key, above: Option<Key>) -> Option<Key>
+fn past(at: Above, key: Key, above: Above) -> Above
     ensures { result ≡ past key above at }
 {
-    match at {
-        Some(other) => { if key == other { above } else { Some(other) } }
-        None => None,
+    match at.get() {
+        Some(other) => { if key == other { above } else { at } }
+        None => at,
     }
 }
 
 /// Counts at what a node stood on those that stood on the node, instead of the node.
-fn pass_on<X>(nodes: &mut Slab<Node<X>>, above: Option<Key>, holders: usize)
+fn pass_on<X>(nodes: &mut Slab<Node<X>>, above: Above, holders: usize)
     requires there { IfSome above (λ k. ContainsKey nodes.old k) }
     requires few { (k : ℕ) (n : Node X) → above ≡ Some k → get nodes.old k ≡ Some n
         → (1 ≤ n.holders) × (n.holders - 1 + holders < 2 ^ 64) }
     ensures { (k : ℕ) → get nodes.new k ≡ passed_on (is_key k above) holders (get nodes.old k) }
 {
-    if let Some(key) = above {
+    if let Some(key) = above.get() {
         nodes[key].holders = nodes[key].holders - 1 + holders;
     }
 }
 
 /// Lets each node that stands on a key stand on what is above it.
-fn skip_in_nodes<X>(nodes: &mut Slab<Node<X>>, key: Key, above: Option<Key>)
+fn skip_in_nodes<X>(nodes: &mut Slab<Node<X>>, key: Key, above: Above)
     ensures { (k : ℕ) → get nodes.new k ≡ past_node key above (get nodes.old k) }
 {
     for place in 0..nodes.capacity() {
@@ -59,7 +59,7 @@ fn skip_in_nodes<X>(nodes: &mut Slab<Node<X>>, key: Key, above: Option<Key>)
 }
 
 /// Lets a node that stands on a key stand on what is above it.
-fn skip_at<X>(nodes: &mut Slab<Node<X>>, place: Key, key: Key, above: Option<Key>)
+fn skip_at<X>(nodes: &mut Slab<Node<X>>, place: Key, key: Key, above: Above)
     ensures here { get nodes.new place ≡ past_node key above (get nodes.old place) }
     ensures others { (k : ℕ) → k ≢ place → get nodes.new k ≡ get nodes.old k }
 {
@@ -71,7 +71,7 @@ fn skip_at<X>(nodes: &mut Slab<Node<X>>, place: Key, key: Key, above: Option<Key
 }
 
 /// Lets each path that ends with a key end with what is above it.
-fn skip_in_tips(tips: &mut Vec<Option<Key>>, key: Key, above: Option<Key>)
+fn skip_in_tips(tips: &mut Vec<Above>, key: Key, above: Above)
     ensures { tips.new.items ≡ map (past key above) tips.old.items }
 {
     for place in 0..tips.len() {

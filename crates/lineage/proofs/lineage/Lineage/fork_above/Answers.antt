@@ -29,7 +29,8 @@ invariant_of-self-2 g c =
     c.self.invariant n.1 (ap (λ s. node_at s c.put_above-fresh.result) (sym same) ∙ here.vacant) (here.fresh ∙ ap (λ s. over c.args.item (node_at s c.args.key)) same)
     (here.below ∙ ap (λ s. under c.put_above-fresh.result (node_at s c.args.key)) same) (λ k ne nf. here.others k ne nf ∙ ap (λ s. node_at s k) same)
     (here.len ∙ ap (λ s. count_by is_some s + 1) same) (room g c) c.hold.ensures.nodes
-    (c.push_reserved.ensures.items ∙ ap (λ xs. xs ++ Some c.put_above-fresh.result ∷ []) c.in_ok-reserve_path.ensures.items) c.hold.ensures.len
+    (c.push_reserved.ensures.items ∙ ap (λ e. c.reserve_path.new.tips.items ++ e ∷ []) c.of.ensures
+    ∙ ap (λ xs. xs ++ Some c.put_above-fresh.result ∷ []) c.in_ok-reserve_path.ensures.items) c.hold.ensures.len
 
 pub returns-clause-ok : goal.returns-clause-ok
 returns-clause-ok g c =
@@ -41,4 +42,5 @@ returns-clause-ok g c =
     c.self.invariant n.1 (ap (λ s. node_at s c.put_above-fresh.result) (sym same) ∙ here.vacant) (here.fresh ∙ ap (λ s. over c.args.item (node_at s c.args.key)) same)
     (here.below ∙ ap (λ s. under c.put_above-fresh.result (node_at s c.args.key)) same) (λ k ne nf. here.others k ne nf ∙ ap (λ s. node_at s k) same)
     (here.len ∙ ap (λ s. count_by is_some s + 1) same) (room g c) c.hold.ensures.nodes
-    (c.push_reserved.ensures.items ∙ ap (λ xs. xs ++ Some c.put_above-fresh.result ∷ []) c.in_ok-reserve_path.ensures.items) c.hold.ensures.slots)
+    (c.push_reserved.ensures.items ∙ ap (λ e. c.reserve_path.new.tips.items ++ e ∷ []) c.of.ensures
+    ∙ ap (λ xs. xs ++ Some c.put_above-fresh.result ∷ []) c.in_ok-reserve_path.ensures.items) c.hold.ensures.slots)

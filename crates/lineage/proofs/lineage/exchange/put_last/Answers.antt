@@ -1,4 +1,4 @@
-use Rattle.std.proofs.Common.{◌≡◌, Some, None, length, set, sym, ◌∙◌, ap, subst, arith}
+use Rattle.std.proofs.Common.{◌≡◌, ◌++◌, ◌∷◌, [], Some, None, length, set, sym, ◌∙◌, ap, subst, arith}
 use Rattle.std.proofs.lemmas.List.{length_push, length-set, nil_from_length}
 use Rattle.std.specs.Vec.Iter.{into_iter_items}
 use Rattle.lineage.specs.Held.{tip_at, node, node_at}
@@ -13,7 +13,7 @@ loop-item-init g c =
     let gives = c.into_iter-item-iterator.ensures.into_iter_gives in
     let whole : length (into_iter_items c.into_iter-item-iterator.result) ≡ length c.args.items.items = ap length gives.0 in
     let few = c.requires.few in
-    let pushed = c.push_reserved.ensures.items in
+    let pushed = c.push_reserved.ensures.items ∙ ap (λ e. tips ++ e ∷ []) c.none.ensures in
     let none = put_none s tips c.args.items.items (into_iter_items c.into_iter-item-iterator.result) (opened_sound s tips c.requires.sound (omega (arith, few))) gives.0 in
     record {
       put = subst (λ xs. IsPutSoFar s s tips xs c.args.items.items (into_iter_items c.into_iter-item-iterator.result)) (sym pushed) none;

@@ -1,31 +1,31 @@
-use Rattle.std.proofs.Common.{sym, subst, refl}
+use Rattle.std.proofs.Common.{sym, ◌∙◌, subst, refl}
 use Rattle.std.specs.Prelude.{IsSome}
 use Rattle.lineage.proofs.Releases.{released_last, releasing_there, releasing_next}
 use Rattle.lineage.proofs.lineage.release.let_go_up.Goals as goal
 
-pub loop-at-init : goal.loop-at-init
-loop-at-init g c tips r = r
+pub loop-key-init : goal.loop-key-init
+loop-key-init g c tips r = r
 
 pub let_go-at-requires : goal.let_go-at-requires
 let_go-at-requires g c =
-    let n = releasing_there c.args.nodes.now.slots c.loop-at.nodes.slots c.requires.0 c.loop-at.at c.in-Some.key (c.loop-at.invariant c.requires.0 c.requires.1) c.in-Some.is in
+    let n = releasing_there c.args.nodes.now.slots c.loop-key.nodes.slots c.requires.0 c.loop-key.at c.in-Some.key (c.loop-key.invariant c.requires.0 c.requires.1) (sym c.get.ensures ∙ c.in-Some.is) in
     subst IsSome (sym n.1) refl
 
-pub loop-at-smaller : goal.loop-at-smaller
-loop-at-smaller g c =
+pub loop-key-smaller : goal.loop-key-smaller
+loop-key-smaller g c =
     let here = c.let_go-at.ensures in
-    (releasing_next c.args.nodes.now.slots c.loop-at.nodes.slots c.let_go-at.new.nodes.slots c.requires.0 c.loop-at.at c.in-Some.key c.let_go-at.result
-    (c.loop-at.invariant c.requires.0 c.requires.1) c.in-Some.is here.here here.others here.next).1
+    (releasing_next c.args.nodes.now.slots c.loop-key.nodes.slots c.let_go-at.new.nodes.slots c.requires.0 c.loop-key.at c.in-Some.key c.let_go-at.result
+    (c.loop-key.invariant c.requires.0 c.requires.1) (sym c.get.ensures ∙ c.in-Some.is) here.here here.others here.next).1
 
-pub loop-at-preserved : goal.loop-at-preserved
-loop-at-preserved g c tips r =
+pub loop-key-preserved : goal.loop-key-preserved
+loop-key-preserved g c tips r =
     let here = c.let_go-at.ensures in
-    (releasing_next c.args.nodes.now.slots c.loop-at.nodes.slots c.let_go-at.new.nodes.slots tips c.loop-at.at c.in-Some.key c.let_go-at.result
-    (c.loop-at.invariant tips r) c.in-Some.is here.here here.others here.next).0
+    (releasing_next c.args.nodes.now.slots c.loop-key.nodes.slots c.let_go-at.new.nodes.slots tips c.loop-key.at c.in-Some.key c.let_go-at.result
+    (c.loop-key.invariant tips r) (sym c.get.ensures ∙ c.in-Some.is) here.here here.others here.next).0
 
 pub returns-clause-sound : goal.returns-clause-sound
 returns-clause-sound g c tips r =
-    released_last c.args.nodes.now.slots c.loop-at.nodes.slots tips c.loop-at.at (c.loop-at.invariant tips r) c.in_default.is
+    released_last c.args.nodes.now.slots c.loop-key.nodes.slots tips c.loop-key.at (c.loop-key.invariant tips r) (sym c.get.ensures ∙ c.in_default.is)
 
 pub returns-clause-stays : goal.returns-clause-stays
-returns-clause-stays g c = (c.loop-at.invariant c.requires.0 c.requires.1).stays
+returns-clause-stays g c = (c.loop-key.invariant c.requires.0 c.requires.1).stays

@@ -1,0 +1,9 @@
+-- A key or none in one word: no key is the greatest number.
+use Rattle.std.specs.Prelude.{ℕ, ◌-◌, ◌^◌, nat_eq, Option, Some, None, if◌then◌else◌}
+
+abbrev pub key_of : ℕ → Option ℕ
+key_of word = if nat_eq word (2 ^ 64 - 1) then None else Some word
+
+abbrev pub word_of : Option ℕ → ℕ
+word_of None = 2 ^ 64 - 1
+word_of (Some key) = key
