@@ -1,12 +1,15 @@
 -- Cells and branches in lists, for limbs.
-use Rattle.std.proofs.Common.{◌≡◌, ℕ, zero, suc, ◌+◌, ◌<◌, ◌≤◌, Bool, true, false, not, ◌&&◌, ◌||◌, cond, nat_lt, List, [], ◌∷◌, ◌++◌, length, map, take, slice_get, Some, None, refl, sym, ap, subst, ◌∙◌, true≢false, arith, eq-eqb}
+use Rattle.std.proofs.Common.{◌≡◌, ℕ, zero, suc, ◌+◌, ◌<◌, ◌≤◌, Bool, true, false, not, ◌&&◌, ◌||◌, cond, nat_eq, nat_lt, List, [], ◌∷◌, ◌++◌, length, map, take, slice_get, Some, None, refl, sym, ap, subst, ◌∙◌, true≢false, arith, eq-eqb}
 use Rattle.std.specs.List.{list_any, list_all, prefix_len, position_or_len}
 use Rattle.std.proofs.lemmas.Bool.{eqb-true}
 use Rattle.std.proofs.lemmas.Bool.Decides.{nat_tests}
 use Rattle.frames.specs.declared.types.Step.{Step}
 use Rattle.schedule_trie.specs.declared.slot.Slot.{Slot}
-use Rattle.schedule_trie.specs.Forest.{Branch, slot, numbered, slots_in, step_of, is_cell, cell_in}
+use Rattle.std.proofs.lemmas.List.{map-append}
+use Rattle.schedule_trie.specs.Cut.{has}
+use Rattle.schedule_trie.specs.Forest.{Branch, cell_of, slot, numbered, slots_in, step_of, is_cell, cell_in}
 use Rattle.schedule_trie.specs.Limbs.{has_slot, holds, is_in}
+use Rattle.schedule_trie.proofs.Once.{has_cases, has-head, has-tail, has-append, has_not_from}
 
 pub by_order : (i n : ℕ) (P : Type 0) → (i < n → P) → (i ≡ n → P) → (n < i → P) → P
 by_order i n P below same above = by (nat_lt i n) refl
@@ -19,38 +22,39 @@ by_order i n P below same above = by (nat_lt i n) refl
     by true e = below (grind (arith, nat_tests))
     by false e = other (nat_lt n i) refl (grind (arith, nat_tests))
 
--- a cell among others is the first of them, or among the rest
-pub slot_cases : (x : ℕ) (s : Slot) (xs : List Slot) (P : Type 0) → has_slot x (s ∷ xs) ≡ true → (x ≡ s.cell → P) → (has_slot x xs ≡ true → P) → P
-slot_cases x s xs P h same rest = by (is_cell x s) refl
+turned : (x y : ℕ) → nat_eq x y ≡ nat_eq y x
+turned x y = by (nat_eq x y) (nat_eq y x) refl refl
   where
-    by : (b : Bool) → is_cell x s ≡ b → P
-    by true e = same (sym (eqb-true s.cell x e))
-    by false e = rest (sym (ap (λ c. c || has_slot x xs) e) ∙ h)
+    by : (b c : Bool) → nat_eq x y ≡ b → nat_eq y x ≡ c → nat_eq x y ≡ nat_eq y x
+    by true c e f = e ∙ sym (eq-eqb y x (sym (eqb-true x y e)))
+    by false true e f = eq-eqb x y (sym (eqb-true y x f)) ∙ sym f
+    by false false e f = e ∙ sym f
+
+-- a cell among others, as its number among theirs
+abbrev cells : List Slot → List ℕ
+cells xs = map cell_of xs
+
+slot_is : (x : ℕ) (xs : List Slot) → has_slot x xs ≡ has x (cells xs)
+slot_is x [] = refl
+slot_is x (s ∷ xs) = ap (λ b. b || has_slot x xs) (turned s.cell x) ∙ ap (λ b. nat_eq x s.cell || b) (slot_is x xs)
+
+-- it is the first of them, or among the rest
+pub slot_cases : (x : ℕ) (s : Slot) (xs : List Slot) (P : Type 0) → has_slot x (s ∷ xs) ≡ true → (x ≡ s.cell → P) → (has_slot x xs ≡ true → P) → P
+slot_cases x s xs P h same rest = has_cases x s.cell (cells xs) P (sym (slot_is x (s ∷ xs)) ∙ h) same (λ e. rest (slot_is x xs ∙ e))
 
 pub slot-head : (s : Slot) (xs : List Slot) → has_slot s.cell (s ∷ xs) ≡ true
-slot-head s xs = ap (λ c. c || has_slot s.cell xs) (eq-eqb s.cell s.cell refl)
+slot-head s xs = slot_is s.cell (s ∷ xs) ∙ has-head s.cell (cells xs)
 
 pub slot-tail : (x : ℕ) (s : Slot) (xs : List Slot) → has_slot x xs ≡ true → has_slot x (s ∷ xs) ≡ true
-slot-tail x s xs h = by (is_cell x s) refl
-  where
-    by : (b : Bool) → is_cell x s ≡ b → has_slot x (s ∷ xs) ≡ true
-    by true e = ap (λ c. c || has_slot x xs) e
-    by false e = ap (λ c. c || has_slot x xs) e ∙ h
+slot-tail x s xs h = slot_is x (s ∷ xs) ∙ has-tail x s.cell (cells xs) (sym (slot_is x xs) ∙ h)
 
 pub slot-append : (x : ℕ) (xs ys : List Slot) → has_slot x (xs ++ ys) ≡ (has_slot x xs || has_slot x ys)
-slot-append x [] ys = refl
-slot-append x (s ∷ xs) ys = by (is_cell x s) (slot-append x xs ys)
-  where
-    by : (b : Bool) → has_slot x (xs ++ ys) ≡ (has_slot x xs || has_slot x ys) → (b || has_slot x (xs ++ ys)) ≡ ((b || has_slot x xs) || has_slot x ys)
-    by true rest = refl
-    by false rest = rest
+slot-append x xs ys =
+    slot_is x (xs ++ ys) ∙ ap (has x) (map-append cell_of xs ys) ∙ has-append x (cells xs) (cells ys)
+    ∙ ap (λ b. b || has x (cells ys)) (sym (slot_is x xs)) ∙ ap (λ b. has_slot x xs || b) (sym (slot_is x ys))
 
 pub slot_not_from : (x : ℕ) (xs : List Slot) → (has_slot x xs ≡ true → ⊥) → has_slot x xs ≡ false
-slot_not_from x xs h = by (has_slot x xs) refl
-  where
-    by : (b : Bool) → has_slot x xs ≡ b → has_slot x xs ≡ false
-    by true e = absurd (h e)
-    by false e = e
+slot_not_from x xs h = slot_is x xs ∙ has_not_from x (cells xs) (λ e. h (slot_is x xs ∙ e))
 
 -- an element of a list that one was put behind
 pub slice_get-front : {X : Type 0} (xs : List X) (x : X) (i : ℕ) → i < length xs → slice_get (xs ++ x ∷ []) i ≡ slice_get xs i

@@ -5,40 +5,7 @@ use Rattle.std.proofs.lemmas.Map.Keys.{IsDistinct-cons}
 use Rattle.std.proofs.lemmas.Map.Steps.{length-le_from_distinct_below}
 use Rattle.std.specs.List.{IsDistinct, AllByRecursion, list_any}
 use Rattle.schedule_trie.specs.Cut.{has, Once, Linked}
-
--- a number that is among others is the first of them, or among the rest
-pub has_cases : (x y : ℕ) (ys : List ℕ) (P : Type 0) → has x (y ∷ ys) ≡ true → (x ≡ y → P) → (has x ys ≡ true → P) → P
-has_cases x y ys P h same rest = by (nat_eq x y) refl
-  where
-    by : (b : Bool) → nat_eq x y ≡ b → P
-    by true e = same (eqb-true x y e)
-    by false e = rest (sym (ap (λ c. c || has x ys) e) ∙ h)
-
-pub has-head : (x : ℕ) (ys : List ℕ) → has x (x ∷ ys) ≡ true
-has-head x ys = ap (λ c. c || has x ys) (eq-eqb x x refl)
-
-pub has-tail : (x y : ℕ) (ys : List ℕ) → has x ys ≡ true → has x (y ∷ ys) ≡ true
-has-tail x y ys h = by (nat_eq x y) refl
-  where
-    by : (b : Bool) → nat_eq x y ≡ b → has x (y ∷ ys) ≡ true
-    by true e = ap (λ c. c || has x ys) e
-    by false e = ap (λ c. c || has x ys) e ∙ h
-
--- among the one or the other
-pub has-append : (x : ℕ) (ys zs : List ℕ) → has x (ys ++ zs) ≡ (has x ys || has x zs)
-has-append x [] zs = refl
-has-append x (y ∷ ys) zs = by (nat_eq x y) (has-append x ys zs)
-  where
-    by : (b : Bool) → has x (ys ++ zs) ≡ (has x ys || has x zs) → (b || has x (ys ++ zs)) ≡ ((b || has x ys) || has x zs)
-    by true rest = refl
-    by false rest = rest
-
-pub has_not_from : (x : ℕ) (ys : List ℕ) → (has x ys ≡ true → ⊥) → has x ys ≡ false
-has_not_from x ys h = by (has x ys) refl
-  where
-    by : (b : Bool) → has x ys ≡ b → has x ys ≡ false
-    by true e = absurd (h e)
-    by false e = e
+pub use Rattle.lineage.proofs.Once.{has_cases, has-head, has-tail, has-append, has_not_from}
 
 -- lists with nothing in common
 pub Once-append : (xs ys : List ℕ) → Once xs → Once ys → ((x : ℕ) → has x xs ≡ true → has x ys ≡ false) → Once (xs ++ ys)

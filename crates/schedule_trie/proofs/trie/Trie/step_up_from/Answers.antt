@@ -4,15 +4,15 @@ use Rattle.schedule_trie.proofs.ClimbSteps.{each_up, first_up}
 use Rattle.schedule_trie.proofs.StepSet.{item_there}
 use Rattle.schedule_trie.proofs.trie.Trie.step_up_from.Goals as goal
 
-pub step_up_from-above-requires : goal.step_up_from-above-requires
-step_up_from-above-requires g c =
-    item_there c.self.inside c.args.key (subst (λ z. IsSome (piece_at z.pieces c.args.key)) (sym c.self.view_is) c.requires)
+pub returns-clause-each : goal.returns-clause-each
+returns-clause-each g c =
+    each_up c.self.inside c.args.self.now c.self.view_is c.self.invariant.held c.args.key c.step_up_from-above.result.1 c.step_up_from-above.ensures.each
 
 pub returns-clause-first : goal.returns-clause-first
 returns-clause-first g c =
     first_up c.self.inside c.args.self.now c.self.view_is c.self.invariant.held c.args.key c.step_up_from-above.result.1 c.step_up_from-above.ensures.each
     (λ none. let there = c.step_up_from-above.ensures.item in absurd (cc))
 
-pub returns-clause-each : goal.returns-clause-each
-returns-clause-each g c =
-    each_up c.self.inside c.args.self.now c.self.view_is c.self.invariant.held c.args.key c.step_up_from-above.result.1 c.step_up_from-above.ensures.each
+pub step_up_from-above-requires : goal.step_up_from-above-requires
+step_up_from-above-requires g c =
+    item_there c.self.inside c.args.key (subst (λ z. IsSome (piece_at z.pieces c.args.key)) (sym c.self.view_is) c.requires)
