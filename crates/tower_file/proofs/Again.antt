@@ -1,5 +1,5 @@
 -- What is spelled so is read.
-use Rattle.std.proofs.Common.{◌≡◌, ℕ, ◌+◌, ◌^◌, ◌<◌, ◌≤◌, true, false, cond, not, nat_lt, List, [], ◌∷◌, ◌++◌, length, Option, Some, None, Result, Ok, refl, sym, ap, ◌∙◌, append_assoc, arith}
+use Rattle.std.proofs.Common.{◌≡◌, ℕ, ◌+◌, ◌^◌, ◌<◌, ◌≤◌, true, false, cond, not, nat_lt, List, [], ◌∷◌, ◌++◌, length, Option, Some, None, Result, Ok, refl, ap, ◌∙◌, append_assoc, arith}
 use Rattle.std.specs.Prelude.{codes}
 use Rattle.std.specs.Option.{ok_or, option_and_then}
 use Rattle.std.specs.List.{list_all, flat_map, prefix_len}
@@ -252,7 +252,3 @@ reading-spelling f lawful =
 
 pub reading_again : (bytes : List ℕ) (f : File) → Spells bytes f → reading bytes ≡ Ok f
 reading_again bytes f s = ap reading s.spelled ∙ reading-spelling f s.lawful
-
--- no bytes spell two files
-pub one_file : (bytes : List ℕ) (f g : File) → Spells bytes f → Spells bytes g → f ≡ g
-one_file bytes f g s u = let both = sym (reading_again bytes f s) ∙ reading_again bytes g u in cc

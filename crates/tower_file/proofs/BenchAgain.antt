@@ -283,7 +283,3 @@ reading-bench_spelling b lawful =
 
 pub bench_reading_again : (bytes : List ℕ) (b : Bench) → SpellsBench bytes b → bench_reading bytes ≡ Ok b
 bench_reading_again bytes b s = ap bench_reading s.spelled ∙ reading-bench_spelling b s.lawful
-
--- no bytes spell two bench files
-pub one_bench : (bytes : List ℕ) (a b : Bench) → SpellsBench bytes a → SpellsBench bytes b → a ≡ b
-one_bench bytes a b s u = let both = sym (bench_reading_again bytes a s) ∙ bench_reading_again bytes b u in cc

@@ -1,6 +1,6 @@
 -- Reading limbs line by line, as a loop does, and what follows from what a call answers.
-use Rattle.std.proofs.Common.{◌≡◌, ◌≢◌, ℕ, ◌+◌, ◌<◌, true, false, List, [], ◌∷◌, ◌++◌, length, Some, None, Bool, cond, Result, Ok, Err, refl, sym, ap, subst, ◌∙◌, true≢false, append_assoc, arith}
-use Rattle.std.specs.Prelude.{IsOk, IfOk, IfErr, ◌&&◌, codes}
+use Rattle.std.proofs.Common.{◌≡◌, ℕ, ◌+◌, ◌<◌, true, false, List, [], ◌∷◌, ◌++◌, length, Some, None, Bool, cond, Result, Ok, Err, refl, sym, ap, subst, ◌∙◌, true≢false, append_assoc, arith}
+use Rattle.std.specs.Prelude.{IsOk, ◌&&◌, codes}
 use Rattle.std.specs.List.{join_with_byte}
 use Rattle.std.specs.Result.{IsErr, IsErrAnd}
 use Rattle.std.proofs.lemmas.Bool.{and_from}
@@ -10,84 +10,26 @@ use Rattle.tower_file.specs.declared.tower.TowerSpec.{TowerSpec}
 use Rattle.tower_file.specs.declared.fault.FaultKind.{FaultKind}
 use Rattle.tower_file.specs.declared.fault.FaultKind.TheVariants.{NotAscii, BadHeader, UnknownTower, BadField, BadStep, BadSize, BadBranch, Tangled, Memory}
 use Rattle.tower_file.specs.declared.fault.FileFault.{FileFault}
-use Rattle.tower_file.specs.Faults.{Fails, Gives}
+use Rattle.tower_file.specs.Faults.{Fails, Gives, WantsMemory}
 use Rattle.tower_file.specs.Towers.{is_lawful_tower}
-use Rattle.tower_file.specs.Benches.{Bench, IsLawfulBench, bench_of, is_some, are_lawful}
+use Rattle.tower_file.specs.Benches.{IsLawfulBench, bench_of, is_some, are_lawful}
 use Rattle.tower_file.specs.Spelling.{line, tower_text}
 use Rattle.tower_file.specs.BenchSpelling.{bench_header, bench_spelling, SpellsBench, SpellsLimbs, SpellsFront}
 use Rattle.tower_file.specs.Reading.{◌>>=◌, has_header, first_odd, tower_of}
-use Rattle.tower_file.specs.BenchReading.{then_branch, then_step, then_line, ended, limbs_of, bench_of_lines, bench_reading}
+use Rattle.tower_file.specs.BenchReading.{then_branch, then_step, then_line, ended, limbs_of, bench_of_lines}
 use Rattle.words.specs.Words.{lines, words, next, after_next, is_end}
 use Rattle.words.specs.Steps.{step_of}
 use Rattle.words.proofs.Steps.{first_word}
 use Rattle.frames.specs.declared.types.Step.{Step}
+use Rattle.tower_file.proofs.Loop.{want_of_memory}
 use Rattle.tower_file.proofs.BenchLimbs.{limbs_text}
-use Rattle.tower_file.proofs.BenchSound.{line_goes_on, limbs_are, begun, from_is, bench_reading_is}
+use Rattle.tower_file.proofs.BenchSound.{line_goes_on, limbs_are, begun, bench_is}
+use Rattle.tower_file.proofs.Formats.{IsFormat}
 use Rattle.tower_file.proofs.BenchAgain.{bench_reading_again}
-
--- a line that has its end, and what is left behind it
-module _ (t : TowerSpec) (n : ℕ) (limbs : List Limb) (ls : List (List ℕ)) (whole : is_end (after_next ls) ≡ false) where
-  fewer_lines : (xs : List (List ℕ)) → is_end (after_next xs) ≡ false → length (after_next xs) < length xs
-  fewer_lines [] h = absurd (true≢false h)
-  fewer_lines (x ∷ xs) h = omega arith
-
-  pub fewer : length (after_next ls) < length ls
-  fewer = fewer_lines ls whole
-
-  by_line : (xs : List (List ℕ)) → is_end (after_next xs) ≡ false
-      → limbs_of t n limbs xs ≡ (then_line t n limbs (next xs) >>= λ more. limbs_of t (n + 1) more (after_next xs))
-  unfolding limbs_of
-  by_line [] h = absurd (true≢false h)
-  by_line (x ∷ []) h = absurd (true≢false h)
-  by_line (x ∷ y ∷ xs) h = refl
-
-  joined : (xs : List (List ℕ)) → is_end (after_next xs) ≡ false → join_with_byte 10 xs ≡ next xs ++ 10 ∷ join_with_byte 10 (after_next xs)
-  joined [] h = absurd (true≢false h)
-  joined (x ∷ []) h = absurd (true≢false h)
-  joined (x ∷ y ∷ xs) h = refl
-
-  pub goes_on : (more : List Limb) → then_line t n limbs (next ls) ≡ Ok more → limbs_of t (n + 1) more (after_next ls) ≡ limbs_of t n limbs ls
-  goes_on more e = sym (by_line ls whole ∙ ap (λ (r : Result (List Limb) FileFault). r >>= λ x. limbs_of t (n + 1) x (after_next ls)) e)
-
-  pub fails : (e : FileFault) → then_line t n limbs (next ls) ≡ Err e → limbs_of t n limbs ls ≡ Err e
-  fails e f = by_line ls whole ∙ ap (λ (r : Result (List Limb) FileFault). r >>= λ x. limbs_of t (n + 1) x (after_next ls)) f
-
-  pub text_goes_on : (more : List Limb) → then_line t n limbs (next ls) ≡ Ok more
-      → limbs_text more ++ join_with_byte 10 (after_next ls) ≡ limbs_text limbs ++ join_with_byte 10 ls
-  text_goes_on more e =
-      let said : List ℕ = next ls in
-      let rest : List ℕ = join_with_byte 10 (after_next ls) in
-      let regroup : (limbs_text limbs ++ line said) ++ rest ≡ limbs_text limbs ++ (said ++ 10 ∷ rest) = simp append_assoc in
-      ap (λ x. x ++ rest) (line_goes_on t n limbs said more e).spelled ∙ regroup ∙ ap (λ x. limbs_text limbs ++ x) (sym (joined ls whole))
-
-  -- what was read with this line, whatever comes behind it
-  pub front_read : (more : List Limb) (first : List (List ℕ)) → then_line t n limbs (next ls) ≡ Ok more → are_lawful t limbs ≡ true
-      → limbs_text limbs ++ join_with_byte 10 ls ≡ join_with_byte 10 first → SpellsLimbs t first
-  front_read more first e lawful so_far =
-      let g = line_goes_on t n limbs (next ls) more e in
-      record {
-        limbs = more;
-        rest = join_with_byte 10 (after_next ls);
-        some = g.some;
-        lawful = g.lawful lawful;
-        parts = sym so_far ∙ sym (text_goes_on more e);
-      }
-
--- the last part, which has no line end behind it
-pub at_end : (t : TowerSpec) (n : ℕ) (limbs : List Limb) (ls : List (List ℕ)) → is_end (after_next ls) ≡ true → limbs_of t n limbs ls ≡ ended n limbs (next ls)
-unfolding limbs_of
-at_end t n limbs [] h = refl
-at_end t n limbs (x ∷ []) h = refl
-at_end t n limbs (x ∷ y ∷ xs) h = absurd (true≢false (sym h))
-
--- a line that spells a step is no branch's
-pub is_then_step : (t : TowerSpec) (n : ℕ) (limbs : List Limb) (line : List ℕ) (s : Step) → step_of (words line) ≡ Some s → then_line t n limbs line ≡ then_step t n limbs line
-is_then_step t n limbs line s h =
-    ap (λ (b : Bool). cond b (then_branch n limbs (after_next (words line))) (then_step t n limbs line)) (first_word (words line) s (codes "branch") refl refl refl refl h)
 
 -- ---- what is handed on
 
-pub ok_some : {X : Type 0} (r : Result X FileFault) → IsOk r → (x : X) × (r ≡ Ok x)
+ok_some : {X : Type 0} (r : Result X FileFault) → IsOk r → (x : X) × (r ≡ Ok x)
 ok_some (Ok x) h = (x, refl)
 ok_some (Err e) h = absurd (true≢false (sym h))
 
@@ -104,12 +46,87 @@ failed_too Tangled e part whole h on = on h
 failed_too Memory e part whole h on = h
 
 module _ {X Y Z : Type 0} (r : Result X FileFault) (e : FileFault) (Is : FileFault → Type 0) (failed : IsErr r) (is : IsErrAnd r Is) (same : (x : FileFault) → Is x → x ≡ e) where
-  pub hands_on : (view : X → Z) (part : Result Y FileFault) (whole : Result Z FileFault) → Fails e.kind e part → (part ≡ Err e → whole ≡ Err e) → Gives view r whole
+  hands_on : (view : X → Z) (part : Result Y FileFault) (whole : Result Z FileFault) → Fails e.kind e part → (part ≡ Err e → whole ≡ Err e) → Gives view r whole
   hands_on view part whole h on = by r failed is
     where
       by : (q : Result X FileFault) → IsErr q → IsErrAnd q Is → Gives view q whole
       by (Ok x) f i = absurd i
       by (Err x) f i = subst (λ (y : FileFault). Fails y.kind y whole) (sym (same x i)) (failed_too e.kind e part whole h on)
+
+-- ---- lines
+
+-- what was read of all lines so far: these limbs, and from line n on these lines are left
+pub record IsSoFar (t : TowerSpec) (all : List (List ℕ)) (n : ℕ) (limbs : List Limb) (ls : List (List ℕ)) : Type 0 where
+  pub read : limbs_of t n limbs ls ≡ limbs_of t 3 [] all
+  pub spelled : limbs_text limbs ++ join_with_byte 10 ls ≡ join_with_byte 10 all
+  pub lawful : are_lawful t limbs ≡ true
+
+-- a line that has its end, and what is left behind it
+module _ {t : TowerSpec} {all : List (List ℕ)} {n : ℕ} {limbs : List Limb} {ls : List (List ℕ)} (so_far : IsSoFar t all n limbs ls) (whole : is_end (after_next ls) ≡ false) where
+  by_line : (xs : List (List ℕ)) → is_end (after_next xs) ≡ false
+      → limbs_of t n limbs xs ≡ (then_line t n limbs (next xs) >>= λ more. limbs_of t (n + 1) more (after_next xs))
+  unfolding limbs_of
+  by_line [] h = absurd (true≢false h)
+  by_line (x ∷ []) h = absurd (true≢false h)
+  by_line (x ∷ y ∷ xs) h = refl
+
+  joined : (xs : List (List ℕ)) → is_end (after_next xs) ≡ false → join_with_byte 10 xs ≡ next xs ++ 10 ∷ join_with_byte 10 (after_next xs)
+  joined [] h = absurd (true≢false h)
+  joined (x ∷ []) h = absurd (true≢false h)
+  joined (x ∷ y ∷ xs) h = refl
+
+  by_said : (r : Result (List Limb) FileFault) → then_line t n limbs (next ls) ≡ r → limbs_of t 3 [] all ≡ (r >>= λ more. limbs_of t (n + 1) more (after_next ls))
+  by_said r e = sym so_far.read ∙ by_line ls whole ∙ ap (λ (r : Result (List Limb) FileFault). r >>= λ x. limbs_of t (n + 1) x (after_next ls)) e
+
+  text_goes_on : (more : List Limb) → then_line t n limbs (next ls) ≡ Ok more → limbs_text more ++ join_with_byte 10 (after_next ls) ≡ join_with_byte 10 all
+  text_goes_on more e =
+      let said : List ℕ = next ls in
+      let rest : List ℕ = join_with_byte 10 (after_next ls) in
+      let regroup : (limbs_text limbs ++ line said) ++ rest ≡ limbs_text limbs ++ (said ++ 10 ∷ rest) = simp append_assoc in
+      ap (λ x. x ++ rest) (line_goes_on t n limbs said more e).spelled ∙ regroup ∙ ap (λ x. limbs_text limbs ++ x) (sym (joined ls whole)) ∙ so_far.spelled
+
+  pub goes_on : (more : List Limb) (left : List (List ℕ)) → then_line t n limbs (next ls) ≡ Ok more → left ≡ after_next ls → IsSoFar t all (n + 1) more left
+  goes_on more left e same = record {
+    read = ap (limbs_of t (n + 1) more) same ∙ sym (by_said (Ok more) e);
+    spelled = ap (λ xs. limbs_text more ++ join_with_byte 10 xs) same ∙ text_goes_on more e;
+    lawful = (line_goes_on t n limbs (next ls) more e).lawful so_far.lawful;
+  }
+
+  -- what was read with this line, whatever comes behind it
+  front_read : (more : List Limb) → then_line t n limbs (next ls) ≡ Ok more → SpellsLimbs t all
+  front_read more e =
+      let g = line_goes_on t n limbs (next ls) more e in
+      record {
+        limbs = more;
+        rest = join_with_byte 10 (after_next ls);
+        some = g.some;
+        lawful = g.lawful so_far.lawful;
+        parts = sym (text_goes_on more e);
+      }
+
+  -- a call that reads this line fails
+  module _ {X : Type 0} (r : Result X FileFault) (e : FileFault) (Is : FileFault → Type 0) (failed : IsErr r) (is : IsErrAnd r Is) (same : (x : FileFault) → Is x → x ≡ e) where
+    pub fails : (view : X → List Limb) (part : Result (List Limb) FileFault) → then_line t n limbs (next ls) ≡ part → Fails e.kind e part → Gives view r (limbs_of t 3 [] all)
+    fails view part said h = hands_on r e Is failed is same view part (limbs_of t 3 [] all) h (λ f. by_said (Err e) (said ∙ f))
+
+    pub wants_memory : (part : Result (List Limb) FileFault) → then_line t n limbs (next ls) ≡ part → (e.kind ≡ Memory → IsOk part) → WantsMemory r (SpellsLimbs t all)
+    wants_memory part said h = want_of_memory r e Is failed is same (SpellsLimbs t all) (λ k. let more = ok_some part (h k) in front_read more.0 (said ∙ more.1))
+
+pub fewer : (ls : List (List ℕ)) → is_end (after_next ls) ≡ false → length (after_next ls) < length ls
+fewer [] h = absurd (true≢false h)
+fewer (x ∷ xs) h = omega arith
+
+-- the last part, which has no line end behind it
+pub at_end : (t : TowerSpec) (n : ℕ) (limbs : List Limb) (ls : List (List ℕ)) → is_end (after_next ls) ≡ true → limbs_of t n limbs ls ≡ ended n limbs (next ls)
+unfolding limbs_of
+at_end t n limbs [] h = refl
+at_end t n limbs (x ∷ []) h = refl
+at_end t n limbs (x ∷ y ∷ xs) h = absurd (true≢false (sym h))
+
+-- a line that spells a step is no branch's
+pub is_then_step : (t : TowerSpec) (n : ℕ) (limbs : List Limb) (line : List ℕ) (s : Step) → step_of (words line) ≡ Some s → then_line t n limbs line ≡ then_step t n limbs line
+is_then_step t n limbs line s h =
+    ap (λ (b : Bool). cond b (then_branch n limbs (after_next (words line))) (then_step t n limbs line)) (first_word (words line) s (codes "branch") refl refl refl refl h)
 
 -- ---- files
 
@@ -137,31 +154,5 @@ spells_front bytes t left plain header tower same s =
       plain = plain;
     }
 
-abbrev same_bench : Bench → Bench
-same_bench b = b
-
-pub bench_found : (bytes : List ℕ) (r : Result Bench FileFault) → Gives same_bench r (bench_reading bytes) → IfOk r (λ b. SpellsBench bytes b)
-bench_found bytes (Ok b) given = bench_reading_is bytes b given
-bench_found bytes (Err e) given = tt
-
-pub bench_read : (bytes : List ℕ) (r : Result Bench FileFault) → Gives same_bench r (bench_reading bytes) → (b : Bench) → SpellsBench bytes b → Gives same_bench r (Ok b)
-bench_read bytes r given b s = subst (λ (read : Result Bench FileFault). Gives same_bench r read) (bench_reading_again bytes b s) given
-
-no_bench_fault : (k : FaultKind) (e : FileFault) (b : Bench) → Fails k e (let r : Result Bench FileFault = Ok b in r) → k ≢ Memory → ⊥
-no_bench_fault NotAscii e b given other = cc
-no_bench_fault BadHeader e b given other = cc
-no_bench_fault UnknownTower e b given other = cc
-no_bench_fault BadField e b given other = cc
-no_bench_fault BadStep e b given other = cc
-no_bench_fault BadSize e b given other = cc
-no_bench_fault BadBranch e b given other = cc
-no_bench_fault Tangled e b given other = cc
-no_bench_fault Memory e b given other = other refl
-
-pub spells_no_bench : (bytes : List ℕ) (r : Result Bench FileFault) → Gives same_bench r (bench_reading bytes) → IfErr r (λ e. e.kind ≢ Memory → (b : Bench) → SpellsBench bytes b → ⊥)
-spells_no_bench bytes (Ok b) given = tt
-spells_no_bench bytes (Err e) given = λ other b s. no_bench_fault e.kind e b (bench_read bytes (Err e) given b s) other
-
--- lines that spell a bench file have no odd byte
-pub plain_bench : (bytes : List ℕ) (b : Bench) → bench_of_lines (lines bytes) ≡ Ok b → bench_reading bytes ≡ Ok b
-plain_bench bytes b h = bench_reading_again bytes b (from_is None bytes b h)
+pub bench_format : IsFormat SpellsBench bench_of_lines
+bench_format = record { is = bench_is; again = bench_reading_again }

@@ -1,5 +1,5 @@
 -- What is read as a bench file is spelled so.
-use Rattle.std.proofs.Common.{◌≡◌, ℕ, ◌+◌, ◌<◌, ◌^◌, Bool, true, false, cond, not, ◌&&◌, ◌==◌, nat_lt, nat_le, List, [], ◌∷◌, ◌++◌, length, Option, Some, None, Ok, Err, refl, sym, ap, ◌∙◌, subst, true≢false, append_assoc, append-nil, arith}
+use Rattle.std.proofs.Common.{◌≡◌, ℕ, ◌+◌, ◌<◌, ◌^◌, Bool, true, false, cond, not, ◌&&◌, ◌==◌, nat_lt, nat_le, List, [], ◌∷◌, ◌++◌, length, Some, Ok, Err, refl, sym, ap, ◌∙◌, subst, true≢false, append_assoc, append-nil, arith}
 use Rattle.std.specs.Prelude.{codes}
 use Rattle.std.specs.Option.{ok_or, option_and_then}
 use Rattle.std.specs.List.{join_with_byte}
@@ -19,9 +19,9 @@ use Rattle.tower_file.specs.Benches.{Bench, bench_of, is_some, has_fit, are_lawf
 use Rattle.tower_file.specs.Lines.{fitting_step, is_branch, branch_of}
 use Rattle.tower_file.specs.Spelling.{line, tower_text}
 use Rattle.tower_file.specs.BenchSpelling.{bench_header, branch_text, SpellsBench}
-use Rattle.tower_file.specs.Reading.{◌>>=◌, has_header, first_odd, tower_of, reading_from}
-use Rattle.tower_file.specs.BenchReading.{put_step, put_limb, then_branch, then_step, then_line, cut_line, ended, limbs_of, bench_of_lines, bench_reading}
-use Rattle.words.specs.Words.{words, lines, next, after_next, is_end, two_numbers}
+use Rattle.tower_file.specs.Reading.{◌>>=◌, has_header, tower_of}
+use Rattle.tower_file.specs.BenchReading.{put_step, put_limb, then_branch, then_step, then_line, cut_line, ended, limbs_of, bench_of_lines}
+use Rattle.words.specs.Words.{words, next, after_next, is_end, two_numbers}
 use Rattle.words.specs.Steps.{text}
 use Rattle.words.proofs.Steps.{some_then, two_are, two_short, joined, is_word}
 use Rattle.tower_file.proofs.Sound.{bind_ok, ok_or_ok, when_ok, unless_ok, ok_is, fitting_is, IsTowerLine, tower_line, header_is, three_lines}
@@ -166,7 +166,7 @@ begun ls t header tower =
     let second = tower_line (after_next ls) t tower in
     record { lawful = second.lawful; spelled = λ behind same. whole_bench ls t behind first.0 first.1 second same }
 
-bench_is : (ls : List (List ℕ)) (b : Bench) → bench_of_lines ls ≡ Ok b → SpellsBench (join_with_byte 10 ls) b
+pub bench_is : (ls : List (List ℕ)) (b : Bench) → bench_of_lines ls ≡ Ok b → SpellsBench (join_with_byte 10 ls) b
 bench_is ls b h =
     let a = when_ok (has_header bench_header ls) (tower_of (after_next ls) >>= λ t. limbs_of t 3 [] (after_next (after_next ls)) >>= λ limbs. Ok (bench_of t limbs)) (fault BadHeader 1) b h in
     let c = bind_ok (tower_of (after_next ls)) (λ t. limbs_of t 3 [] (after_next (after_next ls)) >>= λ limbs. Ok (bench_of t limbs)) b a.1 in
@@ -180,10 +180,3 @@ bench_is ls b h =
       lawful = and_from (is_lawful_tower t && is_some limbs) (are_lawful t limbs) (and_from (is_lawful_tower t) (is_some limbs) front.lawful behind.some) (behind.lawful refl);
       spelled = front.spelled (limbs_text limbs) behind.spelled;
     })
-
-pub from_is : (o : Option ℕ) (bytes : List ℕ) (b : Bench) → reading_from bench_of_lines o bytes ≡ Ok b → SpellsBench bytes b
-from_is (Some k) bytes b h = absurd cc
-from_is None bytes b h = subst (λ (x : List ℕ). SpellsBench x b) (join_with_byte-slice_split 10 bytes) (bench_is (lines bytes) b h)
-
-pub bench_reading_is : (bytes : List ℕ) (b : Bench) → bench_reading bytes ≡ Ok b → SpellsBench bytes b
-bench_reading_is bytes b h = from_is (first_odd bytes) bytes b h

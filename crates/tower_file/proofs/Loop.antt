@@ -1,7 +1,6 @@
 -- Reading steps one after the other, as a loop does.
 use Rattle.std.proofs.Common.{◌≡◌, ◌==◌, ℕ, ◌+◌, ◌<◌, ◌≤◌, ◌^◌, true, false, cond, List, [], ◌∷◌, ◌++◌, length, Option, Some, None, Result, Ok, Err, refl, sym, ap, ◌∙◌, subst, append_assoc, arith}
 use Rattle.std.specs.Option.{ok_or}
-use Rattle.std.specs.Prelude.{IfErr}
 use Rattle.std.specs.Result.{IsErr, IsErrAnd}
 use Rattle.std.proofs.lemmas.List.{append-nil}
 use Rattle.std.proofs.lemmas.List.Splits.{length-slice_split}
@@ -11,7 +10,7 @@ use Rattle.tower_file.specs.declared.version.Version.{Version}
 use Rattle.tower_file.specs.declared.tower.TowerSpec.{TowerSpec}
 use Rattle.tower_file.specs.declared.fault.FaultKind.TheVariants.{BadStep, Memory}
 use Rattle.tower_file.specs.declared.fault.FileFault.{FileFault}
-use Rattle.tower_file.specs.Faults.{fault, Fails, Gives}
+use Rattle.tower_file.specs.Faults.{fault, Fails, Gives, WantsMemory}
 use Rattle.words.specs.Words.{lines, after_next}
 use Rattle.tower_file.specs.Lines.{fitting_step}
 use Rattle.tower_file.specs.Reading.{◌>>=◌, next_step, steps_of, HasStep}
@@ -61,14 +60,13 @@ module _ (v : Version) (t : TowerSpec) (n : ℕ) (front : List Step) (ls : List 
       ∙ ap (λ (r : Result (Option Step) FileFault). with_front front (with_next v t n (after_next ls) r)) (sym e)
       ∙ ap (with_front front) (sym (by_next v t n ls)) ∙ so_far
 
--- the lines behind a file's first two are no more than its bytes
-pub few_lines : (bytes : List ℕ) (ls : List (List ℕ)) → ls ≡ after_next (after_next (lines bytes)) → length bytes < 2 ^ 63 → length ls ≤ 2 ^ 63
-few_lines bytes ls e few =
-    omega (arith, ap length e, fewer (lines bytes), fewer (after_next (lines bytes)), length-slice_split (λ b. b == 10) bytes, count_by-le-length (λ b. b == 10) bytes)
-  where
-    fewer : (xs : List (List ℕ)) → length (after_next xs) ≤ length xs
-    fewer [] = omega arith
-    fewer (x ∷ xs) = omega arith
+-- lines are no more than their bytes and one, and no more behind a line
+pub few_lines : (bytes : List ℕ) (ls : List (List ℕ)) → ls ≡ lines bytes → length bytes < 2 ^ 63 → length ls ≤ 2 ^ 63
+few_lines bytes ls e few = omega (arith, ap length e, length-slice_split (λ b. b == 10) bytes, count_by-le-length (λ b. b == 10) bytes)
+
+pub fewer_left : (ls : List (List ℕ)) → length (after_next ls) ≤ length ls
+fewer_left [] = omega arith
+fewer_left (x ∷ xs) = omega arith
 
 -- ---- what is handed on
 
@@ -85,12 +83,16 @@ module _ {X : Type 0} (r : Result X FileFault) (e : FileFault) (Is : FileFault �
       by (Ok x) f i = absurd i
       by (Err x) f i = subst (λ (y : FileFault). Fails y.kind y total) (sym (same x i ∙ bad)) (t ∙ ap (λ (y : FileFault). Err y) bad)
 
-  pub want_of_memory : (P : Type 0) → (e.kind ≡ Memory → P) → IfErr r (λ x. x.kind ≡ Memory → P)
+  pub want_of_memory : (P : Type 0) → (e.kind ≡ Memory → P) → WantsMemory r P
   want_of_memory P h = by r failed is
     where
-      by : (q : Result X FileFault) → IsErr q → IsErrAnd q Is → IfErr q (λ x. x.kind ≡ Memory → P)
+      by : (q : Result X FileFault) → IsErr q → IsErrAnd q Is → WantsMemory q P
       by (Ok x) f i = absurd i
       by (Err x) f i = λ k. h (ap (λ (y : FileFault). y.kind) (sym (same x i)) ∙ k)
+
+  -- a fault that is no want of memory
+  pub known_fault : (P : Type 0) → (e.kind ≡ Memory → ⊥) → WantsMemory r P
+  known_fault P known = want_of_memory P (λ k. absurd (known k))
 
 pub bad_step_is_known : (e : FileFault) (n : ℕ) → e ≡ fault BadStep n → e.kind ≡ Memory → ⊥
 bad_step_is_known e n bad k =

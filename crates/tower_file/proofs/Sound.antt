@@ -21,11 +21,11 @@ use Rattle.tower_file.specs.declared.version.Version.TheVariants.{One, Two}
 use Rattle.tower_file.specs.Towers.{is_lawful_tower}
 use Rattle.tower_file.specs.Versions.{header, may_have}
 use Rattle.tower_file.specs.Files.{File, file_of}
-use Rattle.words.specs.Words.{words, lines, next, after_next, is_end, one_number, two_numbers, three_numbers, four_numbers}
+use Rattle.words.specs.Words.{words, next, after_next, is_end, one_number, two_numbers, three_numbers, four_numbers}
 use Rattle.words.specs.Steps.{step_of, step_text}
 use Rattle.tower_file.specs.Lines.{tower_name, fields_of, fitting_step}
 use Rattle.tower_file.specs.Spelling.{line, tower_text, spelling, Spells}
-use Rattle.tower_file.specs.Reading.{◌>>=◌, first_odd, has_header, version_of, sized, fields, second_line, tower_of, steps_of, file_of_lines, reading_from, reading}
+use Rattle.tower_file.specs.Reading.{◌>>=◌, has_header, version_of, sized, fields, second_line, tower_of, steps_of, file_of_lines}
 use Rattle.words.proofs.Steps.{some_then, mapped, one_is, two_are, three_are, four_are, joined, is_word, step_is}
 
 -- ---- steps that did not fail
@@ -51,50 +51,33 @@ ok_is x y e = cc
 
 -- ---- the tower's line
 
-name_word : TowerName → List ℕ
-name_word Safe = codes "safe"
-name_word Copies = codes "copies"
-name_word Regular = codes "regular"
-name_word Unary = codes "unary"
-name_word Stamped = codes "stamped"
-name_word Matrix = codes "matrix"
-
 choose : {A : Type 0} (P : A → Type 0) (b : Bool) (x k : A) (o : Option A) → (b ≡ true → P x) → (o ≡ Some k → P k) → cond b (Some x) o ≡ Some k → P k
 choose P true x k o f g h = subst P (same_Some x k h) (f refl)
 choose P false x k o f g h = g h
 
-named : (w : List ℕ) (k : TowerName) → tower_name w ≡ Some k → w ≡ name_word k
-unfolding name_word
-named w k h =
-    let P : TowerName → Type 0 = λ n. w ≡ name_word n in
-    choose P (bytes_eq w (codes "safe")) Safe k _ (is_word w (codes "safe"))
-    (choose P (bytes_eq w (codes "copies")) Copies k _ (is_word w (codes "copies"))
-    (choose P (bytes_eq w (codes "regular")) Regular k _ (is_word w (codes "regular"))
-    (choose P (bytes_eq w (codes "unary")) Unary k _ (is_word w (codes "unary"))
-    (choose P (bytes_eq w (codes "stamped")) Stamped k _ (is_word w (codes "stamped"))
-    (choose P (bytes_eq w (codes "matrix")) Matrix k None (is_word w (codes "matrix"))
+-- a tower's name and its fields are its text
+fields_are : (w : List ℕ) (ws : List (List ℕ)) (k : TowerName) (t : TowerSpec) → tower_name w ≡ Some k → fields_of k ws ≡ Some t → join_with_byte 32 (w ∷ ws) ≡ tower_text t
+fields_are w ws k t h =
+    let P : TowerName → Type 0 = λ n. fields_of n ws ≡ Some t → join_with_byte 32 (w ∷ ws) ≡ tower_text t in
+    choose P (bytes_eq w (codes "safe")) Safe k _
+    (λ e f. let a = mapped (λ n. tower.Safe n) (one_number ws) t f in
+    joined w (codes "safe") ws (a.0 ∷ []) (is_word w (codes "safe") e) (one_is ws a.0 a.1) ∙ ap tower_text a.2)
+    (choose P (bytes_eq w (codes "copies")) Copies k _
+    (λ e f. let a = mapped (λ n. tower.Copies n.0 n.1) (two_numbers ws) t f in
+    joined w (codes "copies") ws (a.0.0 ∷ a.0.1 ∷ []) (is_word w (codes "copies") e) (two_are ws a.0 a.1) ∙ ap tower_text a.2)
+    (choose P (bytes_eq w (codes "regular")) Regular k _
+    (λ e f. let a = mapped (λ n. tower.Regular n.0 n.1) (two_numbers ws) t f in
+    joined w (codes "regular") ws (a.0.0 ∷ a.0.1 ∷ []) (is_word w (codes "regular") e) (two_are ws a.0 a.1) ∙ ap tower_text a.2)
+    (choose P (bytes_eq w (codes "unary")) Unary k _
+    (λ e f. let a = mapped (λ n. tower.Unary n.0 n.1 n.2) (three_numbers ws) t f in
+    joined w (codes "unary") ws (a.0.0 ∷ a.0.1 ∷ a.0.2 ∷ []) (is_word w (codes "unary") e) (three_are ws a.0 a.1) ∙ ap tower_text a.2)
+    (choose P (bytes_eq w (codes "stamped")) Stamped k _
+    (λ e f. let a = mapped (λ n. tower.Stamped n.0 n.1) (two_numbers ws) t f in
+    joined w (codes "stamped") ws (a.0.0 ∷ a.0.1 ∷ []) (is_word w (codes "stamped") e) (two_are ws a.0 a.1) ∙ ap tower_text a.2)
+    (choose P (bytes_eq w (codes "matrix")) Matrix k None
+    (λ e f. let a = mapped (λ n. tower.Matrix n.0 n.1 n.2 n.3) (four_numbers ws) t f in
+    joined w (codes "matrix") ws (a.0.0 ∷ a.0.1 ∷ a.0.2 ∷ a.0.3 ∷ []) (is_word w (codes "matrix") e) (four_are ws a.0 a.1) ∙ ap tower_text a.2)
     (λ e. absurd cc)))))) h
-
-fields_are : (k : TowerName) (w : List ℕ) (ws : List (List ℕ)) (t : TowerSpec) → w ≡ name_word k → fields_of k ws ≡ Some t → join_with_byte 32 (w ∷ ws) ≡ tower_text t
-unfolding name_word
-fields_are Safe w ws t e h =
-    let a = mapped (λ n. tower.Safe n) (one_number ws) t h in
-    joined w (codes "safe") ws (a.0 ∷ []) e (one_is ws a.0 a.1) ∙ ap tower_text a.2
-fields_are Copies w ws t e h =
-    let a = mapped (λ n. tower.Copies n.0 n.1) (two_numbers ws) t h in
-    joined w (codes "copies") ws (a.0.0 ∷ a.0.1 ∷ []) e (two_are ws a.0 a.1) ∙ ap tower_text a.2
-fields_are Regular w ws t e h =
-    let a = mapped (λ n. tower.Regular n.0 n.1) (two_numbers ws) t h in
-    joined w (codes "regular") ws (a.0.0 ∷ a.0.1 ∷ []) e (two_are ws a.0 a.1) ∙ ap tower_text a.2
-fields_are Unary w ws t e h =
-    let a = mapped (λ n. tower.Unary n.0 n.1 n.2) (three_numbers ws) t h in
-    joined w (codes "unary") ws (a.0.0 ∷ a.0.1 ∷ a.0.2 ∷ []) e (three_are ws a.0 a.1) ∙ ap tower_text a.2
-fields_are Stamped w ws t e h =
-    let a = mapped (λ n. tower.Stamped n.0 n.1) (two_numbers ws) t h in
-    joined w (codes "stamped") ws (a.0.0 ∷ a.0.1 ∷ []) e (two_are ws a.0 a.1) ∙ ap tower_text a.2
-fields_are Matrix w ws t e h =
-    let a = mapped (λ n. tower.Matrix n.0 n.1 n.2 n.3) (four_numbers ws) t h in
-    joined w (codes "matrix") ws (a.0.0 ∷ a.0.1 ∷ a.0.2 ∷ a.0.3 ∷ []) e (four_are ws a.0 a.1) ∙ ap tower_text a.2
 
 -- what a good second line says
 pub record IsTowerLine (is_cut : Bool) (line : List ℕ) (t : TowerSpec) : Type 0 where
@@ -110,10 +93,10 @@ second_is is_cut (w ∷ ws) t h =
     let c = bind_ok (ok_or (fields_of a.0 ws) (fault BadField 2)) sized t b.1 in
     let d = when_ok (is_lawful_tower c.0) (Ok c.0) (fault BadSize 2) t c.2 in
     let same = ok_is c.0 t d.1 in
-    let name = named w a.0 (ok_or_ok (tower_name w) (fault UnknownTower 2) a.0 a.1) in
+    let name = ok_or_ok (tower_name w) (fault UnknownTower 2) a.0 a.1 in
     record {
       whole = b.0;
-      spelled = fields_are a.0 w ws c.0 name (ok_or_ok (fields_of a.0 ws) (fault BadField 2) c.0 c.1) ∙ ap tower_text same;
+      spelled = fields_are w ws a.0 c.0 name (ok_or_ok (fields_of a.0 ws) (fault BadField 2) c.0 c.1) ∙ ap tower_text same;
       lawful = ap is_lawful_tower (sym same) ∙ d.0;
     }
 
@@ -185,7 +168,7 @@ whole_file (l ∷ k ∷ r ∷ rs) v t ss e more tower steps =
     ∙ ap (λ x. header v ++ 10 ∷ (tower_text t ++ 10 ∷ x)) steps.spelled
     ∙ three_lines (header v) (tower_text t) (flat_map (λ s. line (step_text s)) ss)
 
-file_is : (ls : List (List ℕ)) (f : File) → file_of_lines ls ≡ Ok f → Spells (join_with_byte 10 ls) f
+pub file_is : (ls : List (List ℕ)) (f : File) → file_of_lines ls ≡ Ok f → Spells (join_with_byte 10 ls) f
 file_is ls f h =
     let d = bind_ok (ok_or (version_of ls) (fault BadHeader 1)) (λ v. tower_of (after_next ls) >>= λ t. steps_of v t 3 (after_next (after_next ls)) >>= λ ss. Ok (file_of v t ss)) f h in
     let v = d.0 in
@@ -199,10 +182,3 @@ file_is ls f h =
       lawful = and_from (is_lawful_tower a.0) (list_all (may_have v a.0) b.0) tower.lawful steps.fit;
       spelled = whole_file ls v a.0 b.0 first.0 first.1 tower steps;
     })
-
-pub from_is : (o : Option ℕ) (bytes : List ℕ) (f : File) → reading_from file_of_lines o bytes ≡ Ok f → Spells bytes f
-from_is (Some k) bytes f h = absurd cc
-from_is None bytes f h = subst (λ (x : List ℕ). Spells x f) (join_with_byte-slice_split 10 bytes) (file_is (lines bytes) f h)
-
-pub reading_is : (bytes : List ℕ) (f : File) → reading bytes ≡ Ok f → Spells bytes f
-reading_is bytes f h = from_is (first_odd bytes) bytes f h

@@ -1,5 +1,5 @@
 -- The faults: each has a number and a name.
-use Rattle.std.specs.Prelude.{◌≡◌, ℕ, List, Result, Ok, Err, codes}
+use Rattle.std.specs.Prelude.{◌≡◌, ℕ, List, Result, Ok, Err, IfErr, codes}
 use Rattle.tower_file.specs.declared.fault.FaultKind.{FaultKind}
 use Rattle.tower_file.specs.declared.fault.FaultKind.TheVariants.{NotAscii, BadHeader, UnknownTower, BadField, BadStep, BadSize, BadBranch, Tangled, Memory}
 use Rattle.tower_file.specs.declared.fault.FileFault.{FileFault}
@@ -43,3 +43,7 @@ Fails _ e read = read ≡ Err e
 abbrev pub Gives : {X Y : Type 0} → (X → Y) → Result X FileFault → Result Y FileFault → Type 0
 Gives view (Ok x) read = read ≡ Ok (view x)
 Gives view (Err e) read = Fails e.kind e read
+
+-- Want of memory is told only where this holds.
+abbrev pub WantsMemory : {X : Type 0} → Result X FileFault → Type 0 → Type 0
+WantsMemory result P = IfErr result (λ e. e.kind ≡ Memory → P)

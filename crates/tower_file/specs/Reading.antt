@@ -1,13 +1,13 @@
 -- What bytes say: a tower file, or their first fault.
-use Rattle.std.specs.Prelude.{◌≡◌, ℕ, ◌+◌, List, [], ◌∷◌, Option, Some, None, Result, Ok, Err, Bool, ◌==◌, ◌&&◌, ◌||◌, not, nat_le, length, take, position, count_by, if◌then◌else◌}
+use Rattle.std.specs.Prelude.{◌≡◌, ◌≢◌, ℕ, ◌+◌, List, [], ◌∷◌, Option, Some, None, Result, Ok, Err, Bool, ◌==◌, ◌&&◌, ◌||◌, not, nat_le, length, take, position, count_by, if◌then◌else◌, IfOk, IfErr}
 use Rattle.std.specs.Option.{ok_or}
 use Rattle.std.specs.Str.{bytes_eq}
 use Rattle.frames.specs.declared.types.Step.{Step}
 use Rattle.tower_file.specs.declared.tower.TowerSpec.{TowerSpec}
 use Rattle.tower_file.specs.declared.line.TowerName.{TowerName}
-use Rattle.tower_file.specs.declared.fault.FaultKind.TheVariants.{NotAscii, BadHeader, UnknownTower, BadField, BadStep, BadSize}
+use Rattle.tower_file.specs.declared.fault.FaultKind.TheVariants.{NotAscii, BadHeader, UnknownTower, BadField, BadStep, BadSize, Memory}
 use Rattle.tower_file.specs.declared.fault.FileFault.{FileFault}
-use Rattle.tower_file.specs.Faults.{fault}
+use Rattle.tower_file.specs.Faults.{fault, Gives}
 use Rattle.tower_file.specs.declared.version.Version.{Version}
 use Rattle.tower_file.specs.declared.version.Version.TheVariants.{One, Two}
 use Rattle.tower_file.specs.Towers.{is_lawful_tower}
@@ -88,6 +88,22 @@ file_of_lines ls = do
 abbrev pub reading_from : {Y : Type 0} → (List (List ℕ) → Result Y FileFault) → Option ℕ → List ℕ → Result Y FileFault
 reading_from of_lines (Some k) bytes = Err (fault NotAscii (line_at k bytes))
 reading_from of_lines None bytes = of_lines (lines bytes)
+
+-- a fault of lines, but that an odd byte is told first; and so of what was read of them
+abbrev pub fault_told : Option ℕ → List ℕ → FileFault → FileFault
+fault_told (Some k) bytes e = fault NotAscii (line_at k bytes)
+fault_told None bytes e = e
+
+abbrev pub odd_first : {Y : Type 0} → List ℕ → Result Y FileFault → Result Y FileFault
+odd_first bytes (Ok y) = Ok y
+odd_first bytes (Err e) = Err (fault_told (first_odd bytes) bytes e)
+
+-- What a call answers for bytes is the file that they spell, or their first fault, unless a growth was refused.
+pub record Parses {F : Type 0} (Spells : List ℕ → F → Type 0) (of_lines : List (List ℕ) → Result F FileFault) (bytes : List ℕ) (result : Result F FileFault) : Type 0 where
+  pub found : IfOk result (λ f. Spells bytes f)
+  pub only : (f : F) → Spells bytes f → Gives (λ (f : F). f) result (Ok f)
+  pub exact : Gives (λ (f : F). f) result (reading_from of_lines (first_odd bytes) bytes)
+  pub no_file : IfErr result (λ e. e.kind ≢ Memory → (f : F) → Spells bytes f → ⊥)
 
 abbrev pub reading : List ℕ → Result File FileFault
 reading bytes = reading_from file_of_lines (first_odd bytes) bytes

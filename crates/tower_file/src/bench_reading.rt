@@ -3,11 +3,12 @@
 ghost use Rattle.std.specs.Prelude.{◌≡◌, ◌≢◌, ℕ, List, [], ◌≤◌, ◌^◌, IsOk, length, None, Ok, IfOk, IfErr};
 ghost use Rattle.tower_file.specs.declared.fault.FaultKind.TheVariants.{Memory};
 ghost use Rattle.tower_file.specs.Faults as faults;
-ghost use Rattle.tower_file.specs.Faults.{Gives};
+ghost use Rattle.tower_file.specs.Faults.{Gives, WantsMemory};
 ghost use Rattle.tower_file.specs.Benches.{Bench};
 ghost use Rattle.tower_file.specs.BenchSpelling.{SpellsBench, SpellsFront, SpellsLimbs, bench_header};
 ghost use Rattle.tower_file.specs.BenchReading as spec;
 ghost use Rattle.tower_file.specs.Reading as reading;
+ghost use Rattle.tower_file.specs.Reading.{first_odd};
 ghost use Rattle.words.specs.Words.{lines, words, after_next};
 ghost use Rattle.words.specs.Steps.{step_of};
 
@@ -15,7 +16,7 @@ use crate::bench::BenchFile;
 use crate::fault::{FaultKind, FileFault};
 use crate::limbs::NamedLimbs;
 use crate::line::{branch_of, is_branch};
-use crate::reading::{fault, first_fault, tower_of};
+use crate::reading::{fault, lines_of, odd_first, tower_of};
 use crate::tower::TowerSpec;
 use crate::version::Version;
 use frames::types::Step;
@@ -34,14 +35,6 @@ fn has_header(lines: &mut Lines<'_>) -> bool
     !lines.is_end() && is(header, "bench 1")
 }
 
-/// Whether bytes are to be read as a bench file: their first line is its header, with its end.
-pub fn is_bench(bytes: &[u8]) -> bool
-    ensures { result ≡ spec.is_bench bytes.now }
-{
-    let mut lines = Lines::new(bytes);
-    has_header(&mut lines)
-}
-
 /// Adds the branch of the words behind the first of line `number`.
 fn add_branch(
     alloc: Global,
@@ -51,8 +44,7 @@ fn add_branch(
 ) -> Result<(), FileFault>
     ensures read { Gives
         (λ _. limbs.new) result (spec.then_branch number limbs.old words.old) }
-    ensures memory { IfErr result (λ e. e.kind ≡ Memory
-        → IsOk (spec.then_branch number limbs.old words.old)) }
+    ensures memory { WantsMemory result (IsOk (spec.then_branch number limbs.old words.old)) }
 {
     let Some(limb) = branch_of(alloc, words) else {
         return Err(fault(FaultKind::BadBranch, number));
@@ -103,8 +95,8 @@ fn add_line(
 ) -> Result<(), FileFault>
     ensures read { Gives
         (λ _. limbs.new) result (spec.then_line tower.now number limbs.old line.now) }
-    ensures memory { IfErr result (λ e. e.kind ≡ Memory
-        → IsOk (spec.then_line tower.now number limbs.old line.now)) }
+    ensures memory { WantsMemory
+        result (IsOk (spec.then_line tower.now number limbs.old line.now)) }
 {
     let mut words = Parts::new(line, b' ');
     if is(words.next(), "branch") {
@@ -133,7 +125,7 @@ fn limbs_of(alloc: Global, tower: &TowerSpec, lines: &mut Lines<'_>) -> Result<V
     requires few { length lines.old ≤ 2 ^ 63 }
     ensures read { Gives
         (λ limbs. limbs.items) result (spec.limbs_of tower.now 3 [] lines.old) }
-    ensures memory { IfErr result (λ e. e.kind ≡ Memory → SpellsLimbs tower.now lines.old) }
+    ensures memory { WantsMemory result (SpellsLimbs tower.now lines.old) }
 {
     let mut limbs = NamedLimbs::new(alloc);
     let mut number = 3;
@@ -153,13 +145,12 @@ fn limbs_of(alloc: Global, tower: &TowerSpec, lines: &mut Lines<'_>) -> Result<V
 }
 
 /// Reads the lines of a bench file, whatever their bytes.
+#[tactic(auto, using(crate::proofs::Loop::fewer_left))]
 fn bench_of_lines(alloc: Global, bytes: &[u8]) -> Result<BenchFile, FileFault>
     ensures exact { Gives (λ b. b) result (spec.bench_of_lines (lines bytes.now)) }
-    ensures memory { IfErr result (λ e. e.kind ≡ Memory
-        → reading.first_odd bytes.now ≡ None → SpellsFront bytes.now) }
+    ensures memory { WantsMemory result (first_odd bytes.now ≡ None → SpellsFront bytes.now) }
 {
-    prove!(bytes.len() < 1 << 63);
-    let mut lines = Lines::new(bytes);
+    let mut lines = lines_of(bytes);
     if !has_header(&mut lines) {
         return Err(fault(FaultKind::BadHeader, 1));
     }
@@ -168,15 +159,20 @@ fn bench_of_lines(alloc: Global, bytes: &[u8]) -> Result<BenchFile, FileFault>
     Ok(BenchFile::new(tower, limbs))
 }
 
-/// Reads a bench file. Lines that spell one have no odd byte, so it looks for these behind a fault alone.
+/// Reads a bench file. It looks for odd bytes behind a fault alone.
 fn bench_of(alloc: Global, bytes: &[u8]) -> Result<BenchFile, FileFault>
-    ensures exact { Gives (λ b. b) result (spec.bench_reading bytes.now) }
-    ensures memory { IfErr result (λ e. e.kind ≡ Memory → SpellsFront bytes.now) }
+    ensures parsed { reading.Parses SpellsBench spec.bench_of_lines bytes.now result }
+    ensures memory { WantsMemory result (SpellsFront bytes.now) }
 {
-    match bench_of_lines(alloc, bytes) {
-        Ok(bench) => Ok(bench),
-        Err(of_lines) => Err(first_fault(bytes, of_lines)),
-    }
+    odd_first(bytes, bench_of_lines(alloc, bytes))
+}
+
+/// Whether bytes are to be read as a bench file: their first line is its header, with its end.
+pub fn is_bench(bytes: &[u8]) -> bool
+    ensures { result ≡ spec.is_bench bytes.now }
+{
+    let mut lines = Lines::new(bytes);
+    has_header(&mut lines)
 }
 
 /// The bench file that the bytes spell, or their first fault.

@@ -1,6 +1,7 @@
 //! What a line says: a tower or a branch.
 
-ghost use Rattle.std.specs.Prelude.{◌≡◌};
+ghost use Rattle.std.specs.Prelude.{◌≡◌, Some, None, if◌then◌else◌};
+ghost use Rattle.std.specs.Str.{bytes_eq};
 ghost use Rattle.tower_file.specs.Lines as spec;
 
 use crate::tower::TowerSpec;
@@ -22,29 +23,24 @@ pub enum TowerName {
     Matrix,
 }
 
+/// A tower, if the word is its name.
+fn named(word: &[u8], text: &str, name: TowerName) -> Option<TowerName>
+    ensures { result ≡ (if bytes_eq word.now text.now then Some name else None) }
+{
+    if is(word, text) { Some(name) } else { None }
+}
+
 /// The tower that a word names.
+#[tactic(auto, using(crate::proofs::TowerNames::or_other))]
 pub fn tower_name(word: &[u8]) -> Option<TowerName>
     ensures { result ≡ spec.tower_name word.now }
 {
-    if is(word, "safe") {
-        return Some(TowerName::Safe);
-    }
-    if is(word, "copies") {
-        return Some(TowerName::Copies);
-    }
-    if is(word, "regular") {
-        return Some(TowerName::Regular);
-    }
-    if is(word, "unary") {
-        return Some(TowerName::Unary);
-    }
-    if is(word, "stamped") {
-        return Some(TowerName::Stamped);
-    }
-    if is(word, "matrix") {
-        return Some(TowerName::Matrix);
-    }
-    None
+    named(word, "safe", TowerName::Safe)
+        .or(named(word, "copies", TowerName::Copies))
+        .or(named(word, "regular", TowerName::Regular))
+        .or(named(word, "unary", TowerName::Unary))
+        .or(named(word, "stamped", TowerName::Stamped))
+        .or(named(word, "matrix", TowerName::Matrix))
 }
 
 /// Reads the fields of a tower, and no more.

@@ -3,7 +3,7 @@
 ghost use Rattle.std.specs.Prelude.{◌≡◌, ◌≢◌, ◌∷◌, [], ◌++◌, ◌≤◌, ◌<◌, ◌^◌, ℕ, length, true, Some, None, Ok, Err, OnOk, IfOk, IfErr};
 ghost use Rattle.tower_file.specs.declared.fault.FaultKind.TheVariants.{Memory};
 ghost use Rattle.tower_file.specs.Faults as faults;
-ghost use Rattle.tower_file.specs.Faults.{Gives, out_of_memory};
+ghost use Rattle.tower_file.specs.Faults.{Gives, WantsMemory, out_of_memory};
 ghost use Rattle.tower_file.specs.Towers.{is_lawful_tower};
 ghost use Rattle.tower_file.specs.Files.{File, IsLawful, file_of};
 ghost use Rattle.words.specs.Words.{lines, after_next, is_end};
@@ -48,6 +48,15 @@ pub(crate) fn fault(kind: FaultKind, line: u64) -> FileFault
     ensures { result ≡ faults.fault kind line }
 {
     FileFault { kind, line }
+}
+
+/// The lines of bytes, which are few enough to be counted.
+pub(crate) fn lines_of(bytes: &[u8]) -> Lines<'_>
+    ensures lines { result ≡ lines bytes.now }
+    ensures few { length result ≤ 2 ^ 63 }
+{
+    prove!(bytes.len() < 1 << 63);
+    Lines::new(bytes)
 }
 
 /// Reads the header.
@@ -136,8 +145,8 @@ fn steps_of(
     requires few { length lines.old ≤ 2 ^ 63 }
     ensures read { Gives
         (λ steps. steps.items) result (spec.steps_of version tower.now 3 lines.old) }
-    ensures memory { IfErr result (λ e. e.kind ≡ Memory
-        → spec.HasStep (spec.steps_of version tower.now 3 lines.old)) }
+    ensures memory { WantsMemory
+        result (spec.HasStep (spec.steps_of version tower.now 3 lines.old)) }
 {
     let mut steps = Vec::new(alloc);
     let mut has_room = true;
@@ -157,13 +166,12 @@ fn steps_of(
 }
 
 /// Reads the lines of a file, whatever their bytes. Memory is asked for steps alone.
+#[tactic(auto, using(crate::proofs::Loop::fewer_left))]
 fn file_of_lines(alloc: Global, bytes: &[u8]) -> Result<TowerFile, FileFault>
     ensures exact { Gives (λ f. f) result (spec.file_of_lines (lines bytes.now)) }
-    ensures memory { IfErr result (λ e. e.kind ≡ Memory
-        → spec.first_odd bytes.now ≡ None → SpellsSteps bytes.now) }
+    ensures memory { WantsMemory result (spec.first_odd bytes.now ≡ None → SpellsSteps bytes.now) }
 {
-    prove!(bytes.len() < 1 << 63);
-    let mut lines = Lines::new(bytes);
+    let mut lines = lines_of(bytes);
     let Some(version) = version_of(&mut lines) else {
         return Err(fault(FaultKind::BadHeader, 1));
     };
@@ -173,10 +181,8 @@ fn file_of_lines(alloc: Global, bytes: &[u8]) -> Result<TowerFile, FileFault>
 }
 
 /// The first fault of bytes whose lines have one, or are too many for the memory: an odd byte comes before that.
-pub(crate) fn first_fault(bytes: &[u8], of_lines: FileFault) -> FileFault
-    ensures odd { (k : ℕ) → spec.first_odd bytes.now ≡ Some k
-        → result ≡ faults.fault FaultKind.NotAscii (spec.line_at k bytes.now) }
-    ensures plain { spec.first_odd bytes.now ≡ None → result ≡ of_lines }
+fn first_fault(bytes: &[u8], of_lines: FileFault) -> FileFault
+    ensures { result ≡ spec.fault_told (spec.first_odd bytes.now) bytes.now of_lines }
 {
     match first_odd(bytes) {
         Some(place) => fault(FaultKind::NotAscii, line_at(place, bytes)),
@@ -184,15 +190,22 @@ pub(crate) fn first_fault(bytes: &[u8], of_lines: FileFault) -> FileFault
     }
 }
 
-/// Reads a file. Lines that spell one have no odd byte, so it looks for these behind a fault alone.
-fn file_of(alloc: Global, bytes: &[u8]) -> Result<TowerFile, FileFault>
-    ensures exact { Gives (λ f. f) result (spec.reading bytes.now) }
-    ensures memory { IfErr result (λ e. e.kind ≡ Memory → SpellsSteps bytes.now) }
+/// What lines say, but that an odd byte of theirs is told before a fault. Lines that spell a file have none.
+pub(crate) fn odd_first<T>(bytes: &[u8], of_lines: Result<T, FileFault>) -> Result<T, FileFault>
+    ensures { result ≡ spec.odd_first bytes.now of_lines }
 {
-    match file_of_lines(alloc, bytes) {
+    match of_lines {
         Ok(file) => Ok(file),
         Err(of_lines) => Err(first_fault(bytes, of_lines)),
     }
+}
+
+/// Reads a file. It looks for odd bytes behind a fault alone.
+fn file_of(alloc: Global, bytes: &[u8]) -> Result<TowerFile, FileFault>
+    ensures parsed { spec.Parses Spells spec.file_of_lines bytes.now result }
+    ensures memory { WantsMemory result (SpellsSteps bytes.now) }
+{
+    odd_first(bytes, file_of_lines(alloc, bytes))
 }
 
 /// The file that the bytes spell, or their first fault.

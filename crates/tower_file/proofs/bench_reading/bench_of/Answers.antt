@@ -1,11 +1,10 @@
 use Rattle.tower_file.specs.BenchSpelling.{SpellsFront}
-use Rattle.tower_file.proofs.Answer.{odd_first}
-use Rattle.tower_file.proofs.BenchAnswers.{plain_bench}
+use Rattle.tower_file.proofs.Formats.{parses, plain_memory}
+use Rattle.tower_file.proofs.BenchAnswers.{bench_format}
 use Rattle.tower_file.proofs.bench_reading.bench_of.Goals as goal
 
-pub returns-in-Ok-clause-exact : goal.returns-in-Ok-clause-exact
-returns-in-Ok-clause-exact c = plain_bench c.args.bytes.now c.in-Ok.bench c.in-Ok.ensures.exact
+pub returns-clause-parsed : goal.returns-clause-parsed
+returns-clause-parsed c = parses bench_format c.args.bytes.now c.bench_of_lines.result c.odd_first.result c.bench_of_lines.ensures.exact c.odd_first.ensures
 
-pub returns-in-Err-clause-memory : goal.returns-in-Err-clause-memory
-returns-in-Err-clause-memory c =
-    odd_first c.args.bytes.now c.first_fault.result c.in-Err.of_lines (SpellsFront c.args.bytes.now) c.first_fault.ensures.odd c.first_fault.ensures.plain c.in-Err.ensures.memory
+pub returns-clause-memory : goal.returns-clause-memory
+returns-clause-memory c = plain_memory c.args.bytes.now (SpellsFront c.args.bytes.now) c.bench_of_lines.result c.odd_first.result c.bench_of_lines.ensures.memory c.odd_first.ensures

@@ -1,21 +1,14 @@
-use Rattle.std.proofs.Common.{rules, ◌≡◌, ◌<◌, ◌^◌, true, length, Ok, None}
+use Rattle.std.proofs.Common.{rules, ◌≡◌, true, Ok, None}
 use Rattle.words.specs.Words.{lines, after_next}
 use Rattle.tower_file.specs.BenchSpelling.{bench_header, SpellsFront}
 use Rattle.tower_file.specs.Reading.{first_odd, has_header, tower_of}
-use Rattle.tower_file.proofs.Loop.{few_lines, want_of_memory}
+use Rattle.tower_file.proofs.Loop.{want_of_memory, known_fault}
 use Rattle.tower_file.proofs.BenchAnswers.{bench_lawful, spells_front}
 use Rattle.tower_file.proofs.bench_reading.bench_of_lines.Goals as goal
 
 pub returns-in_err-tower-clause-memory : goal.returns-in_err-tower-clause-memory
 returns-in_err-tower-clause-memory c =
-    want_of_memory c.from_residual.result _ _ c.from_residual.ensures.0 c.from_residual.ensures.1 (λ x h. h) (first_odd c.args.bytes.now ≡ None → SpellsFront c.args.bytes.now)
-    (λ k. absurd (c.in_err-tower.ensures.known k))
-
-pub limbs_of-requires : goal.limbs_of-requires
-limbs_of-requires c =
-    let behind : c.tower_of.new.lines ≡ after_next (after_next (lines c.args.bytes.now)) = search rules in
-    let small : length c.args.bytes.now < 2 ^ 63 = search rules in
-    record { few = few_lines c.args.bytes.now c.tower_of.new.lines behind small }
+    known_fault c.from_residual.result _ _ c.from_residual.ensures.0 c.from_residual.ensures.1 (λ x h. h) _ c.in_err-tower.ensures.known
 
 pub returns-in_err-limbs-clause-memory : goal.returns-in_err-limbs-clause-memory
 returns-in_err-limbs-clause-memory c =

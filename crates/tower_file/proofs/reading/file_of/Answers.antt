@@ -1,10 +1,10 @@
 use Rattle.tower_file.specs.Spelling.{SpellsSteps}
-use Rattle.tower_file.proofs.Answer.{plain_file, odd_first}
+use Rattle.tower_file.proofs.Formats.{parses, plain_memory}
+use Rattle.tower_file.proofs.Answer.{tower_format}
 use Rattle.tower_file.proofs.reading.file_of.Goals as goal
 
-pub returns-in-Ok-clause-exact : goal.returns-in-Ok-clause-exact
-returns-in-Ok-clause-exact c = plain_file c.args.bytes.now c.in-Ok.file c.in-Ok.ensures.exact
+pub returns-clause-parsed : goal.returns-clause-parsed
+returns-clause-parsed c = parses tower_format c.args.bytes.now c.file_of_lines.result c.odd_first.result c.file_of_lines.ensures.exact c.odd_first.ensures
 
-pub returns-in-Err-clause-memory : goal.returns-in-Err-clause-memory
-returns-in-Err-clause-memory c =
-    odd_first c.args.bytes.now c.first_fault.result c.in-Err.of_lines (SpellsSteps c.args.bytes.now) c.first_fault.ensures.odd c.first_fault.ensures.plain c.in-Err.ensures.memory
+pub returns-clause-memory : goal.returns-clause-memory
+returns-clause-memory c = plain_memory c.args.bytes.now (SpellsSteps c.args.bytes.now) c.file_of_lines.result c.odd_first.result c.file_of_lines.ensures.memory c.odd_first.ensures

@@ -1,4 +1,4 @@
-use Rattle.std.proofs.Common.{rules, ◌≡◌, ◌<◌, ◌^◌, length, Ok, Some, None}
+use Rattle.std.proofs.Common.{rules, ◌≡◌, Ok, Some, None}
 use Rattle.std.specs.List.{list_all}
 use Rattle.std.proofs.lemmas.Bool.{and_from}
 use Rattle.words.specs.Words.{lines, after_next}
@@ -8,19 +8,12 @@ use Rattle.tower_file.specs.Reading.{first_odd, version_of, tower_of}
 use Rattle.tower_file.specs.Spelling.{SpellsSteps}
 use Rattle.tower_file.proofs.Sound.{steps_are}
 use Rattle.tower_file.proofs.Answer.{spells_steps}
-use Rattle.tower_file.proofs.Loop.{few_lines, want_of_memory}
+use Rattle.tower_file.proofs.Loop.{want_of_memory, known_fault}
 use Rattle.tower_file.proofs.reading.file_of_lines.Goals as goal
 
 pub returns-in_err-tower-clause-memory : goal.returns-in_err-tower-clause-memory
 returns-in_err-tower-clause-memory c =
-    want_of_memory c.from_residual.result _ _ c.from_residual.ensures.0 c.from_residual.ensures.1 (λ x h. h) (first_odd c.args.bytes.now ≡ None → SpellsSteps c.args.bytes.now)
-    (λ k. absurd (c.in_err-tower.ensures.known k))
-
-pub steps_of-requires : goal.steps_of-requires
-steps_of-requires c =
-    let behind : c.tower_of.new.lines ≡ after_next (after_next (lines c.args.bytes.now)) = search rules in
-    let small : length c.args.bytes.now < 2 ^ 63 = search rules in
-    record { few = few_lines c.args.bytes.now c.tower_of.new.lines behind small }
+    known_fault c.from_residual.result _ _ c.from_residual.ensures.0 c.from_residual.ensures.1 (λ x h. h) _ c.in_err-tower.ensures.known
 
 pub returns-in_err-steps-clause-memory : goal.returns-in_err-steps-clause-memory
 returns-in_err-steps-clause-memory c =

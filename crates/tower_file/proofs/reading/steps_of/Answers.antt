@@ -1,7 +1,7 @@
 use Rattle.std.proofs.Common.{rules, ◌≡◌, ◌+◌, ◌++◌, ◌∷◌, [], true, false, length, List, Ok, Option, Some, sym, ap, ◌∙◌, arith, length-append}
 use Rattle.frames.specs.declared.types.Step.{Step}
-use Rattle.tower_file.specs.Reading.{next_step, steps_of, HasStep}
-use Rattle.tower_file.proofs.Loop.{with_front, more_lines, ends, fails, goes_on, some_step, given_fault, want_of_memory, bad_step_is_known}
+use Rattle.tower_file.specs.Reading.{next_step, steps_of}
+use Rattle.tower_file.proofs.Loop.{with_front, more_lines, ends, fails, goes_on, some_step, given_fault, known_fault, bad_step_is_known}
 use Rattle.tower_file.proofs.reading.steps_of.Goals as goal
 
 pub returns-in_err-next-clause-read : goal.returns-in_err-next-clause-read
@@ -14,8 +14,7 @@ returns-in_err-next-clause-read c =
 
 pub returns-in_err-next-clause-memory : goal.returns-in_err-next-clause-memory
 returns-in_err-next-clause-memory c =
-    want_of_memory c.from_residual.result _ _ c.from_residual.ensures.0 c.from_residual.ensures.1 (λ x h. h) (HasStep (steps_of c.args.version c.args.tower.now 3 c.args.lines.now))
-    (λ k. absurd (bad_step_is_known _ c.reading.number c.in_err-next.ensures.fault k))
+    known_fault c.from_residual.result _ _ c.from_residual.ensures.0 c.from_residual.ensures.1 (λ x h. h) _ (bad_step_is_known _ c.reading.number c.in_err-next.ensures.fault)
 
 pub reading-preserved : goal.reading-preserved
 reading-preserved c =
