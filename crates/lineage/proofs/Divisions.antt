@@ -15,6 +15,12 @@ use Rattle.lineage.proofs.Counts.{one, count_changed}
 use Rattle.lineage.proofs.Kept.{map_same, map-map, absent_holders}
 use Rattle.lineage.proofs.Pushes.{added}
 
+-- what comes of a node that is put right above another
+pub record IsDivided {X : Type 0} (s t : List (Option (Node X))) (tips : List (Option ℕ)) (key fresh : ℕ) (item : X) : Type 0 where
+  pub sound : IsSound t tips
+  pub paths : map (path_to t) tips ≡ map (divided_keys key fresh) (map (path_to s) tips)
+  pub added : IsAdded (family_on s tips) (family_on t tips) fresh item
+
 -- in a climb the new key comes behind the one that it is above
 abbrev pub cut_key : ℕ → ℕ → ℕ → List ℕ
 cut_key key fresh k = cond (nat_eq key k) (k ∷ fresh ∷ []) (k ∷ [])
@@ -189,3 +195,7 @@ module _ {X : Type 0} (s t : List (Option (Node X))) (tips : List (Option ℕ)) 
       by : (k : ℕ) → k ≢ fresh → (k ≡ key) ⊎ (k ≢ key) → item_in (node_at t k) ≡ item_in (node_at s k)
       by k nf (inl same) = ap (λ j. item_in (node_at t j)) same ∙ ap item_in below_is ∙ sym (ap item_in there) ∙ ap (λ j. item_in (node_at s j)) (sym same)
       by k nf (inr ne) = ap item_in (others k ne nf)
+
+  -- all of it
+  pub divided_all : count_by is_some t ≡ count_by is_some s + 1 → length tips + count_by is_some s + 1 < 2 ^ 64 → IsDivided s t tips key fresh item
+  divided_all len room = record { sound = divided_sound len room; paths = divided_paths; added = divided_added }

@@ -14,6 +14,12 @@ use Rattle.lineage.proofs.Walks.{path_to_is, path_at, item_is}
 use Rattle.lineage.proofs.Counts.{one, count_changed}
 use Rattle.lineage.proofs.Kept.{over_climb, over_path, map_same, absent_holders}
 
+-- what comes of a node that is put last in a path
+pub record IsPushed {X : Type 0} (s t : List (Option (Node X))) (tips new : List (Option ℕ)) (path key : ℕ) (item : X) : Type 0 where
+  pub added : IsAdded (family_on s tips) (family_on t new) key item
+  pub sound : IsSound t new
+  pub paths : map (path_to t) new ≡ set (map (path_to s) tips) path (path_in (family_on s tips) path ++ key ∷ [])
+
 -- a node that is new changes no other item
 pub added : {X : Type 0} (s t : List (Option (Node X))) (tips new : List (Option ℕ)) (key : ℕ) (n : Node X) → node_at s key ≡ None → node_at t key ≡ Some n
     → ((k : ℕ) → k ≢ key → item_in (node_at t k) ≡ item_in (node_at s k)) → IsAdded (family_on s tips) (family_on t new) key n.item
@@ -124,3 +130,6 @@ module _ {X : Type 0} (s t : List (Option (Node X))) (tips new : List (Option �
 
   pub pushed_added : IsAdded (family_on s tips) (family_on t new) key item
   pushed_added = added s t tips new key (node item (tip_at tips path) 1) vacant here (λ k ne. ap item_in (others k ne))
+
+  pub pushed_all : count_by is_some t ≡ count_by is_some s + 1 → length tips + count_by is_some s + 1 < 2 ^ 64 → IsPushed s t tips new path key item
+  pushed_all len room = record { added = pushed_added; sound = pushed_sound len room; paths = pushed_paths }

@@ -190,28 +190,28 @@ module _ {X : Type 0} where
         let f = ap (λ h. cond (is_key m n.above) h 0) (sound.counted key n there) in
         omega (arith, a, b, c, d, e, f)
 
+    counted_by : (k : ℕ) (m : Node X) (e : node_at t k ≡ Some m) (b : Bool) → is_key k n.above ≡ b
+        → (m.holders ≡ cond b ((was k m e).0.holders - 1 + n.holders) (was k m e).0.holders)
+        × (holders_of t new k + one b ≡ (was k m e).0.holders + cond b n.holders 0)
+    counted_by k m e b it =
+        let w = was k m e in
+        let old = sound.counted k w.0 w.1.0 in
+        let all = holders_now k (not_key k m e) in
+        let x = ap one it in
+        let y = ap (λ b. cond b n.holders 0) it in
+        (w.1.1 ∙ ap (λ b. cond b (w.0.holders - 1 + n.holders) w.0.holders) it, omega (arith, old, all, x, y))
+
     counted_now : (k : ℕ) (m : Node X) → node_at t k ≡ Some m → m.holders ≡ holders_of t new k
     counted_now k m e = by (is_key k n.above) refl
       where
         by : (b : Bool) → is_key k n.above ≡ b → m.holders ≡ holders_of t new k
         by true it =
-            let w = was k m e in
-            let is = w.1.1 ∙ ap (λ b. cond b (w.0.holders - 1 + n.holders) w.0.holders) it in
-            let old = sound.counted k w.0 w.1.0 in
-            let all = holders_now k (not_key k m e) in
-            let x = ap one it in
-            let y = ap (λ b. cond b n.holders 0) it in
+            let old = sound.counted k (was k m e).0 (was k m e).1.0 in
+            let both = counted_by k m e true it in
             let some = get_or-le-sum_by (λ o. one (stands_on k o)) s key None within in
             let z : one (stands_on k (node_at s key)) ≡ 1 = ap (λ o. one (stands_on k o)) there ∙ ap one it in
-            omega (arith, is, old, all, x, y, some, z)
-        by false it =
-            let w = was k m e in
-            let is = w.1.1 ∙ ap (λ b. cond b (w.0.holders - 1 + n.holders) w.0.holders) it in
-            let old = sound.counted k w.0 w.1.0 in
-            let all = holders_now k (not_key k m e) in
-            let x = ap one it in
-            let y = ap (λ b. cond b n.holders 0) it in
-            omega (arith, is, old, all, x, y)
+            omega (arith, old, both.0, both.1, some, z)
+        by false it = let both = counted_by k m e false it in omega (arith, both.0, both.1)
 
     pub skipped_sound : IsSound t new
     skipped_sound = record {

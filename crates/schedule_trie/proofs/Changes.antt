@@ -50,16 +50,20 @@ nat_eq-turned x y e = by (nat_eq y x) refl
     by true f = absurd (true≢false (sym (eq-eqb x y (sym (eqb-true y x f))) ∙ e))
     by false f = f
 
+-- of cells without a number: each has another
+pub absent_by : (x : ℕ) (P : List Slot → Type 0) → P [] → ((s : Slot) (ss : List Slot) → nat_eq s.cell x ≡ false → P ss → P (s ∷ ss))
+    → (slots : List Slot) → has_cell x slots ≡ false → P slots
+absent_by x P none more [] h = none
+absent_by x P none more (s ∷ ss) h = by (nat_eq x s.cell) refl (absent_by x P none more ss)
+  where
+    by : (b : Bool) → nat_eq x s.cell ≡ b → (has_cell x ss ≡ false → P ss) → P (s ∷ ss)
+    by true e rest = absurd (true≢false (sym (ap (λ c. c || has_cell x ss) e) ∙ h))
+    by false e rest = more s ss (nat_eq-turned x s.cell e) (rest (sym (ap (λ c. c || has_cell x ss) e) ∙ h))
+
 -- a cell that isn't there isn't replaced
 pub replaced-absent : (x : ℕ) (step : Step) (slots : List Slot) → has_cell x slots ≡ false → replaced x step slots ≡ slots
-replaced-absent x step [] h = refl
-replaced-absent x step (s ∷ ss) h = by (nat_eq x s.cell) refl (replaced-absent x step ss)
-  where
-    by : (b : Bool) → nat_eq x s.cell ≡ b → (has_cell x ss ≡ false → replaced x step ss ≡ ss) → replaced x step (s ∷ ss) ≡ s ∷ ss
-    by true e rest = absurd (true≢false (sym (ap (λ c. c || has_cell x ss) e) ∙ h))
-    by false e rest =
-        let turned : nat_eq s.cell x ≡ false = nat_eq-turned x s.cell e in
-        ap (λ b. cond b (slot s.cell step) s ∷ replaced x step ss) turned ∙ ap (λ l. s ∷ l) (rest (sym (ap (λ c. c || has_cell x ss) e) ∙ h))
+replaced-absent x step =
+    absent_by x (λ l. replaced x step l ≡ l) refl (λ s ss other rest. ap (λ b. cond b (slot s.cell step) s ∷ replaced x step ss) other ∙ ap (λ l. s ∷ l) rest)
 
 pub has_cell_get : (slots : List Slot) (i : ℕ) (s : Slot) → slice_get slots i ≡ Some s → has_cell s.cell slots ≡ true
 has_cell_get [] i s e = absurd (cc)

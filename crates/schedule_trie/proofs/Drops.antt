@@ -5,11 +5,11 @@ use Rattle.indexmap.proofs.SetLemmas.{map-remove}
 use Rattle.lineage.specs.Family.{path_in, IsReleased as IsReleasedIn}
 use Rattle.std.specs.Map.{keys_of}
 use Rattle.schedule_trie.specs.declared.trie.Trie.TheInside.{Inside}
-use Rattle.schedule_trie.specs.Cut.{Piece, Strand, piece_at, note_of, branch_on, branches_on, keys_in, has, Linked, IsSound}
+use Rattle.schedule_trie.specs.Cut.{IsWithin, Piece, Strand, piece_at, note_of, branch_on, branches_on, keys_in, has, Linked, IsSound}
 use Rattle.schedule_trie.specs.Held.{piece_of, strands_of, names_of, cut_of, IsHeld}
 use Rattle.schedule_trie.specs.Releases.{IsDropped}
 use Rattle.schedule_trie.proofs.Strands.{keys_in-of, length-strands, strands-remove}
-use Rattle.schedule_trie.proofs.StepSet.{piece_seen, cut_from_sound}
+use Rattle.schedule_trie.proofs.StepSet.{piece_seen, cut_from_sound, within_still}
 use Rattle.schedule_trie.proofs.Released.{IsReleased, IsSoundBut, released_sound, released_branches, released_notes}
 use Rattle.schedule_trie.specs.declared.limits.TheConstants.{MOST_CELLS_MADE}
 
@@ -80,13 +80,8 @@ module _ {T : Type 0} (t u : Inside T) (index : ℕ) (held : IsHeld t) (inside :
   drop_held = record {
     whole = record {
       sound = sound;
-      within = record {
-        cells = subst (λ l. u.made ≤ l.cells) (sym limits) (subst (λ n. n ≤ t.limits.cells) (sym made) held.whole.within.cells);
-        branches_fit = subst (λ l. length (cut_of u).strands ≤ l.branches) (sym limits) (omega (arith, count, held.whole.within.branches_fit));
-        some = omega (arith, count);
-        most_cells = subst (λ l. l.cells ≤ MOST_CELLS_MADE) (sym limits) held.whole.within.most_cells;
-        most_branches = subst (λ l. l.branches ≤ 1024) (sym limits) held.whole.within.most_branches;
-      };
+      within = within_still t.limits u.limits u.made (length (cut_of t).strands) (length (cut_of u).strands) limits (omega (arith, count)) (omega (arith, count))
+          (subst (λ n. n ≤ t.limits.cells) (sym made) held.whole.within.cells) (subst (λ n. IsWithin t.limits n (length (cut_of t).strands)) (sym made) held.whole.within);
     };
     paths = many;
   }

@@ -117,3 +117,6 @@ module _ {T : Type 0} (t u : Inside T) (mid : Family (Segment T)) (name : List �
         (ap (λ l. length (line (piece_at c.pieces) l) + rest) front_is)));
     cut = told.cut;
   }
+
+  pub cut_fork : IsHeld u × IsForked c (cut_of u) index place name
+  cut_fork = (cut_fork_held, cut_fork_told)

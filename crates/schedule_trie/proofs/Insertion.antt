@@ -10,7 +10,7 @@ use Rattle.schedule_trie.specs.Forest.{slot, cell_of, before_cell, put_before, e
 use Rattle.schedule_trie.specs.Cut.{Piece, Strand, slots_of, branches_on, has, has_cell, Once, IsSound}
 use Rattle.schedule_trie.proofs.Once.{has-head, has-tail, has_cases, has_not_from}
 use Rattle.schedule_trie.proofs.Lines.{once_at, given_at}
-use Rattle.schedule_trie.proofs.Changes.{Changes, line_through, everywhere_on, nat_eq-turned, has_cell_get}
+use Rattle.schedule_trie.proofs.Changes.{absent_by, Changes, line_through, everywhere_on, has_cell_get}
 use Rattle.schedule_trie.proofs.Pushes.{not_equal, segments_more, apart_more}
 
 -- a number put among others
@@ -37,14 +37,9 @@ Once-inserted y (z ∷ zs) (suc i) once h = (
 
 -- nothing is put before a cell that isn't there
 pub put_before-absent : (x : ℕ) (new : Slot) (slots : List Slot) → has_cell x slots ≡ false → put_before x new slots ≡ slots
-put_before-absent x new [] h = refl
-put_before-absent x new (s ∷ ss) h = by (nat_eq x s.cell) refl (put_before-absent x new ss)
-  where
-    by : (b : Bool) → nat_eq x s.cell ≡ b → (has_cell x ss ≡ false → put_before x new ss ≡ ss) → put_before x new (s ∷ ss) ≡ s ∷ ss
-    by true e rest = absurd (true≢false (sym (ap (λ c. c || has_cell x ss) e) ∙ h))
-    by false e rest =
-        ap (λ b. cond b (new ∷ s ∷ []) (s ∷ []) ++ put_before x new ss) (nat_eq-turned x s.cell e)
-        ∙ ap (λ l. s ∷ l) (rest (sym (ap (λ c. c || has_cell x ss) e) ∙ h))
+put_before-absent x new =
+    absent_by x (λ l. put_before x new l ≡ l) refl
+    (λ s ss other rest. ap (λ b. cond b (new ∷ s ∷ []) (s ∷ []) ++ put_before x new ss) other ∙ ap (λ l. s ∷ l) rest)
 
 -- a cell that is inserted at a place is put before the cell there
 pub inserted-at : (slots : List Slot) (i : ℕ) (s new : Slot) → Once (map cell_of slots) → slice_get slots i ≡ Some s

@@ -7,12 +7,12 @@ use Rattle.schedule_trie.specs.declared.slot.Slot.{Slot}
 use Rattle.schedule_trie.specs.declared.segment.Segment.{Segment}
 use Rattle.schedule_trie.specs.declared.trie.Trie.TheInside.{Inside}
 use Rattle.schedule_trie.specs.Forest.{without, remove_cell, index_of}
-use Rattle.schedule_trie.specs.Cut.{Cut, piece, piece_at, slots_of, note_of, forest, branches_on, keys_in, keys_without, strand_without, StandsAt, IsSound, IsRemoved}
+use Rattle.schedule_trie.specs.Cut.{IsWithin, Cut, piece, piece_at, slots_of, note_of, forest, branches_on, keys_in, keys_without, strand_without, StandsAt, IsSound, IsRemoved}
 use Rattle.schedule_trie.specs.Held.{piece_of, strands_of, names_of, cut_of, IsHeld}
 use Rattle.schedule_trie.proofs.Strands.{strands-without}
 use Rattle.schedule_trie.proofs.Changes.{Changes, piece_at_set}
 use Rattle.schedule_trie.proofs.Notes.{notes_at}
-use Rattle.schedule_trie.proofs.StepSet.{slice_get_some, piece_seen, key_within, cut_from_sound, command_at, the_cell}
+use Rattle.schedule_trie.proofs.StepSet.{IsSeen, seen_with, with_segment, within_still, slice_get_some, piece_seen, key_within, cut_from_sound, command_at, the_cell}
 use Rattle.schedule_trie.proofs.Removals.{gone_everywhere, sound_within, gone_with_segment, sound_gone}
 use Rattle.schedule_trie.specs.declared.limits.TheConstants.{MOST_CELLS_MADE}
 
@@ -21,33 +21,30 @@ module _ {T : Type 0} (t : Inside T) (key offset : ℕ) (v w : Segment T) (held 
     (inside : offset < length (slots_of (piece_at (cut_of t).pieces key))) (more : 1 < length (slots_of (piece_at (cut_of t).pieces key)))
     (slots : w.slots.items ≡ remove v.slots.items offset) (note : w.note ≡ None) where
   abbrev after : Inside T
-  after = record t { segments = with_item t.segments key w }
+  after = with_segment t key w
 
-  change : Changes (piece_at (cut_of t).pieces) (piece_at (cut_of after).pieces) key (piece w.slots.items w.note)
-  change = piece_at_set t.segments.items key w (key_within t.segments.items key v there)
-
-  was : piece_at (cut_of t).pieces key ≡ Some (piece v.slots.items v.note)
-  was = piece_seen t key ∙ ap piece_of there
+  seen : IsSeen t key v w
+  seen = seen_with t key v w there
 
   here : slots_of (piece_at (cut_of after).pieces key) ≡ remove (slots_of (piece_at (cut_of t).pieces key)) offset
-  here = ap slots_of change.here ∙ slots ∙ sym (ap (λ o. remove (slots_of o) offset) was)
+  here = ap slots_of seen.change.here ∙ slots ∙ sym (ap (λ o. remove (slots_of o) offset) seen.was)
 
   first : (s : Slot) × (slice_get (slots_of (piece_at (cut_of t).pieces key)) offset ≡ Some s)
   first = slice_get_some (slots_of (piece_at (cut_of t).pieces key)) offset inside
 
   sound : IsSound (piece_at (cut_of after).pieces) (cut_of t).strands t.made
-  sound = sound_within (piece_at (cut_of t).pieces) (piece_at (cut_of after).pieces) key offset first.0 (cut_of t).strands t.made held.whole.sound here change.others first.1
-      (piece v.slots.items v.note) (piece w.slots.items w.note) was change.here more
+  sound = sound_within (piece_at (cut_of t).pieces) (piece_at (cut_of after).pieces) key offset first.0 (cut_of t).strands t.made held.whole.sound here seen.change.others first.1
+      (piece v.slots.items v.note) (piece w.slots.items w.note) seen.was seen.change.here more
 
   pub within_held : IsHeld after
   within_held = record { whole = record { sound = sound; within = held.whole.within }; paths = held.paths }
 
   pub within_told : IsRemoved (cut_of t) (cut_of after) key offset
   within_told = record {
-    everywhere_gone = λ s at_cell. gone_everywhere (piece_at (cut_of t).pieces) (piece_at (cut_of after).pieces) key offset s (cut_of t).strands t.made held.whole.sound here change.others at_cell;
+    everywhere_gone = λ s at_cell. gone_everywhere (piece_at (cut_of t).pieces) (piece_at (cut_of after).pieces) key offset s (cut_of t).strands t.made held.whole.sound here seen.change.others at_cell;
     made = refl;
     limits = refl;
-    notes = notes_at (cut_of t) (cut_of after) key change.others (ap note_of change.here ∙ note);
+    notes = notes_at (cut_of t) (cut_of after) key seen.change.others (ap note_of seen.change.here ∙ note);
     cut = cut_from_sound (cut_of after) t.made sound;
   }
 
@@ -92,13 +89,8 @@ module _ {T : Type 0} (t u : Inside T) (key : ℕ) (held : IsHeld t) (one : leng
   gone_held = record {
     whole = record {
       sound = sound_rest;
-      within = record {
-        cells = subst (λ l. u.made ≤ l.cells) (sym limits) (subst (λ n. n ≤ t.limits.cells) (sym made) held.whole.within.cells);
-        branches_fit = subst (λ l. length (cut_of u).strands ≤ l.branches) (sym limits) (subst (λ n. n ≤ t.limits.branches) (sym count) held.whole.within.branches_fit);
-        some = subst (λ n. 0 < n) (sym count) held.whole.within.some;
-        most_cells = subst (λ l. l.cells ≤ MOST_CELLS_MADE) (sym limits) held.whole.within.most_cells;
-        most_branches = subst (λ l. l.branches ≤ 1024) (sym limits) held.whole.within.most_branches;
-      };
+      within = within_still t.limits u.limits u.made (length (cut_of t).strands) (length (cut_of u).strands) limits (subst (λ n. 0 < n) (sym count) held.whole.within.some) (omega (arith, count))
+          (subst (λ n. n ≤ t.limits.cells) (sym made) held.whole.within.cells) (subst (λ n. IsWithin t.limits n (length (cut_of t).strands)) (sym made) held.whole.within);
     };
     paths = many;
   }

@@ -13,8 +13,10 @@ use Rattle.schedule_trie.specs.declared.trie.Trie.TheInside.{Inside}
 use Rattle.schedule_trie.specs.declared.refusal.Refusal.TheVariants.{NoPlace}
 use Rattle.schedule_trie.specs.Forest.{branch, cell_at, cell_by, replace_step, at_cell, on_found, replaced_by, index_of, slots_in, cell_in, cell_of, everywhere}
 use Rattle.schedule_trie.specs.Slots.{set_step}
-use Rattle.schedule_trie.specs.Cut.{line, Strand, IsNoted, with_note, branches_on, Cut, Piece, piece, piece_at, slots_of, forest, keys_in, StandsAt, note_of, IsSound, IsCut, IsSegment, KeepsNotesBut, HoldsCellAt, IsStepSet}
+use Rattle.schedule_trie.specs.Cut.{line, Strand, IsNoted, with_note, branches_on, Cut, Piece, piece, piece_at, slots_of, forest, keys_in, StandsAt, note_of, IsSound, IsCut, IsWithin, IsSegment, KeepsNotesBut, HoldsCellAt, IsStepSet}
 use Rattle.schedule_trie.specs.Held.{piece_of, cut_of, IsHeld}
+use Rattle.schedule_trie.specs.declared.limits.Limits.{Limits}
+use Rattle.schedule_trie.specs.declared.limits.TheConstants.{MOST_CELLS_MADE}
 use Rattle.schedule_trie.proofs.Changes.{SameCells, piece_at_set, Changes, has_cell_get, sound_same, replaced_everywhere, replaced_same}
 use Rattle.schedule_trie.proofs.Lines.{slots_in_on}
 use Rattle.schedule_trie.proofs.Notes.{notes_at, notes_but}
@@ -79,26 +81,47 @@ module _ {T : Type 0} where
   pub key_within : (xs : List (Option (Segment T))) (key : ℕ) (v : Segment T) → slice_index_or xs key None ≡ Some v → key < length xs
   key_within xs key v e = get_or_within xs key v e
 
+-- a segment is another one
+abbrev pub with_segment : {T : Type 0} → Inside T → ℕ → Segment T → Inside T
+with_segment t key w = record t { segments = with_item t.segments key w }
+
+pub record IsSeen {T : Type 0} (t : Inside T) (key : ℕ) (v w : Segment T) : Type 0 where
+  pub change : Changes (piece_at (cut_of t).pieces) (piece_at (cut_of (with_segment t key w)).pieces) key (piece w.slots.items w.note)
+  pub was : piece_at (cut_of t).pieces key ≡ Some (piece v.slots.items v.note)
+
+pub seen_with : {T : Type 0} (t : Inside T) (key : ℕ) (v w : Segment T) → item_at t.segments key ≡ Some v → IsSeen t key v w
+seen_with t key v w there = record {
+  change = piece_at_set t.segments.items key w (key_within t.segments.items key v there);
+  was = piece_seen t key ∙ ap piece_of there;
+}
+
+-- limits that stay, with no more branches
+pub within_still : (old new : Limits) (made branches few : ℕ) → new ≡ old → 0 < few → few ≤ branches → made ≤ old.cells → IsWithin old made branches → IsWithin new made few
+within_still old new made branches few limits some fewer fits was = record {
+  cells = subst (λ l. made ≤ l.cells) (sym limits) fits;
+  branches_fit = subst (λ l. few ≤ l.branches) (sym limits) (omega (arith, fewer, was.branches_fit));
+  some = some;
+  most_cells = subst (λ l. l.cells ≤ MOST_CELLS_MADE) (sym limits) was.most_cells;
+  most_branches = subst (λ l. l.branches ≤ 1024) (sym limits) was.most_branches;
+}
+
 module _ {T : Type 0} (t : Inside T) (key offset : ℕ) (step : Step) (v w : Segment T) (held : IsHeld t) (there : item_at t.segments key ≡ Some v)
     (inside : offset < length v.slots.items) (slots : w.slots.items ≡ set_step v.slots.items offset step) (note : w.note ≡ None) where
   abbrev after : Inside T
-  after = record t { segments = with_item t.segments key w }
+  after = with_segment t key w
 
-  change : Changes (piece_at (cut_of t).pieces) (piece_at (cut_of after).pieces) key (piece w.slots.items w.note)
-  change = piece_at_set t.segments.items key w (key_within t.segments.items key v there)
-
-  was : piece_at (cut_of t).pieces key ≡ Some (piece v.slots.items v.note)
-  was = piece_seen t key ∙ ap piece_of there
+  seen : IsSeen t key v w
+  seen = seen_with t key v w there
 
   here : piece_at (cut_of after).pieces key ≡ Some (piece (set_step (slots_of (piece_at (cut_of t).pieces key)) offset step) None)
-  here = change.here ∙ (λ i. Some (piece (slots i) (note i))) ∙ sym (ap (λ o. Some (piece (set_step (slots_of o) offset step) None)) was)
+  here = seen.change.here ∙ (λ i. Some (piece (slots i) (note i))) ∙ sym (ap (λ o. Some (piece (set_step (slots_of o) offset step) None)) seen.was)
 
   first : (s : Slot) × (slice_get (slots_of (piece_at (cut_of t).pieces key)) offset ≡ Some s)
-  first = let p = slice_get_some v.slots.items offset inside in (p.0, ap (λ o. slice_get (slots_of o) offset) was ∙ p.1)
+  first = let p = slice_get_some v.slots.items offset inside in (p.0, ap (λ o. slice_get (slots_of o) offset) seen.was ∙ p.1)
 
   set_sound : IsSound (piece_at (cut_of after).pieces) (cut_of t).strands t.made
   set_sound = sound_same (piece_at (cut_of t).pieces) (piece_at (cut_of after).pieces)
-      (replaced_same (piece_at (cut_of t).pieces) (piece_at (cut_of after).pieces) (cut_of t).strands t.made key offset step first.0 held.whole.sound here change.others first.1)
+      (replaced_same (piece_at (cut_of t).pieces) (piece_at (cut_of after).pieces) (cut_of t).strands t.made key offset step first.0 held.whole.sound here seen.change.others first.1)
       (cut_of t).strands t.made held.whole.sound
 
   pub set_held : IsHeld after
@@ -106,10 +129,10 @@ module _ {T : Type 0} (t : Inside T) (key offset : ℕ) (step : Step) (v w : Seg
 
   pub set_told : IsStepSet (cut_of t) (cut_of after) key offset step
   set_told = record {
-    everywhere_set = λ s at_cell. replaced_everywhere (piece_at (cut_of t).pieces) (piece_at (cut_of after).pieces) (cut_of t).strands t.made key offset step s held.whole.sound here change.others at_cell;
+    everywhere_set = λ s at_cell. replaced_everywhere (piece_at (cut_of t).pieces) (piece_at (cut_of after).pieces) (cut_of t).strands t.made key offset step s held.whole.sound here seen.change.others at_cell;
     made = refl;
     limits = refl;
-    notes = notes_at (cut_of t) (cut_of after) key change.others (ap note_of here);
+    notes = notes_at (cut_of t) (cut_of after) key seen.change.others (ap note_of here);
     cut = cut_from_sound (cut_of after) t.made set_sound;
   }
 
@@ -164,32 +187,29 @@ notes_here old new name place index key offset found stands notes =
 -- a note is set
 module _ {T : Type 0} (t : Inside T) (key : ℕ) (v w : Segment T) (held : IsHeld t) (there : item_at t.segments key ≡ Some v) (same : w.slots ≡ v.slots) where
   abbrev noted : Inside T
-  noted = record t { segments = with_item t.segments key w }
+  noted = with_segment t key w
 
-  note_change : Changes (piece_at (cut_of t).pieces) (piece_at (cut_of noted).pieces) key (piece w.slots.items w.note)
-  note_change = piece_at_set t.segments.items key w (key_within t.segments.items key v there)
-
-  note_was : piece_at (cut_of t).pieces key ≡ Some (piece v.slots.items v.note)
-  note_was = piece_seen t key ∙ ap piece_of there
+  note_seen : IsSeen t key v w
+  note_seen = seen_with t key v w there
 
   slots_kept : (k : ℕ) → slots_of (piece_at (cut_of noted).pieces k) ≡ slots_of (piece_at (cut_of t).pieces k)
   slots_kept k = by (nat_eq k key) refl
     where
       by : (b : Bool) → nat_eq k key ≡ b → slots_of (piece_at (cut_of noted).pieces k) ≡ slots_of (piece_at (cut_of t).pieces k)
       by true e = subst (λ j. slots_of (piece_at (cut_of noted).pieces j) ≡ slots_of (piece_at (cut_of t).pieces j)) (sym (eqb-true k key e))
-          (ap slots_of note_change.here ∙ ap (λ z. z.items) same ∙ sym (ap slots_of note_was))
-      by false e = ap slots_of (note_change.others k (λ f. true≢false (sym (eq-eqb k key f) ∙ e)))
+          (ap slots_of note_seen.change.here ∙ ap (λ z. z.items) same ∙ sym (ap slots_of note_seen.was))
+      by false e = ap slots_of (note_seen.change.others k (λ f. true≢false (sym (eq-eqb k key f) ∙ e)))
 
   note_same : SameCells (piece_at (cut_of t).pieces) (piece_at (cut_of noted).pieces)
   note_same = record { cells = λ k. ap (map cell_of) (slots_kept k); there = λ k h. by_there k (nat_eq k key) refl h; was_there = λ k h. by_was k (nat_eq k key) refl h }
     where
       by_there : (k : ℕ) (b : Bool) → nat_eq k key ≡ b → IsSome (piece_at (cut_of t).pieces k) → IsSome (piece_at (cut_of noted).pieces k)
-      by_there k true e h = subst (λ j. IsSome (piece_at (cut_of noted).pieces j)) (sym (eqb-true k key e)) (subst IsSome (sym note_change.here) refl)
-      by_there k false e h = subst IsSome (sym (note_change.others k (λ f. true≢false (sym (eq-eqb k key f) ∙ e)))) h
+      by_there k true e h = subst (λ j. IsSome (piece_at (cut_of noted).pieces j)) (sym (eqb-true k key e)) (subst IsSome (sym note_seen.change.here) refl)
+      by_there k false e h = subst IsSome (sym (note_seen.change.others k (λ f. true≢false (sym (eq-eqb k key f) ∙ e)))) h
 
       by_was : (k : ℕ) (b : Bool) → nat_eq k key ≡ b → IsSome (piece_at (cut_of noted).pieces k) → IsSome (piece_at (cut_of t).pieces k)
-      by_was k true e h = subst (λ j. IsSome (piece_at (cut_of t).pieces j)) (sym (eqb-true k key e)) (subst IsSome (sym note_was) refl)
-      by_was k false e h = subst IsSome (note_change.others k (λ f. true≢false (sym (eq-eqb k key f) ∙ e))) h
+      by_was k true e h = subst (λ j. IsSome (piece_at (cut_of t).pieces j)) (sym (eqb-true k key e)) (subst IsSome (sym note_seen.was) refl)
+      by_was k false e h = subst IsSome (note_seen.change.others k (λ f. true≢false (sym (eq-eqb k key f) ∙ e))) h
 
   pub note_held : IsHeld noted
   note_held = record {
@@ -210,8 +230,8 @@ module _ {T : Type 0} (t : Inside T) (key : ℕ) (v w : Segment T) (held : IsHel
 
   pub note_told : IsNoted (cut_of t) (cut_of noted) key w.note
   note_told = record {
-    here = note_change.here ∙ (λ i. Some (piece (same i).items w.note)) ∙ sym (ap (option_map (with_note w.note)) note_was);
-    others = note_change.others;
+    here = note_seen.change.here ∙ (λ i. Some (piece (same i).items w.note)) ∙ sym (ap (option_map (with_note w.note)) note_seen.was);
+    others = note_seen.change.others;
     strands = refl;
     limits = refl;
     unchanged = λ i. record { branches = branches_same (cut_of t).strands i; made = t.made };

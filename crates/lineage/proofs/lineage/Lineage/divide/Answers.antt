@@ -1,27 +1,16 @@
 use Rattle.std.proofs.Common.{refl, ◌≡◌, ◌+◌, ◌<◌, ◌^◌, Some, length, sym, ◌∙◌, ap, subst, arith}
 use Rattle.std.specs.Prelude.{is_some, IsSome}
 use Rattle.std.specs.List.{count_by}
-use Rattle.lineage.specs.declared.node.Node.{Node}
 use Rattle.lineage.specs.Family.{item_at}
 use Rattle.lineage.specs.Held.{IsSound, node_at, over, under}
 use Rattle.lineage.proofs.Forks.{some_node}
 use Rattle.lineage.proofs.Walks.{item_is}
-use Rattle.lineage.proofs.Divisions.{divided_sound, divided_paths, divided_added}
+use Rattle.lineage.proofs.Divisions.{IsDivided, divided_all}
 use Rattle.lineage.proofs.lineage.Lineage.divide.Goals as goal
 use Rattle.lineage.proofs.lineage.Lineage.divide.Given.{Over}
 
-room : (g : Over) (c : goal.After-put_above g) → length c.self.inside.tips.items + count_by is_some c.self.inside.nodes.slots + 1 < 2 ^ 64
-room g c =
-    let few = c.in_ok-reserve_node.ensures.few in
-    let len = c.len.ensures in
-    let items = c.self.inside.tips.ok.0 in
-    omega (arith, few, len, items)
-
-there : (g : Over) (c : goal.After-put_above g) → (n : Node g.row.X.Denot) × (node_at c.self.inside.nodes.slots c.args.key ≡ Some n)
-there g c =
-    let a = c.self.inside in
-    let some : IsSome (item_at c.args.self.now c.args.key) = c.requires in
-    some_node (node_at a.nodes.slots c.args.key) (subst IsSome (ap (λ f. item_at f c.args.key) (sym c.self.view_is) ∙ item_is a.nodes.slots a.tips.items c.args.key) some)
+pub invariant_of-self : goal.invariant_of-self
+invariant_of-self g c = subst (λ s. IsSound s c.self.inside.tips.items) (sym c.in_err-reserve_node.ensures.slots) c.self.invariant
 
 pub put_above-requires-clause-there : goal.put_above-requires-clause-there
 put_above-requires-clause-there g c =
@@ -30,36 +19,27 @@ put_above-requires-clause-there g c =
     let n = some_node (node_at a.nodes.slots c.args.key) (subst IsSome (ap (λ f. item_at f c.args.key) (sym c.self.view_is) ∙ item_is a.nodes.slots a.tips.items c.args.key) some) in
     subst IsSome (sym (ap (λ s. node_at s c.args.key) c.in_ok-reserve_node.ensures.slots ∙ n.1)) refl
 
-pub invariant_of-self : goal.invariant_of-self
-invariant_of-self g c = subst (λ s. IsSound s c.self.inside.tips.items) (sym c.in_err-reserve_node.ensures.slots) c.self.invariant
-
-pub invariant_of-self-2 : goal.invariant_of-self-2
-invariant_of-self-2 g c =
+divided : (g : Over) (c : goal.After-put_above g)
+    → IsDivided c.self.inside.nodes.slots c.put_above.new.nodes.slots c.self.inside.tips.items c.args.key c.put_above.result c.args.item
+divided g c =
     let a = c.self.inside in
+    let some : IsSome (item_at c.args.self.now c.args.key) = c.requires in
+    let n = some_node (node_at a.nodes.slots c.args.key) (subst IsSome (ap (λ f. item_at f c.args.key) (sym c.self.view_is) ∙ item_is a.nodes.slots a.tips.items c.args.key) some) in
     let same = c.in_ok-reserve_node.ensures.slots in
     let here = c.put_above.ensures in
-    let n = there g c in
-    divided_sound a.nodes.slots c.put_above.new.nodes.slots a.tips.items c.args.key c.put_above.result c.args.item n.0 c.self.invariant n.1
+    let few = c.in_ok-reserve_node.ensures.few in
+    let len = c.len.ensures in
+    let items = a.tips.ok.0 in
+    divided_all a.nodes.slots c.put_above.new.nodes.slots a.tips.items c.args.key c.put_above.result c.args.item n.0 c.self.invariant n.1
     (ap (λ s. node_at s c.put_above.result) (sym same) ∙ here.vacant) (here.fresh ∙ ap (λ s. over c.args.item (node_at s c.args.key)) same)
     (here.below ∙ ap (λ s. under c.put_above.result (node_at s c.args.key)) same) (λ k ne nf. here.others k ne nf ∙ ap (λ s. node_at s k) same)
-    (here.len ∙ ap (λ s. count_by is_some s + 1) same) (room g c)
+    (here.len ∙ ap (λ s. count_by is_some s + 1) same) (omega (arith, few, len, items))
+
+pub invariant_of-self-2 : goal.invariant_of-self-2
+invariant_of-self-2 g c = (divided g c).sound
 
 pub returns-clause-item : goal.returns-clause-item
-returns-clause-item g c =
-    let a = c.self.inside in
-    let same = c.in_ok-reserve_node.ensures.slots in
-    let here = c.put_above.ensures in
-    let n = there g c in
-    rw (← c.self.view_is) (divided_added a.nodes.slots c.put_above.new.nodes.slots a.tips.items c.args.key c.put_above.result c.args.item n.0 c.self.invariant n.1
-    (ap (λ s. node_at s c.put_above.result) (sym same) ∙ here.vacant) (here.fresh ∙ ap (λ s. over c.args.item (node_at s c.args.key)) same)
-    (here.below ∙ ap (λ s. under c.put_above.result (node_at s c.args.key)) same) (λ k ne nf. here.others k ne nf ∙ ap (λ s. node_at s k) same))
+returns-clause-item g c = rw (← c.self.view_is) (divided g c).added
 
 pub returns-clause-paths : goal.returns-clause-paths
-returns-clause-paths g c =
-    let a = c.self.inside in
-    let same = c.in_ok-reserve_node.ensures.slots in
-    let here = c.put_above.ensures in
-    let n = there g c in
-    rw (← c.self.view_is) (divided_paths a.nodes.slots c.put_above.new.nodes.slots a.tips.items c.args.key c.put_above.result c.args.item n.0 c.self.invariant n.1
-    (ap (λ s. node_at s c.put_above.result) (sym same) ∙ here.vacant) (here.fresh ∙ ap (λ s. over c.args.item (node_at s c.args.key)) same)
-    (here.below ∙ ap (λ s. under c.put_above.result (node_at s c.args.key)) same) (λ k ne nf. here.others k ne nf ∙ ap (λ s. node_at s k) same))
+returns-clause-paths g c = rw (← c.self.view_is) (divided g c).paths

@@ -6,7 +6,7 @@ use Rattle.schedule_trie.specs.Forest.{index_of}
 use Rattle.schedule_trie.specs.Cut.{forest, keys_in, piece_at, slots_of, has}
 use Rattle.schedule_trie.specs.Held.{cut_of}
 use Rattle.schedule_trie.proofs.DivisionSteps.{still_there}
-use Rattle.schedule_trie.proofs.ForkCutSteps.{cut_fork_held, cut_fork_told}
+use Rattle.schedule_trie.proofs.ForkCutSteps.{cut_fork, cut_fork_told}
 use Rattle.schedule_trie.proofs.Partings.{parting}
 use Rattle.schedule_trie.proofs.StepSet.{held_there}
 use Rattle.schedule_trie.proofs.LengthSteps.{forked_lengths}
@@ -26,25 +26,18 @@ invariant_of-self-2 g c =
     let p = parting (keys_in (cut_of t).strands c.args.index) c.args.key (subst (λ z. has c.args.key (keys_in z.strands c.args.index) ≡ true) (sym view) c.requires.key) in
     let u = record t { segments = with_item c.fork_above.new.self c.args.key c.set_slots.new.self; branches = c.insert_reserved.new.branches } in
     let entries = c.insert_reserved.ensures ∙ ap (λ es. insert_entry (pointwise nat_eq) es c.args.name None) c.in_ok-reserve.ensures.entries in
+    let f = cut_fork t (record t { segments = with_item c.fork_above.new.self c.args.key c.set_slots.new.self; branches = c.insert_reserved.new.branches }) c.fork_above.new.self
+    c.args.name c.args.index c.args.key _ c.args.count p.front p.back c.in_ok-above.above c.in_ok-above.below c.item_mut.result.now c.set_slots.new.self None c.self.invariant.held
+    (subst (λ z. length z.strands < z.limits.branches) (sym view) c.requires.room) (subst (λ z. index_of (forest z).branches c.args.name ≡ None) (sym view) c.requires.name) refl refl
+    p.is c.requires.some (subst (λ z. c.args.count < length (slots_of (piece_at z.pieces c.args.key))) (sym view) c.requires.inside)
+    c.in_ok-fork_above.ensures.ok c.item_mut.ensures.value refl c.set_slots.ensures.slots c.set_slots.ensures.note refl
+    (c.in_ok-above.ensures.first ∙ ap (take c.args.count) (c.slots_at.ensures ∙ ap (λ z. slots_of (piece_at z.pieces c.args.key)) (sym view)))
+    (c.in_ok-above.ensures.rest ∙ ap (drop c.args.count) (c.slots_at.ensures ∙ ap (λ z. slots_of (piece_at z.pieces c.args.key)) (sym view)))
+    (c.insert_reserved.ensures ∙ ap (λ es. insert_entry (pointwise nat_eq) es c.args.name None) c.in_ok-reserve.ensures.entries) in
     record {
-      held = cut_fork_held t (record t { segments = with_item c.fork_above.new.self c.args.key c.set_slots.new.self; branches = c.insert_reserved.new.branches }) c.fork_above.new.self
-          c.args.name c.args.index c.args.key _ c.args.count p.front p.back c.in_ok-above.above c.in_ok-above.below c.item_mut.result.now c.set_slots.new.self None c.self.invariant.held
-          (subst (λ z. length z.strands < z.limits.branches) (sym view) c.requires.room) (subst (λ z. index_of (forest z).branches c.args.name ≡ None) (sym view) c.requires.name) refl refl
-          p.is c.requires.some (subst (λ z. c.args.count < length (slots_of (piece_at z.pieces c.args.key))) (sym view) c.requires.inside)
-          c.in_ok-fork_above.ensures.ok c.item_mut.ensures.value refl c.set_slots.ensures.slots c.set_slots.ensures.note refl
-          (c.in_ok-above.ensures.first ∙ ap (take c.args.count) (c.slots_at.ensures ∙ ap (λ z. slots_of (piece_at z.pieces c.args.key)) (sym view)))
-          (c.in_ok-above.ensures.rest ∙ ap (drop c.args.count) (c.slots_at.ensures ∙ ap (λ z. slots_of (piece_at z.pieces c.args.key)) (sym view)))
-          (c.insert_reserved.ensures ∙ ap (λ es. insert_entry (pointwise nat_eq) es c.args.name None) c.in_ok-reserve.ensures.entries);
+      held = f.0;
       lengths = forked_lengths t (cut_of u) u.branches.entries c.args.index _ c.args.name c.self.invariant.lengths
-          (subst (λ z. index_of (forest z).branches c.args.name ≡ None) (sym view) c.requires.name) entries
-          (cut_fork_told t (record t { segments = with_item c.fork_above.new.self c.args.key c.set_slots.new.self; branches = c.insert_reserved.new.branches }) c.fork_above.new.self
-          c.args.name c.args.index c.args.key _ c.args.count p.front p.back c.in_ok-above.above c.in_ok-above.below c.item_mut.result.now c.set_slots.new.self None c.self.invariant.held
-          (subst (λ z. length z.strands < z.limits.branches) (sym view) c.requires.room) (subst (λ z. index_of (forest z).branches c.args.name ≡ None) (sym view) c.requires.name) refl refl
-          p.is c.requires.some (subst (λ z. c.args.count < length (slots_of (piece_at z.pieces c.args.key))) (sym view) c.requires.inside)
-          c.in_ok-fork_above.ensures.ok c.item_mut.ensures.value refl c.set_slots.ensures.slots c.set_slots.ensures.note refl
-          (c.in_ok-above.ensures.first ∙ ap (take c.args.count) (c.slots_at.ensures ∙ ap (λ z. slots_of (piece_at z.pieces c.args.key)) (sym view)))
-          (c.in_ok-above.ensures.rest ∙ ap (drop c.args.count) (c.slots_at.ensures ∙ ap (λ z. slots_of (piece_at z.pieces c.args.key)) (sym view)))
-          (c.insert_reserved.ensures ∙ ap (λ es. insert_entry (pointwise nat_eq) es c.args.name None) c.in_ok-reserve.ensures.entries));
+          (subst (λ z. index_of (forest z).branches c.args.name ≡ None) (sym view) c.requires.name) entries f.1;
       names = forked_names t u.branches.entries c.args.name c.self.invariant.names c.requires.form
           (subst (λ z. index_of (forest z).branches c.args.name ≡ None) (sym view) c.requires.name) entries;
     }
