@@ -8,15 +8,20 @@ use Rattle.schedule_trie.specs.declared.refusal.Refusal.TheVariants.{Memory}
 use Rattle.cutoff.specs.declared.install.Installation.{Installation}
 use Rattle.cutoff.specs.declared.install.Installation.TheVariants.{Installed, Stale, Gone}
 use Rattle.cutoff.specs.Chains.{Chained}
+use Rattle.turn.specs.declared.chair.Chair.{Chair}
 use Rattle.turn.specs.declared.view.View.{View}
+use Rattle.turn.specs.Chairs.{view}
+use Rattle.turn.specs.Histories.{OwnsItsCalls}
 use Rattle.workers.specs.declared.job.Done.{Done}
 use Rattle.workers.specs.Segments.{SharedRun}
 use Rattle.sessions.specs.Held.{Held}
 use Rattle.sessions.specs.World.{World}
+use Rattle.desk.specs.declared.desk.Desk.{Desk}
 use Rattle.desk.specs.declared.item.Item.{Item}
 use Rattle.desk.specs.declared.report.Report.{Report}
-use Rattle.desk.specs.Chairs.{Reads, Stays, Filled}
+use Rattle.desk.specs.Chairs.{IsAt, Reads, Stays, Filled}
 use Rattle.desk.specs.Fills.{AreOffered, AreRounds, Begins, Behind, ChainsOffered, GoesOn, Follows, IsFill, is_installed, outcomes_by}
+use Rattle.desk.specs.Items.{made_under}
 use Rattle.desk.specs.Reports.{Adds, IsIdle, IsSum, both, counted, no_jobs}
 use Rattle.desk.specs.Works.{NeedsBranch, Offers, PlansOf, run_in}
 use Rattle.desk.proofs.Holdings.{reads_more, reads_stay, stays_here, stays_on, wants_memory}
@@ -35,6 +40,17 @@ planned_more (Some Installed) r = refl
 planned_more (Some Stale) r = refl
 planned_more (Some Gone) r = refl
 planned_more None r = refl
+
+-- What a loop that offers runs keeps beside what it offered: the chair is the desk's and owns its calls, the report adds up, and so many items are left.
+pub record Standing {R P X : Type 0} {g : _} (is : R → Behaviour P) (desk : Desk R P) (chair : Chair (List (Item R P)) (Item R P) g) (report : Report) (left : ℕ) (items : List X) : Type 0 where
+  pub seat : IsAt is desk chair
+  pub owns : OwnsItsCalls made_under (view chair)
+  pub sum : IsSum report
+  pub len : left ≡ length items
+
+pub standing_none : {R P X : Type 0} {g : _} (is : R → Behaviour P) (desk : Desk R P) (chair : Chair (List (Item R P)) (Item R P) g) (report : Report) (left : ℕ) (items : List X)
+    → IsAt is desk chair → OwnsItsCalls made_under (view chair) → report ≡ no_jobs → left ≡ length items → Standing is desk chair report left items
+standing_none is desk chair report left items seat owns none len = record { seat = seat; owns = owns; sum = subst IsSum (sym none) sum_none; len = len }
 
 same_report : (a b : Report) → a.planned ≡ b.planned → a.installed ≡ b.installed → a.stale ≡ b.stale → a.gone ≡ b.gone → a.memory ≡ b.memory → a ≡ b
 same_report a b p i s g m = λ k. record { planned = p k; installed = i k; stale = s k; gone = g k; memory = m k }

@@ -29,6 +29,16 @@ use Rattle.desk.specs.Works.{IsAct, IsReading, IsLook, IsAnswer, IsPaged, IsSavi
 use Rattle.desk.proofs.Lists.{items_more}
 use Rattle.desk.proofs.Logged.{put, logged_last}
 
+-- a book behind the turn: it opened as the first did, and the turn has the items of its log
+pub record IsBook {R P : Type 0} (is : R → Behaviour P) (first old : Held R P) (before : List (Item R P)) : Type 0 where
+  pub opened : opening_of is old ≡ opening_of is first
+  pub listed : items first old.log ≡ before
+
+-- what is taken from a journal is its book
+pub taken : {R P : Type 0} (is : R → Behaviour P) (first : Held R P) {old value : Held R P} {before : List (Item R P)} → old ≡ value
+    → opening_of is value ≡ opening_of is first → items first value.log ≡ before → IsBook is first old before
+taken is first same opened listed = record { opened = ap (opening_of is) same ∙ opened; listed = ap (λ h. items first h.log) same ∙ listed }
+
 reached : (a b : ℕ) (t : Bool) → nat_le a b ≡ t → t ≡ true → a ≤ b
 reached a b t e f = grind (arith, e, f)
 
@@ -74,7 +84,7 @@ module _ {R P : Type 0} (is : R → Behaviour P) where
     pub full_log : length old.log ≡ new.now.limits.log
     full_log = by_room (is_full (world_of is old.now)) refl
 
-  module _ (first old new : Held R P) (opened : opening_of is old ≡ opening_of is first) (same : opening_of is new ≡ opening_of is old) (held : IsHeld is new) where
+  module _ (first old new : Held R P) {before : List (Item R P)} (book : IsBook is first old before) (same : opening_of is new ≡ opening_of is old) (held : IsHeld is new) where
     module _ (chair who : ℕ) (guard : Option ℕ) (command : Command) (receipt : Receipt) where
       call : Entry
       call = entry chair who guard command receipt.reply
@@ -89,11 +99,11 @@ module _ {R P : Type 0} (is : R → Behaviour P) where
       full (inl a) is_log_full =
           let same_log : new.log ≡ old.log = a.logs ∙ ap (λ r. cond (is_logged r) (old.log ++ call ∷ []) old.log) is_log_full in
           full_log old new who guard command held same_log (a.acts ∙ ap (λ r. record { world = world_of is new.now; reply = r }) is_log_full)
-          ∙ ap (λ w. w.limits.log) (same ∙ opened)
+          ∙ ap (λ w. w.limits.log) (same ∙ book.opened)
       full (inr w) is_log_full = absurd (let clash : No Memory ≡ No LogFull = sym w.replies ∙ is_log_full in cc)
 
       pub acts_so : Acts is old new (entry chair who guard command receipt.reply) ⊎ Wants is old new receipt.reply → receipt.at ≡ length new.log
-          → IsAct is who guard command (items first old.log) (items first new.log) receipt
+          → IsAct is who guard command before (items first new.log) receipt
       unfolding call
       acts_so did at =
           let more = logs did in
@@ -101,20 +111,20 @@ module _ {R P : Type 0} (is : R → Behaviour P) where
             first = first;
             found = old.log;
             chair = chair;
-            finds = refl;
+            finds = sym book.listed;
             leaves = ap (items first) more;
-            legal = subst (λ l. IsLegal (opening_of is first) l) more (subst (λ w. IsLegal w new.log) (same ∙ opened) held.legal);
+            legal = subst (λ l. IsLegal (opening_of is first) l) more (subst (λ w. IsLegal w new.log) (same ∙ book.opened) held.legal);
             at = at ∙ ap length more;
             full = full did;
           }
 
       -- the call is added, or nothing
       pub adds_so : Acts is old new (entry chair who guard command receipt.reply) ⊎ Wants is old new receipt.reply
-          → (added : List (Item R P)) × (items first new.log ≡ items first old.log ++ added) × AtMostOne made_under chair added
+          → (added : List (Item R P)) × (items first new.log ≡ before ++ added) × AtMostOne made_under chair added
       unfolding call
       adds_so did = (
         as_items (logged call []),
-        ap (items first) (logs did ∙ logged_last call old.log) ∙ items_more first old.log (logged call []),
+        ap (items first) (logs did ∙ logged_last call old.log) ∙ items_more first old.log (logged call []) ∙ ap (λ l. l ++ as_items (logged call [])) book.listed,
         one_at_most (is_logged call.reply),
       )
         where
@@ -124,29 +134,33 @@ module _ {R P : Type 0} (is : R → Behaviour P) where
 
     -- what leaves world and log tells of the history that it found
     pub reads_so : (tells : ℕ → World P → Type 0) → world_of is new.now ≡ world_of is old.now → new.log ≡ old.log → tells (length old.log) (world_of is old.now)
-        → IsReading is tells (items first old.log) (items first new.log)
+        → IsReading is tells before (items first new.log)
     reads_so tells world log told =
         let here : world_of is old.now ≡ world_after (opening_of is first) old.log =
-        sym world ∙ (held.after ∙ (ap (λ w. world_after w new.log) (same ∙ opened) ∙ ap (world_after (opening_of is first)) log)) in
+        sym world ∙ (held.after ∙ (ap (λ w. world_after w new.log) (same ∙ book.opened) ∙ ap (world_after (opening_of is first)) log)) in
         record {
           first = first;
           found = old.log;
-          finds = refl;
-          leaves = ap (items first) log;
-          legal = subst (λ l. IsLegal (opening_of is first) l) log (subst (λ w. IsLegal w new.log) (same ∙ opened) held.legal);
+          finds = sym book.listed;
+          leaves = ap (items first) log ∙ book.listed;
+          legal = subst (λ l. IsLegal (opening_of is first) l) log (subst (λ w. IsLegal w new.log) (same ∙ book.opened) held.legal);
           answers = subst (tells (length old.log)) here told;
         }
 
     pub looks_so : (query : Query) (at : ℕ) (r : Result Page Refusal) → IfOk r (λ page. Some page ≡ shown_in (world_of is old.now) query)
         → OnOk r (looked (world_of is old.now) query ≡ Ok (world_of is old.now).forest) → IfErr r (IsRefused (looked (world_of is old.now) query))
         → world_of is new.now ≡ world_of is old.now → new.log ≡ old.log → at ≡ length new.log
-        → IsLook is query (items first old.log) (items first new.log) at r
+        → IsLook is query before (items first new.log) at r
     looks_so query at r shown found refused world log is_at =
         reads_so (λ n w. (at ≡ n) × IsAnswer w query r) world log (is_at ∙ ap length log, answer_of (world_of is old.now) query r shown found refused)
+
+  -- a work that leaves the book tells of the history that it found
+  module _ (first old : Held R P) {before : List (Item R P)} (book : IsBook is first old before) (held : IsHeld is old) where
+    pub stays_so : (tells : ℕ → World P → Type 0) → tells (length old.log) (world_of is old.now) → IsReading is tells before before
+    stays_so tells told = subst (λ l. IsReading is tells before l) book.listed (reads_so first old old book refl held tells refl refl told)
 
     pub plans_so : (E : R → R → Bool) (branch : List ℕ) (most : ℕ) (r : Result (Vec (Chained R P)) Refusal)
         → IfOk r (λ chains. AreChains E (is old.now.chart.start.register) old.now.chart branch most chains.items)
         → OnOk r (IsSome (index_of (forest old.now.chart.cut).branches branch))
-        → IfErr r (λ e. if_lacks (index_of (forest old.now.chart.cut).branches branch) ≡ e) → world_of is new.now ≡ world_of is old.now → new.log ≡ old.log
-        → IsReading is (λ n w. PlansOf E is branch most w r) (items first old.log) (items first new.log)
-    plans_so E branch most r plan found refused world log = reads_so (λ n w. PlansOf E is branch most w r) world log (plans E is old branch most r plan found refused)
+        → IfErr r (λ e. if_lacks (index_of (forest old.now.chart.cut).branches branch) ≡ e) → IsReading is (λ n w. PlansOf E is branch most w r) before before
+    plans_so E branch most r plan found refused = stays_so (λ n w. PlansOf E is branch most w r) (plans E is old branch most r plan found refused)
