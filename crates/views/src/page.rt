@@ -26,6 +26,7 @@ use state::{StatePage, push_state};
 use std::alloc::{AllocError, Global};
 use steps::{StepsPage, push_steps};
 use verdict::{VerdictPage, push_verdict};
+use words::text::Pushed;
 
 /// How many bytes a page has room for from its beginning on: most have fewer.
 const SHORT_PAGE: usize = 256;
@@ -54,7 +55,7 @@ pub fn page_text(alloc: Global, who: u32, page: &Page) -> Result<Vec<u8>, AllocE
 }
 
 /// Adds the text of a page.
-fn push_page(out: &mut Vec<u8>, session: u32, page: &Page) -> Result<(), AllocError>
+fn push_page(out: &mut Vec<u8>, session: u32, page: &Page) -> Pushed
     ensures { OnOk result (out.new.items ≡ out.old.items ++ spec.page_text session page.now) }
 {
     match page {

@@ -4,9 +4,12 @@ ghost use Rattle.std.specs.Prelude.{◌≡◌, ◌++◌, OnOk, codes, decimal};
 
 use std::alloc::AllocError;
 
+/// What a call that adds a piece answers: an error only where there is no memory.
+pub type Pushed = Result<(), AllocError>;
+
 /// Adds bytes.
 #[inline]
-pub fn push_bytes(out: &mut Vec<u8>, bytes: &[u8]) -> Result<(), AllocError>
+pub fn push_bytes(out: &mut Vec<u8>, bytes: &[u8]) -> Pushed
     ensures { OnOk result (out.new.items ≡ out.old.items ++ bytes.now) }
 {
     out.extend_from_slice(bytes)
@@ -14,14 +17,14 @@ pub fn push_bytes(out: &mut Vec<u8>, bytes: &[u8]) -> Result<(), AllocError>
 
 /// Adds a text.
 #[inline]
-pub fn push_text(out: &mut Vec<u8>, text: &str) -> Result<(), AllocError>
+pub fn push_text(out: &mut Vec<u8>, text: &str) -> Pushed
     ensures { OnOk result (out.new.items ≡ out.old.items ++ text.now) }
 {
     push_bytes(out, text.as_bytes())
 }
 
 /// Adds a text behind a space.
-pub fn push_word(out: &mut Vec<u8>, word: &str) -> Result<(), AllocError>
+pub fn push_word(out: &mut Vec<u8>, word: &str) -> Pushed
     ensures { OnOk result (out.new.items ≡ out.old.items ++ codes " " ++ word.now) }
 {
     push_text(out, " ")?;
@@ -29,7 +32,7 @@ pub fn push_word(out: &mut Vec<u8>, word: &str) -> Result<(), AllocError>
 }
 
 /// Adds a number behind a text.
-pub fn push_labelled(out: &mut Vec<u8>, label: &str, number: u64) -> Result<(), AllocError>
+pub fn push_labelled(out: &mut Vec<u8>, label: &str, number: u64) -> Pushed
     ensures { OnOk result (out.new.items ≡ out.old.items ++ label.now ++ decimal number) }
 {
     push_text(out, label)?;
@@ -37,7 +40,7 @@ pub fn push_labelled(out: &mut Vec<u8>, label: &str, number: u64) -> Result<(), 
 }
 
 /// Adds the digits of a number.
-pub fn push_number(out: &mut Vec<u8>, number: u64) -> Result<(), AllocError>
+pub fn push_number(out: &mut Vec<u8>, number: u64) -> Pushed
     ensures { OnOk result (out.new.items ≡ out.old.items ++ decimal number) }
 {
     if number < 10 {

@@ -10,6 +10,7 @@ use frames::config::Config;
 use frames::register::Register;
 use safe_bit::Cell;
 use std::alloc::{AllocError, Global};
+use words::text::Pushed;
 
 /// Each bit cell and each word.
 #[derive(Drop)]
@@ -36,7 +37,7 @@ pub(crate) fn bits_page<R: Register>(
 }
 
 /// Adds the page of each bit cell and each word.
-pub(crate) fn push_bits(out: &mut Vec<u8>, session: u32, page: &BitsPage) -> Result<(), AllocError>
+pub(crate) fn push_bits(out: &mut Vec<u8>, session: u32, page: &BitsPage) -> Pushed
     ensures { OnOk result (out.new.items ≡ out.old.items ++ spec.bits_text session page.now) }
 {
     push_head(out, session, "bits", &page.head)?;

@@ -13,7 +13,7 @@ use cutoff::chart::Chart;
 use frames::register::Register;
 use schedule_trie::name::Name;
 use std::alloc::{AllocError, Global};
-use words::text::{push_bytes, push_labelled, push_number, push_text};
+use words::text::{Pushed, push_bytes, push_labelled, push_number, push_text};
 
 /// A branch, and how many cells it has.
 #[derive(Clone, Copy, Debug, PartialEq, Eq)]
@@ -77,11 +77,7 @@ fn length_at<R: Register>(chart: &Chart<R>, index: u32) -> BranchLength
 }
 
 /// Adds the page of the branches.
-pub(crate) fn push_branches(
-    out: &mut Vec<u8>,
-    session: u32,
-    page: &BranchesPage,
-) -> Result<(), AllocError>
+pub(crate) fn push_branches(out: &mut Vec<u8>, session: u32, page: &BranchesPage) -> Pushed
     ensures { OnOk result (out.new.items ≡ out.old.items ++ spec.branches_text session page.now) }
 {
     let branches = page.branches.as_slice();
@@ -90,13 +86,7 @@ pub(crate) fn push_branches(
 }
 
 /// Adds the first line of the page of the branches.
-fn push_counts(
-    out: &mut Vec<u8>,
-    session: u32,
-    count: usize,
-    edits: u64,
-    made: u32,
-) -> Result<(), AllocError>
+fn push_counts(out: &mut Vec<u8>, session: u32, count: usize, edits: u64, made: u32) -> Pushed
     ensures { OnOk result (out.new.items ≡ out.old.items
         ++ spec.counts_line session count edits made) }
 {
@@ -106,7 +96,7 @@ fn push_counts(
 }
 
 /// Adds how many edits were accepted and how many cells were ever made, and the end of the line.
-fn push_made(out: &mut Vec<u8>, edits: u64, made: u32) -> Result<(), AllocError>
+fn push_made(out: &mut Vec<u8>, edits: u64, made: u32) -> Pushed
     ensures { OnOk result (out.new.items ≡ out.old.items
         ++ codes " edits " ++ decimal edits ++ codes " made " ++ decimal made ++ line_end) }
 {
@@ -115,7 +105,7 @@ fn push_made(out: &mut Vec<u8>, edits: u64, made: u32) -> Result<(), AllocError>
 }
 
 /// Adds a line for each branch.
-fn push_lengths(out: &mut Vec<u8>, branches: &[BranchLength]) -> Result<(), AllocError>
+fn push_lengths(out: &mut Vec<u8>, branches: &[BranchLength]) -> Pushed
     ensures { OnOk result (out.new.items ≡ out.old.items
         ++ flat_map spec.branch_line branches.now) }
 {
@@ -126,7 +116,7 @@ fn push_lengths(out: &mut Vec<u8>, branches: &[BranchLength]) -> Result<(), Allo
 }
 
 /// Adds the line of a branch: its name and its length.
-fn push_branch(out: &mut Vec<u8>, branch: &BranchLength) -> Result<(), AllocError>
+fn push_branch(out: &mut Vec<u8>, branch: &BranchLength) -> Pushed
     ensures { OnOk result (out.new.items ≡ out.old.items ++ spec.branch_line branch.now) }
 {
     push_text(out, "  ")?;

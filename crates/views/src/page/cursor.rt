@@ -8,7 +8,7 @@ use crate::listed::Listed;
 use crate::page::head::{push_pair, push_title};
 use schedule_trie::name::Name;
 use std::alloc::{AllocError, Global};
-use words::text::{push_labelled, push_text};
+use words::text::{Pushed, push_labelled, push_text};
 
 /// Where a session's cursor stands, and the session's breaks in order.
 #[derive(Clone, Drop)]
@@ -19,11 +19,7 @@ pub struct CursorPage {
 }
 
 /// Adds the page of a session's cursor.
-pub(crate) fn push_cursor(
-    out: &mut Vec<u8>,
-    session: u32,
-    page: &CursorPage,
-) -> Result<(), AllocError>
+pub(crate) fn push_cursor(out: &mut Vec<u8>, session: u32, page: &CursorPage) -> Pushed
     ensures { OnOk result (out.new.items ≡ out.old.items ++ spec.cursor_text session page.now) }
 {
     let breaks = page.breaks.as_slice();
@@ -38,7 +34,7 @@ fn push_cursor_head(
     branch: &Name,
     place: u32,
     count: usize,
-) -> Result<(), AllocError>
+) -> Pushed
     ensures { OnOk result (out.new.items ≡ out.old.items
         ++ spec.cursor_head session branch.now place count) }
 {
@@ -47,7 +43,7 @@ fn push_cursor_head(
 }
 
 /// Adds a line for each break.
-fn push_breaks(out: &mut Vec<u8>, breaks: &[Break]) -> Result<(), AllocError>
+fn push_breaks(out: &mut Vec<u8>, breaks: &[Break]) -> Pushed
     ensures { OnOk result (out.new.items ≡ out.old.items ++ spec.break_lines breaks.now) }
 {
     for at in breaks {
@@ -57,7 +53,7 @@ fn push_breaks(out: &mut Vec<u8>, breaks: &[Break]) -> Result<(), AllocError>
 }
 
 /// Adds the line of a break.
-fn push_break(out: &mut Vec<u8>, at: Break) -> Result<(), AllocError>
+fn push_break(out: &mut Vec<u8>, at: Break) -> Pushed
     ensures { OnOk result (out.new.items ≡ out.old.items ++ spec.break_line at) }
 {
     push_text(out, "  ")?;
@@ -66,7 +62,7 @@ fn push_break(out: &mut Vec<u8>, at: Break) -> Result<(), AllocError>
 }
 
 /// Adds a break.
-fn push_break_text(out: &mut Vec<u8>, at: Break) -> Result<(), AllocError>
+fn push_break_text(out: &mut Vec<u8>, at: Break) -> Pushed
     ensures { OnOk result (out.new.items ≡ out.old.items ++ spec.break_text at) }
 {
     match at {
@@ -79,7 +75,7 @@ fn push_break_text(out: &mut Vec<u8>, at: Break) -> Result<(), AllocError>
 }
 
 /// Adds a break on a bit.
-fn push_bit(out: &mut Vec<u8>, j: u32, v: u32) -> Result<(), AllocError>
+fn push_bit(out: &mut Vec<u8>, j: u32, v: u32) -> Pushed
     ensures { OnOk result (out.new.items ≡ out.old.items ++ spec.break_text (Break.Bit j v)) }
 {
     push_labelled(out, "bit ", u64::from(j))?;

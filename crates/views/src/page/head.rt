@@ -4,8 +4,7 @@ ghost use Rattle.std.specs.Prelude.{◌≡◌, ◌++◌, OnOk, decimal};
 ghost use Rattle.views.specs.page.Head as spec;
 
 use schedule_trie::name::Name;
-use std::alloc::AllocError;
-use words::text::{push_bytes, push_labelled, push_number, push_text};
+use words::text::{Pushed, push_bytes, push_labelled, push_number, push_text};
 
 /// Where a page was made: at a place of a branch that is so long. A place is after so many steps.
 #[derive(Clone, Copy, Debug, PartialEq, Eq)]
@@ -16,12 +15,7 @@ pub struct Head {
 }
 
 /// Adds the beginning of the first line of a page of a branch.
-pub(crate) fn push_title(
-    out: &mut Vec<u8>,
-    session: u32,
-    kind: &str,
-    branch: &Name,
-) -> Result<(), AllocError>
+pub(crate) fn push_title(out: &mut Vec<u8>, session: u32, kind: &str, branch: &Name) -> Pushed
     ensures { OnOk result (out.new.items ≡ out.old.items
         ++ spec.page_title session kind.now branch.now) }
 {
@@ -34,12 +28,7 @@ pub(crate) fn push_title(
 }
 
 /// Adds the first line of a page at a place.
-pub(crate) fn push_head(
-    out: &mut Vec<u8>,
-    session: u32,
-    kind: &str,
-    head: &Head,
-) -> Result<(), AllocError>
+pub(crate) fn push_head(out: &mut Vec<u8>, session: u32, kind: &str, head: &Head) -> Pushed
     ensures { OnOk result (out.new.items ≡ out.old.items
         ++ spec.head_line session kind.now head.now) }
 {
@@ -48,12 +37,7 @@ pub(crate) fn push_head(
 }
 
 /// Adds two numbers with a text between them, and the end of the line.
-pub(super) fn push_pair(
-    out: &mut Vec<u8>,
-    first: u64,
-    between: &str,
-    second: u64,
-) -> Result<(), AllocError>
+pub(super) fn push_pair(out: &mut Vec<u8>, first: u64, between: &str, second: u64) -> Pushed
     ensures { OnOk result (out.new.items ≡ out.old.items
         ++ decimal first ++ between.now ++ decimal second ++ spec.line_end) }
 {

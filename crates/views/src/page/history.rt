@@ -9,8 +9,7 @@ use crate::page::memory::bit_name;
 use crate::page::names::{layer_name, reason_name};
 use crate::page::process::push_op;
 use frames::types::Event;
-use std::alloc::AllocError;
-use words::text::{push_labelled, push_text};
+use words::text::{Pushed, push_labelled, push_text};
 
 /// The events up to a place, each with the index of its step.
 #[derive(Drop)]
@@ -20,11 +19,7 @@ pub struct HistoryPage {
 }
 
 /// Adds the page of events.
-pub(crate) fn push_history(
-    out: &mut Vec<u8>,
-    session: u32,
-    page: &HistoryPage,
-) -> Result<(), AllocError>
+pub(crate) fn push_history(out: &mut Vec<u8>, session: u32, page: &HistoryPage) -> Pushed
     ensures { OnOk result (out.new.items ≡ out.old.items ++ spec.history_text session page.now) }
 {
     push_head(out, session, "history", &page.head)?;
@@ -32,7 +27,7 @@ pub(crate) fn push_history(
 }
 
 /// Adds the lines of events, each with the index of its step; `none` where there are none.
-fn push_events(out: &mut Vec<u8>, events: &[(usize, Event)]) -> Result<(), AllocError>
+fn push_events(out: &mut Vec<u8>, events: &[(usize, Event)]) -> Pushed
     ensures { OnOk result (out.new.items ≡ out.old.items ++ spec.history_lines events.now) }
 {
     if events.is_empty() {
@@ -45,7 +40,7 @@ fn push_events(out: &mut Vec<u8>, events: &[(usize, Event)]) -> Result<(), Alloc
 }
 
 /// Adds the line of an event of the step with this index.
-fn push_event(out: &mut Vec<u8>, index: usize, event: Event) -> Result<(), AllocError>
+fn push_event(out: &mut Vec<u8>, index: usize, event: Event) -> Pushed
     ensures { OnOk result (out.new.items ≡ out.old.items ++ spec.event_line (index, event)) }
 {
     push_labelled(out, "  ", index as u64)?;
@@ -71,7 +66,7 @@ fn event_process(event: Event) -> u32
 }
 
 /// Adds what happened to the process of an event.
-fn push_event_name(out: &mut Vec<u8>, event: Event) -> Result<(), AllocError>
+fn push_event_name(out: &mut Vec<u8>, event: Event) -> Pushed
     ensures { OnOk result (out.new.items ≡ out.old.items ++ spec.event_name event) }
 {
     match event {

@@ -7,7 +7,7 @@ ghost use Rattle.views.specs.page.Memory as spec;
 use crate::listed::Listed;
 use safe_bit::Cell;
 use std::alloc::{AllocError, Global};
-use words::text::{push_labelled, push_text, push_word};
+use words::text::{Pushed, push_labelled, push_text, push_word};
 
 /// The values of bit cells.
 pub(crate) fn bits(alloc: Global, cells: &[Cell]) -> Result<Listed<bool>, AllocError>
@@ -28,7 +28,7 @@ pub(crate) fn bit_name(value: bool) -> &'static str
 }
 
 /// Adds the line of the values of all bit cells.
-pub(crate) fn push_bits(out: &mut Vec<u8>, bits: &[bool]) -> Result<(), AllocError>
+pub(crate) fn push_bits(out: &mut Vec<u8>, bits: &[bool]) -> Pushed
     ensures { OnOk result (out.new.items ≡ out.old.items ++ spec.bits_line bits.now) }
 {
     push_text(out, "  bits ")?;
@@ -39,7 +39,7 @@ pub(crate) fn push_bits(out: &mut Vec<u8>, bits: &[bool]) -> Result<(), AllocErr
 }
 
 /// Adds the line of all words.
-pub(crate) fn push_words(out: &mut Vec<u8>, words: &[u32]) -> Result<(), AllocError>
+pub(crate) fn push_words(out: &mut Vec<u8>, words: &[u32]) -> Pushed
     ensures { OnOk result (out.new.items ≡ out.old.items ++ spec.words_line words.now) }
 {
     if words.is_empty() {
@@ -53,7 +53,7 @@ pub(crate) fn push_words(out: &mut Vec<u8>, words: &[u32]) -> Result<(), AllocEr
 }
 
 /// Adds a line for each bit cell.
-pub(crate) fn push_bit_cells(out: &mut Vec<u8>, cells: &[Cell]) -> Result<(), AllocError>
+pub(crate) fn push_bit_cells(out: &mut Vec<u8>, cells: &[Cell]) -> Pushed
     ensures { OnOk result (out.new.items ≡ out.old.items ++ spec.bit_cell_lines cells.now) }
 {
     for (i, cell) in cells.iter().enumerate() {
@@ -63,7 +63,7 @@ pub(crate) fn push_bit_cells(out: &mut Vec<u8>, cells: &[Cell]) -> Result<(), Al
 }
 
 /// Adds the line of a bit cell.
-fn push_bit_cell(out: &mut Vec<u8>, i: usize, cell: Cell) -> Result<(), AllocError>
+fn push_bit_cell(out: &mut Vec<u8>, i: usize, cell: Cell) -> Pushed
     ensures { OnOk result (out.new.items ≡ out.old.items ++ spec.bit_cell_line i cell) }
 {
     push_labelled(out, "  ", i as u64)?;

@@ -11,7 +11,7 @@ use frames::config::Config;
 use frames::register::Register;
 use frames::types::{Frame, FrameLayer, Op};
 use std::alloc::{AllocError, Global};
-use words::text::{push_labelled, push_text};
+use words::text::{Pushed, push_labelled, push_text};
 
 /// What a process has pending.
 #[derive(Drop)]
@@ -30,11 +30,7 @@ pub struct PendingPage {
 }
 
 /// Adds the page of pending operations.
-pub(crate) fn push_pending(
-    out: &mut Vec<u8>,
-    session: u32,
-    page: &PendingPage,
-) -> Result<(), AllocError>
+pub(crate) fn push_pending(out: &mut Vec<u8>, session: u32, page: &PendingPage) -> Pushed
     ensures { OnOk result (out.new.items ≡ out.old.items ++ spec.pending_text session page.now) }
 {
     push_head(out, session, "pending", &page.head)?;
@@ -75,7 +71,7 @@ fn pending_at<R: Register>(
 }
 
 /// Adds a line for each process.
-fn push_operations(out: &mut Vec<u8>, statuses: &[PendingStatus]) -> Result<(), AllocError>
+fn push_operations(out: &mut Vec<u8>, statuses: &[PendingStatus]) -> Pushed
     ensures { OnOk result (out.new.items ≡ out.old.items ++ spec.pending_lines statuses.now) }
 {
     for (p, status) in statuses.iter().enumerate() {
@@ -85,7 +81,7 @@ fn push_operations(out: &mut Vec<u8>, statuses: &[PendingStatus]) -> Result<(), 
 }
 
 /// Adds the line of a process.
-fn push_process(out: &mut Vec<u8>, p: usize, status: &PendingStatus) -> Result<(), AllocError>
+fn push_process(out: &mut Vec<u8>, p: usize, status: &PendingStatus) -> Pushed
     ensures { OnOk result (out.new.items ≡ out.old.items ++ spec.pending_line p status.now) }
 {
     match &status.frames {
@@ -95,12 +91,7 @@ fn push_process(out: &mut Vec<u8>, p: usize, status: &PendingStatus) -> Result<(
 }
 
 /// Adds the line of a process with frames.
-fn push_frames(
-    out: &mut Vec<u8>,
-    p: usize,
-    frames: &[Frame],
-    stopped: bool,
-) -> Result<(), AllocError>
+fn push_frames(out: &mut Vec<u8>, p: usize, frames: &[Frame], stopped: bool) -> Pushed
     ensures { OnOk result (out.new.items ≡ out.old.items ++ spec.frames_line p frames.now stopped) }
 {
     push_name(out, p)?;
@@ -110,7 +101,7 @@ fn push_frames(
 }
 
 /// Adds frames, outermost first.
-fn push_nested(out: &mut Vec<u8>, frames: &[Frame]) -> Result<(), AllocError>
+fn push_nested(out: &mut Vec<u8>, frames: &[Frame]) -> Pushed
     ensures { OnOk result (out.new.items ≡ out.old.items ++ spec.frames_text frames.now) }
 {
     let Some((outermost, inner)) = frames.split_first() else {
@@ -125,7 +116,7 @@ fn push_nested(out: &mut Vec<u8>, frames: &[Frame]) -> Result<(), AllocError>
 }
 
 /// Adds a frame.
-fn push_frame(out: &mut Vec<u8>, frame: Frame) -> Result<(), AllocError>
+fn push_frame(out: &mut Vec<u8>, frame: Frame) -> Pushed
     ensures { OnOk result (out.new.items ≡ out.old.items ++ spec.frame_text frame) }
 {
     push_text(out, frame_name(frame.layer))?;
@@ -135,7 +126,7 @@ fn push_frame(out: &mut Vec<u8>, frame: Frame) -> Result<(), AllocError>
 }
 
 /// Adds the operation of a frame: a stamped register writes its code, every other layer its value.
-fn push_frame_op(out: &mut Vec<u8>, layer: FrameLayer, op: Op, x: u32) -> Result<(), AllocError>
+fn push_frame_op(out: &mut Vec<u8>, layer: FrameLayer, op: Op, x: u32) -> Pushed
     ensures { OnOk result (out.new.items ≡ out.old.items ++ spec.frame_op layer op x) }
 {
     match op {
@@ -148,7 +139,7 @@ fn push_frame_op(out: &mut Vec<u8>, layer: FrameLayer, op: Op, x: u32) -> Result
 }
 
 /// Adds what stands behind the operation of a frame.
-fn push_frame_rest(out: &mut Vec<u8>, layer: FrameLayer, i: u32, x: u32) -> Result<(), AllocError>
+fn push_frame_rest(out: &mut Vec<u8>, layer: FrameLayer, i: u32, x: u32) -> Pushed
     ensures { OnOk result (out.new.items ≡ out.old.items ++ spec.frame_rest layer i x) }
 {
     match layer {
@@ -162,7 +153,7 @@ fn push_frame_rest(out: &mut Vec<u8>, layer: FrameLayer, i: u32, x: u32) -> Resu
 }
 
 /// Adds the phase of a matrix, the part in work and the code.
-fn push_part(out: &mut Vec<u8>, phase: &str, i: u32, x: u32) -> Result<(), AllocError>
+fn push_part(out: &mut Vec<u8>, phase: &str, i: u32, x: u32) -> Pushed
     ensures { OnOk result (out.new.items ≡ out.old.items
         ++ phase.now ++ decimal i ++ spec.behind_space x) }
 {

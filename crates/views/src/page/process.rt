@@ -13,7 +13,7 @@ use frames::config::Config;
 use frames::register::Register;
 use frames::types::{Action, Op};
 use std::alloc::{AllocError, Global};
-use words::text::{push_labelled, push_text};
+use words::text::{Pushed, push_labelled, push_text};
 
 /// What a process is at.
 #[derive(Clone, Copy, Debug, PartialEq, Eq)]
@@ -50,11 +50,7 @@ pub(crate) fn process_page<R: Register>(
 }
 
 /// Adds the page of one process.
-pub(crate) fn push_process(
-    out: &mut Vec<u8>,
-    session: u32,
-    page: &ProcessPage,
-) -> Result<(), AllocError>
+pub(crate) fn push_process(out: &mut Vec<u8>, session: u32, page: &ProcessPage) -> Pushed
     ensures { OnOk result (out.new.items ≡ out.old.items ++ spec.process_text session page.now) }
 {
     push_head(out, session, "process", &page.head)?;
@@ -104,7 +100,7 @@ fn status_at<R: Register>(config: &Config<R>, p: u32) -> ProcessStatus
 }
 
 /// Adds a line for each process.
-pub(crate) fn push_statuses(out: &mut Vec<u8>, statuses: &[ProcessStatus]) -> Result<(), AllocError>
+pub(crate) fn push_statuses(out: &mut Vec<u8>, statuses: &[ProcessStatus]) -> Pushed
     ensures { OnOk result (out.new.items ≡ out.old.items
         ++ numbered spec.status_line 0 statuses.now) }
 {
@@ -115,7 +111,7 @@ pub(crate) fn push_statuses(out: &mut Vec<u8>, statuses: &[ProcessStatus]) -> Re
 }
 
 /// Adds the line of one process, which may not be there.
-fn push_one(out: &mut Vec<u8>, p: u32, status: Option<ProcessStatus>) -> Result<(), AllocError>
+fn push_one(out: &mut Vec<u8>, p: u32, status: Option<ProcessStatus>) -> Pushed
     ensures { OnOk result (out.new.items ≡ out.old.items ++ spec.one_line p status) }
 {
     match status {
@@ -125,7 +121,7 @@ fn push_one(out: &mut Vec<u8>, p: u32, status: Option<ProcessStatus>) -> Result<
 }
 
 /// Adds the line of a process that isn't there.
-fn push_none(out: &mut Vec<u8>, p: u32) -> Result<(), AllocError>
+fn push_none(out: &mut Vec<u8>, p: u32) -> Pushed
     ensures { OnOk result (out.new.items ≡ out.old.items ++ spec.one_line p None) }
 {
     push_labelled(out, "  p", u64::from(p))?;
@@ -133,7 +129,7 @@ fn push_none(out: &mut Vec<u8>, p: u32) -> Result<(), AllocError>
 }
 
 /// Adds the line of a process.
-fn push_status(out: &mut Vec<u8>, p: usize, status: ProcessStatus) -> Result<(), AllocError>
+fn push_status(out: &mut Vec<u8>, p: usize, status: ProcessStatus) -> Pushed
     ensures { OnOk result (out.new.items ≡ out.old.items ++ spec.status_line p status) }
 {
     match status {
@@ -144,7 +140,7 @@ fn push_status(out: &mut Vec<u8>, p: usize, status: ProcessStatus) -> Result<(),
 }
 
 /// Adds the line of a process that is idle.
-pub(crate) fn push_idle(out: &mut Vec<u8>, p: usize, stopped: bool) -> Result<(), AllocError>
+pub(crate) fn push_idle(out: &mut Vec<u8>, p: usize, stopped: bool) -> Pushed
     ensures { OnOk result (out.new.items ≡ out.old.items ++ spec.idle_line p stopped) }
 {
     push_labelled(out, "  p", p as u64)?;
@@ -161,7 +157,7 @@ pub(crate) fn stopped_text(stopped: bool) -> &'static str
 }
 
 /// Adds the line of a process with an operation pending.
-fn push_busy(out: &mut Vec<u8>, p: usize, op: Op, next: Action) -> Result<(), AllocError>
+fn push_busy(out: &mut Vec<u8>, p: usize, op: Op, next: Action) -> Pushed
     ensures { OnOk result (out.new.items ≡ out.old.items ++ spec.busy_line p op next) }
 {
     push_name(out, p)?;
@@ -170,7 +166,7 @@ fn push_busy(out: &mut Vec<u8>, p: usize, op: Op, next: Action) -> Result<(), Al
 }
 
 /// Adds a process, before its operation.
-pub(super) fn push_name(out: &mut Vec<u8>, p: usize) -> Result<(), AllocError>
+pub(super) fn push_name(out: &mut Vec<u8>, p: usize) -> Pushed
     ensures { OnOk result
         (out.new.items ≡ out.old.items ++ codes "  p" ++ decimal p ++ codes " ") }
 {
@@ -179,7 +175,7 @@ pub(super) fn push_name(out: &mut Vec<u8>, p: usize) -> Result<(), AllocError>
 }
 
 /// Adds the next bit action of an operation, and the end of its line.
-fn push_next(out: &mut Vec<u8>, next: Action) -> Result<(), AllocError>
+fn push_next(out: &mut Vec<u8>, next: Action) -> Pushed
     ensures { OnOk result (out.new.items ≡ out.old.items ++ codes " next "
         ++ names.kind_name next.kind ++ codes " " ++ decimal next.cell ++ line_end) }
 {
@@ -190,7 +186,7 @@ fn push_next(out: &mut Vec<u8>, next: Action) -> Result<(), AllocError>
 }
 
 /// Adds the line of a process that has stopped with an operation pending.
-fn push_stopped(out: &mut Vec<u8>, p: usize, op: Op) -> Result<(), AllocError>
+fn push_stopped(out: &mut Vec<u8>, p: usize, op: Op) -> Pushed
     ensures { OnOk result (out.new.items ≡ out.old.items ++ spec.stopped_line p op) }
 {
     push_name(out, p)?;
@@ -199,7 +195,7 @@ fn push_stopped(out: &mut Vec<u8>, p: usize, op: Op) -> Result<(), AllocError>
 }
 
 /// Adds an operation.
-pub(crate) fn push_op(out: &mut Vec<u8>, op: Op) -> Result<(), AllocError>
+pub(crate) fn push_op(out: &mut Vec<u8>, op: Op) -> Pushed
     ensures { OnOk result (out.new.items ≡ out.old.items ++ spec.op_text op) }
 {
     match op {

@@ -10,6 +10,7 @@ use crate::page::process::{ProcessStatus, push_statuses, statuses};
 use frames::config::Config;
 use frames::register::Register;
 use std::alloc::{AllocError, Global};
+use words::text::Pushed;
 
 /// The processes, and the values of all bit cells and words.
 #[derive(Drop)]
@@ -39,11 +40,7 @@ pub(crate) fn state_page<R: Register>(
 }
 
 /// Adds the page of a configuration.
-pub(crate) fn push_state(
-    out: &mut Vec<u8>,
-    session: u32,
-    page: &StatePage,
-) -> Result<(), AllocError>
+pub(crate) fn push_state(out: &mut Vec<u8>, session: u32, page: &StatePage) -> Pushed
     ensures { OnOk result (out.new.items ≡ out.old.items ++ spec.state_text session page.now) }
 {
     push_head(out, session, "state", &page.head)?;

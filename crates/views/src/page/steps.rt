@@ -9,7 +9,7 @@ use frames::types::Step;
 use schedule_trie::name::Name;
 use std::alloc::{AllocError, Global};
 use words::step::append_step;
-use words::text::{push_labelled, push_number, push_text};
+use words::text::{Pushed, push_labelled, push_number, push_text};
 
 /// The steps of a branch, in order.
 #[derive(Clone, Drop)]
@@ -19,11 +19,7 @@ pub struct StepsPage {
 }
 
 /// Adds the page of a branch's steps.
-pub(crate) fn push_steps(
-    out: &mut Vec<u8>,
-    session: u32,
-    page: &StepsPage,
-) -> Result<(), AllocError>
+pub(crate) fn push_steps(out: &mut Vec<u8>, session: u32, page: &StepsPage) -> Pushed
     ensures { OnOk result (out.new.items ≡ out.old.items ++ spec.steps_text session page.now) }
 {
     let steps = page.steps.as_slice();
@@ -32,12 +28,7 @@ pub(crate) fn push_steps(
 }
 
 /// Adds the first line of the page of a branch's steps.
-fn push_steps_head(
-    out: &mut Vec<u8>,
-    session: u32,
-    branch: &Name,
-    len: usize,
-) -> Result<(), AllocError>
+fn push_steps_head(out: &mut Vec<u8>, session: u32, branch: &Name, len: usize) -> Pushed
     ensures { OnOk result (out.new.items ≡ out.old.items
         ++ spec.steps_head session branch.now len) }
 {
@@ -47,21 +38,14 @@ fn push_steps_head(
 }
 
 /// Adds a line for each step, with its index.
-fn push_step_lines(out: &mut Vec<u8>, steps: &[Step]) -> Result<(), AllocError>
+fn push_step_lines(out: &mut Vec<u8>, steps: &[Step]) -> Pushed
     ensures { OnOk result (out.new.items ≡ out.old.items ++ spec.step_lines steps.now) }
 {
     for (index, step) in steps.iter().enumerate() {
-        push_step_line(out, index, *step)?;
+        push_labelled(out, "  ", index as u64)?;
+        push_text(out, " ")?;
+        append_step(out, *step)?;
+        push_text(out, "\n")?;
     }
     Ok(())
-}
-
-/// Adds the line of a step with this index.
-fn push_step_line(out: &mut Vec<u8>, index: usize, step: Step) -> Result<(), AllocError>
-    ensures { OnOk result (out.new.items ≡ out.old.items ++ spec.step_line index step) }
-{
-    push_labelled(out, "  ", index as u64)?;
-    push_text(out, " ")?;
-    append_step(out, step)?;
-    push_text(out, "\n")
 }

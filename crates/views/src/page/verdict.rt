@@ -10,7 +10,7 @@ use crate::verdict::verdicts;
 use frames::types::Event;
 use frames::verdict::ReadVerdict;
 use std::alloc::{AllocError, Global};
-use words::text::{push_labelled, push_text, push_word};
+use words::text::{Pushed, push_labelled, push_text, push_word};
 
 /// The returned reads up to a place, each with the verdict on it; none on a tower with several writers, for which no verdict is
 /// defined.
@@ -38,11 +38,7 @@ pub(crate) fn verdict_page(
 }
 
 /// Adds the page of verdicts.
-pub(crate) fn push_verdict(
-    out: &mut Vec<u8>,
-    session: u32,
-    page: &VerdictPage,
-) -> Result<(), AllocError>
+pub(crate) fn push_verdict(out: &mut Vec<u8>, session: u32, page: &VerdictPage) -> Pushed
     ensures { OnOk result (out.new.items ≡ out.old.items ++ spec.verdict_text session page.now) }
 {
     push_head(out, session, "verdict", &page.head)?;
@@ -50,7 +46,7 @@ pub(crate) fn push_verdict(
 }
 
 /// Adds the lines of returned reads, where verdicts are defined.
-fn push_reads(out: &mut Vec<u8>, reads: &Option<Listed<ReadVerdict>>) -> Result<(), AllocError>
+fn push_reads(out: &mut Vec<u8>, reads: &Option<Listed<ReadVerdict>>) -> Pushed
     ensures { OnOk result (out.new.items ≡ out.old.items ++ spec.reads_text reads.now) }
 {
     match reads {
@@ -60,7 +56,7 @@ fn push_reads(out: &mut Vec<u8>, reads: &Option<Listed<ReadVerdict>>) -> Result<
 }
 
 /// Adds the lines of returned reads, or of none.
-fn push_verdicts(out: &mut Vec<u8>, verdicts: &[ReadVerdict]) -> Result<(), AllocError>
+fn push_verdicts(out: &mut Vec<u8>, verdicts: &[ReadVerdict]) -> Pushed
     ensures { OnOk result (out.new.items ≡ out.old.items ++ spec.verdict_lines verdicts.now) }
 {
     if verdicts.is_empty() {
@@ -73,7 +69,7 @@ fn push_verdicts(out: &mut Vec<u8>, verdicts: &[ReadVerdict]) -> Result<(), Allo
 }
 
 /// Adds the line of a returned read.
-fn push_read(out: &mut Vec<u8>, read: ReadVerdict) -> Result<(), AllocError>
+fn push_read(out: &mut Vec<u8>, read: ReadVerdict) -> Pushed
     ensures { OnOk result (out.new.items ≡ out.old.items ++ spec.verdict_line read) }
 {
     push_labelled(out, "  ", read.step as u64)?;
