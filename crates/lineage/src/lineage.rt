@@ -13,8 +13,8 @@ mod push;
 mod release;
 mod take_out;
 
-pub use crate::node::Key;
-use crate::node::{Above, Node};
+use crate::node::Node;
+pub use crate::node::{Above, Key};
 use slab::Slab;
 use std::alloc::{AllocError, Global};
 use std::marker::Model;
@@ -81,6 +81,13 @@ impl<X: Drop> Lineage<X> {
     pub fn last(&self, path: usize) -> Option<Key>
         ensures { result ≡ last_of (path_in self.now path) }
     {
+        self.tip(path).get()
+    }
+
+    /// The same, as a climb has it.
+    pub fn tip(&self, path: usize) -> Above
+        ensures { result ≡ last_of (path_in self.now path) }
+    {
         tip_at(&self.tips, path)
     }
 
@@ -110,7 +117,7 @@ impl<X: Drop> Lineage<X> {
         ensures yes { result ≡ true → EndsAlone self.now path }
         ensures no { result ≡ false → EndsAlone self.now path → ⊥ }
     {
-        let Some(key) = tip_at(&self.tips, path) else {
+        let Some(key) = tip_at(&self.tips, path).get() else {
             return false;
         };
         self.nodes[key].holders == 1
@@ -147,31 +154,31 @@ impl<X: Drop> Lineage<X> {
 
     /// The item at a key that is there, and the key that comes before it, as `step_up` tells them.
     #[inline(always)]
-    pub fn step_up_from(&self, key: Key) -> (&X, Option<Key>)
+    pub fn step_up_from(&self, key: Key) -> (&X, Above)
         requires { IsSome (item_at self.now key) }
         ensures item { Some result.0.now ≡ item_at self.now key }
         ensures each { (i : ℕ) (front back : List ℕ) → path_in self.now i ≡ front ++ key ∷ back
             → result.1 ≡ last_of front }
     {
         let node = &self.nodes[key];
-        (&node.item, node.above.get())
+        (&node.item, node.above)
     }
 
     /// The keys of the path at an index, in order; none where there is no such path.
     pub fn keys(&self, alloc: Global, path: usize) -> Result<Vec<Key>, AllocError>
         ensures { IfOk result (λ keys. keys.items ≡ path_in self.now path) }
     {
-        keys_down_to(alloc, &self.nodes, tip_at(&self.tips, path))
+        keys_down_to(alloc, &self.nodes, tip_at(&self.tips, path).get())
     }
 }
 
 /// The last key of the path at an index.
-fn tip_at(tips: &[Above], path: usize) -> Option<Key>
+fn tip_at(tips: &[Above], path: usize) -> Above
     ensures { result ≡ tip_at tips.now path }
 {
     match tips.get(path) {
-        Some(tip) => tip.get(),
-        None => None,
+        Some(tip) => *tip,
+        None => Above::none(),
     }
 }
 

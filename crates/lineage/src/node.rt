@@ -10,7 +10,7 @@ pub type Key = usize;
 
 /// A key or none, in one word. Contracts see the key as an option.
 #[derive(Debug, Drop)]
-pub(crate) struct Above {
+pub struct Above {
     // No slab has this many slots, so that no key is `usize::MAX`.
     word: usize,
 }
@@ -57,7 +57,7 @@ impl Above {
 
     /// The key, or none.
     #[inline(always)]
-    pub(crate) fn get(self) -> Option<Key>
+    pub fn get(self) -> Option<Key>
         ensures { result ≡ self }
     {
         if self.word == usize::MAX {

@@ -11,7 +11,6 @@ use Rattle.schedule_trie.specs.Releases.{IsDropped}
 use Rattle.schedule_trie.proofs.Strands.{keys_in-of, length-strands, strands-remove}
 use Rattle.schedule_trie.proofs.StepSet.{piece_seen, cut_from_sound, within_still}
 use Rattle.schedule_trie.proofs.Released.{IsReleased, IsSoundBut, released_sound, released_branches, released_notes}
-use Rattle.schedule_trie.specs.declared.limits.TheConstants.{MOST_CELLS_MADE}
 
 -- the branches that are left are those that were there but one
 keys_left : (strands : List Strand) (index j : ℕ) → (i : ℕ) × (keys_in (remove strands index) j ≡ keys_in strands i)

@@ -7,7 +7,7 @@ use Rattle.frames.specs.declared.types.Step.{Step}
 use Rattle.schedule_trie.specs.declared.slot.Slot.{Slot}
 use Rattle.std.proofs.lemmas.List.{map-append}
 use Rattle.schedule_trie.specs.Cut.{has}
-use Rattle.schedule_trie.specs.Forest.{Branch, cell_of, slot, numbered, slots_in, step_of, is_cell, cell_in}
+use Rattle.schedule_trie.specs.Forest.{Branch, cell_of, slot, numbered, slots_in, step_of, cell_in}
 use Rattle.schedule_trie.specs.Limbs.{has_slot, holds, is_in}
 use Rattle.schedule_trie.proofs.Once.{has_cases, has-head, has-tail, has-append, has_not_from}
 

@@ -2,7 +2,7 @@
 use Rattle.std.proofs.Common.{◌≡◌, ℕ, ◌<◌, ◌≤◌, List, [], ◌∷◌, length, map, slice_get, Some, None, Ok, refl, sym, ap, subst, ◌∙◌, arith}
 use Rattle.std.specs.List.{remove}
 use Rattle.std.proofs.lemmas.List.{length-map}
-use Rattle.lineage.specs.Family.{item_at, with_item}
+use Rattle.lineage.specs.Family.{item_at}
 use Rattle.schedule_trie.specs.declared.slot.Slot.{Slot}
 use Rattle.schedule_trie.specs.declared.segment.Segment.{Segment}
 use Rattle.schedule_trie.specs.declared.trie.Trie.TheInside.{Inside}
@@ -10,11 +10,9 @@ use Rattle.schedule_trie.specs.Forest.{without, remove_cell, index_of}
 use Rattle.schedule_trie.specs.Cut.{IsWithin, Cut, piece, piece_at, slots_of, note_of, forest, branches_on, keys_in, keys_without, strand_without, StandsAt, IsSound, IsRemoved}
 use Rattle.schedule_trie.specs.Held.{piece_of, strands_of, names_of, cut_of, IsHeld}
 use Rattle.schedule_trie.proofs.Strands.{strands-without}
-use Rattle.schedule_trie.proofs.Changes.{Changes, piece_at_set}
 use Rattle.schedule_trie.proofs.Notes.{notes_at}
-use Rattle.schedule_trie.proofs.StepSet.{IsSeen, seen_with, with_segment, within_still, slice_get_some, piece_seen, key_within, cut_from_sound, command_at, the_cell}
+use Rattle.schedule_trie.proofs.StepSet.{IsSeen, seen_with, with_segment, within_still, slice_get_some, piece_seen, cut_from_sound, command_at, the_cell}
 use Rattle.schedule_trie.proofs.Removals.{gone_everywhere, sound_within, gone_with_segment, sound_gone}
-use Rattle.schedule_trie.specs.declared.limits.TheConstants.{MOST_CELLS_MADE}
 
 -- a cell of a segment that has another one
 module _ {T : Type 0} (t : Inside T) (key offset : ℕ) (v w : Segment T) (held : IsHeld t) (there : item_at t.segments key ≡ Some v)

@@ -284,7 +284,7 @@ impl<T: Drop> Trie<T> {
             → keys_in self.now.strands i ≡ front ++ key ∷ back → result.1 ≡ last_of front }
     {
         let (segment, above) = self.segments.step_up_from(key);
-        (segment.note.as_ref(), above)
+        (segment.note.as_ref(), above.get())
     }
 
     /// Notes something else at a segment, or nothing. Where no segment has the key nothing is changed. It takes no memory.

@@ -11,6 +11,7 @@ use super::Trie;
 use super::lengths::kept_length;
 use crate::segment::SegKey;
 use crate::slot::Slot;
+use lineage::lineage::Above;
 
 impl<T: Drop> Trie<T> {
     /// How many cells the branch at an index has.
@@ -20,12 +21,12 @@ impl<T: Drop> Trie<T> {
     {
         match kept_length(&self.branches, index) {
             Some(len) => len,
-            None => self.len_to(index, self.segments.last(index)),
+            None => self.len_to(index, self.segments.tip(index)),
         }
     }
 
     /// How many cells the branch at an index has down to the end of one of its segments, if one is named.
-    fn len_to(&self, index: usize, last: Option<SegKey>) -> u32
+    fn len_to(&self, index: usize, last: Above) -> u32
         requires { IsReached (keys_in self.now.strands index) last }
         ensures { result ≡ length (line (piece_at self.now.pieces)
             (keys_to (keys_in self.now.strands index) last)) }
@@ -33,7 +34,7 @@ impl<T: Drop> Trie<T> {
         self.held();
         let mut len = 0;
         let mut at = last;
-        while let Some(key) = at {
+        while let Some(key) = at.get() {
             let (slots, above) = self.slots_up(key);
             len += slots.len() as u32;
             at = above;
@@ -56,8 +57,8 @@ impl<T: Drop> Trie<T> {
         }
         let wanted = (len - place) as usize;
         let mut passed = 0;
-        let mut at = self.segments.last(index);
-        while let Some(key) = at {
+        let mut at = self.segments.tip(index);
+        while let Some(key) = at.get() {
             let (slots, above) = self.slots_up(key);
             passed += slots.len();
             if wanted <= passed {
@@ -72,8 +73,8 @@ impl<T: Drop> Trie<T> {
     pub(super) fn place_at(&self, index: usize, cell: u32) -> Option<u32>
         ensures { result ≡ position (is_cell cell) (slots_in (forest self.now).branches index) }
     {
-        let mut at = self.segments.last(index);
-        while let Some(key) = at {
+        let mut at = self.segments.tip(index);
+        while let Some(key) = at.get() {
             let (slots, above) = self.slots_up(key);
             if let Some(offset) = offset_of(slots, cell) {
                 return Some(self.len_to(index, above) + offset as u32);
@@ -85,7 +86,7 @@ impl<T: Drop> Trie<T> {
 
     /// The cells of a segment, and the key of the segment above it.
     #[inline(always)]
-    fn slots_up(&self, key: SegKey) -> (&[Slot], Option<SegKey>)
+    fn slots_up(&self, key: SegKey) -> (&[Slot], Above)
         requires { IsSome (piece_at self.now.pieces key) }
         ensures slots { result.0.now ≡ slots_of (piece_at self.now.pieces key) }
         ensures whole { IsWhole self.now }

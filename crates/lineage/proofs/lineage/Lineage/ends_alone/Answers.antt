@@ -11,16 +11,16 @@ pub returns-in_default-clause-no : goal.returns-in_default-clause-no
 returns-in_default-clause-no g c _ alone =
     let a = c.self.inside in
     let e = subst (λ f. EndsAlone f c.args.path) (sym c.self.view_is) alone in
-    let tip : c.tip_at.result ≡ tip_at a.tips.items c.args.path =
-    c.tip_at.ensures ∙ ap (λ (xs : List (Option ℕ)). tip_at xs c.args.path) c.deref.ensures.value in
-    let some : c.tip_at.result ≡ Some e.key = tip ∙ sym (last_is a.nodes.slots a.tips.items c.args.path c.self.invariant) ∙ e.last in
+    let tip : c.get.result ≡ tip_at a.tips.items c.args.path =
+    c.get.ensures ∙ c.tip_at.ensures ∙ ap (λ (xs : List (Option ℕ)). tip_at xs c.args.path) c.deref.ensures.value in
+    let some : c.get.result ≡ Some e.key = tip ∙ sym (last_is a.nodes.slots a.tips.items c.args.path c.self.invariant) ∙ e.last in
     c.in_default.not-Some e.key some
 
 pub index-requires : goal.index-requires
 index-requires g c =
     let a = c.self.inside in
     let tip : tip_at a.tips.items c.args.path ≡ Some c.in-Some.key =
-    sym (c.tip_at.ensures ∙ ap (λ (xs : List (Option ℕ)). tip_at xs c.args.path) c.deref.ensures.value) ∙ c.in-Some.is in
+    sym (c.get.ensures ∙ c.tip_at.ensures ∙ ap (λ (xs : List (Option ℕ)). tip_at xs c.args.path) c.deref.ensures.value) ∙ c.in-Some.is in
     let n = tip_node a.nodes.slots a.tips.items c.args.path c.in-Some.key c.self.invariant tip in
     subst IsSome (sym n.1) refl
 
@@ -28,7 +28,7 @@ pub returns-clause-yes : goal.returns-clause-yes
 returns-clause-yes g c m =
     let a = c.self.inside in
     let tip : tip_at a.tips.items c.args.path ≡ Some c.in-Some.key =
-    sym (c.tip_at.ensures ∙ ap (λ (xs : List (Option ℕ)). tip_at xs c.args.path) c.deref.ensures.value) ∙ c.in-Some.is in
+    sym (c.get.ensures ∙ c.tip_at.ensures ∙ ap (λ (xs : List (Option ℕ)). tip_at xs c.args.path) c.deref.ensures.value) ∙ c.in-Some.is in
     subst (λ f. EndsAlone f c.args.path) c.self.view_is
     (alone a.nodes.slots a.tips.items c.args.path c.in-Some.key c.index.result.now c.self.invariant tip c.index.ensures (eqb-true c.index.result.now.holders 1 m))
 
@@ -36,7 +36,7 @@ pub returns-clause-no : goal.returns-clause-no
 returns-clause-no g c m e =
     let a = c.self.inside in
     let tip : tip_at a.tips.items c.args.path ≡ Some c.in-Some.key =
-    sym (c.tip_at.ensures ∙ ap (λ (xs : List (Option ℕ)). tip_at xs c.args.path) c.deref.ensures.value) ∙ c.in-Some.is in
+    sym (c.get.ensures ∙ c.tip_at.ensures ∙ ap (λ (xs : List (Option ℕ)). tip_at xs c.args.path) c.deref.ensures.value) ∙ c.in-Some.is in
     let one = not_alone a.nodes.slots a.tips.items c.args.path c.in-Some.key c.index.result.now c.self.invariant tip c.index.ensures
     (subst (λ f. EndsAlone f c.args.path) (sym c.self.view_is) e) in
     true≢false (sym (eq-eqb c.index.result.now.holders 1 one) ∙ m)

@@ -9,15 +9,15 @@ use Rattle.lineage.proofs.lineage.Lineage.keys.Goals as goal
 pub keys_down_to-requires : goal.keys_down_to-requires
 keys_down_to-requires g c =
     let a = c.self.inside in
-    let tip : c.tip_at.result ≡ tip_at a.tips.items c.args.path =
-    c.tip_at.ensures ∙ ap (λ (xs : List (Option ℕ)). tip_at xs c.args.path) c.deref.ensures.value in
+    let tip : c.get.result ≡ tip_at a.tips.items c.args.path =
+    c.get.ensures ∙ c.tip_at.ensures ∙ ap (λ (xs : List (Option ℕ)). tip_at xs c.args.path) c.deref.ensures.value in
     subst (Ends (above_of a.nodes.slots)) (sym tip) (c.self.invariant.ends c.args.path)
 
 pub returns : goal.returns
 returns g c =
     let a = c.self.inside in
-    let tip : c.tip_at.result ≡ tip_at a.tips.items c.args.path =
-    c.tip_at.ensures ∙ ap (λ (xs : List (Option ℕ)). tip_at xs c.args.path) c.deref.ensures.value in
-    let path : path_to a.nodes.slots c.tip_at.result ≡ path_in c.args.self.now c.args.path =
+    let tip : c.get.result ≡ tip_at a.tips.items c.args.path =
+    c.get.ensures ∙ c.tip_at.ensures ∙ ap (λ (xs : List (Option ℕ)). tip_at xs c.args.path) c.deref.ensures.value in
+    let path : path_to a.nodes.slots c.get.result ≡ path_in c.args.self.now c.args.path =
     ap (path_to a.nodes.slots) tip ∙ sym (path_at a.nodes.slots a.tips.items c.args.path) ∙ ap (λ f. path_in f c.args.path) c.self.view_is in
     IfOk-weaker c.keys_down_to.result _ _ (λ keys is. is ∙ path) c.keys_down_to.ensures

@@ -8,7 +8,7 @@ use Rattle.schedule_trie.proofs.Lines.{slots_in_on}
 use Rattle.schedule_trie.proofs.trie.Trie.len_at.Goals as goal
 
 pub len_to-requires : goal.len_to-requires
-len_to-requires g c = (path_last c.self.inside c.args.self.now c.self.view_is c.self.invariant.held c.args.index c.last.result c.last.ensures).reached
+len_to-requires g c = (path_last c.self.inside c.args.self.now c.self.view_is c.self.invariant.held c.args.index c.tip.result c.tip.ensures).reached
 
 pub returns-in-Some-clause-len : goal.returns-in-Some-clause-len
 returns-in-Some-clause-len g c =
@@ -20,7 +20,7 @@ pub returns-in-None-clause-len : goal.returns-in-None-clause-len
 returns-in-None-clause-len g c =
     let now = c.args.self.now in
     c.len_to.ensures
-    ∙ ap (λ l. length (line (piece_at now.pieces) l)) (path_last c.self.inside now c.self.view_is c.self.invariant.held c.args.index c.last.result c.last.ensures).all
+    ∙ ap (λ l. length (line (piece_at now.pieces) l)) (path_last c.self.inside now c.self.view_is c.self.invariant.held c.args.index c.tip.result c.tip.ensures).all
     ∙ ap length (sym (slots_in_on (piece_at now.pieces) now.strands c.args.index))
 
 pub returns-in-Some-clause-whole : goal.returns-in-Some-clause-whole

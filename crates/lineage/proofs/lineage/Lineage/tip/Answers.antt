@@ -1,7 +1,7 @@
 use Rattle.std.proofs.Common.{◌≡◌, Option, ℕ, List, sym, ◌∙◌, ap}
 use Rattle.lineage.specs.Held.{tip_at}
 use Rattle.lineage.proofs.Walks.{last_is}
-use Rattle.lineage.proofs.lineage.Lineage.last.Goals as goal
+use Rattle.lineage.proofs.lineage.Lineage.tip.Goals as goal
 
 pub returns : goal.returns
 returns g c =
