@@ -14,6 +14,10 @@ use Rattle.words.specs.Steps.{step_of}
 use Rattle.tower_file.specs.declared.version.Version.{Version}
 use Rattle.tower_file.specs.Versions.{may_have}
 
+-- a tower, if the word is its name
+abbrev pub named : List ℕ → List ℕ → TowerName → Option TowerName
+named word text name = if bytes_eq word text then Some name else None
+
 -- the tower that a word names
 abbrev pub tower_name : List ℕ → Option TowerName
 tower_name word =

@@ -1,7 +1,6 @@
 //! What a line says: a tower or a branch.
 
-ghost use Rattle.std.specs.Prelude.{◌≡◌, Some, None, if◌then◌else◌};
-ghost use Rattle.std.specs.Str.{bytes_eq};
+ghost use Rattle.std.specs.Prelude.{◌≡◌};
 ghost use Rattle.tower_file.specs.Lines as spec;
 
 use crate::tower::TowerSpec;
@@ -25,7 +24,7 @@ pub enum TowerName {
 
 /// A tower, if the word is its name.
 fn named(word: &[u8], text: &str, name: TowerName) -> Option<TowerName>
-    ensures { result ≡ (if bytes_eq word.now text.now then Some name else None) }
+    ensures { result ≡ spec.named word.now text.now name }
 {
     if is(word, text) { Some(name) } else { None }
 }
