@@ -17,5 +17,6 @@ pub mod Plannings
 pub mod Chainings
 pub mod Commands
 pub mod Edited
+pub mod Marks
 pub mod LimbFits
 pub mod EarlyCutoff

@@ -1,6 +1,6 @@
 //! Paths of items, first to last.
 
-ghost use Rattle.std.specs.Prelude.{ℕ, ◌≡◌, ◌≤◌, List, ◌++◌, length, [], ◌∷◌, map, Some, None, IfOk, IfSome, IsSome, slice_set, true, false};
+ghost use Rattle.std.specs.Prelude.{ℕ, ◌≡◌, ◌≤◌, List, ◌++◌, length, [], ◌∷◌, map, Some, None, IfOk, IfSome, IfNone, IsSome, slice_set, true, false};
 ghost use Rattle.std.specs.Option.{option_copied, option_map};
 ghost use Rattle.lineage.specs.Family.{item_at, path_in, last_of, EndsAlone, IsFamily};
 ghost use Rattle.lineage.specs.Climbs.{Ends};
@@ -162,6 +162,22 @@ impl<X: Drop> Lineage<X> {
     {
         let node = &self.nodes[key];
         (&node.item, node.above)
+    }
+
+    /// What a climb comes to: a key, its item, and what the climb comes to behind it, the same in each path that has the key. None
+    /// where the climb is at its end, or no item has the key.
+    #[inline(always)]
+    pub fn climb(&self, at: Above) -> Option<(Key, &X, Above)>
+        ensures key { IfSome result (λ s. at ≡ Some s.0) }
+        ensures item { IfSome result (λ s. item_at self.now s.0 ≡ Some s.1.now) }
+        ensures each { IfSome result (λ s. (i : ℕ) (front back : List ℕ)
+            → path_in self.now i ≡ front ++ s.0 ∷ back → s.2 ≡ last_of front) }
+        ensures end { IfNone result ((k : ℕ) → at ≡ Some k → item_at self.now k ≡ None) }
+    {
+        // The word of none is above the index of each slot: one test finds both ends.
+        let _most = self.nodes.capacity();
+        let node = self.nodes.get(at.word)?;
+        Some((at.word, &node.item, node.above))
     }
 
     /// The keys of the path at an index, in order; none where there is no such path.

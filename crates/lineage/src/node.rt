@@ -12,7 +12,7 @@ pub type Key = usize;
 #[derive(Debug, Drop)]
 pub struct Above {
     // No slab has this many slots, so that no key is `usize::MAX`.
-    word: usize,
+    pub(crate) word: usize,
 }
 
 impl Model for Above {

@@ -1,5 +1,5 @@
 -- A climb of a branch, by what the fields tell.
-use Rattle.std.proofs.Common.{◌≡◌, ℕ, ◌<◌, ◌≤◌, true, true≢false, ◌+◌, List, [], ◌∷◌, ◌++◌, length, Option, Some, None, IsSome, sym, ap, subst, ◌∙◌, arith}
+use Rattle.std.proofs.Common.{◌≡◌, ℕ, ◌<◌, ◌≤◌, true, true≢false, ◌+◌, List, [], ◌∷◌, ◌++◌, length, Option, Some, None, IsSome, refl, sym, ap, subst, ◌∙◌, arith}
 use Rattle.std.proofs.lemmas.List.{length-append}
 use Rattle.lineage.specs.Family.{item_at, path_in, last_of}
 use Rattle.schedule_trie.specs.declared.trie.Trie.TheInside.{Inside}
@@ -109,3 +109,11 @@ module _ {T : Type 0} (t : Inside T) (c : Cut T) (seen : cut_of t ≡ c) (held :
       subst (λ z. above ≡ above_of z.strands key) seen
       (above_told (cut_of t).strands key above (λ i front back e. each i front back (sym (keys_are t held i) ∙ e))
       (λ lacks. none (none_there t key (lacked_none (piece_at (cut_of t).pieces key) (cut_of t).strands key (held.whole.sound.live key) lacks))))
+
+-- a climb that comes to no item is at its end, where it was on a branch
+module _ {T : Type 0} (t : Inside T) (c : Cut T) (seen : cut_of t ≡ c) (held : IsHeld t) where
+  pub ends_up : (at : Option ℕ) → ((k : ℕ) → at ≡ Some k → item_at t.segments k ≡ None) → (i : ℕ) → IsReached (keys_in c.strands i) at → at ≡ None
+  ends_up None none i reached = refl
+  ends_up (Some k) none i reached =
+      let there = item_there t k (held.whole.sound.held i k (subst (λ z. has k (keys_in z.strands i) ≡ true) (sym seen) reached)) in
+      absurd (true≢false (sym (subst IsSome (none k refl) there)))

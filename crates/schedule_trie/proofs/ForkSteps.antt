@@ -13,7 +13,7 @@ use Rattle.schedule_trie.specs.Forest.{index_of, name_of}
 use Rattle.schedule_trie.specs.Cut.{Cut, strand, forest, piece_at, line, branches_on, keys_in, IsWhole}
 use Rattle.schedule_trie.specs.Climbs.{keys_to, IsReached}
 use Rattle.schedule_trie.specs.Held.{pieces_of, strands_of, names_of, cut_of, IsHeld}
-use Rattle.schedule_trie.specs.Forks.{IsForked}
+use Rattle.schedule_trie.specs.Forks.{IsForked, IsForkedWhole}
 use Rattle.schedule_trie.proofs.Partings.{parting}
 use Rattle.schedule_trie.proofs.Forks.{with_front, front_whole, front_forked}
 use Rattle.schedule_trie.proofs.StepSet.{item_there}
@@ -42,6 +42,10 @@ module _ {T : Type 0} (c : Cut T) (u : Inside T) (name : List ℕ) (index count 
 
   fork_seen : cut_of u ≡ with_front c name index count
   fork_seen = λ i. record { strands = last i; pieces = pieces i; made = made i; limits = limits i }
+
+  -- it has all keys, where so many are all
+  pub fork_whole : take count (keys_in c.strands index) ≡ keys_in c.strands index → IsForkedWhole c (cut_of u) index name
+  fork_whole every = record { strands = last ∙ ap (λ l. c.strands ++ strand name l ∷ []) every; pieces = pieces }
 
   many : length u.segments.paths ≡ length (names_of u)
   many = ap length all ∙ length_push paths path ∙ ap (λ n. n + 1) as_many ∙ sym (ap length names ∙ length_push (keys_of es) name)
@@ -111,3 +115,7 @@ module _ {T : Type 0} (t u : Inside T) (name : List ℕ) (index : ℕ) (last : O
   pub behind_told : IsForked (cut_of t) (cut_of u) index (length (line (piece_at (cut_of t).pieces) (keys_to keys last))) name
   behind_told = fork_told (cut_of t) u name index count t.branches.entries t.segments.paths forked.path more refl held.paths (ap pieces_of forked.items) made limits free path forked.paths entries
       held.whole room (length (line (piece_at (cut_of t).pieces) (keys_to keys last))) (ap (λ l. length (line (piece_at (cut_of t).pieces) l)) (sym (taken_to keys last reached)))
+
+  pub behind_whole : keys_to keys last ≡ keys → IsForkedWhole (cut_of t) (cut_of u) index name
+  behind_whole every = fork_whole (cut_of t) u name index count t.branches.entries t.segments.paths forked.path more refl held.paths (ap pieces_of forked.items) made limits free path forked.paths entries
+      (sym (taken_to keys last reached) ∙ every)

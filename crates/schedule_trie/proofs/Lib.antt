@@ -24,6 +24,7 @@ pub mod Forks
 pub mod ForkSteps
 pub mod ForkCuts
 pub mod ForkCutSteps
+pub mod ForkEnds
 pub mod ForkAnswers
 pub mod InsertAnswers
 pub mod Positions

@@ -1,7 +1,7 @@
 -- A fork, by what the cut becomes.
-use Rattle.std.specs.Prelude.{ℕ, ◌≡◌, List, [], ◌∷◌, ◌++◌, Some, take}
+use Rattle.std.specs.Prelude.{ℕ, ◌≡◌, List, [], ◌∷◌, ◌++◌, Some, length, take}
 use Rattle.schedule_trie.specs.Forest.{branch, index_of, slots_in}
-use Rattle.schedule_trie.specs.Cut.{Cut, forest, IsCut, KeepsNotesBut, IsParted}
+use Rattle.schedule_trie.specs.Cut.{Cut, forest, strand, keys_in, IsCut, KeepsNotesBut, IsParted}
 
 -- a branch of this name goes last, with the first cells of the branch at an index
 pub record IsForked {T : Type 0} (old new : Cut T) (index place : ℕ) (name : List ℕ) : Type 0 where
@@ -10,3 +10,13 @@ pub record IsForked {T : Type 0} (old new : Cut T) (index place : ℕ) (name : L
   pub limits : new.limits ≡ old.limits
   pub notes : (source : List ℕ) → index_of (forest old).branches source ≡ Some index → KeepsNotesBut old new (IsParted old source place)
   pub cut : IsCut new
+
+-- a branch of this name goes last, with the segments of the branch at an index, and each segment is as it was
+pub record IsForkedWhole {T : Type 0} (old new : Cut T) (index : ℕ) (name : List ℕ) : Type 0 where
+  pub strands : new.strands ≡ old.strands ++ strand name (keys_in old.strands index) ∷ []
+  pub pieces : new.pieces ≡ old.pieces
+
+-- a fork of all cells of a branch cuts no segment
+abbrev pub CutsNoneAtEnd : {T : Type 0} → Cut T → Cut T → List ℕ → ℕ → List ℕ → Type 0
+CutsNoneAtEnd old new source place name =
+    (index : ℕ) → index_of (forest old).branches source ≡ Some index → place ≡ length (slots_in (forest old).branches index) → IsForkedWhole old new index name

@@ -1,8 +1,10 @@
 //! Edits of a chart: those of its branches. Each keeps the stored run of every segment that it neither changes nor cuts, and
-//! forgets the mark.
+//! forgets the mark, but for a fork of a whole branch.
 
-ghost use Rattle.std.specs.Prelude.{◌≡◌, true, OnOk, IfErr};
+ghost use Rattle.std.specs.Prelude.{◌≡◌, ◌⊎◌, Some, None, true, OnOk, IfErr};
 ghost use Rattle.frames.specs.Configuration.{fits_step};
+ghost use Rattle.schedule_trie.specs.Forest.{len_of};
+ghost use Rattle.schedule_trie.specs.Cut.{forest};
 ghost use Rattle.schedule_trie.specs.Edits.{Insert, Remove, Replace, Fork, Detach, Drop, IsEdited};
 ghost use Rattle.cutoff.specs.Edits.{IsUneditedChart, KeepsBeginning};
 
@@ -11,6 +13,7 @@ use frames::register::Register;
 use frames::types::Step;
 use schedule_trie::name::Name;
 use schedule_trie::refusal::Refusal;
+use schedule_trie::trie::{SegKey, Trie};
 use std::alloc::Global;
 
 impl<R: Register> Chart<R> {
@@ -89,7 +92,7 @@ impl<R: Register> Chart<R> {
             (IsUneditedChart self.old self.new (Fork branch.now place name)) }
         ensures keeps { KeepsBeginning self.old self.new }
     {
-        self.mark = None;
+        self.mark = mark_behind_fork(&self.trie, self.mark, branch, place);
         self.trie.fork(alloc, branch, place, name)
     }
 
@@ -119,5 +122,23 @@ impl<R: Register> Chart<R> {
     {
         self.mark = None;
         self.trie.drop_branch(branch)
+    }
+}
+
+/// The mark behind a fork. One of all cells of a branch cuts no segment, so that it stays.
+fn mark_behind_fork<T: Drop>(
+    trie: &Trie<T>,
+    mark: Option<SegKey>,
+    branch: &Name,
+    place: u32,
+) -> Option<SegKey>
+    ensures { (result ≡ None)
+        ⊎ ((result ≡ mark) × (len_of (forest trie.now) branch.now ≡ Some place)) }
+{
+    let key = mark?;
+    if trie.len(branch)? == place {
+        Some(key)
+    } else {
+        None
     }
 }

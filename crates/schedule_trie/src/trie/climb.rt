@@ -1,6 +1,6 @@
 //! Places of a branch, found from its end.
 
-ghost use Rattle.std.specs.Prelude.{ℕ, List, ◌≡◌, ◌≤◌, ◌<◌, ◌++◌, ◌∷◌, length, IsSome, IfSome, IfNone};
+ghost use Rattle.std.specs.Prelude.{ℕ, List, ◌≡◌, ◌≤◌, ◌<◌, ◌++◌, ◌∷◌, length, Some, None, IfSome, IfNone};
 ghost use Rattle.std.specs.List.{position};
 ghost use Rattle.lineage.specs.Family.{last_of};
 ghost use Rattle.schedule_trie.specs.Forest.{is_cell, slots_in};
@@ -34,8 +34,8 @@ impl<T: Drop> Trie<T> {
         self.held();
         let mut len = 0;
         let mut at = last;
-        while let Some(key) = at.get() {
-            let (slots, above) = self.slots_up(key);
+        while let Some(up) = self.slots_up(at) {
+            let (_, slots, above) = up;
             len += slots.len() as u32;
             at = above;
         }
@@ -55,15 +55,17 @@ impl<T: Drop> Trie<T> {
         if len <= place {
             return None;
         }
-        let wanted = (len - place) as usize;
-        let mut passed = 0;
+        // how many cells come behind the wanted one
+        let mut behind = (len - place - 1) as usize;
         let mut at = self.segments.tip(index);
-        while let Some(key) = at.get() {
-            let (slots, above) = self.slots_up(key);
-            passed += slots.len();
-            if wanted <= passed {
-                return Some((key, passed - wanted));
+        while let Some(up) = self.slots_up(at) {
+            let (key, slots, above) = up;
+            let (left, is_here) = behind.overflowing_sub(slots.len());
+            if is_here {
+                // it went below zero by one more than comes before the wanted cell
+                return Some((key, usize::MAX - left));
             }
+            behind = left;
             at = above;
         }
         None
@@ -74,8 +76,8 @@ impl<T: Drop> Trie<T> {
         ensures { result ≡ position (is_cell cell) (slots_in (forest self.now).branches index) }
     {
         let mut at = self.segments.tip(index);
-        while let Some(key) = at.get() {
-            let (slots, above) = self.slots_up(key);
+        while let Some(up) = self.slots_up(at) {
+            let (_, slots, above) = up;
             if let Some(offset) = offset_of(slots, cell) {
                 return Some(self.len_to(index, above) + offset as u32);
             }
@@ -84,17 +86,21 @@ impl<T: Drop> Trie<T> {
         None
     }
 
-    /// The cells of a segment, and the key of the segment above it.
+    /// What a climb comes to: a segment's key, its cells, and what the climb comes to behind it; none at its end.
     #[inline(always)]
-    fn slots_up(&self, key: SegKey) -> (&[Slot], Above)
-        requires { IsSome (piece_at self.now.pieces key) }
-        ensures slots { result.0.now ≡ slots_of (piece_at self.now.pieces key) }
+    fn slots_up(&self, at: Above) -> Option<(SegKey, &[Slot], Above)>
+        ensures key { IfSome result (λ s. at ≡ Some s.0) }
+        ensures slots { IfSome result (λ s. s.1.now ≡ slots_of (piece_at self.now.pieces s.0)) }
         ensures whole { IsWhole self.now }
-        ensures each { (i : ℕ) (front back : List ℕ)
-            → keys_in self.now.strands i ≡ front ++ key ∷ back → result.1 ≡ last_of front }
+        ensures each { IfSome result (λ s. (i : ℕ) (front back : List ℕ)
+            → keys_in self.now.strands i ≡ front ++ s.0 ∷ back → s.2 ≡ last_of front) }
+        ensures end { IfNone result
+            ((i : ℕ) → IsReached (keys_in self.now.strands i) at → at ≡ None) }
     {
-        let (segment, above) = self.segments.step_up_from(key);
-        (segment.slots.as_slice(), above)
+        match self.segments.climb(at) {
+            Some((key, segment, above)) => Some((key, segment.slots.as_slice(), above)),
+            None => None,
+        }
     }
 }
 

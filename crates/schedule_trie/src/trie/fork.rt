@@ -8,7 +8,7 @@ ghost use Rattle.schedule_trie.specs.Forest.{index_of, slots_in};
 ghost use Rattle.schedule_trie.specs.Limbs.{is_name};
 ghost use Rattle.schedule_trie.specs.Cut.{forest, has, keys_in, line, piece_at, slots_of};
 ghost use Rattle.schedule_trie.specs.Climbs.{keys_to, IsReached};
-ghost use Rattle.schedule_trie.specs.Forks.{IsForked};
+ghost use Rattle.schedule_trie.specs.Forks.{IsForked, IsForkedWhole, CutsNoneAtEnd};
 
 use super::Trie;
 use crate::name::Name;
@@ -20,6 +20,7 @@ use std::alloc::{AllocError, Global};
 
 impl<T: Drop> Trie<T> {
     /// Makes a new last branch of the first cells of a branch, which it shares with it. The place is how many cells they are.
+    /// Where they are all, no segment is cut.
     ///
     /// # Errors
     ///
@@ -33,6 +34,7 @@ impl<T: Drop> Trie<T> {
         name: Name,
     ) -> Result<(), Refusal>
         ensures ok { OnOk result (IsEdited self.old self.new (Fork branch.now place name)) }
+        ensures end { OnOk result (CutsNoneAtEnd self.old self.new branch.now place name) }
         ensures err { IfErr result (IsUnedited self.old self.new (Fork branch.now place name)) }
     {
         let Some(index) = self.index(branch) else {
@@ -70,8 +72,11 @@ impl<T: Drop> Trie<T> {
         requires form { is_name name ≡ true }
         requires room { length self.old.strands < self.old.limits.branches }
         ensures ok { OnOk result (IsForked self.old self.new index place name) }
+        ensures end { OnOk result (place ≡ length (slots_in (forest self.old).branches index)
+            → IsForkedWhole self.old self.new index name) }
         ensures err { OnErr result (self.new ≡ self.old) }
     {
+        self.held();
         if place == 0 {
             return self.fork_behind(index, None, name);
         }
@@ -101,6 +106,9 @@ impl<T: Drop> Trie<T> {
         ensures ok { OnOk result (IsForked self.old self.new index
             (length (line (piece_at self.old.pieces)
             (keys_to (keys_in self.old.strands index) last))) name) }
+        ensures end { OnOk result
+            (keys_to (keys_in self.old.strands index) last ≡ keys_in self.old.strands index
+            → IsForkedWhole self.old self.new index name) }
         ensures err { OnErr result (self.new ≡ self.old) }
     {
         self.branches.reserve(1)?;

@@ -1,42 +1,54 @@
-use Rattle.std.proofs.Common.{◌+◌, ◌-◌, length, ap, ◌∙◌, arith, sym}
+use Rattle.std.proofs.Common.{◌≤◌, ◌-◌, length, ap, ◌∙◌, arith, subst}
+use Rattle.std.specs.Bool.{FalseIff}
 use Rattle.schedule_trie.specs.Cut.{piece_at, keys_in, line}
+use Rattle.schedule_trie.specs.Climbs.{keys_to}
 use Rattle.schedule_trie.proofs.Climbs.{lies_here, stands_here}
 use Rattle.schedule_trie.proofs.ClimbSteps.{path_last, turn}
 use Rattle.schedule_trie.proofs.Lines.{slots_in_on}
 use Rattle.schedule_trie.proofs.trie.Trie.find_cell.Goals as goal
 
-pub loop-key-init : goal.loop-key-init
-loop-key-init g c =
+pub loop-up-init : goal.loop-up-init
+loop-up-init g c =
     let now = c.args.self.now in
     let l = path_last c.self.inside now c.self.view_is c.self.invariant.held c.args.index c.tip-at.result c.tip-at.ensures in
     let all = ap (λ ks. length (line (piece_at now.pieces) ks)) l.all in
     let len = c.len_at-len.ensures.len ∙ ap length (slots_in_on (piece_at now.pieces) now.strands c.args.index) in
-    record { reached = l.reached; behind = omega (arith, all, len); short = omega arith }
+    record { reached = l.reached; cells = omega (arith, all, len, c.if-len-place.false) }
 
-pub returns-then-wanted-passed-clause-lies : goal.returns-then-wanted-passed-clause-lies
-returns-then-wanted-passed-clause-lies g c =
+pub returns-then-is_here-clause-lies : goal.returns-then-is_here-clause-lies
+returns-then-is_here-clause-lies g c =
     let now = c.args.self.now in
-    let was = c.loop-key.invariant in
-    let len = ap length c.slots_up-above.ensures.slots in
-    lies_here (piece_at now.pieces) (keys_in now.strands c.args.index) c.loop-key.at c.in-Some.key c.args.place
-    (c.loop-key.passed + length c.slots_up-above.result.0.now - (c.len_at-len.result - c.args.place)) was.reached (sym c.get.ensures ∙ c.in-Some.is)
-    (omega (arith, len, was.behind, was.short, c.if-wanted-passed.true)) (omega (arith, len, was.short, c.if-wanted-passed.true))
+    let was = c.loop-up.invariant in
+    let up = c.in-Some.ensures in
+    let len = ap length up.slots in
+    let here = subst (λ b. FalseIff b (length c.in-Some.up.1.now ≤ c.loop-up.behind)) c.if-is_here.true c.overflowing_sub-left.ensures.overflow in
+    let left = c.overflowing_sub-left.ensures.value in
+    lies_here (piece_at now.pieces) (keys_in now.strands c.args.index) c.loop-up.at c.in-Some.up.0 c.args.place
+    (18446744073709551615 - c.overflowing_sub-left.result.0) was.reached up.key
+    (omega (arith, len, was.cells, left, here)) (omega (arith, len, left, here))
 
-pub returns-then-wanted-passed-clause-found : goal.returns-then-wanted-passed-clause-found
-returns-then-wanted-passed-clause-found g c =
+pub returns-then-is_here-clause-found : goal.returns-then-is_here-clause-found
+returns-then-is_here-clause-found g c =
     stands_here (piece_at c.args.self.now.pieces) (keys_in c.args.self.now.strands c.args.index) c.args.place
-    (c.in-Some.key, c.loop-key.passed + length c.slots_up-above.result.0.now - (c.len_at-len.result - c.args.place)) (returns-then-wanted-passed-clause-lies g c)
+    (c.in-Some.up.0, 18446744073709551615 - c.overflowing_sub-left.result.0) (returns-then-is_here-clause-lies g c)
 
-pub loop-key-smaller : goal.loop-key-smaller
-loop-key-smaller g c =
-    let was = c.loop-key.invariant in
-    let up = c.slots_up-above in
-    (turn c.args.self.now up.ensures.whole c.args.index c.loop-key.at c.in-Some.key up.result.1 was.reached (sym c.get.ensures ∙ c.in-Some.is) up.ensures.each).fewer
+pub loop-up-smaller : goal.loop-up-smaller
+loop-up-smaller g c =
+    let up = c.in-Some.ensures in
+    (turn c.args.self.now up.whole c.args.index c.loop-up.at c.in-Some.up.0 c.in-Some.up.2 c.loop-up.invariant.reached up.key up.each).fewer
 
-pub loop-key-preserved : goal.loop-key-preserved
-loop-key-preserved g c =
-    let was = c.loop-key.invariant in
-    let up = c.slots_up-above in
-    let t = turn c.args.self.now up.ensures.whole c.args.index c.loop-key.at c.in-Some.key up.result.1 was.reached (sym c.get.ensures ∙ c.in-Some.is) up.ensures.each in
-    let len = ap length up.ensures.slots in
-    record { reached = t.step.reached; behind = omega (arith, t.cells, len, was.behind); short = omega arith }
+pub loop-up-preserved : goal.loop-up-preserved
+loop-up-preserved g c =
+    let was = c.loop-up.invariant in
+    let up = c.in-Some.ensures in
+    let t = turn c.args.self.now up.whole c.args.index c.loop-up.at c.in-Some.up.0 c.in-Some.up.2 was.reached up.key up.each in
+    let len = ap length up.slots in
+    let above = subst (λ b. FalseIff b (length c.in-Some.up.1.now ≤ c.loop-up.behind)) c.if-is_here.false c.overflowing_sub-left.ensures.overflow in
+    record { reached = t.step.reached; cells = omega (arith, t.cells, len, was.cells, above, c.overflowing_sub-left.ensures.value) }
+
+pub returns-clause-none : goal.returns-clause-none
+returns-clause-none g c =
+    let now = c.args.self.now in
+    let was = c.loop-up.invariant in
+    let none = ap (λ o. length (line (piece_at now.pieces) (keys_to (keys_in now.strands c.args.index) o))) (c.in_default.ensures.end c.args.index was.reached) in
+    omega (arith, none, was.cells)

@@ -1,14 +1,13 @@
-use Rattle.std.proofs.Common.{◌≡◌, ◌+◌, ◌<◌, length}
+use Rattle.std.proofs.Common.{◌≡◌, ◌+◌, length}
 use Rattle.schedule_trie.specs.Cut.{line, piece_at, keys_in}
 use Rattle.schedule_trie.specs.Climbs.{keys_to, IsReached}
 use Rattle.schedule_trie.proofs.trie.Trie.find_cell.Given as goal
 
-abbrev pub invariant-loop-key : goal.invariant-loop-key
-invariant-loop-key g l = record {
+abbrev pub invariant-loop-up : goal.invariant-loop-up
+invariant-loop-up g l = record {
   reached : IsReached (keys_in l.self.strands l.index) l.at;
-  behind : length (line (piece_at l.self.pieces) (keys_to (keys_in l.self.strands l.index) l.at)) + l.passed ≡ l.place + l.wanted;
-  short : l.passed < l.wanted;
+  cells : length (line (piece_at l.self.pieces) (keys_to (keys_in l.self.strands l.index) l.at)) ≡ l.place + 1 + l.behind;
 }
 
-abbrev pub decreases-loop-key : goal.decreases-loop-key
-decreases-loop-key g l = length (keys_to (keys_in l.self.strands l.index) l.at)
+abbrev pub decreases-loop-up : goal.decreases-loop-up
+decreases-loop-up g l = length (keys_to (keys_in l.self.strands l.index) l.at)

@@ -1,9 +1,9 @@
-use Rattle.std.proofs.Common.{◌≡◌, ◌≤◌, None, length, refl, sym, ap, subst, ◌∙◌, Ok, is_some, inl, arith}
+use Rattle.std.proofs.Common.{◌≡◌, ◌≤◌, None, Some, length, refl, sym, ap, subst, ◌∙◌, Ok, is_some, inl, arith}
 use Rattle.std.proofs.lemmas.Result.{err_from_is_err_and}
 use Rattle.schedule_trie.specs.Edits.{Fork, IsEdited}
 use Rattle.schedule_trie.specs.Forest.{index_of, slots_in}
 use Rattle.schedule_trie.specs.Cut.{forest}
-use Rattle.schedule_trie.specs.Forks.{IsForked}
+use Rattle.schedule_trie.specs.Forks.{IsForked, IsForkedWhole}
 use Rattle.schedule_trie.proofs.ForkAnswers.{name_taken, bad_name, no_place, too_many, is_forked, memory_alone, none_from}
 use Rattle.schedule_trie.proofs.LengthsAfter.{branch_count, fork_last, fork_long}
 use Rattle.schedule_trie.proofs.trie.Trie.fork.Goals as goal
@@ -90,3 +90,12 @@ returns-in_err-fork_at-clause-err g c =
     (ap is_some (sym c.index-2.ensures.index) ∙ sym c.is_some.ensures ∙ c.if-is_some.false) (sym c.is_well_formed.ensures ∙ c.if-not-is_well_formed.false)
     (omega (arith, c.learn_len.ensures.len, c.if-learn_len-place.false)) (omega (arith, most, branches, c.if-count-self.false)) in
     let p = err_from_is_err_and c.from_residual.result c.from_residual.ensures.1 in rw (p.1, p.2) (record { why = why; unchanged = c.in_err-fork_at.ensures.err ∙ c.learn_len.ensures.same })
+
+pub returns-clause-end : goal.returns-clause-end
+returns-clause-end g c index found long =
+    let at : Some c.in-Some.index ≡ Some index = c.in-Some.ensures.index ∙ found in
+    let here : c.in-Some.index ≡ index = cc in
+    let told = subst (λ z. c.args.place ≡ length (slots_in (forest z).branches c.in-Some.index) → IsForkedWhole z c.fork_at.new.self c.in-Some.index c.args.name) c.learn_len.ensures.same
+    c.in_ok-fork_at.ensures.end in
+    subst (λ z. IsForkedWhole c.args.self.now z index c.args.name) (sym c.keep_len.ensures)
+    (subst (λ i. c.args.place ≡ length (slots_in (forest c.args.self.now).branches i) → IsForkedWhole c.args.self.now c.fork_at.new.self i c.args.name) here told long)

@@ -4,8 +4,8 @@ use Rattle.std.specs.Cmp.Lexicographic.{pointwise}
 use Rattle.indexmap.specs.IndexMap.{insert_entry}
 use Rattle.schedule_trie.specs.Forest.{index_of}
 use Rattle.schedule_trie.specs.Cut.{forest, keys_in}
-use Rattle.schedule_trie.specs.Climbs.{IsReached}
-use Rattle.schedule_trie.proofs.ForkSteps.{reached_there, behind_held, behind_told}
+use Rattle.schedule_trie.specs.Climbs.{keys_to, IsReached}
+use Rattle.schedule_trie.proofs.ForkSteps.{reached_there, behind_held, behind_told, behind_whole}
 use Rattle.schedule_trie.proofs.LengthSteps.{forked_lengths}
 use Rattle.schedule_trie.proofs.NamesKept.{forked_names}
 use Rattle.schedule_trie.proofs.trie.Trie.fork_behind.Goals as goal
@@ -44,3 +44,14 @@ returns-clause-ok g c =
     (subst (λ z. length z.strands < z.limits.branches) (sym view) c.requires.room) (subst (λ z. index_of (forest z).branches c.args.name ≡ None) (sym view) c.requires.name)
     (subst (λ z. IsReached (keys_in z.strands c.args.index) c.args.last) (sym view) c.requires.last) c.in_ok-fork.ensures.ok
     (c.insert_reserved.ensures ∙ ap (λ es. insert_entry (pointwise nat_eq) es c.args.name None) c.in_ok-reserve.ensures.entries) refl refl)
+
+pub returns-clause-end : goal.returns-clause-end
+returns-clause-end g c every =
+    let t = c.self.inside in
+    let view = c.self.view_is in
+    rw (← c.self.view_is)
+    (behind_whole t (record t { segments = c.fork.new.self; branches = c.insert_reserved.new.branches }) c.args.name c.args.index c.args.last None c.self.invariant.held
+    (subst (λ z. length z.strands < z.limits.branches) (sym view) c.requires.room) (subst (λ z. index_of (forest z).branches c.args.name ≡ None) (sym view) c.requires.name)
+    (subst (λ z. IsReached (keys_in z.strands c.args.index) c.args.last) (sym view) c.requires.last) c.in_ok-fork.ensures.ok
+    (c.insert_reserved.ensures ∙ ap (λ es. insert_entry (pointwise nat_eq) es c.args.name None) c.in_ok-reserve.ensures.entries) refl refl
+    (subst (λ z. keys_to (keys_in z.strands c.args.index) c.args.last ≡ keys_in z.strands c.args.index) (sym view) every))

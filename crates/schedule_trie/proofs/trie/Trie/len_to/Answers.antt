@@ -1,5 +1,6 @@
-use Rattle.std.proofs.Common.{length, ap, arith, sym, ◌∙◌}
-use Rattle.schedule_trie.specs.Cut.{piece_at, keys_in}
+use Rattle.std.proofs.Common.{length, ap, arith}
+use Rattle.schedule_trie.specs.Cut.{piece_at, keys_in, line}
+use Rattle.schedule_trie.specs.Climbs.{keys_to}
 use Rattle.schedule_trie.proofs.Climbs.{cells_own, cells_within}
 use Rattle.schedule_trie.proofs.ClimbSteps.{branch_short, turn}
 use Rattle.schedule_trie.proofs.trie.Trie.len_to.Goals as goal
@@ -8,31 +9,40 @@ pub overflow_cast-len : goal.overflow_cast-len
 overflow_cast-len g c =
     let now = c.args.self.now in
     let keys = keys_in now.strands c.args.index in
-    let own = cells_own (piece_at now.pieces) keys c.loop-key.at c.in-Some.key c.loop-key.invariant.reached (sym c.get.ensures ∙ c.in-Some.is) in
-    let len = ap length c.slots_up-above.ensures.slots in
-    let within = cells_within (piece_at now.pieces) keys c.loop-key.at c.loop-key.invariant.reached in
-    let short = branch_short now c.slots_up-above.ensures.whole c.args.index in
+    let up = c.in-Some.ensures in
+    let own = cells_own (piece_at now.pieces) keys c.loop-up.at c.in-Some.up.0 c.loop-up.invariant.reached up.key in
+    let len = ap length up.slots in
+    let within = cells_within (piece_at now.pieces) keys c.loop-up.at c.loop-up.invariant.reached in
+    let short = branch_short now up.whole c.args.index in
     omega (arith, own, len, within, short)
 
 pub overflow_add-len : goal.overflow_add-len
 overflow_add-len g c =
     let now = c.args.self.now in
     let keys = keys_in now.strands c.args.index in
-    let was = c.loop-key.invariant in
-    let own = cells_own (piece_at now.pieces) keys c.loop-key.at c.in-Some.key was.reached (sym c.get.ensures ∙ c.in-Some.is) in
-    let len = ap length c.slots_up-above.ensures.slots in
+    let was = c.loop-up.invariant in
+    let up = c.in-Some.ensures in
+    let own = cells_own (piece_at now.pieces) keys c.loop-up.at c.in-Some.up.0 was.reached up.key in
+    let len = ap length up.slots in
     let within = cells_within (piece_at now.pieces) keys c.args.last c.requires in
-    let short = branch_short now c.slots_up-above.ensures.whole c.args.index in
+    let short = branch_short now up.whole c.args.index in
     omega (arith, own, len, within, short, was.sum)
 
-pub loop-key-smaller : goal.loop-key-smaller
-loop-key-smaller g c =
-    (turn c.args.self.now c.slots_up-above.ensures.whole c.args.index c.loop-key.at c.in-Some.key c.slots_up-above.result.1 c.loop-key.invariant.reached (sym c.get.ensures ∙ c.in-Some.is)
-    c.slots_up-above.ensures.each).fewer
+pub loop-up-smaller : goal.loop-up-smaller
+loop-up-smaller g c =
+    let up = c.in-Some.ensures in
+    (turn c.args.self.now up.whole c.args.index c.loop-up.at c.in-Some.up.0 c.in-Some.up.2 c.loop-up.invariant.reached up.key up.each).fewer
 
-pub loop-key-preserved : goal.loop-key-preserved
-loop-key-preserved g c =
-    let t = turn c.args.self.now c.slots_up-above.ensures.whole c.args.index c.loop-key.at c.in-Some.key c.slots_up-above.result.1 c.loop-key.invariant.reached (sym c.get.ensures ∙ c.in-Some.is)
-    c.slots_up-above.ensures.each in
-    let len = ap length c.slots_up-above.ensures.slots in
-    record { reached = t.step.reached; sum = omega (arith, t.cells, len, c.loop-key.invariant.sum) }
+pub loop-up-preserved : goal.loop-up-preserved
+loop-up-preserved g c =
+    let up = c.in-Some.ensures in
+    let t = turn c.args.self.now up.whole c.args.index c.loop-up.at c.in-Some.up.0 c.in-Some.up.2 c.loop-up.invariant.reached up.key up.each in
+    let len = ap length up.slots in
+    record { reached = t.step.reached; sum = omega (arith, t.cells, len, c.loop-up.invariant.sum) }
+
+pub returns : goal.returns
+returns g c =
+    let now = c.args.self.now in
+    let was = c.loop-up.invariant in
+    let none = ap (λ o. length (line (piece_at now.pieces) (keys_to (keys_in now.strands c.args.index) o))) (c.in_default.ensures.end c.args.index was.reached) in
+    omega (arith, none, was.sum)

@@ -3,12 +3,12 @@ use Rattle.schedule_trie.specs.Cut.{line, piece_at, keys_in}
 use Rattle.schedule_trie.specs.Climbs.{keys_to, IsReached}
 use Rattle.schedule_trie.proofs.trie.Trie.len_to.Given as goal
 
-abbrev pub invariant-loop-key : goal.invariant-loop-key
-invariant-loop-key g l = record {
+abbrev pub invariant-loop-up : goal.invariant-loop-up
+invariant-loop-up g l = record {
   reached : IsReached (keys_in l.self.strands l.index) l.at;
   sum : l.len + length (line (piece_at l.self.pieces) (keys_to (keys_in l.self.strands l.index) l.at))
       ≡ length (line (piece_at l.self.pieces) (keys_to (keys_in l.self.strands l.index) l.fn.last));
 }
 
-abbrev pub decreases-loop-key : goal.decreases-loop-key
-decreases-loop-key g l = length (keys_to (keys_in l.self.strands l.index) l.at)
+abbrev pub decreases-loop-up : goal.decreases-loop-up
+decreases-loop-up g l = length (keys_to (keys_in l.self.strands l.index) l.at)

@@ -1,13 +1,10 @@
-use Rattle.std.proofs.Common.{IsSome, sym, subst}
-use Rattle.schedule_trie.specs.Cut.{piece_at}
-use Rattle.schedule_trie.proofs.ClimbSteps.{each_up}
-use Rattle.schedule_trie.proofs.StepSet.{item_there}
+use Rattle.schedule_trie.proofs.ClimbSteps.{each_up, ends_up}
 use Rattle.schedule_trie.proofs.trie.Trie.slots_up.Goals as goal
 
-pub step_up_from-above-requires : goal.step_up_from-above-requires
-step_up_from-above-requires g c =
-    item_there c.self.inside c.args.key (subst (λ z. IsSome (piece_at z.pieces c.args.key)) (sym c.self.view_is) c.requires)
+pub returns-in-Some-clause-each : goal.returns-in-Some-clause-each
+returns-in-Some-clause-each g c i front back e =
+    let told = each_up c.self.inside c.args.self.now c.self.view_is c.self.invariant.held c.in-Some.key c.in-Some.above c.in-Some.ensures.each i front back e in
+    cc
 
-pub returns-clause-each : goal.returns-clause-each
-returns-clause-each g c =
-    each_up c.self.inside c.args.self.now c.self.view_is c.self.invariant.held c.args.key c.step_up_from-above.result.1 c.step_up_from-above.ensures.each
+pub returns-in-None-clause-end : goal.returns-in-None-clause-end
+returns-in-None-clause-end g c = ends_up c.self.inside c.args.self.now c.self.view_is c.self.invariant.held c.args.at c.in-None.ensures.end

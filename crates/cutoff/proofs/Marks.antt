@@ -1,0 +1,90 @@
+-- The mark behind a fork of a whole branch, which leaves each segment.
+use Rattle.std.proofs.Common.{◌≡◌, ◌⊎◌, ℕ, zero, suc, Bool, true, List, [], ◌∷◌, ◌++◌, map, length, Option, None, Some, Result, Ok, Err, OnOk, IfErr, inl, inr, refl, sym, ap, subst, ◌∙◌}
+use Rattle.std.specs.Option.{option_map}
+use Rattle.frames.specs.Behaviour.{Behaviour}
+use Rattle.frames.specs.Configuration.{Configuration, replayed}
+use Rattle.schedule_trie.specs.declared.refusal.Refusal.{Refusal}
+use Rattle.schedule_trie.specs.Forest.{index_of, len_of, slots_in, step_of}
+use Rattle.schedule_trie.specs.Cut.{Cut, Strand, piece_at, slots_of, note_of, keys_in, has, forest}
+use Rattle.schedule_trie.specs.Climbs.{keys_to}
+use Rattle.schedule_trie.specs.Edits.{Fork, IsEdited, IsUnedited}
+use Rattle.schedule_trie.specs.Forks.{IsForkedWhole, CutsNoneAtEnd}
+use Rattle.cutoff.specs.Fitting.{StoredRun, RunFits, run_of, steps_at}
+use Rattle.cutoff.specs.Prefixes.{HasTrueRun, RunsDown, RunsTo, IsMarked, come_to, exit_or}
+use Rattle.cutoff.specs.Held.{Charted, IsCharted}
+use Rattle.cutoff.proofs.Edited.{charted}
+use Rattle.cutoff.proofs.Kept.{charted_marked}
+
+-- the keys of a branch, where one more goes last
+last_keys : (strands : List Strand) (s : Strand) (i : ℕ) → (keys_in (strands ++ s ∷ []) i ≡ keys_in strands i) ⊎ (keys_in (strands ++ s ∷ []) i ≡ s.keys)
+last_keys [] s zero = inr refl
+last_keys [] s (suc i) = inl refl
+last_keys (t ∷ strands) s zero = inl refl
+last_keys (t ∷ strands) s (suc i) = last_keys strands s i
+
+module _ {R P : Type 0} (E : R → R → Bool) (is : R → Behaviour P) (old new : Cut (StoredRun R P)) (same : new.pieces ≡ old.pieces) where
+  steps_same : (k : ℕ) → steps_at old k ≡ steps_at new k
+  steps_same k = ap (λ ps. map step_of (slots_of (piece_at ps k))) (sym same)
+
+  run_same : (c : Configuration R P) (k : ℕ) → HasTrueRun E is old c k → HasTrueRun E is new c k
+  run_same c k h = record {
+    stored = h.stored;
+    noted = subst (λ ps. note_of (piece_at ps k) ≡ Some h.stored) (sym same) h.noted;
+    true_run = h.true_run;
+    fits = subst (λ s. RunFits E c s h.stored.run) (steps_same k) h.fits;
+  }
+
+  runs_same : (b : Behaviour P) (c : Configuration R P) (keys : List ℕ) (end : Configuration R P) → RunsDown E is old b c keys end → RunsDown E is new b c keys end
+  runs_same b c [] end d = d
+  runs_same b c (k ∷ keys) end d =
+      (run_same c k d.0, subst (λ s. RunsDown E is new b (replayed b c s) keys end) (steps_same k) (runs_same b (replayed b c (steps_at old k)) keys end d.1))
+
+  to_same : (start : Configuration R P) (k : ℕ) (keys : List ℕ) → RunsTo E is old start (Some k) keys → RunsTo E is new start (Some k) keys
+  to_same start k keys d =
+      subst (RunsDown E is new (is start.register) start (keys_to keys (Some k))) (ap (λ ps. exit_or start (option_map run_of (note_of (piece_at ps k)))) (sym same))
+      (runs_same (is start.register) start (keys_to keys (Some k)) (come_to old start (Some k)) d)
+
+-- a branch with the same segments as another one has the same runs
+module _ {R P : Type 0} (E : R → R → Bool) (is : R → Behaviour P) (old new : Cut (StoredRun R P)) (start : Configuration R P) (index : ℕ) (name : List ℕ) (forked : IsForkedWhole old new index name) where
+  there : (k i j : ℕ) → IsMarked E is old start (Some k) → has k (keys_in new.strands i) ≡ true → keys_in new.strands i ≡ keys_in old.strands j → RunsTo E is new start (Some k) (keys_in new.strands i)
+  there k i j marked h e =
+      subst (RunsTo E is new start (Some k)) (sym e) (to_same E is old new forked.pieces start k (keys_in old.strands j) (marked j (subst (λ keys. has k keys ≡ true) e h)))
+
+  abbrev made : Strand
+  made = record { name = name; keys = keys_in old.strands index }
+
+  either : (k i : ℕ) → IsMarked E is old start (Some k) → has k (keys_in new.strands i) ≡ true
+      → (keys_in (old.strands ++ made ∷ []) i ≡ keys_in old.strands i) ⊎ (keys_in (old.strands ++ made ∷ []) i ≡ keys_in old.strands index)
+      → RunsTo E is new start (Some k) (keys_in new.strands i)
+  either k i marked h (inl e) = there k i i marked h (ap (λ ss. keys_in ss i) forked.strands ∙ e)
+  either k i marked h (inr e) = there k i index marked h (ap (λ ss. keys_in ss i) forked.strands ∙ e)
+
+  pub marked_whole : (mark : Option ℕ) → IsMarked E is old start mark → IsMarked E is new start mark
+  marked_whole None marked = tt
+  marked_whole (Some k) marked = λ i h. either k i marked h (last_keys old.strands made i)
+
+-- a branch that has so many cells is there
+len_found : {T : Type 0} (cut : Cut T) (name : List ℕ) (place : ℕ) → len_of (forest cut) name ≡ Some place
+    → (index : ℕ) × ((index_of (forest cut).branches name ≡ Some index) × (place ≡ length (slots_in (forest cut).branches index)))
+len_found cut name place e = by (index_of (forest cut).branches name) refl e
+  where
+    by : (o : Option ℕ) → index_of (forest cut).branches name ≡ o → option_map (λ i. length (slots_in (forest cut).branches i)) o ≡ Some place
+        → (index : ℕ) × ((index_of (forest cut).branches name ≡ Some index) × (place ≡ length (slots_in (forest cut).branches index)))
+    by None at e = cc
+    by (Some i) at e = let long : length (slots_in (forest cut).branches i) ≡ place = cc in (i, (at, sym long))
+
+-- what a chart keeps, behind a fork: the mark too, where it is of all cells
+pub forked_charted : {R P Y : Type 0} (E : R → R → Bool) (is : R → Behaviour P) (next : ℕ) (mark after : Option ℕ) (c : Charted R P) (new : Cut (StoredRun R P)) (source : List ℕ) (place : ℕ) (name : List ℕ) (result : Result Y Refusal)
+    → IsCharted E is next mark c → (after ≡ None) ⊎ ((after ≡ mark) × (len_of (forest c.cut) source ≡ Some place))
+    → OnOk result (IsEdited c.cut new (Fork source place name)) → OnOk result (CutsNoneAtEnd c.cut new source place name) → IfErr result (IsUnedited c.cut new (Fork source place name))
+    → IsCharted E is next after (record { cut = new; start = c.start; value = c.value })
+forked_charted {R} {P} {Y} E is next mark after c new source place name result was (inl none) ok end err =
+    subst (λ m. IsCharted E is next m (record { cut = new; start = c.start; value = c.value })) (sym none)
+    (charted E is next mark c new (Fork source place name) result was tt ok err)
+forked_charted {R} {P} {Y} E is next mark after c new source place name (Ok y) was (inr whole) ok end err =
+    let found = len_found c.cut source place whole.1 in
+    charted_marked E is next None after (record { cut = new; start = c.start; value = c.value })
+    (subst (IsMarked E is new c.start) (sym whole.0) (marked_whole E is c.cut new c.start found.0 name (end found.0 found.1.0 found.1.1) mark was.marked))
+    (charted E is next mark c new (Fork source place name) (Ok y) was tt ok err)
+forked_charted {R} {P} {Y} E is next mark after c new source place name (Err e) was (inr whole) ok end err =
+    subst (λ d. IsCharted E is next after (record { cut = d; start = c.start; value = c.value })) (sym err.unchanged) (subst (λ m. IsCharted E is next m c) (sym whole.0) was)
