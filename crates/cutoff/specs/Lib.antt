@@ -1,5 +1,6 @@
 pub mod Fitting
 pub mod Links
+pub mod Numbers
 pub mod Prefixes
 pub mod Held
 pub mod Edits

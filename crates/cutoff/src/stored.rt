@@ -6,6 +6,7 @@ ghost use Rattle.std.specs.Arc.{arc_value};
 ghost use Rattle.checkpoints.specs.Segment.{IsRun};
 ghost use Rattle.frames.specs.Equality.{SameConfiguration};
 ghost use Rattle.cutoff.specs.Links.{alone};
+ghost use Rattle.cutoff.specs.Numbers.{own_number, link_number};
 
 use checkpoints::run::Run;
 use frames::config::Config;
@@ -14,21 +15,31 @@ use std::alloc::AllocError;
 use std::marker::Model;
 use std::sync::Arc;
 
+/// The number of a run, and of the run that it was found behind, where they have one. So a segment takes a word less than with
+/// two options, and a climb reaches it by one product.
+#[derive(Clone, Copy)]
+pub(crate) enum Numbers {
+    Neither,
+    Own(u64),
+    Behind(u64),
+    Both(u64, u64),
+}
+
 /// A stored run of a segment, with its number, and the number of the run that it was found behind, where they have one.
 #[derive(Drop)]
 pub(crate) struct Stored<R: Register> {
     run: Arc<Run<R>>,
-    id: Option<u64>,
-    link: Option<u64>,
+    numbers: Numbers,
 }
 
 impl<R: Register> Model for Stored<R> {
     ghost use Rattle.std.specs.Arc.{arc_value};
     ghost use Rattle.cutoff.specs.Fitting.{StoredRun};
+    ghost use Rattle.cutoff.specs.Numbers.{own_number, link_number};
 
     ghost Value = { StoredRun R R.Pending };
 
-    ghost view = { λ s. record { run = arc_value s.run; id = s.id; link = s.link } };
+    ghost view = { λ s. record { run = arc_value s.run; id = own_number s.numbers; link = link_number s.numbers } };
 }
 
 impl<R: Register> Stored<R> {
@@ -37,7 +48,8 @@ impl<R: Register> Stored<R> {
         ensures id { result.id ≡ id }
         ensures link { result.link ≡ link }
     {
-        Stored { run, id, link }
+        let numbers = numbers_of(id, link);
+        Stored { run, numbers }
     }
 
     /// The run.
@@ -67,14 +79,14 @@ impl<R: Register> Stored<R> {
     pub(crate) fn id(&self) -> Option<u64>
         ensures { result ≡ self.now.id }
     {
-        self.id
+        own_number(self.numbers)
     }
 
     /// The number of the run that it was found behind.
     pub(crate) fn link(&self) -> Option<u64>
         ensures { result ≡ self.now.link }
     {
-        self.link
+        link_number(self.numbers)
     }
 
     /// The same run, found behind the run with this number, if it has one.
@@ -83,20 +95,16 @@ impl<R: Register> Stored<R> {
         ensures id { IfOk result (λ s. s.id ≡ self.now.id) }
         ensures link { IfOk result (λ s. (s.link ≡ above) ⊎ (s.link ≡ self.now.link)) }
     {
-        let link = if above.is_some() { above } else { self.link };
+        let link = if above.is_some() { above } else { self.link() };
         let run = Arc::try_clone(&self.run)?;
-        Ok(Stored {
-            run,
-            id: self.id,
-            link,
-        })
+        Ok(Stored::new(run, self.id(), link))
     }
 
     /// Whether it would have no other link where it is found behind the run with this number, if it has one.
     pub(crate) fn is_as_found(&self, above: Option<u64>) -> bool
         ensures { result ≡ true → (above ≡ None) ⊎ (self.now.link ≡ above) }
     {
-        above.is_none() || is_behind(self.link, above)
+        above.is_none() || is_behind(self.link(), above)
     }
 
     /// Whether it begins from a configuration. A run with the number `above` came to that.
@@ -105,14 +113,14 @@ impl<R: Register> Stored<R> {
             → SameConfiguration R.PartialEq.eq self.now.run.entry config.now }
         ensures { Decides result (SameConfiguration R.PartialEq.eq self.now.run.entry config.now) }
     {
-        is_behind(self.link, above) || *self.run.entry() == *config
+        is_behind(self.link(), above) || *self.run.entry() == *config
     }
 
     /// Whether its number is the one that a run was found behind.
     pub(crate) fn is_before(&self, link: Option<u64>) -> bool
         ensures { Decides result ((a : ℕ) × (link ≡ Some a) × (self.now.id ≡ Some a)) }
     {
-        is_behind(link, self.id)
+        is_behind(link, self.id())
     }
 
     /// Whether it comes to a configuration. A run that was found behind the run with the number `link` begins from that.
@@ -123,7 +131,42 @@ impl<R: Register> Stored<R> {
         ensures { Decides result (SameConfiguration R.PartialEq.eq config.now self.now.run.exit) }
     {
         let exit = self.run.exit();
-        is_behind(link, self.id) || *config == *exit
+        is_behind(link, self.id()) || *config == *exit
+    }
+}
+
+/// The numbers of a run with this number, found behind a run with that one, where they have one.
+fn numbers_of(id: Option<u64>, link: Option<u64>) -> Numbers
+    ensures own { own_number result ≡ id }
+    ensures link { link_number result ≡ link }
+{
+    match (id, link) {
+        (None, None) => Numbers::Neither,
+        (Some(id), None) => Numbers::Own(id),
+        (None, Some(link)) => Numbers::Behind(link),
+        (Some(id), Some(link)) => Numbers::Both(id, link),
+    }
+}
+
+/// A run's own number, if it has one.
+#[inline(always)]
+fn own_number(numbers: Numbers) -> Option<u64>
+    ensures { result ≡ own_number numbers }
+{
+    match numbers {
+        Numbers::Own(id) | Numbers::Both(id, _) => Some(id),
+        Numbers::Neither | Numbers::Behind(_) => None,
+    }
+}
+
+/// The number of the run that one was found behind, if it has one.
+#[inline(always)]
+fn link_number(numbers: Numbers) -> Option<u64>
+    ensures { result ≡ link_number numbers }
+{
+    match numbers {
+        Numbers::Behind(link) | Numbers::Both(_, link) => Some(link),
+        Numbers::Neither | Numbers::Own(_) => None,
     }
 }
 

@@ -9,7 +9,7 @@ returns-then-is_behind g c = (
       let p = c.is_behind.ensures.0 e in
       let same = c.deref.ensures ∙ ap (λ v. v.run) c.self.view_is in
       let true_run = subst (λ r. IsRun (g.R.Behaves.is r.entry.register) r) same c.exit-exit.ensures.kept in
-      let told = c.requires.linked p.0 p.1 (sym (ap (λ v. v.id) c.self.view_is) ∙ p.2) in
+      let told = c.requires.linked p.0 p.1 (sym c.id.ensures ∙ p.2) in
       ends_same g.R.PartialEq.eq g.met.R.PartialEq.laws (g.R.Behaves.is c.args.self.now.run.entry.register) c.args.self.now c.args.config.now true_run told.0 told.1),
   (λ same. c.if-is_behind.true),
 )

@@ -47,11 +47,8 @@ returns-clause-ok g c =
 
 pub returns-clause-end : goal.returns-clause-end
 returns-clause-end g c every =
-    let t = c.self.inside in
-    let view = c.self.view_is in
-    rw (← c.self.view_is)
-    (behind_whole t (record t { segments = c.fork.new.self; branches = c.insert_reserved.new.branches }) c.args.name c.args.index c.args.last None c.self.invariant.held
-    (subst (λ z. length z.strands < z.limits.branches) (sym view) c.requires.room) (subst (λ z. index_of (forest z).branches c.args.name ≡ None) (sym view) c.requires.name)
-    (subst (λ z. IsReached (keys_in z.strands c.args.index) c.args.last) (sym view) c.requires.last) c.in_ok-fork.ensures.ok
-    (c.insert_reserved.ensures ∙ ap (λ es. insert_entry (pointwise nat_eq) es c.args.name None) c.in_ok-reserve.ensures.entries) refl refl
-    (subst (λ z. keys_to (keys_in z.strands c.args.index) c.args.last ≡ keys_in z.strands c.args.index) (sym view) every))
+    rw (← c.self.view_is) (behind_whole c.self.inside (record c.self.inside { segments = c.fork.new.self; branches = c.insert_reserved.new.branches }) c.args.name c.args.index c.args.last None
+    c.self.invariant.held (subst (λ z. length z.strands < z.limits.branches) (sym c.self.view_is) c.requires.room)
+    (subst (λ z. index_of (forest z).branches c.args.name ≡ None) (sym c.self.view_is) c.requires.name) (subst (λ z. IsReached (keys_in z.strands c.args.index) c.args.last) (sym c.self.view_is) c.requires.last)
+    c.in_ok-fork.ensures.ok (c.insert_reserved.ensures ∙ ap (λ es. insert_entry (pointwise nat_eq) es c.args.name None) c.in_ok-reserve.ensures.entries) refl refl
+    (subst (λ z. keys_to (keys_in z.strands c.args.index) c.args.last ≡ keys_in z.strands c.args.index) (sym c.self.view_is) every))

@@ -30,8 +30,7 @@ overflow_add-len g c =
 
 pub loop-up-smaller : goal.loop-up-smaller
 loop-up-smaller g c =
-    let up = c.in-Some.ensures in
-    (turn c.args.self.now up.whole c.args.index c.loop-up.at c.in-Some.up.0 c.in-Some.up.2 c.loop-up.invariant.reached up.key up.each).fewer
+    (turn c.args.self.now c.in-Some.ensures.whole c.args.index c.loop-up.at c.in-Some.up.0 c.in-Some.up.2 c.loop-up.invariant.reached c.in-Some.ensures.key c.in-Some.ensures.each).fewer
 
 pub loop-up-preserved : goal.loop-up-preserved
 loop-up-preserved g c =

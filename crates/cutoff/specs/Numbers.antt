@@ -1,0 +1,16 @@
+-- The numbers of a stored run: its own, and that of the run that it was found behind.
+use Rattle.std.specs.Prelude.{ℕ, Option, Some, None}
+use Rattle.cutoff.specs.declared.stored.Numbers.{Numbers}
+use Rattle.cutoff.specs.declared.stored.Numbers.TheVariants.{Neither, Own, Behind, Both}
+
+abbrev pub own_number : Numbers → Option ℕ
+own_number Neither = None
+own_number (Own id) = Some id
+own_number (Behind link) = None
+own_number (Both id link) = Some id
+
+abbrev pub link_number : Numbers → Option ℕ
+link_number Neither = None
+link_number (Own id) = None
+link_number (Behind link) = Some link
+link_number (Both id link) = Some link
