@@ -170,7 +170,7 @@ impl<R: Register> Config<R> {
         ensures after { self.new ≡ stepped (R.is self.old.register) self.old step }
     {
         let who = step.process();
-        if self.stopped(who) {
+        if self.stopped[who as usize] {
             return alone(Event::Void(who, Reason::Stopped));
         }
         self.act(step)
@@ -203,6 +203,7 @@ impl<R: Register> Config<R> {
     }
 
     /// A process invokes an operation, if it has none pending.
+    #[inline(always)]
     fn invoke(&mut self, who: u32, op: Op) -> StepEvents
         requires { (R.is self.old.register).suits who op ≡ true }
         ensures { Did who (invoking (R.is self.old.register) who op

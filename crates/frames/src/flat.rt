@@ -139,17 +139,20 @@ impl FlatStack {
         requires { length self.old < STACK_FRAMES }
         ensures { self.new ≡ self.old ++ frame ∷ [] }
     {
-        self.frames[self.count] = frame;
-        self.count += 1;
+        // read once, since a store to the frames might change it as far as LLVM knows
+        let count = self.count;
+        self.frames[count] = frame;
+        self.count = count + 1;
     }
 
     /// Leaves the first frames, so many of them, and no other.
     #[inline(always)]
-    pub fn cut(&mut self, count: usize)
+    pub fn leave(&mut self, count: usize)
+        requires { count ≤ length self.old }
         ensures { self.new ≡ take count self.old }
     {
-        if count < self.count {
-            self.count = count;
-        }
+        // no test, so that what layers leave one after the other comes to one store
+        prove!(count <= self.count);
+        self.count = count;
     }
 }

@@ -109,7 +109,7 @@ impl Register for Safe {
             }
             SafePoint::WriteEnd(_) => {
                 store.end_write(at.cell);
-                stack.cut(first);
+                stack.leave(first);
                 Progress {
                     end: Some(Outcome::Written),
                     chosen: None,
@@ -126,7 +126,7 @@ impl Register for Safe {
             SafePoint::ReadEnd => {
                 let hit = store.cell(at.cell).hit;
                 let value = store.end_read(at.cell, choice);
-                stack.cut(first);
+                stack.leave(first);
                 Progress {
                     end: Some(Outcome::Value(u32::from(value))),
                     chosen: if hit { Some((at.cell, value)) } else { None },

@@ -1,11 +1,14 @@
 -- A step of a task's part, in a store and on a stack: what it is to the layer that the part is of.
-use Rattle.std.proofs.Common.{◌≡◌, ℕ, Bool, true, ◌+◌, ◌<◌, List, [], ◌∷◌, ◌++◌, length, take, Option, sym, ap, subst, ◌∙◌, arith, length-take}
+use Rattle.std.proofs.Common.{◌≡◌, ℕ, Bool, true, ◌+◌, ◌<◌, ◌≤◌, List, [], ◌∷◌, ◌++◌, length, take, Option, sym, ap, subst, ◌∙◌, arith, append-nil, length-take, length-append}
+use Rattle.std.specs.Prelude.{IfSome}
 use Rattle.safe_bit.specs.declared.Place.{Place}
 use Rattle.safe_bit.specs.Memory.{Memory}
 use Rattle.safe_bit.specs.Parts.{behind, part, with_part}
 use Rattle.frames.specs.declared.types.Op.{Op}
 use Rattle.frames.specs.declared.types.Outcome.{Outcome}
 use Rattle.frames.specs.declared.types.Frame.{Frame}
+use Rattle.frames.specs.declared.types.Next.{Next}
+use Rattle.frames.specs.declared.types.Next.TheVariants.{Pending, Done}
 use Rattle.frames.specs.Flat.{Lands, StandsOn, ended, left_frames}
 use Rattle.frames.specs.Placed.{placed_bit}
 use Rattle.layers.specs.declared.nested.Ask.{Ask}
@@ -17,6 +20,19 @@ use Rattle.layers.specs.laws.Nested.{asks_fit}
 use Rattle.layers.specs.laws.Flat.{part_leaves, index_there, behind_there, front_there}
 use Rattle.layers.specs.laws.InPlace.{part_holds, asked_next, asked_memory, pushed_next, pushed_chosen, pushed_memory}
 use Rattle.layers.specs.laws.Over.{LayerOver}
+
+-- an operation that has ended leaves what stood in front of it
+own_left : {P : Type 0} (frames : P → List Frame) (next : Next P) (front : List Frame) (given : Option Outcome) (left : List Frame) → given ≡ ended next
+    → left ≡ front ++ left_frames frames next → IfSome given (λ _. left ≡ front)
+own_left frames (Pending p) front given left is leaves = subst (λ g. IfSome g (λ _. left ≡ front)) (sym is) tt
+own_left frames (Done o) front given left is leaves = subst (λ g. IfSome g (λ _. left ≡ front)) (sym is) (leaves ∙ append-nil front)
+
+-- behind a layer's own frame the stack is no shorter than in front of it
+pub behind_long : (stack rest behind_own left : List Frame) (frame : Frame) (first : ℕ) → behind_own ≡ stack ++ frame ∷ [] → length stack ≡ first → left ≡ behind_own ++ rest → first ≤ length left
+behind_long stack rest behind_own left frame first owns long leaves =
+    let whole = ap length leaves in
+    let own = ap length owns in
+    omega (arith, long, whole, own, length-append behind_own rest, length-append stack (frame ∷ []))
 
 -- `a` is what the task asks, and `q` where the part lies
 module _ {Task P : Type 0} (l : LayerOver Task P) (at : Place) (m : Memory) (lies : LayerLies l.table l.below l.Holds at m)
@@ -86,3 +102,12 @@ module _ {Task P : Type 0} (l : LayerOver Task P) (at : Place) (m : Memory) (lie
               ∙ pushed_memory l at m lies a.part p choice a.who a.op lt part_stands.reached
               ∙ ap (λ x. with_part at (pushed b x.part p choice here).memory m) e;
         }
+
+    -- and where it has ended, the layer's own frame is the last one
+    pub part_ended : (given : Option Outcome) (left : List Frame) (after : Memory)
+        → (StandsOn l.below.frames l.Reaches a.who (first + 1) stack a.op p
+        → Lands l.below.frames q (l.below.goes p choice (part q l.below.size m)).next (l.below.goes p choice (part q l.below.size m)).memory (take (first + 1) stack) m given left after)
+        → IfSome given (λ _. left ≡ take (first + 1) stack)
+    part_ended given left after lands_there =
+        let lands = lands_there part_stands in
+        own_left l.below.frames (l.below.goes p choice (part q l.below.size m)).next (take (first + 1) stack) given left lands.answer lands.stack

@@ -1,6 +1,7 @@
 -- A layer that runs on a flat stack, from one part to the next.
-use Rattle.std.proofs.Common.{◌≡◌, ℕ, Bool, ◌+◌, ◌≤◌, List, ◌∷◌, ◌++◌, arith, Option, Some, None, refl, sym, ap, subst, ◌∙◌, append-nil}
-use Rattle.std.specs.Prelude.{⊤, length, drop, take}
+use Rattle.std.proofs.Common.{◌≡◌, ℕ, Bool, ◌+◌, ◌≤◌, List, ◌∷◌, ◌++◌, arith, Option, Some, None, refl, sym, ap, subst, ◌∙◌, append-nil, length-take}
+use Rattle.std.specs.Prelude.{⊤, ◌<◌, [], length, drop, take}
+use Rattle.std.proofs.lemmas.List.{drop-take}
 use Rattle.safe_bit.specs.declared.Place.{Place}
 use Rattle.safe_bit.specs.Memory.{Memory}
 use Rattle.safe_bit.specs.Parts.{with_part}
@@ -21,8 +22,8 @@ use Rattle.layers.specs.Nested.{Program, Table, layer_size, own_words, asked, pu
 use Rattle.layers.specs.Sound.{IsSound, IsNotSpent, IsSpent, LayerHolds, LayerReaches}
 use Rattle.layers.specs.Settled.{settled, ContinuationStands, run_on, follow_on}
 use Rattle.layers.specs.InPlace.{own, LayerLies}
-use Rattle.layers.specs.Flat.{task_frames}
-use Rattle.layers.specs.laws.Flat.{parts_there}
+use Rattle.layers.specs.Flat.{task_frames, cut_where_ended}
+use Rattle.layers.specs.laws.Flat.{parts_there, index_there}
 use Rattle.layers.specs.laws.InPlace.{own_with}
 use Rattle.layers.specs.laws.Settled.{settled_stands, settled_holds, settled_in_place, advance_settled}
 use Rattle.layers.specs.laws.Nested.{rest_sound}
@@ -234,6 +235,19 @@ module _ {Task P : Type 0} (l : LayerOver Task P) (at : Place) (m : Memory) (lie
   in_task : (o : Op) (n : Nested Task P) → StandsAt o n → task ≡ n.task
   in_task o n on = finds ∙ found_task l who first stack frame found o n on
 
+  -- where the part has ended, the layer's own frame stands there still, and tells the same task
+  pub stands_still : (left : List Frame) → left ≡ take (first + 1) stack → first < length left
+  stands_still left is =
+      let there = index_there first stack (drop (first + 1) stack) frame found in
+      let long = ap length is in
+      omega (arith, there, long, length-take (first + 1) stack)
+
+  pub found_again : (left : List Frame) → left ≡ take (first + 1) stack → (last : Frame) → drop first left ≡ last ∷ drop (first + 1) left
+      → (again : Task) → again ≡ l.table.find who last → again ≡ task
+  found_again left is last there again e =
+      let own : drop first left ≡ frame ∷ [] = ap (drop first) is ∙ drop-take first 1 stack ∙ ap (take 1) found in
+      e ∙ ap (l.table.find who) (parts_there first left [] frame last own there).0 ∙ sym finds
+
   pub stands_at : (o : Op) (n : Nested Task P) → StandsAt o n → StandsAt o (record { task = task; below = n.below })
   stands_at o n on = subst (λ x. StandsAt o (record { task = x; below = n.below })) (sym (in_task o n on)) on
 
@@ -242,9 +256,14 @@ module _ {Task P : Type 0} (l : LayerOver Task P) (at : Place) (m : Memory) (lie
   chooses chosen e o n on =
       e o n.below (stands_at o n on) ∙ ap (λ x. placed_bit at (pushed l.below (l.table.asks x).part n.below choice (own l.table l.below at m)).chosen) (in_task o n on)
 
-  module _ (end : Option Outcome) (left : List Frame) (m1 : Memory)
-      (pushes : (o : Op) (p : P) → StandsAt o (record { task = task; below = p }) → Lands (task_frames l.table l.below task) at (moved p).next (moved p).memory (take first stack) m end left m1)
+  module _ (end : Option Outcome) (still : List Frame) (m1 : Memory)
+      (pushes : (o : Op) (p : P) → StandsAt o (record { task = task; below = p })
+      → Lands (task_frames l.table l.below task) at (moved p).next (moved p).memory (take first stack) m end (cut_where_ended first end still) m1)
       (o : Op) (n : Nested Task P) (on : StandsAt o n) where
+    -- the stack without the frames of a part that has ended
+    abbrev left : List Frame
+    left = cut_where_ended first end still
+
     lands : Lands (task_frames l.table l.below task) at (moved n.below).next (moved n.below).memory (take first stack) m end left m1
     lands = pushes o n.below (stands_at o n on)
 
@@ -258,11 +277,13 @@ module _ {Task P : Type 0} (l : LayerOver Task P) (at : Place) (m : Memory) (lie
 
     -- a part that waits
     pub waits : end ≡ None → Lands (layered l.table l.below).frames at (resume l.table l.below n choice (own l.table l.below at m)).next (resume l.table l.below n choice (own l.table l.below at m)).memory
-        (take first stack) m end left m1
+        (take first stack) m end still m1
     waits none =
-        for_task (take first stack) end left m1
+        for_task (take first stack) end still m1
+        (subst (λ s. Lands (layered l.table l.below).frames at (follow_on l.table l.below task (moved n.below).next (moved n.below).memory).next
+        (follow_on l.table l.below task (moved n.below).next (moved n.below).memory).memory (take first stack) m end s m1) (ap (λ e. cut_where_ended first e still) none)
         (stops_there l at task (moved n.below).next (moved n.below).memory end (take first stack) left m m1 lands (subst Stops (sym none) tt)
-        (follow_on l.table l.below task (moved n.below).next (moved n.below).memory) refl)
+        (follow_on l.table l.below task (moved n.below).next (moved n.below).memory) refl))
 
     module _ (outcome : Outcome) (is : end ≡ Some outcome) where
       pushed_well : LayerHolds l.table l.below l.Holds (moved n.below).memory
@@ -275,7 +296,7 @@ module _ {Task P : Type 0} (l : LayerOver Task P) (at : Place) (m : Memory) (lie
       pub ended_lies : LayerLies l.table l.below l.Holds at m1
       ended_lies = lies_after l at m lies (moved n.below).memory m1 lands.memory pushed_well
 
-      pub ended_stands : l.Stands who o task × Answers l.below.values (l.table.asks task).op outcome
+      ended_stands : l.Stands who o task × Answers l.below.values (l.table.asks task).op outcome
       ended_stands =
           let there = stands_at o n on in (
             there.reached.stands,
@@ -283,18 +304,26 @@ module _ {Task P : Type 0} (l : LayerOver Task P) (at : Place) (m : Memory) (lie
                 (push_stands l who o task n.below choice (own l.table l.below at m) lies.holds there.reached.stands there.reached.below),
           )
 
-      pub ended_left : left ≡ take first stack
-      ended_left = ended_leaves (task_frames l.table l.below task) (moved n.below).next end outcome (take first stack) left lands.answer is lands.stack
+      ended_left : take first still ≡ take first stack
+      ended_left =
+          sym (ap (λ e. cut_where_ended first e still) is)
+          ∙ ended_leaves (task_frames l.table l.below task) (moved n.below).next end outcome (take first stack) left lands.answer is lands.stack
+
+      -- the same for the task that is found again
+      pub again_stands : (back : Task) → back ≡ task → l.Stands who o back × Answers l.below.values (l.table.asks back).op outcome
+      again_stands back same = subst (λ t. l.Stands who o t × Answers l.below.values (l.table.asks t).op outcome) (sym same) ended_stands
 
       -- and the program runs on behind it
-      pub ended_goes_on : (given : Option Outcome) (after : List Frame) (m2 : Memory)
-          → Lands (layered l.table l.below).frames at (follow_on l.table l.below task (Done outcome) (own l.table l.below at m1)).next (follow_on l.table l.below task (Done outcome) (own l.table l.below at m1)).memory left m1 given after m2
+      pub ended_goes_on : (back : Task) → back ≡ task → (front : List Frame) → front ≡ take first still → (given : Option Outcome) (after : List Frame) (m2 : Memory)
+          → Lands (layered l.table l.below).frames at (follow_on l.table l.below back (Done outcome) (own l.table l.below at m1)).next (follow_on l.table l.below back (Done outcome) (own l.table l.below at m1)).memory front m1 given after m2
           → Lands (layered l.table l.below).frames at (resume l.table l.below n choice (own l.table l.below at m)).next (resume l.table l.below n choice (own l.table l.below at m)).memory (take first stack) m given after m2
-      ended_goes_on given after m2 it =
+      ended_goes_on back same front cut given after m2 it =
+          let it_there = subst (λ t. Lands (layered l.table l.below).frames at (follow_on l.table l.below t (Done outcome) (own l.table l.below at m1)).next
+          (follow_on l.table l.below t (Done outcome) (own l.table l.below at m1)).memory front m1 given after m2) same it in
           let here : own l.table l.below at m1 ≡ (moved n.below).memory = ap (own l.table l.below at) lands.memory ∙ own_with l at m lies (moved n.below).memory pushed_well in
           let late = (follow_well l who o task (Done outcome) (own l.table l.below at m1) ended_lies.holds ended_stands.0 ended_stands.1).holds in
           for_task (take first stack) given after m2
           (again l at m lies (moved n.below).memory m1 lands.memory pushed_well (follow_on l.table l.below task (Done outcome) (own l.table l.below at m1))
           (follow_on l.table l.below task (moved n.below).next (moved n.below).memory) (λ i. follow_on l.table l.below task (sym ended_so i) (here i)) late (take first stack) given after m2
           (subst (λ s. Lands (layered l.table l.below).frames at (follow_on l.table l.below task (Done outcome) (own l.table l.below at m1)).next
-          (follow_on l.table l.below task (Done outcome) (own l.table l.below at m1)).memory s m1 given after m2) ended_left it))
+          (follow_on l.table l.below task (Done outcome) (own l.table l.below at m1)).memory s m1 given after m2) (cut ∙ ended_left) it_there))

@@ -1,6 +1,6 @@
 //! How a layer runs where it lies: each call runs the layer's program, part by part.
 
-ghost use Rattle.std.specs.Prelude.{◌≡◌, ℕ, ◌++◌, ◌<◌, ◌≤◌, ◌+◌, true, false, Option, length, take, drop};
+ghost use Rattle.std.specs.Prelude.{◌≡◌, ℕ, ◌++◌, ◌<◌, ◌≤◌, ◌+◌, true, false, Option, IfSome, length, take, drop};
 ghost use Rattle.safe_bit.specs.Parts.{behind, with_part, IsPlaced, LiesIn};
 ghost use Rattle.safe_bit.specs.Windows.{splice};
 ghost use Rattle.frames.specs.declared.types.Op.{Op};
@@ -107,7 +107,7 @@ impl<L: Construction, S: Register> Layered<L, S> {
     }
 
     /// A layer that lies in a store can be numbered there.
-    #[inline(always)]
+    #[inline]
     pub(crate) fn placed(&self, store: &Store, at: Place)
         requires inside { LiesIn at (behaviour self.now).size store.now }
         ensures { IsPlaced at (behaviour self.now).size }
@@ -116,7 +116,7 @@ impl<L: Construction, S: Register> Layered<L, S> {
     }
 
     /// What lies in a store and holds is a layer that lies there.
-    #[inline(always)]
+    #[inline]
     pub(crate) fn lies(&self, store: &Store, at: Place)
         requires inside { LiesIn at (behaviour self.now).size store.now }
         requires holds { Holds self.now (S.Holds self.now.below)
@@ -127,7 +127,7 @@ impl<L: Construction, S: Register> Layered<L, S> {
     }
 
     /// Where part `part` of a layer lies.
-    #[inline(always)]
+    #[inline]
     pub(crate) fn part_place(&self, at: Place, part: u32) -> Place
         requires placed { IsPlaced at (behaviour self.now).size }
         requires part { part < (table_of self.now).parts }
@@ -141,7 +141,7 @@ impl<L: Construction, S: Register> Layered<L, S> {
     }
 
     /// The place of the layer's own words.
-    #[inline(always)]
+    #[inline]
     pub(crate) fn words_at(&self, at: Place) -> u32
         requires placed { IsPlaced at (behaviour self.now).size }
         ensures { result ≡ at.word + own_words self.now }
@@ -175,7 +175,7 @@ impl<L: Construction, S: Register> Layered<L, S> {
     }
 
     /// A task's part makes its next bit action, on the frames behind the layer's own, which is the one
-    /// at index `first`.
+    /// at index `first` and is still there where the part has ended.
     #[inline(always)]
     pub(crate) fn push(
         &self,
@@ -194,7 +194,8 @@ impl<L: Construction, S: Register> Layered<L, S> {
             (L.Stands self.now.layer) (S.Reaches self.now.below) who first stack.old op task p
             → (let moved = moved_part self.now task p choice (own_memory self.now at store.old) in
             Lands (task_frames self.now task) at moved.next moved.memory (take first stack.old)
-            store.old result.end stack.new store.new) }
+            store.old result.end (cut_where_ended first result.end stack.new) store.new) }
+        ensures own { IfSome result.end (λ _. stack.new ≡ take (first + 1) stack.old) }
         ensures chosen { (who : ℕ) (op : Op) (p : S.Pending) → StandsIn self.now
             (L.Stands self.now.layer) (S.Reaches self.now.below) who first stack.old op task p
             → (let moved = moved_part self.now task p choice (own_memory self.now at store.old) in
@@ -202,11 +203,8 @@ impl<L: Construction, S: Register> Layered<L, S> {
     {
         let ask = self.layer.asks(task);
         let place = self.part_place(at, ask.part);
-        let progress = self
-            .below
-            .go_on(store, place, ask.who, stack, first + 1, choice);
-        close(stack, first, progress.end);
-        progress
+        self.below
+            .go_on(store, place, ask.who, stack, first + 1, choice)
     }
 
     /// An operation's program up to its first task or its end.
@@ -230,7 +228,7 @@ impl<L: Construction, S: Register> Layered<L, S> {
     }
 
     /// The program behind a task that ended so, up to the next task or the end.
-    #[inline(always)]
+    #[inline]
     fn after(
         &self,
         store: &mut Store,
@@ -310,17 +308,18 @@ impl<L: Construction, S: Register> Layered<L, S> {
 }
 
 /// Where a part's operation has ended, the frames from index `first` on go.
-#[inline(always)]
+#[inline]
 fn close(stack: &mut FlatStack, first: usize, end: Option<Outcome>)
+    requires { first ≤ length stack.old }
     ensures { stack.new ≡ cut_where_ended first end stack.old }
 {
     if end.is_some() {
-        stack.cut(first);
+        stack.leave(first);
     }
 }
 
 /// Whether an end is that of a spent part, behind which no program goes on.
-#[inline(always)]
+#[inline]
 fn is_spent(outcome: Outcome) -> bool
     ensures goes_on { result ≡ false → IsNotSpent outcome }
     ensures ends { result ≡ true → IsSpent outcome }

@@ -144,7 +144,10 @@ impl<L: Construction, S: Register> Register for Layered<L, S> {
         let Some(outcome) = progress.end else {
             return progress;
         };
-        let end = self.follow(store, at, task, outcome, stack);
+        // found once more, so that while the part goes on no task is kept for what comes behind it
+        let ended = self.layer.find(who, stack.frame(first));
+        stack.leave(first);
+        let end = self.follow(store, at, ended, outcome, stack);
         Progress {
             end,
             chosen: progress.chosen,

@@ -280,17 +280,14 @@ impl Construction for MatrixRules {
     }
 
     fn asks(&self, task: MatrixTask) -> Ask {
-        match task {
-            MatrixTask::Column { who, j, .. } => Ask {
-                part: j * self.n + who,
-                who: 1,
-                op: Op::Read,
-            },
-            MatrixTask::Row { who, j, code, .. } => Ask {
-                part: who * self.n + j,
-                who: 0,
-                op: Op::Write(code),
-            },
+        let (row, column, who, op) = match task {
+            MatrixTask::Column { who, j, .. } => (j, who, 1, Op::Read),
+            MatrixTask::Row { who, j, code, .. } => (who, j, 0, Op::Write(code)),
+        };
+        Ask {
+            part: row * self.n + column,
+            who,
+            op,
         }
     }
 

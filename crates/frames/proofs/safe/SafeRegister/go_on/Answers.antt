@@ -28,7 +28,7 @@ returns-in-WriteEnd-clause-lands c =
     let there = ends_there c.args.at c.args.store.now c.args._who c.args.first c.args.stack.now c.args.choice c.frame-frame.result (at.WriteEnd c.in-WriteEnd.field-0)
     c.frame-frame.ensures (sym c.in-WriteEnd.is ∙ c.point_of.ensures) Written c.end_write.new.self refl
     (c.end_write.ensures ∙ on_own_cell c.args.at end_write c.args.store.now c.requires.inside) in
-    rw c.cut.ensures there
+    rw c.leave.ensures there
 
 pub returns-in-ReadStart-clause-lands : goal.returns-in-ReadStart-clause-lands
 returns-in-ReadStart-clause-lands c =
@@ -50,12 +50,12 @@ read_ended place m who first stack choice frame found is gave value m' told byte
 
 pub returns-then-hit-clause-lands : goal.returns-then-hit-clause-lands
 returns-then-hit-clause-lands c =
-    rw c.cut-in-ReadEnd.ensures
+    rw c.leave-in-ReadEnd.ensures
     (read_ended c.args.at c.args.store.now c.args._who c.args.first c.args.stack.now c.args.choice c.frame-frame.result c.frame-frame.ensures (sym c.in-ReadEnd.is ∙ c.point_of.ensures)
     c.end_read-value.result c.from.result c.end_read-value.new.self c.end_read-value.ensures.value c.from.ensures c.end_read-value.ensures.after c.requires.inside)
 
 pub returns-else-hit-clause-lands : goal.returns-else-hit-clause-lands
 returns-else-hit-clause-lands c =
-    rw c.cut-in-ReadEnd.ensures
+    rw c.leave-in-ReadEnd.ensures
     (read_ended c.args.at c.args.store.now c.args._who c.args.first c.args.stack.now c.args.choice c.frame-frame.result c.frame-frame.ensures (sym c.in-ReadEnd.is ∙ c.point_of.ensures)
     c.end_read-value.result c.from.result c.end_read-value.new.self c.end_read-value.ensures.value c.from.ensures c.end_read-value.ensures.after c.requires.inside)

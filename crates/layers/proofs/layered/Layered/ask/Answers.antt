@@ -1,6 +1,6 @@
 use Rattle.std.proofs.Common.{[], ◌∷◌, ◌++◌, sym, ap, ◌∙◌}
 use Rattle.layers.specs.laws.Over.{over}
-use Rattle.layers.proofs.PartSteps.{part_keeps, part_asked}
+use Rattle.layers.proofs.PartSteps.{part_keeps, part_asked, behind_long}
 use Rattle.layers.proofs.layered.Layered.ask.Goals as goal
 
 pub begin_on-end-requires-clause-holds : goal.begin_on-end-requires-clause-holds
@@ -16,3 +16,8 @@ returns g c =
     part_asked l c.args.at c.args.store.now c.requires.lies c.args.task c.asks-ask.result c.asks-ask.ensures c.part_place-place.result c.part_place-place.ensures c.requires.stands.0 c.requires.stands.1.0 c.requires.stands.1.1
     c.args.stack.now c.push.new.self c.begin_on-end.new.stack c.close.new.stack c.len-first.result c.begin_on-end.result c.begin_on-end.new.store
     (c.push.ensures ∙ ap (λ f. c.args.stack.now ++ f ∷ []) c.frame.ensures) (sym c.len-first.ensures) c.begin_on-end.ensures c.close.ensures
+
+pub close-requires : goal.close-requires
+close-requires g c =
+    behind_long c.args.stack.now _ c.push.new.self c.begin_on-end.new.stack _ c.len-first.result
+    (c.push.ensures ∙ ap (λ f. c.args.stack.now ++ f ∷ []) c.frame.ensures) (sym c.len-first.ensures) c.begin_on-end.ensures.stack
