@@ -5,12 +5,39 @@ ghost use Rattle.std.specs.Prelude.{◌≡◌};
 use command_line::options::Options;
 use tower_file::BenchFile;
 
-/// A tower and its branches, the limits, and whether what is left of the branches is told.
+/// A tower and its branches, the limits, whether what is left of the branches is told, and whether
+/// the process ends behind the run, so that its memory needn't be given back.
 #[derive(Drop)]
 pub struct Setup {
     pub bench: BenchFile,
     pub options: Options,
     pub keeps: bool,
+    pub is_last: bool,
+}
+
+impl Setup {
+    /// What a run is opened with of which nothing that is left is told, and behind which its process goes on.
+    pub(crate) fn new(bench: BenchFile, options: Options) -> Setup
+        ensures bench { result.bench ≡ bench }
+        ensures options { result.options ≡ options }
+    {
+        Setup {
+            bench,
+            options,
+            keeps: false,
+            is_last: false,
+        }
+    }
+
+    /// The same for a run behind which its process ends.
+    pub(crate) fn last(bench: BenchFile, options: Options) -> Setup
+        ensures bench { result.bench ≡ bench }
+        ensures options { result.options ≡ options }
+    {
+        let mut setup = Setup::new(bench, options);
+        setup.is_last = true;
+        setup
+    }
 }
 
 /// A tower's register and its initial value, with all else that a desk is opened with.

@@ -24,6 +24,7 @@ use frames::register::{Behaves, Register};
 use frames::safe::Safe;
 use std::alloc::{AllocError, Global};
 use std::io::{Read, Write};
+use std::mem::forget;
 use std::sync::Wait;
 use std::thread::Threads;
 use tower_file::{BenchFile, TowerSpec, print_bench};
@@ -52,32 +53,28 @@ pub fn run<H: Threads + Wait + Sync, R: Read, W: Write>(
         (R.remaining reader.old) (R.remaining reader.new)
         (W.contents writer.old) (W.contents writer.new)) }
 {
-    let bench = open_file(alloc, file)?;
-    run_bench(rt, alloc, bench, options, reader, writer)
+    let setup = Setup::new(open_file(alloc, file)?, options);
+    run_bench(rt, alloc, setup, reader, writer)
 }
 
 /// Answers a script on a tower and its branches, which are let go before anything is read.
 pub(crate) fn run_bench<H: Threads + Wait + Sync, R: Read, W: Write>(
     rt: &H,
     alloc: Global,
-    bench: BenchFile,
-    options: Options,
+    setup: Setup,
     reader: &mut R,
     writer: &mut W,
 ) -> Result<(), Fault>
-    requires limits { AreLimits options }
-    ensures done { OnOk result (IsDone (limits_of options) bench
+    requires limits { AreLimits setup.options }
+    ensures done { OnOk result (IsDone (limits_of setup.options) setup.bench
         (R.remaining reader.old) (R.remaining reader.new)
         (W.contents writer.old) (W.contents writer.new)) }
-    ensures fault { IfErr result (FailsOver false (limits_of options) bench
+    ensures fault { IfErr result (FailsOver false (limits_of setup.options) setup.bench
         (R.remaining reader.old) (R.remaining reader.new)
         (W.contents writer.old) (W.contents writer.new)) }
 {
-    let setup = Setup {
-        bench,
-        options,
-        keeps: false,
-    };
+    let mut setup = setup;
+    setup.keeps = false;
     run_setup(rt, alloc, setup, reader, writer)?;
     Ok(())
 }
@@ -86,24 +83,21 @@ pub(crate) fn run_bench<H: Threads + Wait + Sync, R: Read, W: Write>(
 pub(crate) fn run_leaving<H: Threads + Wait + Sync, R: Read, W: Write>(
     rt: &H,
     alloc: Global,
-    bench: BenchFile,
-    options: Options,
+    setup: Setup,
     reader: &mut R,
     writer: &mut W,
 ) -> Result<Vec<u8>, Fault>
-    requires limits { AreLimits options }
-    ensures done { IfOk result (λ bytes. (left : Bench) × IsLeft (limits_of options) bench left
+    requires limits { AreLimits setup.options }
+    ensures done { IfOk result (λ bytes. (left : Bench)
+        × IsLeft (limits_of setup.options) setup.bench left
         (R.remaining reader.old) (R.remaining reader.new)
         (W.contents writer.old) (W.contents writer.new) × SpellsBench bytes.items left) }
-    ensures fault { IfErr result (FailsOver true (limits_of options) bench
+    ensures fault { IfErr result (FailsOver true (limits_of setup.options) setup.bench
         (R.remaining reader.old) (R.remaining reader.new)
         (W.contents writer.old) (W.contents writer.new)) }
 {
-    let setup = Setup {
-        bench,
-        options,
-        keeps: true,
-    };
+    let mut setup = setup;
+    setup.keeps = true;
     let Some(left) = run_setup(rt, alloc, setup, reader, writer)? else {
         unreachable!();
     };
@@ -224,15 +218,28 @@ where
         (W.contents writer.old) (W.contents writer.new) result }
 {
     let keeps = opening.setup.keeps;
+    let is_last = opening.setup.is_last;
     let tower = opening.setup.bench.spec();
     let mut seat = Seat::open(rt, alloc, opening)?;
     answer_all(alloc, &mut seat, reader, writer)?;
     if !keeps {
+        leave(seat, is_last);
         return Ok(None);
     }
     match left_at(alloc, &mut seat, tower) {
-        Ok(left) => Ok(Some(left)),
+        Ok(left) => {
+            leave(seat, is_last);
+            Ok(Some(left))
+        }
         Err(AllocError) => Err(Fault::Memory),
+    }
+}
+
+/// Leaves a seat. Behind a last run nothing that its desk holds is given back, piece by piece: the
+/// system takes it all as the process ends.
+fn leave<B: Register, H>(seat: Seat<'_, B, H>, is_last: bool) {
+    if is_last {
+        forget(seat);
     }
 }
 

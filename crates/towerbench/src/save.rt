@@ -9,6 +9,7 @@ ghost use Rattle.towerbench.specs.Opening.{RanSaving, SavesInto};
 
 use crate::bench_source::open_file;
 use crate::fault::Fault;
+use crate::opening::Setup;
 use crate::run::run_leaving;
 use command_line::options::Options;
 use conversation::streams::write_whole;
@@ -42,8 +43,8 @@ pub fn run_saving<H: AllocGlobal + Threads + Wait + Sync, R: Read, W: Write, S: 
         (S.contents saver.old) (S.contents saver.new)) }
 {
     let alloc = rt.alloc();
-    let bench = open_file(alloc, file)?;
-    let bytes = run_leaving(rt, alloc, bench, options, reader, writer)?;
+    let setup = Setup::new(open_file(alloc, file)?, options);
+    let bytes = run_leaving(rt, alloc, setup, reader, writer)?;
     save(saver, &bytes)
 }
 

@@ -12,6 +12,7 @@ ghost use Rattle.towerbench.specs.Endings.{IsLacking, IsPrinted, IsRead, EndsBy,
 use crate::bench_source::open_file;
 use crate::ending::Ending;
 use crate::fault::{Fault, ProgramFault};
+use crate::opening::Setup;
 use crate::run::{run_bench, run_leaving};
 use crate::save::save_at;
 use crate::tower_source::read_file;
@@ -26,7 +27,8 @@ use std::thread::Threads;
 use tower_file::BenchFile;
 
 /// Does the program's work, and answers its exit status: 0 at the end of the script or after the
-/// help, 1 after a fault, 2 where the words are refused.
+/// help, 1 after a fault, 2 where the words are refused. It is the last that a process does: behind a
+/// script that ended well it leaves the branches' memory to the end of the process.
 pub fn tool<F: Files + AllocGlobal + Threads + Wait + Sync, R: Read, W: Write, E: Write>(
     files: &F,
     words: io::Result<Vec<String>>,
@@ -108,14 +110,14 @@ fn work<F: Files + AllocGlobal + Threads + Wait + Sync, R: Read, W: Write>(
         (R.remaining reader.old) (R.remaining reader.new)
         (W.contents writer.old) (W.contents writer.new) result }
 {
-    let bench = match bench_at(files, file) {
-        Ok(bench) => bench,
+    let setup = match bench_at(files, file) {
+        Ok(bench) => Setup::last(bench, options),
         Err(fault) => return Ending::Faulted(fault),
     };
     let Some(path) = save else {
-        return ending_of(run_bench(files, files.alloc(), bench, options, reader, writer));
+        return ending_of(run_bench(files, files.alloc(), setup, reader, writer));
     };
-    match run_leaving(files, files.alloc(), bench, options, reader, writer) {
+    match run_leaving(files, files.alloc(), setup, reader, writer) {
         Ok(bytes) => ending_of(save_at(files, path, &bytes)),
         Err(fault) => ending_of(Err(fault)),
     }

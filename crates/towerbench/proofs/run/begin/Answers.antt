@@ -52,8 +52,8 @@ returns-in-Ok g c =
     left_at is o can (world_at is c.in_ok-seat.seat) c.in_ok-seat.ensures.opens _ _ _ _ c.in_ok-seat.ensures.room (world_at is c.answer_all.new.seat) c.in_ok-answer_all.ensures.done c.in-Ok.left
     (c.in-Ok.ensures ∙ ap (λ t. bench_of t (limbs (world_at is c.answer_all.new.seat).forest)) c.spec-tower.ensures.tower)
 
-pub returns : goal.returns
-returns g c =
+pub returns-in-Err : goal.returns-in-Err
+returns-in-Err g c =
     let is = g.B.Behaves.is in
     let o = c.args.opening in
     let can : CanOpen is o = record { value = c.requires.value; limits = c.requires.limits; builds = c.requires.builds } in
