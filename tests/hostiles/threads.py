@@ -16,6 +16,11 @@ BRANCHES = 6
 STEPS = 900
 CYCLE = ["w 0 1", "r 1"] + ["g 0 0", "g 1 1"] * 11
 TOWERS = ("safe 0", "regular 2 0", "matrix 2 2 1 3")
+# Behind a script that ends well the program leaves its desk's memory to the end of its process, so
+# that what is lost can't be told. Behind a fault it lets it go: so memcheck has it read a script that
+# is too long (`crates/conversation/src/limits.rt`), whose whole lines are answered first.
+MOST_BYTES = 1 << 24
+FAULTED = 1
 # A call that was refused: not what a history tells of an operation.
 REFUSED = re.compile(rb"^(?:line )?[0-9]+: refused ", re.MULTILINE)
 # The built tests of chairs, and those of them that are run, with the tools. Helgrind knows pthread's
@@ -62,8 +67,8 @@ def found(log):
     return None
 
 
-def checked(counts, name, tool, words, given, want, log):
-    """Runs a command under a tool, and holds it to its answers, if told, and to no error."""
+def checked(counts, name, tool, words, given, want, log, status=0):
+    """Runs a command under a tool, and holds it to its status, its answers, if told, and no error."""
     valgrind = ["valgrind", *TOOLS[tool], f"--log-file={log}"]
     how = {"stdout": subprocess.PIPE, "stderr": subprocess.PIPE, "timeout": UNDER_VALGRIND}
     try:
@@ -73,7 +78,7 @@ def checked(counts, name, tool, words, given, want, log):
         return
     with open(log, encoding="utf-8", errors="replace") as file:
         counts.told(f"{name}, {tool}: its errors", found(file.read()))
-    is_same = done.returncode == 0 and (want is None or done.stdout == want)
+    is_same = done.returncode == status and (want is None or done.stdout == want)
     told = f"status {done.returncode}, {shown(done.stdout)}"
     counts.told(f"{name}, {tool}: its answers", None if is_same else told)
 
@@ -85,9 +90,10 @@ def fills(counts, room):
         alone = ended([path], script())
         is_good = alone.status == 0 and not alone.errors and not REFUSED.search(alone.output)
         counts.told(f"{line}, by none", None if is_good else f"{alone}")
-        for tool in TOOLS:
-            words = [program(), path, "--workers", "4"]
-            checked(counts, line, tool, words, script(), alone.output, f"{room}/log")
+        words = [program(), path, "--workers", "4"]
+        too_long = script() + b"#" * MOST_BYTES
+        checked(counts, line, "memcheck", words, too_long, alone.output, f"{room}/log", FAULTED)
+        checked(counts, line, "helgrind", words, script(), alone.output, f"{room}/log")
     counts.end()
 
 
