@@ -1,15 +1,14 @@
 -- A configuration's stacks, before and after a step of one process.
-use Rattle.std.proofs.Common.{◌≡◌, ℕ, ◌<◌, List, [], length, get_or, set, Option, Some, None, option_map, refl, sym, ap, subst, ◌∙◌, inl, inr, arith, zero-add, zero, suc, true, false, replicate}
+use Rattle.std.proofs.Common.{◌≡◌, ℕ, ◌<◌, List, [], ◌∷◌, length, get_or, set, Option, Some, None, option_map, refl, sym, ap, subst, ◌∙◌, inl, inr, arith, zero-add, zero, suc, true, false, replicate}
 use Rattle.std.specs.Prelude.{Bool, ◌&&◌}
 use Rattle.std.specs.Bool.{Decides}
 use Rattle.std.specs.Cmp.Lexicographic.{pointwise}
-use mathlib.Core.Bool.{beq}
 use Rattle.std.proofs.lemmas.Bool.{cases_eq}
 use Rattle.std.proofs.lemmas.Bool.Decides.{Decides-and, Decides-at, Decides-like}
 use Rattle.std.proofs.lemmas.Slice.Eq.{slice_eq-Decides}
 use Rattle.std.proofs.lemmas.List.{get_or-set_same, get_or-set_other, get_or_default, same_lists}
 use Rattle.safe_bit.specs.laws.Equality.{memory_eq, memory_decides}
-use Rattle.frames.specs.Equality.{SameConfiguration, marks_decide}
+use Rattle.frames.specs.Equality.{SameConfiguration}
 use Rattle.safe_bit.specs.Memory.{Memory}
 use Rattle.safe_bit.specs.Parts.{origin}
 use Rattle.frames.specs.declared.types.Action.{Action}
@@ -17,23 +16,20 @@ use Rattle.frames.specs.Placed.{placed_action}
 use Rattle.frames.specs.declared.types.Op.{Op}
 use Rattle.frames.specs.declared.types.Frame.{Frame}
 use Rattle.frames.specs.declared.types.StepEvents.{StepEvents}
+use Rattle.frames.specs.declared.config.Parked.{Parked}
 use Rattle.frames.specs.declared.running.Running.{Running}
 use Rattle.frames.specs.Behaviour.{Behaviour, IsLawful}
-use Rattle.frames.specs.Configuration.{Configuration, Acted, initial_configuration, running_at, put_acted}
-use Rattle.frames.specs.Parked.{IsConfiguration, IsFlat}
+use Rattle.frames.specs.Configuration.{Acted, initial_configuration, running_at, put_acted}
+use Rattle.frames.specs.Parked.{IsConfiguration, IsFlat, idle, marks_of, shown, stacks_of}
 use Rattle.frames.specs.Flat.{FramesTell, Acts, IsReached, running_from, running_of, stack_of}
 use Rattle.frames.specs.laws.Steps.{initial_keeps, put_keeps}
-use Rattle.frames.specs.laws.Flat.{set_running, length_running, none_running, slot_point, stack_eq, stack_decides, tells_slot}
-
--- what lies in a configuration's fields
-abbrev pub shown : {R P : Type 0} → (ℕ → List Frame → Option P) → R → Memory → List (List Frame) → List Bool → Configuration R P
-shown find r m stacks stopped = record { register = r; memory = m; running = running_from find 0 stacks; stopped = stopped }
+use Rattle.frames.specs.laws.Flat.{set_running, length_running, none_running, slot_point, parked_eq, parked_decides, tells_slot}
 
 module _ {R P : Type 0} (b : Behaviour P) (Holds : Memory → Type 0) (Reaches : ℕ → Op → P → Type 0) (find : ℕ → List Frame → Option P)
     (lawful : IsLawful b Holds Reaches) (tell : FramesTell b Reaches find)
     (r : R) (m : Memory) (stacks : List (List Frame)) (stopped : List Bool) (was : IsFlat b Holds Reaches (shown find r m stacks stopped) stacks) where
   -- a process that is there has a stack
-  pub stack_there : (who : ℕ) → who < b.processes → who < length stacks
+  stack_there : (who : ℕ) → who < b.processes → who < length stacks
   stack_there who lt = let e = was.configuration.each in omega (arith, lt, e, length_running find 0 stacks)
 
   -- and on it the frames of what the process has pending
@@ -69,12 +65,26 @@ module _ {R P : Type 0} (b : Behaviour P) (Holds : Memory → Type 0) (Reaches :
 
 -- at first nobody has a frame
 module _ {R P : Type 0} (b : Behaviour P) (Holds : Memory → Type 0) (Reaches : ℕ → Op → P → Type 0) (find : ℕ → List Frame → Option P)
-    (lawful : IsLawful b Holds Reaches) (r : R) (v : ℕ) (lt : v < b.values) (m : Memory) (stacks : List (List Frame)) (stopped : List Bool)
-    (at_m : m ≡ b.initial v) (at_stacks : stacks ≡ replicate b.processes []) (at_stopped : stopped ≡ replicate b.processes false) where
-  first_running : running_from find 0 stacks ≡ replicate b.processes None
+    (lawful : IsLawful b Holds Reaches) (r : R) (v : ℕ) (lt : v < b.values) (m : Memory) (processes : List Parked)
+    (at_m : m ≡ b.initial v) (at_rest : processes ≡ replicate b.processes idle) where
+  idle_stacks : (n : ℕ) → stacks_of (replicate n idle) ≡ replicate n []
+  idle_stacks zero = refl
+  idle_stacks (suc n) = ap (λ l. [] ∷ l) (idle_stacks n)
+
+  idle_marks : (n : ℕ) → marks_of (replicate n idle) ≡ replicate n false
+  idle_marks zero = refl
+  idle_marks (suc n) = ap (λ l. false ∷ l) (idle_marks n)
+
+  at_stacks : stacks_of processes ≡ replicate b.processes []
+  at_stacks = ap stacks_of at_rest ∙ idle_stacks b.processes
+
+  at_stopped : marks_of processes ≡ replicate b.processes false
+  at_stopped = ap marks_of at_rest ∙ idle_marks b.processes
+
+  first_running : running_from find 0 (stacks_of processes) ≡ replicate b.processes None
   first_running = ap (running_from find 0) at_stacks ∙ none_running find 0 b.processes
 
-  pub first_shown : shown find r m stacks stopped ≡ initial_configuration b r v
+  pub first_shown : shown find r m (stacks_of processes) (marks_of processes) ≡ initial_configuration b r v
   first_shown = λ i. record { register = r; memory = at_m i; running = first_running i; stopped = at_stopped i }
 
   nobody : (n p : ℕ) → get_or (replicate n []) p [] ≡ stack_of b (get_or (replicate n None) p None)
@@ -82,9 +92,9 @@ module _ {R P : Type 0} (b : Behaviour P) (Holds : Memory → Type 0) (Reaches :
   nobody (suc n) zero = refl
   nobody (suc n) (suc p) = nobody n p
 
-  pub first_flat : IsFlat b Holds Reaches (shown find r m stacks stopped) stacks
+  pub first_flat : IsFlat b Holds Reaches (shown find r m (stacks_of processes) (marks_of processes)) (stacks_of processes)
   first_flat = record {
-    configuration = initial_keeps b Holds Reaches lawful r v m (running_from find 0 stacks) stopped lt at_m first_running at_stopped;
+    configuration = initial_keeps b Holds Reaches lawful r v m (running_from find 0 (stacks_of processes)) (marks_of processes) lt at_m first_running at_stopped;
     flat = λ p. ap (λ l. get_or l p []) at_stacks ∙ nobody b.processes p ∙ sym (ap (λ l. stack_of b (get_or l p None)) first_running);
   }
 
@@ -108,41 +118,63 @@ of_point (Some r) p f e = let same : r.point ≡ p = cc in ap (λ q. Some (f q))
 pub at_origin : (a : Action) → placed_action origin a ≡ a
 at_origin a = λ i. record a { cell = zero-add a.cell i }
 
--- configurations are equal where their stacks are
+-- processes are the same where their stacks and marks are
+same_parked : (xs ys : List Parked) → stacks_of xs ≡ stacks_of ys → marks_of xs ≡ marks_of ys → xs ≡ ys
+same_parked [] [] s t = refl
+same_parked [] (y ∷ ys) s t = cc
+same_parked (x ∷ xs) [] s t = cc
+same_parked (x ∷ xs) (y ∷ ys) s t =
+    let stack : x.stack ≡ y.stack = cc in
+    let stopped : x.stopped ≡ y.stopped = cc in
+    let stacks : stacks_of xs ≡ stacks_of ys = cc in
+    let marks : marks_of xs ≡ marks_of ys = cc in
+    let rest = same_parked xs ys stacks marks in
+    λ i. record { stack = stack i; stopped = stopped i } ∷ rest i
+
+-- stacks are the same where what is pending is
+module _ {R P : Type 0} (is : R → Behaviour P) (Holds : R → Memory → Type 0) (Reaches : R → ℕ → Op → P → Type 0) (find : R → ℕ → List Frame → Option P)
+    (r r' : R) (alike : is r ≡ is r') (m m' : Memory) (stacks stacks' : List (List Frame)) (stopped stopped' : List Bool)
+    (was : IsFlat (is r) (Holds r) (Reaches r) (shown (find r) r m stacks stopped) stacks) (was' : IsFlat (is r') (Holds r') (Reaches r') (shown (find r') r' m' stacks' stopped') stacks')
+    (s : running_from (find r) 0 stacks ≡ running_from (find r') 0 stacks') where
+  at_place : length stacks ≡ length stacks' → (k : ℕ) (x : List Frame) → k < length stacks → get_or stacks k x ≡ get_or stacks' k x
+  at_place as_many k x lt =
+      sym (get_or_default stacks k [] x lt) ∙ was.flat k ∙ (λ i. stack_of (alike i) (get_or (s i) k None)) ∙ sym (was'.flat k)
+      ∙ get_or_default stacks' k [] x (subst (λ n. k < n) as_many lt)
+
+  same_stacks : stacks ≡ stacks'
+  same_stacks =
+      let long : length (running_from (find r) 0 stacks) ≡ length (running_from (find r') 0 stacks') = ap length s in
+      let each = length_running (find r) 0 stacks in
+      let each' = length_running (find r') 0 stacks' in
+      let as_many : length stacks ≡ length stacks' = omega (arith, long, each, each') in
+      same_lists stacks stacks' as_many (λ k x lt. at_place as_many k x lt)
+
+-- configurations are equal where their processes are
 pub same_flat : {R P : Type 0} (is : R → Behaviour P) (Holds : R → Memory → Type 0) (Reaches : R → ℕ → Op → P → Type 0) (find : R → ℕ → List Frame → Option P)
     (E : R → R → Bool) (alike : (a b : R) → E a b ≡ true → is a ≡ is b) (finds_alike : (a b : R) → E a b ≡ true → find a ≡ find b)
-    (r r' : R) (m m' : Memory) (stacks stacks' : List (List Frame)) (stopped stopped' : List Bool)
-    → IsFlat (is r) (Holds r) (Reaches r) (shown (find r) r m stacks stopped) stacks → IsFlat (is r') (Holds r') (Reaches r') (shown (find r') r' m' stacks' stopped') stacks'
-    → Decides (E r r' && (memory_eq m m' && (pointwise stack_eq stacks stacks' && pointwise beq stopped stopped')))
-    (SameConfiguration E (shown (find r) r m stacks stopped) (shown (find r') r' m' stacks' stopped'))
-same_flat is Holds Reaches find E alike finds_alike r r' m m' stacks stacks' stopped stopped' was was' =
+    (r r' : R) (m m' : Memory) (ps ps' : List Parked)
+    → IsFlat (is r) (Holds r) (Reaches r) (shown (find r) r m (stacks_of ps) (marks_of ps)) (stacks_of ps)
+    → IsFlat (is r') (Holds r') (Reaches r') (shown (find r') r' m' (stacks_of ps') (marks_of ps')) (stacks_of ps')
+    → Decides (E r r' && (memory_eq m m' && pointwise parked_eq ps ps'))
+    (SameConfiguration E (shown (find r) r m (stacks_of ps) (marks_of ps)) (shown (find r') r' m' (stacks_of ps') (marks_of ps')))
+same_flat is Holds Reaches find E alike finds_alike r r' m m' ps ps' was was' =
     Decides-like _
-    (λ p. record { register = p.0; memory = p.1.0; running = λ i. running_from (finds_alike r r' p.0 i) 0 (p.1.1.0 i); stopped = p.1.1.1 })
-    (λ s. (s.register, (s.memory, (same_stacks s.register s.running, s.stopped))))
+    (λ p. record { register = p.0; memory = p.1.0; running = λ i. running_from (finds_alike r r' p.0 i) 0 (stacks_of (p.1.1 i)); stopped = ap marks_of p.1.1 })
+    (λ s. (s.register, (s.memory, same_parked ps ps' (stacks_from s) s.stopped)))
     (Decides-and (E r r') _ (λ h. h, λ h. h)
-    (Decides-and (memory_eq m m') _ (memory_decides m m')
-    (Decides-and (pointwise stack_eq stacks stacks') _ (slice_eq-Decides stack_decides stacks stacks' _ refl) (marks_decide stopped stopped'))))
+    (Decides-and (memory_eq m m') _ (memory_decides m m') (slice_eq-Decides parked_decides ps ps' _ refl)))
   where
-    at_place : E r r' ≡ true → running_from (find r) 0 stacks ≡ running_from (find r') 0 stacks' → length stacks ≡ length stacks'
-        → (k : ℕ) (x : List Frame) → k < length stacks → get_or stacks k x ≡ get_or stacks' k x
-    at_place e s as_many k x lt =
-        sym (get_or_default stacks k [] x lt) ∙ was.flat k ∙ (λ i. stack_of (alike r r' e i) (get_or (s i) k None)) ∙ sym (was'.flat k)
-        ∙ get_or_default stacks' k [] x (subst (λ n. k < n) as_many lt)
-
-    same_stacks : E r r' ≡ true → running_from (find r) 0 stacks ≡ running_from (find r') 0 stacks' → stacks ≡ stacks'
-    same_stacks e s =
-        let long : length (running_from (find r) 0 stacks) ≡ length (running_from (find r') 0 stacks') = ap length s in
-        let each = length_running (find r) 0 stacks in
-        let each' = length_running (find r') 0 stacks' in
-        let as_many : length stacks ≡ length stacks' = omega (arith, long, each, each') in
-        same_lists stacks stacks' as_many (λ k x lt. at_place e s as_many k x lt)
+    stacks_from : SameConfiguration E (shown (find r) r m (stacks_of ps) (marks_of ps)) (shown (find r') r' m' (stacks_of ps') (marks_of ps')) → stacks_of ps ≡ stacks_of ps'
+    stacks_from s =
+        same_stacks is Holds Reaches find r r' (alike r r' s.register) m m' (stacks_of ps) (stacks_of ps') (marks_of ps) (marks_of ps') was was' s.running
 
 -- a test that is theirs
 pub same_tested : {R P : Type 0} {is : R → Behaviour P} (Holds : R → Memory → Type 0) (Reaches : R → ℕ → Op → P → Type 0) {find : R → ℕ → List Frame → Option P}
     {E : R → R → Bool} (alike : (a b : R) → E a b ≡ true → is a ≡ is b) (finds_alike : (a b : R) → E a b ≡ true → find a ≡ find b)
-    {r r' : R} {m m' : Memory} {stacks stacks' : List (List Frame)} {stopped stopped' : List Bool}
-    → IsFlat (is r) (Holds r) (Reaches r) (shown (find r) r m stacks stopped) stacks → IsFlat (is r') (Holds r') (Reaches r') (shown (find r') r' m' stacks' stopped') stacks'
-    → (t : Bool) → t ≡ (E r r' && (memory_eq m m' && (pointwise stack_eq stacks stacks' && pointwise beq stopped stopped')))
-    → Decides t (SameConfiguration E (shown (find r) r m stacks stopped) (shown (find r') r' m' stacks' stopped'))
-same_tested {is = is} Holds Reaches {find = find} {E = E} alike finds_alike {r} {r'} {m} {m'} {stacks} {stacks'} {stopped} {stopped'} was was' t e =
-    Decides-at _ _ e (same_flat is Holds Reaches find E alike finds_alike r r' m m' stacks stacks' stopped stopped' was was')
+    {r r' : R} {m m' : Memory} (ps ps' : List Parked)
+    → IsFlat (is r) (Holds r) (Reaches r) (shown (find r) r m (stacks_of ps) (marks_of ps)) (stacks_of ps)
+    → IsFlat (is r') (Holds r') (Reaches r') (shown (find r') r' m' (stacks_of ps') (marks_of ps')) (stacks_of ps')
+    → (t : Bool) → t ≡ (E r r' && (memory_eq m m' && pointwise parked_eq ps ps'))
+    → Decides t (SameConfiguration E (shown (find r) r m (stacks_of ps) (marks_of ps)) (shown (find r') r' m' (stacks_of ps') (marks_of ps')))
+same_tested {is = is} Holds Reaches {find = find} {E = E} alike finds_alike {r} {r'} {m} {m'} ps ps' was was' t e =
+    Decides-at _ _ e (same_flat is Holds Reaches find E alike finds_alike r r' m m' ps ps' was was')

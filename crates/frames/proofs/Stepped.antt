@@ -1,43 +1,70 @@
 -- What a step of one process leaves of a configuration, by what was done on the process's stack.
-use Rattle.std.proofs.Common.{◌≡◌, ℕ, ◌<◌, Bool, true, List, length, get_or, set, Option}
+use Rattle.std.proofs.Common.{◌≡◌, ℕ, ◌<◌, Bool, true, false, List, get_or, set, Option, sym, ap, subst, ◌∙◌}
+use Rattle.std.proofs.Math.ListN.{get_or-map}
+use Rattle.std.proofs.Math.Seq.{map-set_same}
+use Rattle.std.proofs.lemmas.List.{get_or_default, map-set}
 use Rattle.safe_bit.specs.Memory.{Memory}
 use Rattle.frames.specs.declared.types.Op.{Op}
 use Rattle.frames.specs.declared.types.Frame.{Frame}
 use Rattle.frames.specs.declared.types.StepEvents.{StepEvents}
+use Rattle.frames.specs.declared.config.Parked.{Parked}
 use Rattle.frames.specs.declared.running.Running.{Running}
 use Rattle.frames.specs.Behaviour.{Behaviour, IsLawful}
-use Rattle.frames.specs.Configuration.{Acted, running_at, put_acted, going, invoking}
-use Rattle.frames.specs.Parked.{IsFlat}
+use Rattle.frames.specs.Configuration.{Acted, Configuration, running_at, put_acted, going, invoking}
+use Rattle.frames.specs.Parked.{IsFlat, marks_of, shown, stacks_of}
 use Rattle.frames.specs.Flat.{FramesTell, Acts, IsReached, stack_of}
 use Rattle.frames.specs.laws.Steps.{LeavesWell, going_well, invoking_well}
-use Rattle.frames.proofs.Stacks.{shown, stack_there, found_there, put_shown, put_flat}
+use Rattle.frames.proofs.Stacks.{found_there, put_shown, put_flat}
 
 module _ {R P : Type 0} {b : Behaviour P} {Holds : Memory → Type 0} {Reaches : ℕ → Op → P → Type 0} {find : ℕ → List Frame → Option P}
     (lawful : IsLawful b Holds Reaches) (tell : FramesTell b Reaches find)
-    {r : R} {m : Memory} {stacks : List (List Frame)} {stopped : List Bool} (was : IsFlat b Holds Reaches (shown find r m stacks stopped) stacks)
+    {r : R} {m : Memory} (ps : List Parked) (was : IsFlat b Holds Reaches (shown find r m (stacks_of ps) (marks_of ps)) (stacks_of ps))
     (who : ℕ) (lt : who < b.processes) where
-  abbrev slot : Option (Running P)
-  slot = running_at who (shown find r m stacks stopped)
+  abbrev before : Configuration R P
+  before = shown find r m (stacks_of ps) (marks_of ps)
 
-  pub there : who < length stacks
-  there = stack_there b Holds Reaches find lawful tell r m stacks stopped was who lt
+  abbrev slot : Option (Running P)
+  slot = running_at who before
 
   -- the step's events, and the configuration behind it
-  pub record Leaves (done : Acted P) (told : StepEvents) (stack : List Frame) (m' : Memory) : Type 0 where
+  pub record Leaves (done : Acted P) (told : StepEvents) (now : List Parked) (m' : Memory) : Type 0 where
     pub events : told ≡ done.events
-    pub flat : IsFlat b Holds Reaches (shown find r m' (set stacks who stack) stopped) (set stacks who stack)
-    pub after : shown find r m' (set stacks who stack) stopped ≡ put_acted who done (shown find r m stacks stopped)
+    pub flat : IsFlat b Holds Reaches (shown find r m' (stacks_of now) (marks_of now)) (stacks_of now)
+    pub after : shown find r m' (stacks_of now) (marks_of now) ≡ put_acted who done before
 
-  leaves : (done : Acted P) (told : StepEvents) (stack : List Frame) (m' : Memory) → Acts b done told stack m' → LeavesWell Holds Reaches who done → Leaves done told stack m'
-  leaves done told stack m' acts well = record {
-    events = acts.events;
-    flat = put_flat b Holds Reaches find lawful tell r m stacks stopped was who done told stack m' acts well.reached lt well.holds;
-    after = put_shown b Holds Reaches find lawful tell r m stacks stopped was who done told stack m' acts well.reached;
-  }
+  module _ (p : Parked) (is : p ≡ get_or ps who p) where
+    abbrev with_stack : List Frame → List Parked
+    with_stack stack = set ps who (record { stack = stack; stopped = p.stopped })
 
-  module _ (x : List Frame) (is : x ≡ get_or stacks who x) where
+    stacks_put : (stack : List Frame) → stacks_of (with_stack stack) ≡ set (stacks_of ps) who stack
+    stacks_put stack = map-set (λ x. x.stack) ps who (record { stack = stack; stopped = p.stopped })
+
+    marks_stay : (stack : List Frame) → marks_of (with_stack stack) ≡ marks_of ps
+    marks_stay stack = map-set_same (λ x. x.stopped) ps who (record { stack = stack; stopped = p.stopped }) p (ap (λ x. x.stopped) is)
+
+    leaves : (done : Acted P) (told : StepEvents) (stack : List Frame) (m' : Memory) → Acts b done told stack m' → LeavesWell Holds Reaches who done
+        → Leaves done told (with_stack stack) m'
+    leaves done told stack m' acts well = record {
+      events = acts.events;
+      flat = subst (λ k. IsFlat b Holds Reaches (shown find r m' (stacks_of (with_stack stack)) k) (stacks_of (with_stack stack))) (sym (marks_stay stack))
+          (subst (λ l. IsFlat b Holds Reaches (shown find r m' l (marks_of ps)) l) (sym (stacks_put stack))
+          (put_flat b Holds Reaches find lawful tell r m (stacks_of ps) (marks_of ps) was who done told stack m' acts well.reached lt well.holds));
+      after = (λ i. shown find r m' (stacks_put stack i) (marks_stay stack i))
+          ∙ put_shown b Holds Reaches find lawful tell r m (stacks_of ps) (marks_of ps) was who done told stack m' acts well.reached;
+    }
+
+    abbrev x : List Frame
+    x = p.stack
+
+    -- its mark
+    pub mark_there : get_or (marks_of ps) who false ≡ p.stopped
+    mark_there =
+        get_or_default (marks_of ps) who false p.stopped (subst (λ n. who < n) (sym was.configuration.each_mark) lt)
+        ∙ get_or-map (λ q. q.stopped) ps who p ∙ sym (ap (λ q. q.stopped) is)
+
     found : x ≡ stack_of b slot
-    found = found_there b Holds Reaches find lawful tell r m stacks stopped was who x lt is
+    found = found_there b Holds Reaches find lawful tell r m (stacks_of ps) (marks_of ps) was who x lt
+        (ap (λ q. q.stack) is ∙ sym (get_or-map (λ q. q.stack) ps who p))
 
     -- where the process stands
     pub stands : (s : Option (Running P)) × (IsReached Reaches who s × (x ≡ stack_of b s))
@@ -46,14 +73,14 @@ module _ {R P : Type 0} {b : Behaviour P} {Holds : Memory → Type 0} {Reaches :
     module _ (told : StepEvents) (stack : List Frame) (m' : Memory) where
       -- a step of what it has pending
       pub proceeds : (choice : Bool) → ((s : Option (Running P)) → IsReached Reaches who s → x ≡ stack_of b s → Acts b (going b who choice s m) told stack m')
-          → Leaves (going b who choice slot m) told stack m'
+          → Leaves (going b who choice slot m) told (with_stack stack) m'
       proceeds choice acts =
           leaves (going b who choice slot m) told stack m' (acts slot (was.configuration.reached who) found)
           (going_well b Holds Reaches lawful who choice slot m was.configuration.holds (was.configuration.reached who))
 
       -- or an invocation
       pub invokes : (o : Op) → b.suits who o ≡ true → ((s : Option (Running P)) → IsReached Reaches who s → x ≡ stack_of b s → Acts b (invoking b who o s m) told stack m')
-          → Leaves (invoking b who o slot m) told stack m'
+          → Leaves (invoking b who o slot m) told (with_stack stack) m'
       invokes o fits acts =
           leaves (invoking b who o slot m) told stack m' (acts slot (was.configuration.reached who) found)
           (invoking_well b Holds Reaches lawful who o slot m was.configuration.holds (was.configuration.reached who) fits)

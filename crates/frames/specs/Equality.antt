@@ -50,7 +50,7 @@ slots_decide : {P : Type 0} (F : P → P → Bool) → ((x y : P) → Decides (F
     → Decides (pointwise (option_eq (running_eq F)) a b) (a ≡ b)
 slots_decide F d a b = slice_eq-Decides (option_decides (running_decides F d)) a b _ refl
 
-pub marks_decide : (a b : List Bool) → Decides (pointwise beq a b) (a ≡ b)
+marks_decide : (a b : List Bool) → Decides (pointwise beq a b) (a ≡ b)
 marks_decide a b = slice_eq-Decides booleans_Decides a b _ refl
 
 pub configuration_per : {R P : Type 0} (E : R → R → Bool) (F : P → P → Bool) → IsPartialEquivalence E → ((x y : P) → Decides (F x y) (x ≡ y))

@@ -1,11 +1,27 @@
 -- What a configuration keeps.
-use Rattle.std.specs.Prelude.{◌≡◌, ℕ, List, [], length, slice_index_or, MatchOption, ⊤}
+use Rattle.std.specs.Prelude.{◌≡◌, ℕ, Bool, false, List, [], length, map, slice_index_or, Option, MatchOption, ⊤}
 use Rattle.safe_bit.specs.Memory.{Memory}
 use Rattle.frames.specs.declared.types.Op.{Op}
 use Rattle.frames.specs.declared.types.Frame.{Frame}
+use Rattle.frames.specs.declared.config.Parked.{Parked}
 use Rattle.frames.specs.Behaviour.{Behaviour}
 use Rattle.frames.specs.Configuration.{Configuration, running_at}
-use Rattle.frames.specs.Flat.{stack_of}
+use Rattle.frames.specs.Flat.{running_from, stack_of}
+
+-- a process that has nothing pending and hasn't stopped
+abbrev pub idle : Parked
+idle = record { stack = []; stopped = false }
+
+-- the stacks of processes, and their marks
+abbrev pub stacks_of : List Parked → List (List Frame)
+stacks_of = map (λ p. p.stack)
+
+abbrev pub marks_of : List Parked → List Bool
+marks_of = map (λ p. p.stopped)
+
+-- the configuration that a register, a memory, stacks and marks show; `find` is the point whose frames lie on a stack
+abbrev pub shown : {R P : Type 0} → (ℕ → List Frame → Option P) → R → Memory → List (List Frame) → List Bool → Configuration R P
+shown find r m stacks stopped = record { register = r; memory = m; running = running_from find 0 stacks; stopped = stopped }
 
 -- the register's memory holds, and each process stands at a point that it can reach, and is marked or not
 pub record IsConfiguration {R P : Type 0} (b : Behaviour P) (Holds : Memory → Type 0) (Reaches : ℕ → Op → P → Type 0) (c : Configuration R P) : Type 0 where

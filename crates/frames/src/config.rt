@@ -1,12 +1,12 @@
 //! Configurations of a register, and the steps of a schedule.
 
-ghost use Rattle.std.specs.Prelude.{◌≡◌, ℕ, ◌<◌, ◌+◌, Bool, true, false, Option, Some, None, IfOk, IsTrue, IfSome, MatchOption, ⊤, List, length, IfNone, [], slice_index_or, slice_set, replicate};
+ghost use Rattle.std.specs.Prelude.{◌≡◌, ℕ, ◌<◌, ◌+◌, Bool, true, false, Option, Some, None, IfOk, IsTrue, IfSome, MatchOption, ⊤, List, length, IfNone, slice_index_or, slice_set, replicate};
 ghost use Rattle.std.specs.Bool.{Decides};
 ghost use Rattle.std.specs.Option.{option_map};
 ghost use Rattle.safe_bit.specs.Memory.{Memory};
 ghost use Rattle.frames.specs.Configuration.{running_at, is_stopped, initial_configuration, fits_step, events_of, stepped, mark, only_records, acting, invoking, going, Did};
 ghost use Rattle.frames.specs.Fitting.{process_of};
-ghost use Rattle.frames.specs.Parked.{IsConfiguration};
+ghost use Rattle.frames.specs.Parked.{IsConfiguration, idle, stacks_of, marks_of};
 ghost use Rattle.frames.specs.Flat.{stack_of};
 
 use crate::flat::FlatStack;
@@ -23,21 +23,63 @@ use std::marker::Model;
 pub struct Config<R: Register> {
     register: R,
     store: Store,
-    stacks: Vec<FlatStack>,
-    stopped: Vec<bool>,
+    processes: Vec<Parked>,
+}
+
+/// What a process has pending, and whether it has stopped.
+#[derive(Drop)]
+struct Parked {
+    stack: FlatStack,
+    stopped: bool,
+}
+
+impl PartialEq for Parked {
+    ghost use Rattle.frames.specs.laws.Flat.{parked_eq, parked_per};
+
+    ghost eq = { parked_eq };
+
+    ghost laws = { parked_per };
+
+    fn eq(&self, other: &Parked) -> bool {
+        self.stack == other.stack && self.stopped == other.stopped
+    }
+}
+
+impl Parked {
+    /// A process that has nothing pending and hasn't stopped.
+    fn idle() -> Parked
+        ensures { result ≡ idle }
+    {
+        Parked {
+            stack: FlatStack::new(),
+            stopped: false,
+        }
+    }
+
+    /// An equal process.
+    fn copy(&self) -> Parked
+        ensures { result ≡ self.now }
+    {
+        Parked {
+            stack: self.stack.copy(),
+            stopped: self.stopped,
+        }
+    }
 }
 
 impl<R: Register> Model for Config<R> {
     ghost use Rattle.frames.specs.Configuration.{Configuration};
-    ghost use Rattle.frames.specs.Flat.{running_from};
-    ghost use Rattle.frames.specs.Parked.{IsFlat};
+    ghost use Rattle.frames.specs.Parked.{IsFlat, shown, stacks_of, marks_of};
 
     ghost Value = { Configuration R R.Pending };
 
-    ghost view = { λ c. record { register = c.register; memory = c.store; running = running_from (R.point c.register) 0 c.stacks.items; stopped = c.stopped.items } };
+    ghost view = { λ c. shown (R.point c.register) c.register c.store
+        (stacks_of c.processes.items) (marks_of c.processes.items) };
 
     ghost invariant = { λ c. IsFlat (R.is c.register) (R.Holds c.register) (R.Reaches c.register)
-        (record { register = c.register; memory = c.store; running = running_from (R.point c.register) 0 c.stacks.items; stopped = c.stopped.items }) c.stacks.items };
+        (shown (R.point c.register) c.register c.store
+        (stacks_of c.processes.items) (marks_of c.processes.items))
+        (stacks_of c.processes.items) };
 }
 
 /// Two configurations are equal where their registers are, and their cells, words, pending
@@ -57,8 +99,7 @@ impl<R: Register> PartialEq for Config<R> {
     {
         self.register == other.register
             && self.store == other.store
-            && self.stacks == other.stacks
-            && self.stopped == other.stopped
+            && self.processes == other.processes
     }
 }
 
@@ -69,13 +110,11 @@ impl<R: Register> Config<R> {
         ensures { IfOk result (λ c. c ≡ initial_configuration (R.is register) register value) }
     {
         let store = store_of(alloc, &register, value)?;
-        let stacks = no_frames(alloc, register.processes())?;
-        let stopped = no_marks(alloc, register.processes())?;
+        let processes = all_idle(alloc, register.processes())?;
         Ok(Config {
             register,
             store,
-            stacks,
-            stopped,
+            processes,
         })
     }
 
@@ -86,8 +125,7 @@ impl<R: Register> Config<R> {
         Ok(Config {
             register: self.register,
             store: self.store.copy(alloc)?,
-            stacks: copies(alloc, &self.stacks)?,
-            stopped: Vec::from_slice(alloc, &self.stopped)?,
+            processes: copies(alloc, &self.processes)?,
         })
     }
 
@@ -148,7 +186,10 @@ impl<R: Register> Config<R> {
     pub fn stopped(&self, p: u32) -> bool
         ensures { result ≡ is_stopped p self.now }
     {
-        self.stopped.get(p as usize).copied().unwrap_or(false)
+        match self.processes.get(p as usize) {
+            Some(process) => process.stopped,
+            None => false,
+        }
     }
 
     /// The frames of what a process has pending; none where it isn't there.
@@ -159,7 +200,7 @@ impl<R: Register> Config<R> {
         ensures reached { MatchOption (running_at p self.now) ⊤
             (λ r. R.Reaches self.now.register p r.op r.point) }
     {
-        self.stacks.get(p as usize)
+        Some(&self.processes.get(p as usize)?.stack)
     }
 
     /// Makes the step, and tells its events, at most two.
@@ -170,10 +211,19 @@ impl<R: Register> Config<R> {
         ensures after { self.new ≡ stepped (R.is self.old.register) self.old step }
     {
         let who = step.process();
-        if self.stopped[who as usize] {
+        if self.has_stopped(who) {
             return alone(Event::Void(who, Reason::Stopped));
         }
         self.act(step)
+    }
+
+    /// Whether a process that is there has stopped.
+    #[inline(always)]
+    fn has_stopped(&self, who: u32) -> bool
+        requires { who < (R.is self.now.register).processes }
+        ensures { result ≡ is_stopped who self.now }
+    {
+        self.processes[who as usize].stopped
     }
 
     /// Makes the step of a process that hasn't stopped.
@@ -198,7 +248,7 @@ impl<R: Register> Config<R> {
         ensures { Did who (only_records (Event.Stop who) (running_at who self.old) self.old.memory)
             (record self.old { stopped = slice_set self.old.stopped who true }) result self.new }
     {
-        self.stopped[who as usize] = true;
+        mark_stopped(&mut self.processes, who);
         alone(Event::Stop(who))
     }
 
@@ -209,7 +259,7 @@ impl<R: Register> Config<R> {
         ensures { Did who (invoking (R.is self.old.register) who op
             (running_at who self.old) self.old.memory) self.old result self.new }
     {
-        let stack = &mut self.stacks[who as usize];
+        let stack = &mut self.processes[who as usize].stack;
         invoke(&self.register, &mut self.store, who, op, stack)
     }
 
@@ -220,38 +270,38 @@ impl<R: Register> Config<R> {
         ensures { Did who (going (R.is self.old.register) who choice
             (running_at who self.old) self.old.memory) self.old result self.new }
     {
-        let stack = &mut self.stacks[who as usize];
+        let stack = &mut self.processes[who as usize].stack;
         proceed(&self.register, &mut self.store, who, stack, choice)
     }
 }
 
-/// A stack of no frame for each process.
-fn no_frames(alloc: Global, processes: u32) -> Result<Vec<FlatStack>, AllocError>
-    ensures { IfOk result (λ stacks. stacks.items ≡ replicate processes []) }
+/// Marks a process as stopped, and leaves what it has pending.
+fn mark_stopped(processes: &mut [Parked], who: u32)
+    requires { who < length processes.old }
+    ensures stacks { stacks_of processes.new ≡ stacks_of processes.old }
+    ensures marks { marks_of processes.new ≡ slice_set (marks_of processes.old) who true }
 {
-    let mut stacks = Vec::with_capacity(alloc, processes as usize)?;
+    processes[who as usize].stopped = true;
+}
+
+/// So many processes that have nothing pending, none of them stopped.
+fn all_idle(alloc: Global, processes: u32) -> Result<Vec<Parked>, AllocError>
+    ensures { IfOk result (λ all. all.items ≡ replicate processes idle) }
+{
+    let mut all = Vec::with_capacity(alloc, processes as usize)?;
     for _ in 0..processes {
-        stacks.push(FlatStack::new())?;
+        all.push(Parked::idle())?;
     }
-    Ok(stacks)
+    Ok(all)
 }
 
-/// A mark of each process: none has stopped.
-fn no_marks(alloc: Global, processes: u32) -> Result<Vec<bool>, AllocError>
-    ensures { IfOk result (λ marks. marks.items ≡ replicate processes false) }
+/// Equal processes.
+fn copies(alloc: Global, processes: &[Parked]) -> Result<Vec<Parked>, AllocError>
+    ensures { IfOk result (λ copied. copied.items ≡ processes.now) }
 {
-    let mut marks = Vec::with_capacity(alloc, processes as usize)?;
-    marks.resize(processes as usize, false)?;
-    Ok(marks)
-}
-
-/// Equal stacks.
-fn copies(alloc: Global, stacks: &[FlatStack]) -> Result<Vec<FlatStack>, AllocError>
-    ensures { IfOk result (λ copied. copied.items ≡ stacks.now) }
-{
-    let mut copied = Vec::with_capacity(alloc, stacks.len())?;
-    for stack in stacks {
-        copied.push(stack.copy())?;
+    let mut copied = Vec::with_capacity(alloc, processes.len())?;
+    for process in processes {
+        copied.push_reserved(process.copy());
     }
     Ok(copied)
 }

@@ -1,8 +1,8 @@
 -- What follows of flat stacks: they tell what is pending, and are equal only to themselves.
 use Rattle.std.proofs.Common.{◌≡◌, ℕ, zero, suc, ◌+◌, Bool, nat_eq, List, [], ◌∷◌, length, set, take, replicate, Option, Some, None, option_map, refl, sym, ap, ◌∙◌, arith}
 use Rattle.std.specs.Bool.{Decides}
-use mathlib.Core.Bool.{◌&&◌}
-use Rattle.std.specs.Cmp.{IsPartialEquivalence}
+use mathlib.Core.Bool.{◌&&◌, beq}
+use Rattle.std.specs.Cmp.{IsPartialEquivalence, booleans_Decides}
 use Rattle.std.specs.Cmp.Lexicographic.{pointwise}
 use Rattle.std.proofs.lemmas.Bool.Decides.{Decides-and, Decides-eqb, Decides-like}
 use Rattle.std.proofs.lemmas.Slice.Eq.{slice_eq-Decides}
@@ -12,6 +12,7 @@ use Rattle.frames.specs.declared.types.Frame.{Frame}
 use Rattle.frames.specs.declared.types.FrameLayer.{FrameLayer}
 use Rattle.frames.specs.declared.types.FrameLayer.TheVariants as layer
 use Rattle.frames.specs.declared.running.Running.{Running}
+use Rattle.frames.specs.declared.config.Parked.{Parked}
 use Rattle.frames.specs.Behaviour.{Behaviour}
 use Rattle.frames.specs.Equality.{op_eq, op_decides}
 use Rattle.frames.specs.Flat.{outermost, FramesTell, IsReached, running_of, running_from, stack_of}
@@ -69,6 +70,18 @@ stack_decides xs ys = slice_eq-Decides frame_decides xs ys _ refl
 
 pub stack_per : IsPartialEquivalence stack_eq
 stack_per = per_from_decides stack_eq stack_decides
+
+-- the test of two processes
+abbrev pub parked_eq : Parked → Parked → Bool
+parked_eq a b = stack_eq a.stack b.stack && beq a.stopped b.stopped
+
+pub parked_decides : (a b : Parked) → Decides (parked_eq a b) (a ≡ b)
+parked_decides a b =
+    Decides-like (parked_eq a b) (λ p. λ i. record { stack = p.0 i; stopped = p.1 i }) (λ p. (ap (λ x. x.stack) p, ap (λ x. x.stopped) p))
+    (Decides-and (stack_eq a.stack b.stack) _ (stack_decides a.stack b.stack) (booleans_Decides a.stopped b.stopped))
+
+pub parked_per : IsPartialEquivalence parked_eq
+parked_per = per_from_decides parked_eq parked_decides
 
 -- a test that agrees with that of frames, field by field
 pub agrees : (L : FrameLayer → FrameLayer → Bool) (O : Op → Op → Bool) → ((a b : FrameLayer) → L a b ≡ layer_eq a b) → ((a b : Op) → O a b ≡ op_eq a b)

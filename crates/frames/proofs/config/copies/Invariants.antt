@@ -1,6 +1,10 @@
-use Rattle.std.proofs.Common.{◌≡◌, take}
+use Rattle.std.proofs.Common.{◌≡◌, length, take, vec_len, vec_capacity}
 use Rattle.frames.proofs.config.copies.Given as goal
 
--- the stacks before this one are copied
-abbrev pub invariant-loop-stack : goal.invariant-loop-stack
-invariant-loop-stack l = l.copied.items ≡ take l.stack-index l.stacks
+-- the processes before this one are copied, and there is room for the others
+abbrev pub invariant-loop-process : goal.invariant-loop-process
+invariant-loop-process l = record {
+  copied : l.copied.items ≡ take l.process-index l.processes;
+  taken : vec_len l.copied ≡ l.process-index;
+  room : vec_capacity l.copied ≡ length l.processes;
+}

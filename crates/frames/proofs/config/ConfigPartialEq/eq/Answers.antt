@@ -4,18 +4,10 @@ use Rattle.frames.specs.Equality.{configuration_decides}
 use Rattle.frames.proofs.Stacks.{same_tested}
 use Rattle.frames.proofs.config.ConfigPartialEq.eq.Goals as goal
 
-pub returns-then-eq-3-clause-same : goal.returns-then-eq-3-clause-same
-returns-then-eq-3-clause-same g c = rw (← c.self.view_is, ← c.other.view_is) (same_tested g.R.Register.Holds g.R.Register.Reaches g.met.R.Register.alike g.met.R.Register.finds_alike c.self.invariant c.other.invariant c.eq-then-eq-3.result (search rules))
+pub returns-then-eq-2-clause-same : goal.returns-then-eq-2-clause-same
+returns-then-eq-2-clause-same g c = rw (← c.self.view_is, ← c.other.view_is) (same_tested g.R.Register.Holds g.R.Register.Reaches g.met.R.Register.alike g.met.R.Register.finds_alike c.self.inside.processes.items c.other.inside.processes.items c.self.invariant c.other.invariant c.eq-then-eq-2.result (search rules))
 
-pub returns-then-eq-3-clause-gives : goal.returns-then-eq-3-clause-gives
-returns-then-eq-3-clause-gives g c =
+pub returns-then-eq-2-clause-gives : goal.returns-then-eq-2-clause-gives
+returns-then-eq-2-clause-gives g c =
     rw (← c.self.view_is, ← c.other.view_is)
-    (same_from_decides _ _ (same_tested g.R.Register.Holds g.R.Register.Reaches g.met.R.Register.alike g.met.R.Register.finds_alike c.self.invariant c.other.invariant c.eq-then-eq-3.result (search rules)) (configuration_decides g.R.PartialEq.eq g.R.Pending.PartialEq.eq g.met.R.Register.same_pending _ _))
-
-pub returns-else-eq-3-clause-same : goal.returns-else-eq-3-clause-same
-returns-else-eq-3-clause-same g c = rw (← c.self.view_is, ← c.other.view_is) (same_tested g.R.Register.Holds g.R.Register.Reaches g.met.R.Register.alike g.met.R.Register.finds_alike c.self.invariant c.other.invariant c.if-eq-2.value (search rules))
-
-pub returns-else-eq-3-clause-gives : goal.returns-else-eq-3-clause-gives
-returns-else-eq-3-clause-gives g c =
-    rw (← c.self.view_is, ← c.other.view_is)
-    (same_from_decides _ _ (same_tested g.R.Register.Holds g.R.Register.Reaches g.met.R.Register.alike g.met.R.Register.finds_alike c.self.invariant c.other.invariant c.if-eq-2.value (search rules)) (configuration_decides g.R.PartialEq.eq g.R.Pending.PartialEq.eq g.met.R.Register.same_pending _ _))
+    (same_from_decides _ _ (same_tested g.R.Register.Holds g.R.Register.Reaches g.met.R.Register.alike g.met.R.Register.finds_alike c.self.inside.processes.items c.other.inside.processes.items c.self.invariant c.other.invariant c.eq-then-eq-2.result (search rules)) (configuration_decides g.R.PartialEq.eq g.R.Pending.PartialEq.eq g.met.R.Register.same_pending _ _))
