@@ -13,10 +13,10 @@ use Rattle.schedule_trie.specs.Climbs.{keys_up_to, keys_to, last_of, IsReached}
 use Rattle.schedule_trie.proofs.Climbs.{IsStepUp, once_before, step_up}
 use Rattle.schedule_trie.proofs.Once.{Once-from_linked}
 use Rattle.schedule_trie.proofs.Partings.{parting}
-use Rattle.cutoff.specs.Fitting.{StoredRun, RunFits, steps_at}
+use Rattle.cutoff.specs.Fitting.{StoredRun, steps_at}
 use Rattle.cutoff.specs.Links.{alone, number_at, number_of, CameTo, IsStored, IsLinked}
 use Rattle.cutoff.specs.Plans.{ComesDown, FitsDown}
-use Rattle.cutoff.proofs.Fits.{alone_same, stored_at, register_kept, same_symm, same_trans, same_from_alone, exit_same, fits_from_note, fits_to_note, no_note_no_fit}
+use Rattle.cutoff.proofs.Fits.{alone_same, stored_at, register_kept, same_symm, same_trans, same_from_alone, exit_same, fits_from_note, no_note_no_fit}
 
 not_first : (key k : ℕ) (ks : List ℕ) → has key (k ∷ ks) ≡ false → key ≡ k → ⊥
 not_first key k ks h e = true≢false (sym (ap (λ x. x || has key ks) (eq-eqb key k e)) ∙ h)
@@ -46,10 +46,17 @@ module _ {R P : Type 0} (E : R → R → Bool) (b : Behaviour P) (cut : Cut (Sto
       inr (not_first key k front lacks, down.0, down_whole (replayed b c (steps_at cut k)) front back (not_below key k front lacks) steps down.1)
 
 -- where no run is stored none comes down
-pub down_noted : {R P : Type 0} (E : R → R → Bool) (b : Behaviour P) (cut : Cut (StoredRun R P)) (k : ℕ) (entry c : Configuration R P) (front : List ℕ)
+down_noted : {R P : Type 0} (E : R → R → Bool) (b : Behaviour P) (cut : Cut (StoredRun R P)) (k : ℕ) (entry c : Configuration R P) (front : List ℕ)
     → note_of (piece_at cut.pieces k) ≡ None → ComesDown E b cut c (front ++ k ∷ []) entry → ⊥
 down_noted E b cut k entry c [] none d = no_note_no_fit E cut c k none d.0
 down_noted E b cut k entry c (j ∷ front) none d = down_noted E b cut k entry (replayed b c (steps_at cut j)) front none d.1
+
+pub climb_noted : {R P : Type 0} (E : R → R → Bool) (b : Behaviour P) (cut : Cut (StoredRun R P)) (k : ℕ) (entry c : Configuration R P) (keys : List ℕ) (at : Option ℕ)
+    → at ≡ Some k → IsReached keys at → note_of (piece_at cut.pieces k) ≡ None → ComesDown E b cut c (keys_to keys at) entry → ⊥
+climb_noted E b cut k entry c keys at here there none d =
+    let p = parting keys k (subst (IsReached keys) here there) in
+    down_noted E b cut k entry c p.front none
+    (subst (λ l. ComesDown E b cut c l entry) p.to (subst (λ o. ComesDown E b cut c (keys_to keys o) entry) here d))
 
 -- one segment more, by the run that is stored there
 module _ {R P : Type 0} (E : R → R → Bool) (per : IsPartialEquivalence E) (is : R → Behaviour P) (alike : (x y : R) → E x y ≡ true → is x ≡ is y) (b : Behaviour P)
@@ -64,14 +71,6 @@ module _ {R P : Type 0} (E : R → R → Bool) (per : IsPartialEquivalence E) (i
   down_before c (j ∷ front) home d =
       let rest = down_before (replayed b c (steps_at cut j)) front (ap is (register_kept b c (steps_at cut j)) ∙ home) d.1 in
       (rest.0, (d.0, rest.1))
-
-  pub down_behind : (c : Configuration R P) (front : List ℕ) → is c.register ≡ b → s.run.steps ≡ steps_at cut k → SameConfiguration E entry s.run.exit
-      → ComesDown E b cut c front s.run.entry → ComesDown E b cut c (front ++ k ∷ []) entry
-  down_behind c [] home covers same d =
-      let fits : RunFits E c (steps_at cut k) s.run = record { steps = covers; entry = d } in
-      (fits_to_note E cut c k s noted fits, same_trans E per entry s.run.exit (replayed b c (steps_at cut k)) same (exit_same E is alike b c (steps_at cut k) s.run home true_run fits))
-  down_behind c (j ∷ front) home covers same d =
-      (d.0, down_behind (replayed b c (steps_at cut j)) front (ap is (register_kept b c (steps_at cut j)) ∙ home) covers same d.1)
 
 -- a run comes to where one that was found behind it begins
 module _ {R P : Type 0} (E : R → R → Bool) (per : IsPartialEquivalence E) (b : Behaviour P) (s : StoredRun R P) (entry : Configuration R P) where
@@ -109,18 +108,12 @@ module _ {R P : Type 0} (E : R → R → Bool) (per : IsPartialEquivalence E) (i
     climb_down d =
         (down_before E per is alike b cut k s noted true_run entry start (keys_to keys above) refl (subst (λ l. ComesDown E b cut start l entry) step.is d)).1
 
-    pub climb_up : s.run.steps ≡ steps_at cut k → SameConfiguration E entry s.run.exit → ComesDown E b cut start (keys_to keys above) s.run.entry
-        → ComesDown E b cut start (keys_up_to k keys) entry
-    climb_up covers same d =
-        subst (λ l. ComesDown E b cut start l entry) (sym step.is)
-        (down_behind E per is alike b cut k s noted true_run entry start (keys_to keys above) refl covers same d)
-
 -- each key of a branch once
 pub path_once : {T : Type 0} (cut : Cut T) → IsCut cut → (i : ℕ) → Once (keys_in cut.strands i)
 path_once cut whole i = Once-from_linked whole.shares.above (keys_in cut.strands i) (whole.shares.linked i)
 
 -- no more keys than the branch has
-pub few_to : (keys : List ℕ) (last : Option ℕ) → IsReached keys last → length (keys_to keys last) ≤ length keys
+few_to : (keys : List ℕ) (last : Option ℕ) → IsReached keys last → length (keys_to keys last) ≤ length keys
 few_to keys None h = omega arith
 few_to keys (Some k) h =
     let p = parting keys k h in
@@ -135,9 +128,16 @@ some_to keys k h =
     omega (arith, to)
 
 -- a climb that has passed all keys is past the first
-pub past_first : (keys : List ℕ) (at : Option ℕ) (counter all : ℕ) → IsReached keys at → counter + length (keys_to keys at) ≤ all → all ≤ counter → at ≡ None
+past_first : (keys : List ℕ) (at : Option ℕ) (counter all : ℕ) → IsReached keys at → counter + length (keys_to keys at) ≤ all → all ≤ counter → at ≡ None
 past_first keys None counter all h short past = refl
 past_first keys (Some k) counter all h short past = let some = some_to keys k h in absurd (omega (arith, some))
+
+-- and so is one that has made as many steps as the branch has keys, or more
+pub past_all : (keys : List ℕ) (last at : Option ℕ) (counter end : ℕ) → IsReached keys last → length keys ≤ end → IsReached keys at → counter + length (keys_to keys at) ≤ length (keys_to keys last)
+    → end ≤ counter → at ≡ None
+past_all keys last at counter end there made reached short past =
+    let few = few_to keys last there in
+    past_first keys at counter (length (keys_to keys last)) reached short (omega (arith, few, made, past))
 
 pub shorter : (keys : List ℕ) (k : ℕ) (above : Option ℕ) → IsStepUp keys k above → length (keys_up_to k keys) ≡ length (keys_to keys above) + 1
 shorter keys k above step = ap length step.is ∙ length-append (keys_to keys above) (k ∷ [])

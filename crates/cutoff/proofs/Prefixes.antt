@@ -9,13 +9,14 @@ use Rattle.frames.specs.Configuration.{Configuration, replayed}
 use Rattle.frames.specs.Equality.{SameConfiguration}
 use Rattle.checkpoints.specs.Segment.{IsRun}
 use Rattle.schedule_trie.specs.Cut.{Cut, piece_at, note_of, has}
-use Rattle.schedule_trie.specs.Climbs.{keys_to}
+use Rattle.schedule_trie.specs.Climbs.{keys_to, keys_up_to}
 use Rattle.schedule_trie.proofs.Climbs.{IsStepUp}
 use Rattle.schedule_trie.proofs.Once.{has_cases, has-head, has-tail}
 use Rattle.cutoff.specs.Fitting.{StoredRun, run_of, RunFits, steps_at}
 use Rattle.cutoff.specs.Links.{alone, IsLinked}
 use Rattle.cutoff.specs.Prefixes.{RunsDown, RunsTo, come_to, exit_or}
-use Rattle.cutoff.proofs.Fits.{register_kept, same_trans, exit_same, stored_at}
+use Rattle.cutoff.specs.Plans.{ComesDown}
+use Rattle.cutoff.proofs.Fits.{register_kept, same_trans, exit_same, stored_at, fits_to_note}
 use Rattle.cutoff.proofs.Walks.{linked_home}
 
 module _ {R P : Type 0} (E : R → R → Bool) (per : IsPartialEquivalence E) (is : R → Behaviour P) (alike : (x y : R) → E x y ≡ true → is x ≡ is y) (cut : Cut (StoredRun R P)) where
@@ -23,6 +24,11 @@ module _ {R P : Type 0} (E : R → R → Bool) (per : IsPartialEquivalence E) (i
   pub down_same : (b : Behaviour P) (c : Configuration R P) (keys : List ℕ) (a e : Configuration R P) → SameConfiguration E a e → RunsDown E is cut b c keys e → RunsDown E is cut b c keys a
   down_same b c [] a e s d = same_trans E per a e c s d
   down_same b c (k ∷ ks) a e s d = (d.0, down_same b (replayed b c (steps_at cut k)) ks a e s d.1)
+
+  -- they fit
+  pub runs_come : (b : Behaviour P) (c : Configuration R P) (keys : List ℕ) (end : Configuration R P) → RunsDown E is cut b c keys end → ComesDown E b cut c keys end
+  runs_come b c [] end d = d
+  runs_come b c (k ∷ ks) end d = (fits_to_note E cut c k d.0.stored d.0.noted d.0.fits, runs_come b (replayed b c (steps_at cut k)) ks end d.1)
 
   module _ (k : ℕ) (s : StoredRun R P) (noted : note_of (piece_at cut.pieces k) ≡ Some s) (true_run : IsRun (is s.run.entry.register) s.run) (covers : s.run.steps ≡ steps_at cut k) where
     pub down_more : (b : Behaviour P) (c : Configuration R P) (keys : List ℕ) → is c.register ≡ b → RunsDown E is cut b c keys s.run.entry → RunsDown E is cut b c (keys ++ k ∷ []) s.run.exit
@@ -41,6 +47,12 @@ module _ {R P : Type 0} (E : R → R → Bool) (per : IsPartialEquivalence E) (i
       up_new d =
           subst (λ l. RunsDown E is cut (is start.register) start l (come_to cut start (Some k))) (sym step.is)
           (subst (RunsDown E is cut (is start.register) start (keys_to keys above ++ k ∷ [])) (sym come_here) (down_more (is start.register) start (keys_to keys above) refl d))
+
+      -- to what is the same as where they come to
+      pub up_same : (entry : Configuration R P) → SameConfiguration E entry s.run.exit → RunsTo E is cut start (Some k) keys
+          → RunsDown E is cut (is start.register) start (keys_up_to k keys) entry
+      up_same entry same d =
+          down_same (is start.register) start (keys_up_to k keys) entry (come_to cut start (Some k)) (subst (SameConfiguration E entry) (sym come_here) same) d
 
 pub same_key : (a b : Option ℕ) → option_eq nat_eq a b ≡ true → a ≡ b
 same_key None None e = refl

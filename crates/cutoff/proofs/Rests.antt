@@ -29,16 +29,16 @@ use Rattle.cutoff.proofs.Segments.{noted_still}
 use Rattle.cutoff.proofs.Walks.{reached_none, IsWalking, drop_past, walk_starts, walk_on, fits_here, linked_home, exit_of-last}
 
 -- what is stored after a note
-noted_at : {T : Type 0} (s : T) (o p : Option (Piece T)) → p ≡ option_map (with_note (Some s)) o → IsSome o → note_of p ≡ Some s
+pub noted_at : {T : Type 0} (s : T) (o p : Option (Piece T)) → p ≡ option_map (with_note (Some s)) o → IsSome o → note_of p ≡ Some s
 noted_at s None p e h = absurd (true≢false (sym h))
 noted_at s (Some q) p e h = ap note_of e
 
-noted_cells : {T : Type 0} (s : T) (o p : Option (Piece T)) → p ≡ option_map (with_note (Some s)) o → slots_of p ≡ slots_of o
+pub noted_cells : {T : Type 0} (s : T) (o p : Option (Piece T)) → p ≡ option_map (with_note (Some s)) o → slots_of p ≡ slots_of o
 noted_cells s None p e = ap slots_of e
 noted_cells s (Some q) p e = ap slots_of e
 
 -- runs stay stored where nothing is noted
-down_kept : {R P : Type 0} (E : R → R → Bool) (is : R → Behaviour P) (cut new : Cut (StoredRun R P)) (b : Behaviour P) (c : Configuration R P) (keys : List ℕ) (end : Configuration R P)
+pub down_kept : {R P : Type 0} (E : R → R → Bool) (is : R → Behaviour P) (cut new : Cut (StoredRun R P)) (b : Behaviour P) (c : Configuration R P) (keys : List ℕ) (end : Configuration R P)
     → ((j : ℕ) → has j keys ≡ true → piece_at new.pieces j ≡ piece_at cut.pieces j) → RunsDown E is cut b c keys end → RunsDown E is new b c keys end
 down_kept E is cut new b c [] end same d = d
 down_kept E is cut new b c (k ∷ ks) end same d =
@@ -346,7 +346,7 @@ module _ {R P : Type 0} (E : R → R → Bool) (equal : IsEquivalence E) (per : 
     pub fits_next : AllFit (is start.register) (steps_at cut (get_or all index 0))
     fits_next = fits_left E equal per is alike old cut start next key count keys (drop (index + 1) all ++ more) back (get_or all index 0) place n above going_at
 
-    module _ (new : Cut (StoredRun R P)) (after work : ℕ) (settled : (run : SegmentRun R P) × IsSegmentSettled E cut new (come_to cut start above) (get_or all index 0) run work × IsRun (is run.entry.register) run)
+    module _ {new : Cut (StoredRun R P)} {after work : ℕ} (settled : (run : SegmentRun R P) × IsSegmentSettled E cut new (come_to cut start above) (get_or all index 0) run work × IsRun (is run.entry.register) run)
         (linked : IsLinked E start.register after None (alone start) new) where
       pub going_next : IsGoing E is old new start after key count keys (drop (index + 1) all ++ more) back place (n + work) (Some (get_or all index 0))
       going_next =

@@ -52,6 +52,12 @@ module _ {R P : Type 0} (E : R → R → Bool) (is : R → Behaviour P) (cut : C
     IsMarked None = Unit {0}
     IsMarked (Some k) = (i : ℕ) → has k (keys_in cut.strands i) ≡ true → RunsTo (Some k) (keys_in cut.strands i)
 
+    -- on each branch that has a key, such runs are stored down to right above it, and come to where this run begins
+    abbrev pub GoesOn : ℕ → SegmentRun R P → Type 0
+    GoesOn k run =
+        (i : ℕ) → has k (keys_in cut.strands i) ≡ true
+        → (above : List ℕ) × (keys_up_to k (keys_in cut.strands i) ≡ above ++ k ∷ []) × RunsDown (is start.register) start above run.entry
+
     -- on each branch that has a key, such runs are stored down to another one, if one is named
     abbrev pub IsKnown : ℕ → Option ℕ → Type 0
     IsKnown key front = (i : ℕ) → has key (keys_in cut.strands i) ≡ true → IsReached (keys_in cut.strands i) front × RunsTo front (keys_in cut.strands i)

@@ -265,13 +265,13 @@ impl<R: Register> Chart<R> {
         if !has_segment(&self.trie, key) {
             return Installation::Gone;
         }
-        let (fits, above) = fits_down(&self.trie, &self.start, key, &run);
+        let (fits, above) = fits_down(&self.trie, &self.start, self.mark, key, &run);
         if !fits {
             return Installation::Stale;
         }
-        self.mark = None;
         let id = take_number(&mut self.next);
         self.trie.set_note(key, Some(Stored::new(run, id, above)));
+        self.mark = Some(key);
         Installation::Installed
     }
 }

@@ -1,32 +1,36 @@
 //! A walk up a branch that only looks: whether stored runs come down to where a run begins.
 
-ghost use Rattle.std.specs.Prelude.{◌≡◌, ◌≤◌, ◌+◌, ℕ, None, length};
-ghost use Rattle.std.specs.Bool.{Decides};
+ghost use Rattle.std.specs.Prelude.{◌≡◌, ◌≤◌, ◌+◌, ℕ, None, true, length};
 ghost use Rattle.schedule_trie.specs.Cut.{keys_in, line, piece_at, IsCut};
 ghost use Rattle.schedule_trie.specs.Climbs.{keys_to, IsReached};
 ghost use Rattle.cutoff.specs.Links.{IsLinked, alone};
 ghost use Rattle.cutoff.specs.Plans.{ComesDown};
+ghost use Rattle.cutoff.specs.Prefixes.{IsMarked, RunsDown};
 
+use crate::prefix::is_marked;
 use crate::stored::Stored;
 use frames::config::Config;
 use frames::register::Register;
 use schedule_trie::trie::{SegKey, Trie};
 
 /// Whether stored runs fit all segments from a branch's first down to one, if one is named, and come to a configuration there. It
-/// takes no memory: it goes up, from each run to the one that came to where it begins.
+/// takes no memory: it goes up, from each run to the one that came to where it begins, and not past the mark.
 pub(crate) fn comes_down<R: Register>(
     trie: &Trie<Stored<R>>,
     start: &Config<R>,
+    mark: Option<SegKey>,
     last: Option<SegKey>,
     config: &Config<R>,
 ) -> bool
     requires linked { (next : ℕ) × IsLinked R.PartialEq.eq start.now.register next None
         (alone start.now) trie.now }
     requires cut { IsCut trie.now }
+    requires marked { IsMarked R.PartialEq.eq R.is trie.now start.now mark }
     requires reached { (i : ℕ) × IsReached (keys_in trie.now.strands i) last }
-    ensures { (i : ℕ) → IsReached (keys_in trie.now.strands i) last
-        → Decides result (ComesDown R.PartialEq.eq (R.is start.now.register) trie.now start.now
-        (keys_to (keys_in trie.now.strands i) last) config.now) }
+    ensures { (i : ℕ) → let keys = keys_in trie.now.strands i in IsReached keys last
+        → let b = R.is start.now.register in let down = keys_to keys last in
+        (result ≡ true → RunsDown R.PartialEq.eq R.is trie.now b start.now down config.now)
+        × (ComesDown R.PartialEq.eq b trie.now start.now down config.now → result ≡ true) }
 {
     let mut entry = config;
     let mut link = None;
@@ -43,6 +47,9 @@ pub(crate) fn comes_down<R: Register>(
         let begun = stored.entry();
         if !stored.ends(entry, link) {
             return false;
+        }
+        if is_marked(mark, key) {
+            return true;
         }
         entry = begun;
         link = stored.link();

@@ -9,6 +9,7 @@ ghost use Rattle.checkpoints.specs.Segment.{IsRun};
 ghost use Rattle.cutoff.specs.Fitting.{StoredRun, steps_at};
 ghost use Rattle.cutoff.specs.Links.{number_at};
 ghost use Rattle.cutoff.specs.Plans.{FitsDown};
+ghost use Rattle.cutoff.specs.Prefixes.{GoesOn, IsMarked};
 
 use crate::climb::comes_down;
 use crate::stored::Stored;
@@ -30,17 +31,19 @@ pub enum Installation {
     Gone,
 }
 
-/// Whether a run fits the segment of a key, and stored runs fit all segments above; and the number of the run right above it, if
-/// that has one.
+/// Whether a run fits the segment of a key, and stored runs fit all segments above, as they are known to down to the mark; and
+/// the number of the run right above it, if that has one.
 pub(crate) fn fits_down<R: Register>(
     trie: &Trie<Stored<R>>,
     start: &Config<R>,
+    mark: Option<SegKey>,
     key: SegKey,
     run: &Run<R>,
 ) -> (bool, Option<u64>)
     requires linked { (next : ℕ) × IsLinked R.PartialEq.eq start.now.register next None
         (alone start.now) trie.now }
     requires cut { IsCut trie.now }
+    requires marked { IsMarked R.PartialEq.eq R.is trie.now start.now mark }
     requires there { IsSome (piece_at trie.now.pieces key) }
     ensures fits { (i : ℕ) → has key (keys_in trie.now.strands i) ≡ true
         → Decides result.0 (FitsDown R.PartialEq.eq (R.is start.now.register) trie.now key run.now
@@ -48,12 +51,14 @@ pub(crate) fn fits_down<R: Register>(
     ensures moved { result.0 ≡ true → (next : ℕ)
         → IsLinked R.PartialEq.eq start.now.register next None (alone start.now) trie.now
         → IsLinked R.PartialEq.eq start.now.register next result.1 (alone run.now.entry) trie.now }
+    ensures runs { result.0 ≡ true → GoesOn R.PartialEq.eq R.is trie.now start.now key run.now }
+    ensures kept { result.0 ≡ true → IsRun (R.is run.now.entry.register) run.now }
 {
     if !has_steps(trie, key, run.steps()) {
         return (false, None);
     }
     let above = trie.above(key);
-    if !comes_down(trie, start, above, run.entry()) {
+    if !comes_down(trie, start, mark, above, run.entry()) {
         return (false, None);
     }
     (true, number_at(trie, above))
@@ -96,16 +101,23 @@ fn are_steps(slots: &[Slot], steps: &[Step]) -> bool
         return false;
     }
     for (index, slot) in slots.iter().enumerate() {
-        if !is_same(steps[index], slot.step) {
+        if !is_same(&steps[index], &slot.step) {
             return false;
         }
     }
     true
 }
 
-/// Whether two steps are the same.
-fn is_same(a: Step, b: Step) -> bool
-    ensures { Decides result (a ≡ b) }
+/// Whether two steps are the same: by words of memory and not by halves, as the comparison that is derived goes.
+#[inline(always)]
+fn is_same(a: &Step, b: &Step) -> bool
+    ensures { Decides result (a.now ≡ b.now) }
 {
-    a == b
+    match (a, b) {
+        (Step::Write { p, v }, Step::Write { p: q, v: w }) => [*p, *v] == [*q, *w],
+        (Step::Read { p }, Step::Read { p: q }) => *p == *q,
+        (Step::Go { p, c }, Step::Go { p: q, c: d }) => [*p, *c] == [*q, *d],
+        (Step::Stop { p }, Step::Stop { p: q }) => *p == *q,
+        _ => false,
+    }
 }

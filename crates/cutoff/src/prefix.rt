@@ -100,7 +100,7 @@ fn hung_from<R: Register>(trie: &Trie<Stored<R>>, mark: Option<SegKey>, key: Seg
 }
 
 /// Whether a segment is the marked one.
-fn is_marked(mark: Option<SegKey>, key: SegKey) -> bool
+pub(crate) fn is_marked(mark: Option<SegKey>, key: SegKey) -> bool
     ensures { Decides result (mark ≡ Some key) }
 {
     match mark {

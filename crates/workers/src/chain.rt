@@ -6,7 +6,7 @@ ghost use Rattle.frames.specs.Recorded.{AllFit};
 ghost use Rattle.workers.specs.Chains.{IsChainRun};
 
 use crate::job::{self, Done, Outcome};
-use checkpoints::run::{Run, run_segment};
+use checkpoints::run::{Run, run_of, run_segment};
 use cutoff::chain::Chain;
 use frames::config::Config;
 use frames::register::Register;
@@ -48,7 +48,7 @@ fn run_all<R: Register>(alloc: Global, chain: &Chain<R>) -> Result<Vec<Ran<R>>, 
     let mut key = job.key();
     let mut run = run_shared(alloc, job.entry(), job.steps())?;
     for follower in followers {
-        let next = run_shared(alloc, run.exit(), follower.steps());
+        let next = run_behind(alloc, &run, follower.steps());
         let outcome = Outcome::Ran(run);
         all.push_reserved(Done { key, outcome });
         key = follower.key();
@@ -78,4 +78,20 @@ pub(crate) fn run_shared<R: Register>(
 {
     let run = run_segment(alloc, entry, steps)?;
     Ok(Arc::new(alloc, run)?)
+}
+
+/// A run of steps from where another run ends, which threads share. The two share the configuration there.
+fn run_behind<R: Register>(
+    alloc: Global,
+    run: &Run<R>,
+    steps: &[Step],
+) -> Result<Arc<Run<R>>, AllocError>
+    requires { AllFit (R.is run.now.entry.register) steps.now }
+    ensures entry { IfOk result (λ next. (arc_value next).entry ≡ run.now.exit) }
+    ensures home { IfOk result (λ next. (arc_value next).entry.register ≡ run.now.entry.register) }
+    ensures steps { IfOk result (λ next. (arc_value next).steps ≡ steps.now) }
+{
+    let steps = Vec::from_slice(alloc, steps)?;
+    let next = run_of(alloc, run.shared_exit(), steps)?;
+    Ok(Arc::new(alloc, next)?)
 }

@@ -1,14 +1,15 @@
-use Rattle.std.proofs.Common.{◌≡◌, ℕ, true, Some, None, slice_get, length, sym, ap, subst, ◌∙◌, true≢false, arith}
+use Rattle.std.proofs.Common.{◌≡◌, ℕ, true, Some, None, slice_get, length, refl, sym, ap, subst, ◌∙◌, true≢false, arith}
 use Rattle.std.specs.Option.{option_copied}
 use Rattle.schedule_trie.specs.Cut.{keys_in, note_of, piece_at}
 use Rattle.schedule_trie.specs.Climbs.{keys_to, IsReached}
 use Rattle.schedule_trie.proofs.Climbs.{IsStepUp, step_up}
-use Rattle.schedule_trie.proofs.Partings.{parting}
 use Rattle.cutoff.specs.Fitting.{steps_at}
 use Rattle.cutoff.specs.Links.{alone}
 use Rattle.cutoff.specs.Plans.{ComesDown}
-use Rattle.cutoff.proofs.Climbs.{down_noted, link_same, link_came, climb_ends, climb_down, climb_up, path_once, few_to, past_first, shorter}
+use Rattle.cutoff.proofs.Climbs.{climb_noted, link_same, link_came, climb_ends, climb_down, path_once, past_all, shorter}
+use Rattle.cutoff.specs.Prefixes.{IsMarked, RunsDown}
 use Rattle.cutoff.proofs.Fits.{stored_at}
+use Rattle.cutoff.proofs.Prefixes.{up_new, up_same}
 use Rattle.cutoff.proofs.climb.comes_down.Goals as goal
 use Rattle.cutoff.proofs.climb.comes_down.Goals.{else-loop-test, then-loop-test+in_default}
 
@@ -16,13 +17,8 @@ pub returns-in_default-note : goal.returns-in_default-note
 returns-in_default-note g c = λ i h. (
   (λ e. absurd (true≢false (sym e))),
   (λ d.
-      let E = g.R.PartialEq.eq in
-      let b = g.R.Behaves.is c.args.start.now.register in
-      let keys = keys_in c.args.trie.now.strands i in
-      let here = subst (λ o. ComesDown E b c.args.trie.now c.args.start.now (keys_to keys o) c.loop.entry.now) c.in-Some.is (c.loop.invariant.down i h d) in
-      let p = parting keys c.in-Some.key (subst (IsReached keys) c.in-Some.is (c.loop.invariant.reached i h)) in
-      absurd (down_noted E b c.args.trie.now c.in-Some.key c.loop.entry.now c.args.start.now p.front (sym c.step_up-above.ensures.note ∙ ap option_copied c.in_default-note.is)
-      (subst (λ l. ComesDown E b c.args.trie.now c.args.start.now l c.loop.entry.now) p.to here))),
+      absurd (climb_noted g.R.PartialEq.eq (g.R.Behaves.is c.args.start.now.register) c.args.trie.now c.in-Some.key c.loop.entry.now c.args.start.now (keys_in c.args.trie.now.strands i) c.loop.at
+      c.in-Some.is (c.loop.invariant.reached i h) (sym c.step_up-above.ensures.note ∙ ap option_copied c.in_default-note.is) (c.loop.invariant.down i h d))),
 )
 
 pub ends-requires : goal.ends-requires
@@ -77,19 +73,42 @@ loop-preserved g c =
           subst (ComesDown E b trie start (keys_to keys c.step_up-above.result.1)) (sym begun)
           (climb_down E g.met.R.PartialEq.laws g.R.Behaves.is g.met.R.Register.alike trie start c.loop.entry.now keys c.in-Some.key s noted c.entry-begun.ensures.kept
           c.step_up-above.result.1 (step i h) here);
-      up = λ i h d.
+      runs = λ i h d.
           let keys = keys_in trie.strands i in
           let told = c.requires.linked.1 in
           let covers = (stored_at E start.register told.exits trie c.in-Some.key s (told.each c.in-Some.key) noted).covers in
-          was.up i h (subst (λ o. ComesDown E b trie start (keys_to keys o) c.loop.entry.now) (sym c.in-Some.is)
-          (climb_up E g.met.R.PartialEq.laws g.R.Behaves.is g.met.R.Register.alike trie start c.loop.entry.now keys c.in-Some.key s noted c.entry-begun.ensures.kept
-          c.step_up-above.result.1 (step i h) covers (c.ends.ensures.0 c.if-not-ends.false)
-          (subst (ComesDown E b trie start (keys_to keys c.step_up-above.result.1)) begun d)));
+          let to = up_new E g.met.R.PartialEq.laws g.R.Behaves.is g.met.R.Register.alike trie c.in-Some.key s noted c.entry-begun.ensures.kept covers start keys
+          c.step_up-above.result.1 (step i h) (subst (RunsDown E g.R.Behaves.is trie b start (keys_to keys c.step_up-above.result.1)) begun d) in
+          was.runs i h (subst (λ o. RunsDown E g.R.Behaves.is trie b start (keys_to keys o) c.loop.entry.now) (sym c.in-Some.is)
+          (up_same E g.met.R.PartialEq.laws g.R.Behaves.is g.met.R.Register.alike trie c.in-Some.key s noted c.entry-begun.ensures.kept covers start keys
+          c.step_up-above.result.1 (step i h) c.loop.entry.now (c.ends.ensures.0 c.if-not-ends.false) to));
       came = λ next told a link.
           subst (λ e. (slice_get told.exits a ≡ Some (alone e)) × (E e.register start.register ≡ true)) (sym begun)
           (link_came E start.register told.exits (steps_at trie c.in-Some.key) s
           (stored_at E start.register told.exits trie c.in-Some.key s (told.each c.in-Some.key) noted) a (sym c.link-link.ensures ∙ link));
     }
+
+-- down to the mark they are known to fit
+pub returns-then-is_marked : goal.returns-then-is_marked
+returns-then-is_marked g c = λ i h. (
+  (λ e.
+      let E = g.R.PartialEq.eq in
+      let b = g.R.Behaves.is c.args.start.now.register in
+      let trie = c.args.trie.now in
+      let start = c.args.start.now in
+      let keys = keys_in trie.strands i in
+      let s = c.in-Some-note.stored.now in
+      let noted : note_of (piece_at trie.pieces c.in-Some.key) ≡ Some s = sym c.step_up-above.ensures.note ∙ ap option_copied c.in-Some-note.is in
+      let told = c.requires.linked.1 in
+      let covers = (stored_at E start.register told.exits trie c.in-Some.key s (told.each c.in-Some.key) noted).covers in
+      let there = subst (IsReached keys) c.in-Some.is (c.loop.invariant.reached i h) in
+      let step = step_up keys c.in-Some.key c.step_up-above.result.1 (path_once trie c.requires.cut i) there (λ front back e. c.step_up-above.ensures.each i front back e) in
+      let marked = subst (IsMarked E g.R.Behaves.is trie start) (c.is_marked.ensures.0 c.if-is_marked.true) c.requires.marked in
+      c.loop.invariant.runs i h (subst (λ o. RunsDown E g.R.Behaves.is trie b start (keys_to keys o) c.loop.entry.now) (sym c.in-Some.is)
+      (up_same E g.met.R.PartialEq.laws g.R.Behaves.is g.met.R.Register.alike trie c.in-Some.key s noted c.entry-begun.ensures.kept covers start keys
+      c.step_up-above.result.1 step c.loop.entry.now (c.ends.ensures.0 c.if-not-ends.false) (marked i there)))),
+  (λ d. refl),
+)
 
 pub returns : goal.returns
 returns g c = λ i h.
@@ -102,12 +121,10 @@ returns g c = λ i h.
     let end : c.loop.at ≡ None =
     elim c.loop-test.branch [
       | else-loop-test w ↦
-          let few = few_to (keys_in trie.strands first.0) c.args.last first.1 in
-          let made = c.made-end.ensures.few first.0 in
-          past_first (keys_in trie.strands first.0) c.loop.at c.loop.counter (length (keys_to (keys_in trie.strands first.0) c.args.last)) (was.reached first.0 first.1)
-          (was.short first.0 first.1) (omega (arith, few, made, w.loop-test.false))
+          past_all (keys_in trie.strands first.0) c.args.last c.loop.at c.loop.counter c.made-end.result first.1 (c.made-end.ensures.few first.0) (was.reached first.0 first.1)
+          (was.short first.0 first.1) w.loop-test.false
       | then-loop-test+in_default w ↦ w.in_default.is
     ] in (
-      (λ e. was.up i h (subst (λ o. ComesDown E b trie c.args.start.now (keys_to keys o) c.loop.entry.now) (sym end) (c.eq.ensures.same.0 e))),
+      (λ e. was.runs i h (subst (λ o. RunsDown E g.R.Behaves.is trie b c.args.start.now (keys_to keys o) c.loop.entry.now) (sym end) (c.eq.ensures.same.0 e))),
       (λ d. c.eq.ensures.same.1 (subst (λ o. ComesDown E b trie c.args.start.now (keys_to keys o) c.loop.entry.now) end (was.down i h d))),
     )

@@ -3,7 +3,9 @@ use Rattle.schedule_trie.specs.Cut.{keys_in}
 use Rattle.schedule_trie.specs.Climbs.{keys_to}
 use Rattle.cutoff.specs.Links.{alone, IsLinked}
 use Rattle.cutoff.specs.Plans.{ComesDown}
+use Rattle.cutoff.specs.Prefixes.{RunsDown}
 use Rattle.cutoff.proofs.Climbs.{above_step, fits_whole, fits_parts, down_steps, number_came}
+use Rattle.cutoff.proofs.Prefixes.{runs_come}
 use Rattle.cutoff.proofs.install.fits_down.Goals as goal
 
 pub comes_down-requires : goal.comes_down-requires
@@ -12,6 +14,7 @@ comes_down-requires g c =
     record {
       linked = c.requires.linked;
       cut = c.requires.cut;
+      marked = c.requires.marked;
       reached = (
         live.0,
         (above_step g.R.PartialEq.eq g.met.R.PartialEq.laws g.R.Behaves.is g.met.R.Register.alike c.args.trie.now c.requires.cut c.args.start.now c.args.key c.above-above.result
@@ -49,7 +52,8 @@ returns-clause-fits g c = λ i h. (
       let step = above_step E g.met.R.PartialEq.laws g.R.Behaves.is g.met.R.Register.alike trie c.requires.cut c.args.start.now c.args.key c.above-above.result
       c.above-above.ensures.each i h in
       let down = subst (ComesDown E (g.R.Behaves.is c.args.start.now.register) trie c.args.start.now (keys_to (keys_in trie.strands i) c.above-above.result)) c.entry.ensures.entry
-      ((c.comes_down.ensures i step.reached).0 c.if-not-comes_down.false) in
+      (runs_come E g.met.R.PartialEq.laws g.R.Behaves.is g.met.R.Register.alike trie (g.R.Behaves.is c.args.start.now.register) c.args.start.now
+      (keys_to (keys_in trie.strands i) c.above-above.result) c.entry.result.now ((c.comes_down.ensures i step.reached).0 c.if-not-comes_down.false)) in
       fits_whole E g.met.R.PartialEq.laws g.R.Behaves.is g.met.R.Register.alike trie c.requires.cut c.args.start.now c.args.key c.above-above.result
       c.above-above.ensures.each c.args.run.now i h (sym c.steps.ensures.steps ∙ c.has_steps.ensures.0 c.if-not-has_steps.false) down),
   (λ f. refl),
@@ -63,7 +67,21 @@ returns-clause-moved g c = λ e next linked.
     let step = above_step E g.met.R.PartialEq.laws g.R.Behaves.is g.met.R.Register.alike trie c.requires.cut c.args.start.now c.args.key c.above-above.result
     c.above-above.ensures.each live.0 live.1 in
     let down = subst (ComesDown E (g.R.Behaves.is c.args.start.now.register) trie c.args.start.now (keys_to (keys_in trie.strands live.0) c.above-above.result)) c.entry.ensures.entry
-    ((c.comes_down.ensures live.0 step.reached).0 c.if-not-comes_down.false) in
+    (runs_come E g.met.R.PartialEq.laws g.R.Behaves.is g.met.R.Register.alike trie (g.R.Behaves.is c.args.start.now.register) c.args.start.now
+    (keys_to (keys_in trie.strands live.0) c.above-above.result) c.entry.result.now ((c.comes_down.ensures live.0 step.reached).0 c.if-not-comes_down.false)) in
     subst (λ n. IsLinked E c.args.start.now.register next n (alone c.args.run.now.entry) trie) (sym c.number_at.ensures.number)
     (number_came E g.met.R.PartialEq.laws g.R.Behaves.is g.met.R.Register.alike trie c.args.start.now c.args.run.now.entry (keys_in trie.strands live.0) c.above-above.result next
     step.reached c.number_at.ensures.kept down linked)
+
+pub returns-clause-runs : goal.returns-clause-runs
+returns-clause-runs g c = λ e i h.
+    let E = g.R.PartialEq.eq in
+    let b = g.R.Behaves.is c.args.start.now.register in
+    let trie = c.args.trie.now in
+    let above = keys_to (keys_in trie.strands i) c.above-above.result in
+    let step = above_step E g.met.R.PartialEq.laws g.R.Behaves.is g.met.R.Register.alike trie c.requires.cut c.args.start.now c.args.key c.above-above.result
+    c.above-above.ensures.each i h in (
+      above,
+      step.is,
+      subst (RunsDown E g.R.Behaves.is trie b c.args.start.now above) c.entry.ensures.entry ((c.comes_down.ensures i step.reached).0 c.if-not-comes_down.false),
+    )

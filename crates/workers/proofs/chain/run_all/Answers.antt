@@ -1,16 +1,15 @@
 use Rattle.std.proofs.Common.{◌+◌, drop, ap, sym, subst, ◌∙◌, rules}
 use Rattle.frames.specs.Recorded.{AllFit}
 use Rattle.cutoff.specs.Chains.{FollowersFit}
-use Rattle.cutoff.proofs.Fits.{register_kept}
 use Rattle.workers.proofs.Chaining.{SoFar, so_far_on, next_at}
 use Rattle.workers.proofs.chain.run_all.Goals as goal
 
-pub run_shared-next-requires : goal.run_shared-next-requires
-run_shared-next-requires g c =
+pub run_behind-next-requires : goal.run_behind-next-requires
+run_behind-next-requires g c =
     let is = g.R.Behaves.is in
     let at = c.loop-follower in
     let f = c.follower-item.result in
-    let home = ap (λ e. e.register) (c.exit.ensures.exit ∙ c.exit.ensures.kept.exit) ∙ (register_kept (g.R.Behaves.is c.deref.result.now.entry.register) c.deref.result.now.entry c.deref.result.now.steps ∙ (ap (λ r. r.entry.register) c.deref.ensures ∙ at.invariant.home)) in
+    let home = ap (λ r. r.entry.register) c.deref.ensures ∙ at.invariant.home in
     let all = subst (FollowersFit (is c.args.chain.now.job.entry.register)) (sym c.followers-followers.ensures.later) c.followers-followers.ensures.fit in
     let here = subst (λ x. AllFit (is c.args.chain.now.job.entry.register) x.steps) (sym c.follower-item.is) (all at.follower-index f (search rules)) in
     subst (λ r. AllFit (is r) c.steps-in-loop-follower.result.now) (sym home) (subst (AllFit (is c.args.chain.now.job.entry.register)) (sym c.steps-in-loop-follower.ensures) here)
@@ -23,13 +22,13 @@ loop-follower-preserved g c =
     let f = c.follower-item.result in
     let list = c.followers-followers.result.now in
     let split = next_at list at.follower-index f f (search rules) c.follower-item.is in
-    let entry = c.in-Ok.ensures.entry ∙ (c.exit.ensures.exit ∙ ap (λ r. r.exit) c.deref.ensures) in
+    let entry = c.in-Ok.ensures.entry ∙ ap (λ r. r.exit) c.deref.ensures in
     let steps = c.in-Ok.ensures.steps ∙ c.steps-in-loop-follower.ensures in
     let on = so_far_on job later at.all.items c.push_reserved.new.self.items at.key at.run f (drop (at.follower-index + 1) list) c.push_reserved.ensures.items
     (subst (SoFar job later at.all.items at.key at.run) split at.invariant.so_far) c.in-Ok.next (entry, steps) in
     record {
       so_far = subst (λ k. SoFar job later c.push_reserved.new.self.items k c.in-Ok.next (drop (at.follower-index + 1) list)) (sym c.key-key-in-loop-follower.ensures) on;
-      home = ap (λ e. e.register) (c.in-Ok.ensures.entry ∙ (c.exit.ensures.exit ∙ c.exit.ensures.kept.exit)) ∙ (register_kept (g.R.Behaves.is c.deref.result.now.entry.register) c.deref.result.now.entry c.deref.result.now.steps ∙ (ap (λ r. r.entry.register) c.deref.ensures ∙ at.invariant.home));
+      home = c.in-Ok.ensures.home ∙ (ap (λ r. r.entry.register) c.deref.ensures ∙ at.invariant.home);
       count = search rules;
       room = search rules;
     }
