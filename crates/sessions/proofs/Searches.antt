@@ -9,8 +9,11 @@ use Rattle.safe_bit.specs.Memory.{Memory}
 use Rattle.frames.specs.declared.types.StepEvents.{StepEvents}
 use Rattle.views.specs.declared.breakpoint.Break.{Break}
 use Rattle.views.specs.declared.breakpoint.Break.TheVariants.{Returns, Bit, Chosen, Void, Refused}
-use Rattle.views.specs.Breaks.{is_met, is_recorded, is_shown}
-use Rattle.sessions.specs.Seeks.{places_with, least_above, greatest_below}
+use Rattle.frames.specs.declared.types.Event.{Event}
+use Rattle.views.specs.Breaks.{is_met, is_in, is_recorded, is_shown}
+use Rattle.sessions.specs.declared.way.Way.{Way}
+use Rattle.sessions.specs.declared.way.Way.TheVariants.{Forth, Back}
+use Rattle.sessions.specs.Seeks.{places_with, least_above, greatest_below, next_of}
 use Rattle.sessions.specs.Walks.{is_on_bit, records_any, TellsEvents}
 
 range_more : (a n : ℕ) → range_with_len a (suc n) ≡ range_with_len a n ++ (a + n) ∷ []
@@ -55,6 +58,37 @@ module _ (test : ℕ → Bool) where
       ∙ sym (find_last below (places_with test place) place hit)
       ∙ ap (λ h. find below (reverse (places_with test place ++ cond h (place ∷ []) []))) (sym told)
       ∙ ap (λ l. find below (reverse l)) (sym (places_more place))
+
+  or_none : (o : Option ℕ) → o ≡ option_or o None
+  or_none None = refl
+  or_none (Some x) = refl
+
+  -- behind a place at which nothing is met
+  pub none_more : (way : Way) (from place : ℕ) (hit : Bool) (found : Option ℕ) → hit ≡ false → test place ≡ hit → found ≡ next_of way from (places_with test place)
+      → found ≡ next_of way from (places_with test (place + 1))
+  none_more way from place true found none told before = cc
+  none_more Forth from place false found none told before = forth_more from place false found found told before (or_none found)
+  none_more Back from place false found none told before = back_more from place false found found told before refl
+
+-- no break is met by no event
+pub none_in : (breaks : List Break) → false ≡ list_any (λ break. is_in break None) breaks
+none_in [] = refl
+none_in (b ∷ bs) = none_in bs
+
+or_apart : (x xs y ys : Bool) → ((x || xs) || (y || ys)) ≡ ((x || y) || (xs || ys))
+or_apart true xs y ys = refl
+or_apart false true true ys = refl
+or_apart false true false ys = refl
+or_apart false false true ys = refl
+or_apart false false false ys = refl
+
+-- breaks that are met by one of two events
+pub either_in : (first second : Option Event) (breaks : List Break)
+    → (list_any (λ break. is_in break first) breaks || list_any (λ break. is_in break second) breaks) ≡ list_any (λ break. is_in break first || is_in break second) breaks
+either_in first second [] = refl
+either_in first second (b ∷ bs) =
+    or_apart (is_in b first) (list_any (λ break. is_in break first) bs) (is_in b second) (list_any (λ break. is_in break second) bs)
+    ∙ ap (λ rest. (is_in b first || is_in b second) || rest) (either_in first second bs)
 
 -- breaks of which none is on a bit
 or_false : (a b : Bool) → (a || b) ≡ false → (a ≡ false) × (b ≡ false)

@@ -21,7 +21,7 @@ use checkpoints::run::Run;
 use cutoff::chart::Chart;
 use frames::config::Config;
 use frames::register::Register;
-use frames::types::{Step, StepEvents};
+use frames::types::{Event, Step, StepEvents};
 use safe_bit::Store;
 use schedule_trie::name::Name;
 use std::alloc::{AllocError, Global};
@@ -51,6 +51,9 @@ impl Search<'_> {
             → found ≡ found_below self.now test place
             → result ≡ found_below self.now test (place + 1) }
     {
+        if !hit {
+            return found;
+        }
         match self.way {
             Way::Forth => first_of(found, hit, self.from, place),
             Way::Back => last_of(found, hit, self.from, place),
@@ -97,7 +100,18 @@ fn any_on_bit(breaks: &[Break]) -> bool
 fn records_any(breaks: &[Break], events: StepEvents) -> bool
     ensures { result ≡ spec.records_any breaks.now events }
 {
-    breaks.iter().any(|one| one.is_recorded(events))
+    is_in_any(breaks, events.first) || is_in_any(breaks, events.second)
+}
+
+/// Whether an event, if there is one, meets one of the breaks.
+#[inline(always)]
+fn is_in_any(breaks: &[Break], event: Option<Event>) -> bool
+    ensures { result ≡ list_any (λ break. breaks_spec.is_in break event) breaks.now }
+{
+    match event {
+        None => false,
+        Some(event) => breaks.iter().any(|one| one.is_event(event)),
+    }
 }
 
 /// Whether a step that records these events, or the memory behind it, of so many cells, meets a break.

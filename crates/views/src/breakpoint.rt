@@ -41,7 +41,7 @@ impl Break {
     }
 
     /// Whether an event meets it.
-    fn is_event(self, event: Event) -> bool
+    pub fn is_event(self, event: Event) -> bool
         ensures { result ≡ spec.is_event self event }
     {
         match self {

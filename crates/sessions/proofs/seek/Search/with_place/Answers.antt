@@ -1,4 +1,4 @@
-use Rattle.sessions.proofs.Searches.{forth_more, back_more}
+use Rattle.sessions.proofs.Searches.{forth_more, back_more, none_more}
 use Rattle.sessions.proofs.seek.Search.with_place.Goals as goal
 
 pub returns-in-Forth : goal.returns-in-Forth
@@ -8,3 +8,6 @@ returns-in-Forth c = rw c.in-Forth.is
 pub returns-in-Back : goal.returns-in-Back
 returns-in-Back c = rw c.in-Back.is
     (λ test told before. back_more test c.args.self.now.from c.args.place c.args.hit c.args.found c.last_of.result told before c.last_of.ensures)
+
+pub returns-then-not-hit : goal.returns-then-not-hit
+returns-then-not-hit c test told before = none_more test c.args.self.now.way c.args.self.now.from c.args.place c.args.hit c.args.found c.if-not-hit.true told before
