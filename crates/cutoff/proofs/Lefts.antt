@@ -11,7 +11,7 @@ use Rattle.schedule_trie.specs.Climbs.{keys_up_to, keys_to}
 use Rattle.schedule_trie.proofs.Partings.{parting, has-in}
 use Rattle.cutoff.specs.Fitting.{StoredRun, run_of, run_at}
 use Rattle.cutoff.specs.Links.{alone, IsLinked}
-use Rattle.cutoff.specs.Prefixes.{HasTrueRun, RunsDown, RunsTo, Hangs, IsBehind, IsHung, SettlesTo, come_to, exit_or, run_named}
+use Rattle.cutoff.specs.Prefixes.{HasTrueRun, RunsDown, RunsTo, Hangs, IsMarked, IsBehind, IsHung, SettlesTo, come_to, exit_or, run_named}
 use Rattle.cutoff.proofs.Hangings.{has-left}
 use Rattle.cutoff.proofs.Prefixes.{down_same, down_more}
 use Rattle.cutoff.proofs.Rests.{IsGoing, last_or, last_to, hanging_settles}
@@ -93,3 +93,10 @@ module _ {R P : Type 0} (E : R → R → Bool) (per : IsPartialEquivalence E) (i
       subst (λ o. RunsDown E is cut (is start.register) start (keys_up_to front keys) (come_to cut start o)) named
       (subst (λ l. RunsDown E is cut (is start.register) start l (come_to cut start (last_or (Some top) h.below))) (sym h.path)
       (hung_down (keys_up_to top keys) h.below (Some top) d (h.hangs start)))
+
+  -- and on from the marked key
+  pub hung_marked : (mark : Option ℕ) (top front i : ℕ) → IsMarked E is cut start mark → mark ≡ Some top → IsHung E is cut top front i → has front (keys_in cut.strands i) ≡ true
+      → RunsTo E is cut start (Some front) (keys_in cut.strands i)
+  hung_marked mark top front i marked here h there =
+      let down = subst (IsMarked E is cut start) here marked in
+      hung_runs top front i h there (down i h.there)

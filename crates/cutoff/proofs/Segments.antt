@@ -44,7 +44,11 @@ module _ {R P : Type 0} (E : R → R → Bool) (old new : Cut (StoredRun R P)) (
       (subst (λ n. ((n ≡ None) × (after ≡ next)) ⊎ ((n ≡ Some next) × (after ≡ next + 1))) (sym number) given)))
 
   -- the run that was stored there
-  module _ (was : StoredRun R P) (at_first : note_of (piece_at old.pieces k) ≡ Some was) (fits : RunFits E c (steps_at old k) was.run) (again : s.run ≡ was.run) where
+  module _ (was : StoredRun R P) (at_first : note_of (piece_at old.pieces k) ≡ Some was) (d : Configuration R P) (there : d ≡ c) (fits_there : RunFits E d (steps_at old k) was.run)
+      (again : s.run ≡ was.run) where
+    fits : RunFits E c (steps_at old k) was.run
+    fits = subst (λ e. RunFits E e (steps_at old k) was.run) there fits_there
+
     pub segment_taken : IsSegmentSettled E old new c k run 0
     segment_taken = record {
       noted = (s, noted, same);

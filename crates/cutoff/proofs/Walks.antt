@@ -344,18 +344,33 @@ module _ {R P : Type 0} (E : R → R → Bool) (b : Behaviour P) (old cut : Cut 
       gone (inl past) = let e : length (line (piece_at old.pieces) (drop i keys)) ≡ 0 = ap (λ l. length (line (piece_at old.pieces) l)) (drop_past i keys past) in let m = w.enough in omega arith
       gone (inr e) = e
 
--- it goes on, by the index of the next key
-pub walk_step : {R P : Type 0} (E : R → R → Bool) (equal : IsEquivalence E) (per : IsPartialEquivalence E) (is : R → Behaviour P) (alike : (x y : R) → E x y ≡ true → is x ≡ is y)
-    {old cut : Cut (StoredRun R P)} {start : Configuration R P} {next : ℕ} {above : Option ℕ} {keys : List ℕ} {i place rest n : ℕ} {parts : List (RunPart R P)}
-    (w : IsWalking E (is start.register) old cut start next above keys (drop i keys) place rest n parts) (h : i < length keys) (wanted : rest ≡ 0 → ⊥)
-    (cfg : Configuration R P) (came : cfg ≡ exit_of start parts) (new : Cut (StoredRun R P)) (after : ℕ) (id : Option ℕ) (run seen : SegmentRun R P) (work count : ℕ)
-    → IsSegmentSettled E cut new cfg (get_or keys i 0) run work → IsLinked E cfg.register after id (alone run.exit) new → seen ≡ run → IsRun (is seen.entry.register) seen
-    → (steps : List Step) → steps ≡ seen.steps → count ≡ min rest (length steps)
-    → IsWalking E (is start.register) old new start after id keys (drop (i + 1) keys) place (rest - count) (n + work) (parts ++ part run count ∷ [])
-walk_step E equal per is alike {old} {cut} {start} {next} {above} {keys} {i} {place} {rest} {n} {parts} w h wanted cfg came new after id run seen work count settled linked same true_run steps are counts =
-    walk_on E equal per is alike old cut start next above keys (drop (i + 1) keys) (get_or keys i 0) place rest n parts
-    (walk_at E (is start.register) old cut start next above keys i place rest n parts w h) wanted cfg came new after id run work count (rest - count) (n + work) settled linked
-    (subst (λ r. IsRun (is r.entry.register) r) same true_run) (counts ∙ ap (λ l. min rest (length l)) are ∙ ap (λ r. min rest (length r.steps)) same) refl refl
+-- the next key's segment, where the walk stands at what its last run came to
+module _ {R P Z : Type 0} (E : R → R → Bool) (equal : IsEquivalence E) (per : IsPartialEquivalence E) (is : R → Behaviour P) (alike : (x y : R) → E x y ≡ true → is x ≡ is y)
+    {old cut : Cut (StoredRun R P)} {start : Configuration R P} {next : ℕ} {above : Option ℕ} {keys : List ℕ} {i place rest n : ℕ} {runs : List (Arc (SegmentRun R P) Z × ℕ)}
+    (w : IsWalking E (is start.register) old cut start next above keys (drop i keys) place rest n (map part_of runs)) (h : i < length keys) (wanted : rest ≡ 0 → ⊥)
+    {cfg : Configuration R P} {seen_runs : List (Arc (SegmentRun R P) Z × ℕ)} (found : cfg ≡ exit_of start (map part_of seen_runs)) (seen_same : seen_runs ≡ runs) where
+  came : cfg ≡ exit_of start (map part_of runs)
+  came = found ∙ ap (λ l. exit_of start (map part_of l)) seen_same
+
+  at_key : IsWalking E (is start.register) old cut start next above keys (get_or keys i 0 ∷ drop (i + 1) keys) place rest n (map part_of runs)
+  at_key = walk_at E (is start.register) old cut start next above keys i place rest n (map part_of runs) w h
+
+  -- what is wanted there
+  pub walk_wants : IsLinked E cfg.register next above (alone cfg) cut × (length (steps_at cut (get_or keys i 0)) ≤ 128) × AllFit (is cfg.register) (steps_at cut (get_or keys i 0))
+  walk_wants = (
+    linked_here E equal per is alike old cut start next above keys (drop (i + 1) keys) (get_or keys i 0) place rest n (map part_of runs) at_key wanted cfg came,
+    small_here E equal per is alike old cut start next above keys (drop (i + 1) keys) (get_or keys i 0) place rest n (map part_of runs) at_key wanted cfg came,
+    fits_here E equal per is alike old cut start next above keys (drop (i + 1) keys) (get_or keys i 0) place rest n (map part_of runs) at_key wanted cfg came,
+  )
+
+  -- it goes on behind it
+  pub walk_step : {new : Cut (StoredRun R P)} {after : ℕ} {id : Option ℕ} {run seen : SegmentRun R P} {work count : ℕ} {steps : List Step} → IsSegmentSettled E cut new cfg (get_or keys i 0) run work
+      → IsLinked E cfg.register after id (alone run.exit) new → seen ≡ run → IsRun (is seen.entry.register) seen → steps ≡ seen.steps → count ≡ min rest (length steps)
+      → IsWalking E (is start.register) old new start after id keys (drop (i + 1) keys) place (rest - count) (n + work) (map part_of runs ++ part run count ∷ [])
+  walk_step {new} {after} {id} {run} {seen} {work} {count} settled linked same true_run are counts =
+      walk_on E equal per is alike old cut start next above keys (drop (i + 1) keys) (get_or keys i 0) place rest n (map part_of runs) at_key wanted cfg came
+      new after id run work count (rest - count) (n + work) settled linked
+      (subst (λ r. IsRun (is r.entry.register) r) same true_run) (counts ∙ ap (λ l. min rest (length l)) are ∙ ap (λ r. min rest (length r.steps)) same) refl refl
 
 -- what the last run came to
 pub exit_last : {R P Z : Type 0} (c : Configuration R P) (runs : List (Arc (SegmentRun R P) Z × ℕ)) (x : Arc (SegmentRun R P) Z × ℕ) → Some x ≡ slice_get runs (length runs - 1)

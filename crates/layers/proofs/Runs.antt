@@ -1,6 +1,6 @@
 -- A layer that runs on a flat stack, from one part to the next.
 use Rattle.std.proofs.Common.{◌≡◌, ℕ, Bool, ◌+◌, ◌≤◌, List, ◌∷◌, ◌++◌, arith, Option, Some, None, refl, sym, ap, subst, ◌∙◌, append-nil, length-take}
-use Rattle.std.specs.Prelude.{⊤, ◌<◌, [], length, drop, take}
+use Rattle.std.specs.Prelude.{⊤, ◌<◌, [], length, drop, take, IfSome}
 use Rattle.std.proofs.lemmas.List.{drop-take}
 use Rattle.safe_bit.specs.declared.Place.{Place}
 use Rattle.safe_bit.specs.Memory.{Memory}
@@ -223,8 +223,8 @@ module _ {Task P : Type 0} (l : LayerOver Task P) (at : Place) where
   follows_spent task (Value v) stack m lies h = absurd h
 
 -- a layer whose operation goes on: its frame tells the task in which it stands, and its part makes a bit action
-module _ {Task P : Type 0} (l : LayerOver Task P) (at : Place) (m : Memory) (lies : LayerLies l.table l.below l.Holds at m) (who first : ℕ) (stack : List Frame) (choice : Bool)
-    (frame : Frame) (found : drop first stack ≡ frame ∷ drop (first + 1) stack) (task : Task) (finds : task ≡ l.table.find who frame) where
+module _ {Task P : Type 0} (l : LayerOver Task P) {at : Place} {m : Memory} (lies : LayerLies l.table l.below l.Holds at m) (who first : ℕ) (stack : List Frame) (choice : Bool)
+    {frame : Frame} (found : drop first stack ≡ frame ∷ drop (first + 1) stack) {task : Task} (finds : task ≡ l.table.find who frame) where
   -- what the part's action comes to
   abbrev moved : P → Moved P
   moved p = pushed l.below (l.table.asks task).part p choice (own l.table l.below at m)
@@ -236,17 +236,20 @@ module _ {Task P : Type 0} (l : LayerOver Task P) (at : Place) (m : Memory) (lie
   in_task o n on = finds ∙ found_task l who first stack frame found o n on
 
   -- where the part has ended, the layer's own frame stands there still, and tells the same task
-  pub stands_still : (left : List Frame) → left ≡ take (first + 1) stack → first < length left
-  stands_still left is =
-      let there = index_there first stack (drop (first + 1) stack) frame found in
-      let long = ap length is in
-      omega (arith, there, long, length-take (first + 1) stack)
+  module _ (left : List Frame) {end : Option Outcome} {outcome : Outcome} (is : end ≡ Some outcome) (still : IfSome end (λ _. left ≡ take (first + 1) stack)) where
+    left_is : left ≡ take (first + 1) stack
+    left_is = subst (λ e. IfSome e (λ _. left ≡ take (first + 1) stack)) is still
 
-  pub found_again : (left : List Frame) → left ≡ take (first + 1) stack → (last : Frame) → drop first left ≡ last ∷ drop (first + 1) left
-      → (again : Task) → again ≡ l.table.find who last → again ≡ task
-  found_again left is last there again e =
-      let own : drop first left ≡ frame ∷ [] = ap (drop first) is ∙ drop-take first 1 stack ∙ ap (take 1) found in
-      e ∙ ap (l.table.find who) (parts_there first left [] frame last own there).0 ∙ sym finds
+    pub stands_still : first < length left
+    stands_still =
+        let there = index_there first stack (drop (first + 1) stack) frame found in
+        let long = ap length left_is in
+        omega (arith, there, long, length-take (first + 1) stack)
+
+    pub found_again : {last : Frame} → drop first left ≡ last ∷ drop (first + 1) left → {again : Task} → again ≡ l.table.find who last → again ≡ task
+    found_again {last} there e =
+        let own : drop first left ≡ frame ∷ [] = ap (drop first) left_is ∙ drop-take first 1 stack ∙ ap (take 1) found in
+        e ∙ ap (l.table.find who) (parts_there first left [] frame last own there).0 ∙ sym finds
 
   pub stands_at : (o : Op) (n : Nested Task P) → StandsAt o n → StandsAt o (record { task = task; below = n.below })
   stands_at o n on = subst (λ x. StandsAt o (record { task = x; below = n.below })) (sym (in_task o n on)) on
@@ -256,10 +259,10 @@ module _ {Task P : Type 0} (l : LayerOver Task P) (at : Place) (m : Memory) (lie
   chooses chosen e o n on =
       e o n.below (stands_at o n on) ∙ ap (λ x. placed_bit at (pushed l.below (l.table.asks x).part n.below choice (own l.table l.below at m)).chosen) (in_task o n on)
 
-  module _ (end : Option Outcome) (still : List Frame) (m1 : Memory)
+  module _ {end : Option Outcome} (still : List Frame) {m1 : Memory}
       (pushes : (o : Op) (p : P) → StandsAt o (record { task = task; below = p })
       → Lands (task_frames l.table l.below task) at (moved p).next (moved p).memory (take first stack) m end (cut_where_ended first end still) m1)
-      (o : Op) (n : Nested Task P) (on : StandsAt o n) where
+      {o : Op} {n : Nested Task P} (on : StandsAt o n) where
     -- the stack without the frames of a part that has ended
     abbrev left : List Frame
     left = cut_where_ended first end still
@@ -285,7 +288,7 @@ module _ {Task P : Type 0} (l : LayerOver Task P) (at : Place) (m : Memory) (lie
         (stops_there l at task (moved n.below).next (moved n.below).memory end (take first stack) left m m1 lands (subst Stops (sym none) tt)
         (follow_on l.table l.below task (moved n.below).next (moved n.below).memory) refl))
 
-    module _ (outcome : Outcome) (is : end ≡ Some outcome) where
+    module _ {outcome : Outcome} (is : end ≡ Some outcome) where
       pushed_well : LayerHolds l.table l.below l.Holds (moved n.below).memory
       pushed_well = let there = stands_at o n on in push_holds l who o task n.below choice (own l.table l.below at m) lies.holds there.reached.stands there.reached.below
 

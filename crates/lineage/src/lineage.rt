@@ -174,7 +174,7 @@ impl<X: Drop> Lineage<X> {
             → path_in self.now i ≡ front ++ s.0 ∷ back → s.2 ≡ last_of front) }
         ensures end { IfNone result ((k : ℕ) → at ≡ Some k → item_at self.now k ≡ None) }
     {
-        // The word of none is above the index of each slot: one test finds both ends.
+        // It tells the proof that there are fewer than 2^64 slots: none has the word of none, and one test finds both ends.
         let _most = self.nodes.capacity();
         let node = self.nodes.get(at.word)?;
         Some((at.word, &node.item, node.above))

@@ -4,6 +4,7 @@ use Rattle.std.specs.List.{list_any, position_or_len}
 use Rattle.std.specs.Option.{IfSome}
 use Rattle.std.specs.Cmp.Lexicographic.{pointwise}
 use Rattle.std.proofs.lemmas.List.{length-map, length-append, map-append, take_more}
+use Rattle.frames.specs.declared.types.Step.{Step}
 use Rattle.schedule_trie.specs.declared.slot.Slot.{Slot}
 use Rattle.schedule_trie.specs.declared.limb.Limb.{Limb}
 use Rattle.schedule_trie.specs.Forest.{Forest, Branch, branch, changed, numbered, slots_in, only_in, put_all, name_of, index_of, alone, IsForest}
@@ -26,8 +27,17 @@ only_last g [] b = refl
 only_last g (c ∷ bs) b = ap (λ l. c ∷ l) (only_last g bs b)
 
 -- a fork, and then the own steps
-module _ {T : Type 0} (a b d : Cut T) (l : Limb) (index : ℕ) (can : CanGrow a l) (last : index ≡ length (forest a).branches)
-    (forked : IsForked a b l.from l.shared l.name) (pushed : ArePushed b d index l.steps) where
+module _ {T : Type 0} (a was b d : Cut T) (l : Limb) (steps : List Step) (index : ℕ) (can : CanGrow a l) (same : was ≡ a) (own : steps ≡ l.steps) (count : index ≡ length (forest was).branches)
+    (fork : IsForked was b l.from l.shared l.name) (push : ArePushed b d index steps) where
+  last : index ≡ length (forest a).branches
+  last = count ∙ ap (λ z. length (forest z).branches) same
+
+  forked : IsForked a b l.from l.shared l.name
+  forked = subst (λ z. IsForked z b l.from l.shared l.name) same fork
+
+  pushed : ArePushed b d index l.steps
+  pushed = subst (ArePushed b d index) own push
+
   pub grown_told : forest d ≡ grown (forest a) l
   grown_told =
       let here : (forest d).branches ≡ (forest a).branches ++ branch l.name (slots_on (forest a) l) ∷ [] =
@@ -39,9 +49,10 @@ module _ {T : Type 0} (a b d : Cut T) (l : Limb) (index : ℕ) (can : CanGrow a 
       let made : d.made ≡ a.made + length l.steps = pushed.made ∙ ap (λ n. n + length l.steps) forked.made in
       λ i. record { branches = here i; made = made i }
 
-  pub grown_long : l.shared + length l.steps ≡ length (slots_in (forest d).branches index)
+  pub grown_long : l.shared + length steps ≡ length (slots_in (forest d).branches index)
   grown_long =
-      sym (ap (λ f. length (slots_in f.branches index)) grown_told
+      ap (λ s. l.shared + length s) own
+      ∙ sym (ap (λ f. length (slots_in f.branches index)) grown_told
       ∙ ap (λ n. length (slots_in ((forest a).branches ++ branch l.name (slots_on (forest a) l) ∷ []) n)) last
       ∙ ap length (slots_in-last (forest a).branches (branch l.name (slots_on (forest a) l)))
       ∙ length-append (take l.shared (slots_in (forest a).branches l.from)) (numbered a.made l.steps)

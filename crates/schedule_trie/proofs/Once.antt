@@ -1,9 +1,10 @@
 -- Numbers that stand once, and keys in a path.
-use Rattle.std.proofs.Common.{◌≡◌, ℕ, suc, ◌<◌, ◌≤◌, Bool, true, false, ◌||◌, eqb, List, [], ◌∷◌, ◌++◌, length, Option, Some, None, refl, sym, ap, subst, ◌∙◌, true≢false, arith}
+use Rattle.std.proofs.Common.{◌≡◌, ℕ, suc, ◌<◌, ◌≤◌, true, false, ◌||◌, eqb, List, [], ◌∷◌, ◌++◌, length, Option, Some, None, refl, sym, ap, subst, ◌∙◌, true≢false, arith}
 use Rattle.std.proofs.lemmas.Map.Keys.{IsDistinct-cons}
 use Rattle.std.proofs.lemmas.Map.Steps.{length-le_from_distinct_below}
-use Rattle.std.specs.List.{IsDistinct, AllByRecursion, list_any}
+use Rattle.std.specs.List.{IsDistinct, list_any}
 use Rattle.schedule_trie.specs.Cut.{has, Once, Linked}
+use Rattle.lineage.proofs.Once.{AllByRecursion-from_has}
 pub use Rattle.lineage.proofs.Once.{has_cases, has-head, has-tail, has-append, has_not_from}
 
 -- lists with nothing in common
@@ -11,14 +12,6 @@ pub Once-append : (xs ys : List ℕ) → Once xs → Once ys → ((x : ℕ) → 
 Once-append [] ys a b h = b
 Once-append (x ∷ xs) ys a b h =
     (has-append x xs ys ∙ ap (λ c. c || has x ys) a.0 ∙ h x (has-head x xs), Once-append xs ys a.1 b (λ z e. h z (has-tail z x xs e)))
-
-AllByRecursion-from_has : (x : ℕ) (ys : List ℕ) → has x ys ≡ false → AllByRecursion (λ y. eqb x y ≡ false) ys
-AllByRecursion-from_has x [] h = tt
-AllByRecursion-from_has x (y ∷ ys) h = by (eqb x y) refl (AllByRecursion-from_has x ys)
-  where
-    by : (b : Bool) → eqb x y ≡ b → (has x ys ≡ false → AllByRecursion (λ z. eqb x z ≡ false) ys) → AllByRecursion (λ z. eqb x z ≡ false) (y ∷ ys)
-    by true e rest = absurd (true≢false (sym (ap (λ c. c || has x ys) e) ∙ h))
-    by false e rest = (e, rest (sym (ap (λ c. c || has x ys) e) ∙ h))
 
 IsDistinct-from_once : (xs : List ℕ) → Once xs → IsDistinct eqb xs
 unfolding IsDistinct

@@ -6,7 +6,8 @@ use command_line::options::Options;
 use tower_file::BenchFile;
 
 /// A tower and its branches, the limits, whether what is left of the branches is told, and whether
-/// the process ends behind the run, so that its memory needn't be given back.
+/// the process ends behind the run, so that behind a script that ended well its memory needn't be
+/// given back. Behind a fault it is given back all the same.
 #[derive(Drop)]
 pub struct Setup {
     pub bench: BenchFile,
@@ -16,7 +17,8 @@ pub struct Setup {
 }
 
 impl Setup {
-    /// What a run is opened with of which nothing that is left is told, and behind which its process goes on.
+    /// What a run is opened with behind which its process goes on. Whether what is left is told,
+    /// `run_bench` and `run_leaving` set anew.
     pub(crate) fn new(bench: BenchFile, options: Options) -> Setup
         ensures bench { result.bench ≡ bench }
         ensures options { result.options ≡ options }

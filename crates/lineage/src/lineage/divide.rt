@@ -40,6 +40,7 @@ pub(super) fn put_above<X>(nodes: &mut Slab<Node<X>>, key: Key, item: X) -> Key
     ensures len { slab_len nodes.new ≡ slab_len nodes.old + 1 }
     ensures few { result < 2 ^ 64 - 1 }
 {
+    // It tells the proof that there are fewer than 2^64 slots, so that no key is the word of none.
     let _most = nodes.capacity();
     let above = nodes[key].above;
     let fresh = nodes.insert_reserved(Node {

@@ -67,6 +67,7 @@ fn end_at<X>(nodes: &Slab<Node<X>>, key: Option<Key>) -> Above
     requires { IfSome key (λ k. ContainsKey nodes.now k) }
     ensures { result ≡ key }
 {
+    // It tells the proof that there are fewer than 2^64 slots, so that no key is the word of none.
     let _most = nodes.capacity();
     match key {
         Some(key) => Above::of(key),

@@ -57,6 +57,7 @@ pub(super) fn push_node<X>(
     ensures capacity { nodes.new.capacity ≡ nodes.old.capacity }
     ensures tips { tips.new.items ≡ slice_set tips.old.items path (Some result) }
 {
+    // It tells the proof that there are fewer than 2^64 slots, so that no key is the word of none.
     let _most = nodes.capacity();
     let above = tips[path];
     let key = nodes.insert_reserved(Node {

@@ -1,5 +1,4 @@
-use Rattle.std.proofs.Common.{refl, subst}
-use Rattle.cutoff.specs.Fitting.{RunFits, steps_at}
+use Rattle.std.proofs.Common.{refl}
 use Rattle.cutoff.specs.Prefixes.{come_to}
 use Rattle.cutoff.proofs.Segments.{noted_still, segment_taken}
 use Rattle.cutoff.proofs.last.is_known_behind.Goals as goal
@@ -9,6 +8,9 @@ returns-in-Some g c = λ e.
     let E = g.R.PartialEq.eq in
     let trie = c.args.trie.now in
     let s = c.in-Some.stored.now in
-    let noted = c.in-Some.ensures.0 in
-    let fits = subst (λ d. RunFits E d (steps_at trie c.args.key) s.run) c.exit_named-number.ensures.exit c.in-Some.ensures.1 in
-    (s.run, segment_taken E trie trie (come_to trie c.args.start.now c.args.above) c.args.key s.run s (noted_still trie c.args.key s noted) refl s noted fits refl, c.exit-exit.ensures.kept)
+    let noted = c.in-Some.ensures.0 in (
+      s.run,
+      segment_taken E trie trie (come_to trie c.args.start.now c.args.above) c.args.key s.run s (noted_still trie c.args.key s noted) refl
+          s noted _ c.exit_named-number.ensures.exit c.in-Some.ensures.1 refl,
+      c.exit-exit.ensures.kept,
+    )

@@ -1,10 +1,17 @@
-use Rattle.std.proofs.Common.{◌≡◌, ◌+◌, ◌++◌, [], Some, true, drop, get_or, refl, sym, subst, ◌∙◌, arith, append-nil}
-use Rattle.cutoff.specs.Fitting.{KeepsRuns, IsFilled, reached}
+use Rattle.std.proofs.Common.{◌≡◌, ℕ, ◌+◌, Bool, List, ◌++◌, [], Some, true, drop, get_or, refl, sym, subst, ◌∙◌, arith, append-nil}
+use Rattle.frames.specs.Behaviour.{Behaviour}
+use Rattle.frames.specs.Configuration.{Configuration}
+use Rattle.cutoff.specs.Fitting.{StoredRun, KeepsRuns, IsFilled}
 use Rattle.cutoff.specs.Prefixes.{Hangs, come_to}
-use Rattle.schedule_trie.specs.Cut.{has, keys_in}
+use Rattle.schedule_trie.specs.Cut.{Cut, has, keys_in}
 use Rattle.cutoff.proofs.Rests.{IsGoing, going_starts, going_past, going_next, kept_next, going_settles, small_next, fits_next}
 use Rattle.cutoff.proofs.Lefts.{again_left, hangs_next, kept_settles, early_settles}
 use Rattle.cutoff.proofs.last.settle_rest.Goals as goal
+
+-- a refused step keeps what was kept before it
+keeps_still : {R P : Type 0} (E : R → R → Bool) (b : Behaviour P) (old : Cut (StoredRun R P)) (start : Configuration R P) (ks : List ℕ) {cut new : Cut (StoredRun R P)} → new ≡ cut
+    → KeepsRuns old cut (IsFilled E b old cut start ks) → KeepsRuns old new (IsFilled E b old new start ks)
+keeps_still E b old start ks same = subst (λ t. KeepsRuns old t (IsFilled E b old t start ks)) (sym same)
 
 pub loop-segment-init : goal.loop-segment-init
 loop-segment-init g c = record {
@@ -25,31 +32,25 @@ pub settle_behind-requires-clause-short : goal.settle_behind-requires-clause-sho
 settle_behind-requires-clause-short g c =
     let r = c.requires.left in
     let on = c.loop-segment.invariant.going r.0 r.1 r.2 r.3 in
-    small_next g.R.PartialEq.eq g.met.R.Eq.laws g.met.R.PartialEq.laws g.R.Behaves.is g.met.R.Register.alike c.deref-segment-items.result.now c.loop-segment.segment-index r.3.hanging.below on.1
-    c.loop-segment-test.true
+    small_next g.R.PartialEq.eq g.met.R.Eq.laws g.met.R.PartialEq.laws g.R.Behaves.is g.met.R.Register.alike c.deref-segment-items.result.now c.loop-segment.segment-index _ on.1 c.loop-segment-test.true
 
 pub settle_behind-requires-clause-fits : goal.settle_behind-requires-clause-fits
 settle_behind-requires-clause-fits g c =
     let r = c.requires.left in
     let on = c.loop-segment.invariant.going r.0 r.1 r.2 r.3 in
-    fits_next g.R.PartialEq.eq g.met.R.Eq.laws g.met.R.PartialEq.laws g.R.Behaves.is g.met.R.Register.alike c.deref-segment-items.result.now c.loop-segment.segment-index r.3.hanging.below on.1
-    c.loop-segment-test.true
+    fits_next g.R.PartialEq.eq g.met.R.Eq.laws g.met.R.PartialEq.laws g.R.Behaves.is g.met.R.Register.alike c.deref-segment-items.result.now c.loop-segment.segment-index _ on.1 c.loop-segment-test.true
 
 pub returns-in_err-last-clause-keeps : goal.returns-in_err-last-clause-keeps
 returns-in_err-last-clause-keeps g c = λ i count place left.
-    let E = g.R.PartialEq.eq in
-    let trie = c.args.trie.now in
-    let start = c.args.start.now in
-    let on = c.loop-segment.invariant.going i count place left in
-    subst (λ t. KeepsRuns trie t (IsFilled E (g.R.Behaves.is start.register) trie t start (reached trie place (keys_in trie.strands i)))) (sym c.in_err-last.ensures.unchanged) on.1.walk.keeps
+    keeps_still g.R.PartialEq.eq (g.R.Behaves.is c.args.start.now.register) c.args.trie.now c.args.start.now _ c.in_err-last.ensures.unchanged
+    (c.loop-segment.invariant.going i count place left).1.walk.keeps
 
 pub overflow_add-replayed : goal.overflow_add-replayed
 overflow_add-replayed g c =
     let r = c.requires.left in
     let on = c.loop-segment.invariant.going r.0 r.1 r.2 r.3 in
     let next = going_next g.R.PartialEq.eq g.met.R.Eq.laws g.met.R.PartialEq.laws g.R.Behaves.is g.met.R.Register.alike c.deref-segment-items.result.now c.loop-segment.segment-index
-    r.3.hanging.below on.1 c.loop-segment-test.true
-    c.settle_behind.new.trie c.settle_behind.new.next c.in_ok-last.last c.in_ok-last.ensures.settled c.settle_behind.ensures.linked in
+    r.3.hanging.below on.1 c.loop-segment-test.true c.in_ok-last.ensures.settled c.settle_behind.ensures.linked in
     let short = next.walk.short in
     let few = r.4 in
     omega (arith, short, few)
@@ -61,12 +62,10 @@ loop-segment-preserved g c =
           let on = c.loop-segment.invariant.going i count place left in (
             on.0,
             going_next g.R.PartialEq.eq g.met.R.Eq.laws g.met.R.PartialEq.laws g.R.Behaves.is g.met.R.Register.alike c.deref-segment-items.result.now c.loop-segment.segment-index
-                left.hanging.below on.1 c.loop-segment-test.true
-                c.settle_behind.new.trie c.settle_behind.new.next c.in_ok-last.last c.in_ok-last.ensures.settled c.settle_behind.ensures.linked,
+                left.hanging.below on.1 c.loop-segment-test.true c.in_ok-last.ensures.settled c.settle_behind.ensures.linked,
           );
       kept = kept_next g.R.PartialEq.eq g.met.R.Eq.laws g.met.R.PartialEq.laws g.R.Behaves.is g.met.R.Register.alike c.deref-segment-items.result.now c.loop-segment.segment-index
-          r.3.hanging.below (c.loop-segment.invariant.going r.0 r.1 r.2 r.3).1 c.loop-segment-test.true
-          c.settle_behind.new.trie c.settle_behind.new.next c.in_ok-last.last c.in_ok-last.ensures.settled c.settle_behind.ensures.linked c.requires.cut;
+          r.3.hanging.below (c.loop-segment.invariant.going r.0 r.1 r.2 r.3).1 c.loop-segment-test.true c.in_ok-last.ensures.settled c.settle_behind.ensures.linked c.requires.cut;
       linked = c.settle_behind.ensures.linked;
     }
 
@@ -120,31 +119,25 @@ pub settle_behind-requires-in-loop-below-clause-short : goal.settle_behind-requi
 settle_behind-requires-in-loop-below-clause-short g c =
     let r = c.requires.left in
     let on = c.loop-below.invariant.going r.0 r.1 r.2 r.3 in
-    small_next g.R.PartialEq.eq g.met.R.Eq.laws g.met.R.PartialEq.laws g.R.Behaves.is g.met.R.Register.alike c.deref-below-items.result.now c.loop-below.below-index [] on.1
-    c.loop-below-test.true
+    small_next g.R.PartialEq.eq g.met.R.Eq.laws g.met.R.PartialEq.laws g.R.Behaves.is g.met.R.Register.alike c.deref-below-items.result.now c.loop-below.below-index [] on.1 c.loop-below-test.true
 
 pub settle_behind-requires-in-loop-below-clause-fits : goal.settle_behind-requires-in-loop-below-clause-fits
 settle_behind-requires-in-loop-below-clause-fits g c =
     let r = c.requires.left in
     let on = c.loop-below.invariant.going r.0 r.1 r.2 r.3 in
-    fits_next g.R.PartialEq.eq g.met.R.Eq.laws g.met.R.PartialEq.laws g.R.Behaves.is g.met.R.Register.alike c.deref-below-items.result.now c.loop-below.below-index [] on.1
-    c.loop-below-test.true
+    fits_next g.R.PartialEq.eq g.met.R.Eq.laws g.met.R.PartialEq.laws g.R.Behaves.is g.met.R.Register.alike c.deref-below-items.result.now c.loop-below.below-index [] on.1 c.loop-below-test.true
 
 pub returns-in_err-here-clause-keeps : goal.returns-in_err-here-clause-keeps
 returns-in_err-here-clause-keeps g c = λ i count place left.
-    let E = g.R.PartialEq.eq in
-    let trie = c.args.trie.now in
-    let start = c.args.start.now in
-    let on = c.loop-below.invariant.going i count place left in
-    subst (λ t. KeepsRuns trie t (IsFilled E (g.R.Behaves.is start.register) trie t start (reached trie place (keys_in trie.strands i)))) (sym c.in_err-here.ensures.unchanged) on.1.walk.keeps
+    keeps_still g.R.PartialEq.eq (g.R.Behaves.is c.args.start.now.register) c.args.trie.now c.args.start.now _ c.in_err-here.ensures.unchanged
+    (c.loop-below.invariant.going i count place left).1.walk.keeps
 
 pub overflow_add-replayed-in-loop-below : goal.overflow_add-replayed-in-loop-below
 overflow_add-replayed-in-loop-below g c =
     let r = c.requires.left in
     let on = c.loop-below.invariant.going r.0 r.1 r.2 r.3 in
     let next = going_next g.R.PartialEq.eq g.met.R.Eq.laws g.met.R.PartialEq.laws g.R.Behaves.is g.met.R.Register.alike c.deref-below-items.result.now c.loop-below.below-index
-    [] on.1 c.loop-below-test.true
-    c.settle_behind-in-loop-below.new.trie c.settle_behind-in-loop-below.new.next c.in_ok-here.here c.in_ok-here.ensures.settled c.settle_behind-in-loop-below.ensures.linked in
+    [] on.1 c.loop-below-test.true c.in_ok-here.ensures.settled c.settle_behind-in-loop-below.ensures.linked in
     let short = next.walk.short in
     let few = r.4 in
     omega (arith, short, few)
@@ -161,8 +154,8 @@ returns-then-here-eq0-clause-settles g c = λ i count place left.
     let after = c.settle_behind-in-loop-below.new.next in
     let settled = c.in_ok-here.ensures.settled in
     let linked = c.settle_behind-in-loop-below.ensures.linked in
-    let next = going_next E g.met.R.Eq.laws g.met.R.PartialEq.laws is g.met.R.Register.alike keys index [] on.1 c.loop-below-test.true new after c.in_ok-here.here settled linked in
-    let kept = kept_next E g.met.R.Eq.laws g.met.R.PartialEq.laws is g.met.R.Register.alike keys index [] on.1 c.loop-below-test.true new after c.in_ok-here.here settled linked c.requires.cut
+    let next = going_next E g.met.R.Eq.laws g.met.R.PartialEq.laws is g.met.R.Register.alike keys index [] on.1 c.loop-below-test.true settled linked in
+    let kept = kept_next E g.met.R.Eq.laws g.met.R.PartialEq.laws is g.met.R.Register.alike keys index [] on.1 c.loop-below-test.true settled linked c.requires.cut
     c.if-here-eq0.true in
     let hangs = c.loop-below.invariant.hangs i count place left in
     let below = hangs_next E is trie hangs.0 keys index c.loop-below-test.true hangs.1 in
@@ -173,8 +166,7 @@ pub returns-then-here-eq0-clause-keeps : goal.returns-then-here-eq0-clause-keeps
 returns-then-here-eq0-clause-keeps g c = λ i count place left.
     let on = c.loop-below.invariant.going i count place left in
     let next = going_next g.R.PartialEq.eq g.met.R.Eq.laws g.met.R.PartialEq.laws g.R.Behaves.is g.met.R.Register.alike c.deref-below-items.result.now c.loop-below.below-index
-    [] on.1 c.loop-below-test.true
-    c.settle_behind-in-loop-below.new.trie c.settle_behind-in-loop-below.new.next c.in_ok-here.here c.in_ok-here.ensures.settled c.settle_behind-in-loop-below.ensures.linked in
+    [] on.1 c.loop-below-test.true c.in_ok-here.ensures.settled c.settle_behind-in-loop-below.ensures.linked in
     next.walk.keeps
 
 pub loop-below-preserved : goal.loop-below-preserved
@@ -183,8 +175,7 @@ loop-below-preserved g c = record {
       let on = c.loop-below.invariant.going i count place left in (
         on.0,
         going_next g.R.PartialEq.eq g.met.R.Eq.laws g.met.R.PartialEq.laws g.R.Behaves.is g.met.R.Register.alike c.deref-below-items.result.now c.loop-below.below-index
-            [] on.1 c.loop-below-test.true
-            c.settle_behind-in-loop-below.new.trie c.settle_behind-in-loop-below.new.next c.in_ok-here.here c.in_ok-here.ensures.settled c.settle_behind-in-loop-below.ensures.linked,
+            [] on.1 c.loop-below-test.true c.in_ok-here.ensures.settled c.settle_behind-in-loop-below.ensures.linked,
       );
   hangs = λ i count place left.
       let hangs = c.loop-below.invariant.hangs i count place left in

@@ -3,7 +3,7 @@ use Rattle.std.proofs.lemmas.List.{reverse-append}
 use Rattle.schedule_trie.specs.Cut.{has, keys_in}
 use Rattle.schedule_trie.specs.Climbs.{keys_to, IsReached}
 use Rattle.schedule_trie.proofs.Climbs.{IsStepUp, step_up}
-use Rattle.cutoff.proofs.Climbs.{path_once, few_to, past_first, shorter}
+use Rattle.cutoff.proofs.Climbs.{path_once, past_all, shorter}
 use Rattle.cutoff.proofs.Prefixes.{same_key, other_key, by_other}
 use Rattle.cutoff.proofs.prefix.keys_behind.Goals as goal
 use Rattle.cutoff.proofs.prefix.keys_behind.Goals.{else-loop-test, then-loop-test+then-eq, then-loop-test+else-eq+in_default}
@@ -42,10 +42,8 @@ returns-clause-behind g c =
     let ends : (c.loop.at ≡ c.args.front) ⊎ (c.loop.at ≡ None) =
     elim c.loop-test.branch [
       | else-loop-test w ↦
-          let few = few_to (keys_in trie.strands first.0) (Some c.args.key) first.1 in
-          let made = c.made-end.ensures.few first.0 in
-          inr (past_first (keys_in trie.strands first.0) c.loop.at c.loop.counter (length (keys_to (keys_in trie.strands first.0) (Some c.args.key))) (was.reached first.0 first.1)
-          (was.short first.0 first.1) (omega (arith, few, made, w.loop-test.false)))
+          inr (past_all (keys_in trie.strands first.0) (Some c.args.key) c.loop.at c.loop.counter c.made-end.result first.1 (c.made-end.ensures.few first.0) (was.reached first.0 first.1)
+          (was.short first.0 first.1) w.loop-test.false)
       | then-loop-test+then-eq w ↦ inl (same_key c.loop.at c.args.front (sym w.if-eq.ensures))
       | then-loop-test+else-eq+in_default w ↦ inr w.in_default.is
     ] in
@@ -60,10 +58,8 @@ returns-clause-stops g c = λ i f h e there.
     λ none. absurd (true≢false (sym (subst (λ o. has f (keys_to (keys_in trie.strands i) o) ≡ true) none (was.ahead i f h e there)))) in
     elim c.loop-test.branch [
       | else-loop-test w ↦
-          let few = few_to (keys_in trie.strands first.0) (Some c.args.key) first.1 in
-          let made = c.made-end.ensures.few first.0 in
-          past (past_first (keys_in trie.strands first.0) c.loop.at c.loop.counter (length (keys_to (keys_in trie.strands first.0) (Some c.args.key))) (was.reached first.0 first.1)
-          (was.short first.0 first.1) (omega (arith, few, made, w.loop-test.false)))
+          past (past_all (keys_in trie.strands first.0) (Some c.args.key) c.loop.at c.loop.counter c.made-end.result first.1 (c.made-end.ensures.few first.0) (was.reached first.0 first.1)
+          (was.short first.0 first.1) w.loop-test.false)
       | then-loop-test+then-eq w ↦ same_key c.loop.at c.args.front (sym w.if-eq.ensures)
       | then-loop-test+else-eq+in_default w ↦ past w.in_default.is
     ]

@@ -4,23 +4,20 @@ use Rattle.frames.specs.Equality.{SameConfiguration}
 use Rattle.schedule_trie.specs.Cut.{keys_in, note_of, piece_at}
 use Rattle.schedule_trie.specs.Climbs.{keys_to, IsReached}
 use Rattle.schedule_trie.proofs.Climbs.{step_up}
-use Rattle.cutoff.specs.Prefixes.{IsMarked, RunsDown}
+use Rattle.cutoff.specs.Prefixes.{RunsDown}
 use Rattle.cutoff.proofs.Climbs.{path_once}
 use Rattle.cutoff.proofs.Fits.{stored_at}
-use Rattle.cutoff.proofs.Lefts.{hung_runs}
+use Rattle.cutoff.proofs.Lefts.{hung_runs, hung_marked}
 use Rattle.cutoff.proofs.Prefixes.{up_new}
 use Rattle.cutoff.proofs.prefix.known_prefix.Goals as goal
 
 pub returns-then-is_marked : goal.returns-then-is_marked
 returns-then-is_marked g c = λ i h.
-    let E = g.R.PartialEq.eq in
-    let is = g.R.Behaves.is in
-    let trie = c.args.trie.now in
-    let start = c.args.start.now in
-    let there = c.loop.invariant i h in
-    let hung = c.hung_from-top.ensures i there in
-    let marked = subst (IsMarked E is trie start) (c.is_marked.ensures.0 c.if-is_marked.true) c.requires.marked in
-    (there, hung_runs E g.met.R.PartialEq.laws is g.met.R.Register.alike trie start c.hung_from-top.result c.loop.front i hung there (marked i hung.there))
+    let there = c.loop.invariant i h in (
+      there,
+      hung_marked g.R.PartialEq.eq g.met.R.PartialEq.laws g.R.Behaves.is g.met.R.Register.alike c.args.trie.now c.args.start.now c.args.mark c.hung_from-top.result c.loop.front i
+          c.requires.marked (c.is_marked.ensures.0 c.if-is_marked.true) (c.hung_from-top.ensures i there) there,
+    )
 
 pub returns-then-eq : goal.returns-then-eq
 returns-then-eq g c = λ i h.

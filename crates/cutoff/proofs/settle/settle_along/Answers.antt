@@ -1,8 +1,6 @@
-use Rattle.std.proofs.Common.{◌≡◌, map, inl, inr, ap, ◌∙◌, arith}
-use Rattle.std.specs.Arc.{arc_value}
-use Rattle.cutoff.specs.Fitting.{exit_of, part_of}
+use Rattle.std.proofs.Common.{inl, inr, arith}
 use Rattle.cutoff.proofs.Links.{linked_none}
-use Rattle.cutoff.proofs.Walks.{walk_starts, walk_at, walk_ends, walk_step, linked_here, fits_here, small_here, part_last}
+use Rattle.cutoff.proofs.Walks.{walk_starts, walk_ends, walk_wants, walk_step, part_last}
 use Rattle.cutoff.proofs.settle.settle_along.Goals as goal
 use Rattle.cutoff.proofs.settle.settle_along.Goals.{else-loop-key-test, then-loop-key-test+then-rest-eq0}
 
@@ -14,69 +12,43 @@ loop-key-init g c =
 
 pub settle_segment-requires-clause-linked : goal.settle_segment-requires-clause-linked
 settle_segment-requires-clause-linked g c =
-    let came : arc_value c.in_ok-config.config ≡ exit_of c.args.start.now (map part_of c.loop-key.runs.items) =
-    c.in_ok-config.ensures ∙ ap (λ l. exit_of c.args.start.now (map part_of l)) c.deref.ensures.value in
-    linked_here g.R.PartialEq.eq g.met.R.Eq.laws g.met.R.PartialEq.laws g.R.Behaves.is g.met.R.Register.alike _ _ _ _ _ _ _ _ _ _ _ _
-    (walk_at _ _ _ _ _ _ _ _ _ _ _ _ _ c.loop-key.invariant c.loop-key-test.true) c.if-rest-eq0.false (arc_value c.in_ok-config.config) came
+    (walk_wants g.R.PartialEq.eq g.met.R.Eq.laws g.met.R.PartialEq.laws g.R.Behaves.is g.met.R.Register.alike c.loop-key.invariant c.loop-key-test.true c.if-rest-eq0.false
+    c.in_ok-config.ensures c.deref.ensures.value).0
 
 pub settle_segment-requires-clause-short : goal.settle_segment-requires-clause-short
 settle_segment-requires-clause-short g c =
-    let came : arc_value c.in_ok-config.config ≡ exit_of c.args.start.now (map part_of c.loop-key.runs.items) =
-    c.in_ok-config.ensures ∙ ap (λ l. exit_of c.args.start.now (map part_of l)) c.deref.ensures.value in
-    small_here g.R.PartialEq.eq g.met.R.Eq.laws g.met.R.PartialEq.laws g.R.Behaves.is g.met.R.Register.alike _ _ _ _ _ _ _ _ _ _ _ _
-    (walk_at _ _ _ _ _ _ _ _ _ _ _ _ _ c.loop-key.invariant c.loop-key-test.true) c.if-rest-eq0.false (arc_value c.in_ok-config.config) came
+    (walk_wants g.R.PartialEq.eq g.met.R.Eq.laws g.met.R.PartialEq.laws g.R.Behaves.is g.met.R.Register.alike c.loop-key.invariant c.loop-key-test.true c.if-rest-eq0.false
+    c.in_ok-config.ensures c.deref.ensures.value).1
 
 pub settle_segment-requires-clause-fits : goal.settle_segment-requires-clause-fits
 settle_segment-requires-clause-fits g c =
-    let came : arc_value c.in_ok-config.config ≡ exit_of c.args.start.now (map part_of c.loop-key.runs.items) =
-    c.in_ok-config.ensures ∙ ap (λ l. exit_of c.args.start.now (map part_of l)) c.deref.ensures.value in
-    fits_here g.R.PartialEq.eq g.met.R.Eq.laws g.met.R.PartialEq.laws g.R.Behaves.is g.met.R.Register.alike _ _ _ _ _ _ _ _ _ _ _ _
-    (walk_at _ _ _ _ _ _ _ _ _ _ _ _ _ c.loop-key.invariant c.loop-key-test.true) c.if-rest-eq0.false (arc_value c.in_ok-config.config) came
+    (walk_wants g.R.PartialEq.eq g.met.R.Eq.laws g.met.R.PartialEq.laws g.R.Behaves.is g.met.R.Register.alike c.loop-key.invariant c.loop-key-test.true c.if-rest-eq0.false
+    c.in_ok-config.ensures c.deref.ensures.value).2
 
 pub overflow_add-replayed : goal.overflow_add-replayed
 overflow_add-replayed g c =
-    let came : arc_value c.in_ok-config.config ≡ exit_of c.args.start.now (map part_of c.loop-key.runs.items) =
-    c.in_ok-config.ensures ∙ ap (λ l. exit_of c.args.start.now (map part_of l)) c.deref.ensures.value in
-    let w =
-    walk_step g.R.PartialEq.eq g.met.R.Eq.laws g.met.R.PartialEq.laws g.R.Behaves.is g.met.R.Register.alike
-    c.loop-key.invariant c.loop-key-test.true c.if-rest-eq0.false (arc_value c.in_ok-config.config) came c.settle_segment.new.trie c.settle_segment.new.next
-    c.in_ok-settled.settled.id (arc_value c.in_ok-settled.settled.run) c.deref-in-loop-key.result.now c.in_ok-settled.settled.replayed c.min-count.result
-    c.in_ok-settled.ensures.settled c.in_ok-settled.ensures.linked c.deref-in-loop-key.ensures c.steps.ensures.kept c.steps.result.now c.steps.ensures.steps c.min-count.ensures in
+    let w = walk_step g.R.PartialEq.eq g.met.R.Eq.laws g.met.R.PartialEq.laws g.R.Behaves.is g.met.R.Register.alike c.loop-key.invariant c.loop-key-test.true c.if-rest-eq0.false
+    c.in_ok-config.ensures c.deref.ensures.value c.in_ok-settled.ensures.settled c.in_ok-settled.ensures.linked c.deref-in-loop-key.ensures c.steps.ensures.kept c.steps.ensures.steps c.min-count.ensures in
     let s = w.short in
     let f = c.requires.few in
     omega arith
 
 pub returns-in_err-push-clause-keeps : goal.returns-in_err-push-clause-keeps
 returns-in_err-push-clause-keeps g c =
-    let came : arc_value c.in_ok-config.config ≡ exit_of c.args.start.now (map part_of c.loop-key.runs.items) =
-    c.in_ok-config.ensures ∙ ap (λ l. exit_of c.args.start.now (map part_of l)) c.deref.ensures.value in
-    let w =
-    walk_step g.R.PartialEq.eq g.met.R.Eq.laws g.met.R.PartialEq.laws g.R.Behaves.is g.met.R.Register.alike
-    c.loop-key.invariant c.loop-key-test.true c.if-rest-eq0.false (arc_value c.in_ok-config.config) came c.settle_segment.new.trie c.settle_segment.new.next
-    c.in_ok-settled.settled.id (arc_value c.in_ok-settled.settled.run) c.deref-in-loop-key.result.now c.in_ok-settled.settled.replayed c.min-count.result
-    c.in_ok-settled.ensures.settled c.in_ok-settled.ensures.linked c.deref-in-loop-key.ensures c.steps.ensures.kept c.steps.result.now c.steps.ensures.steps c.min-count.ensures in
+    let w = walk_step g.R.PartialEq.eq g.met.R.Eq.laws g.met.R.PartialEq.laws g.R.Behaves.is g.met.R.Register.alike c.loop-key.invariant c.loop-key-test.true c.if-rest-eq0.false
+    c.in_ok-config.ensures c.deref.ensures.value c.in_ok-settled.ensures.settled c.in_ok-settled.ensures.linked c.deref-in-loop-key.ensures c.steps.ensures.kept c.steps.ensures.steps c.min-count.ensures in
     w.keeps
 
 pub returns-in_err-push-clause-linked : goal.returns-in_err-push-clause-linked
 returns-in_err-push-clause-linked g c =
-    let came : arc_value c.in_ok-config.config ≡ exit_of c.args.start.now (map part_of c.loop-key.runs.items) =
-    c.in_ok-config.ensures ∙ ap (λ l. exit_of c.args.start.now (map part_of l)) c.deref.ensures.value in
-    let w =
-    walk_step g.R.PartialEq.eq g.met.R.Eq.laws g.met.R.PartialEq.laws g.R.Behaves.is g.met.R.Register.alike
-    c.loop-key.invariant c.loop-key-test.true c.if-rest-eq0.false (arc_value c.in_ok-config.config) came c.settle_segment.new.trie c.settle_segment.new.next
-    c.in_ok-settled.settled.id (arc_value c.in_ok-settled.settled.run) c.deref-in-loop-key.result.now c.in_ok-settled.settled.replayed c.min-count.result
-    c.in_ok-settled.ensures.settled c.in_ok-settled.ensures.linked c.deref-in-loop-key.ensures c.steps.ensures.kept c.steps.result.now c.steps.ensures.steps c.min-count.ensures in
+    let w = walk_step g.R.PartialEq.eq g.met.R.Eq.laws g.met.R.PartialEq.laws g.R.Behaves.is g.met.R.Register.alike c.loop-key.invariant c.loop-key-test.true c.if-rest-eq0.false
+    c.in_ok-config.ensures c.deref.ensures.value c.in_ok-settled.ensures.settled c.in_ok-settled.ensures.linked c.deref-in-loop-key.ensures c.steps.ensures.kept c.steps.ensures.steps c.min-count.ensures in
     linked_none g.R.PartialEq.eq c.args.start.now.register c.settle_segment.new.next c.in_ok-settled.settled.id _ _ c.settle_segment.new.trie w.linked
 
 pub loop-key-preserved : goal.loop-key-preserved
 loop-key-preserved g c =
-    let came : arc_value c.in_ok-config.config ≡ exit_of c.args.start.now (map part_of c.loop-key.runs.items) =
-    c.in_ok-config.ensures ∙ ap (λ l. exit_of c.args.start.now (map part_of l)) c.deref.ensures.value in
-    let w =
-    walk_step g.R.PartialEq.eq g.met.R.Eq.laws g.met.R.PartialEq.laws g.R.Behaves.is g.met.R.Register.alike
-    c.loop-key.invariant c.loop-key-test.true c.if-rest-eq0.false (arc_value c.in_ok-config.config) came c.settle_segment.new.trie c.settle_segment.new.next
-    c.in_ok-settled.settled.id (arc_value c.in_ok-settled.settled.run) c.deref-in-loop-key.result.now c.in_ok-settled.settled.replayed c.min-count.result
-    c.in_ok-settled.ensures.settled c.in_ok-settled.ensures.linked c.deref-in-loop-key.ensures c.steps.ensures.kept c.steps.result.now c.steps.ensures.steps c.min-count.ensures in
+    let w = walk_step g.R.PartialEq.eq g.met.R.Eq.laws g.met.R.PartialEq.laws g.R.Behaves.is g.met.R.Register.alike c.loop-key.invariant c.loop-key-test.true c.if-rest-eq0.false
+    c.in_ok-config.ensures c.deref.ensures.value c.in_ok-settled.ensures.settled c.in_ok-settled.ensures.linked c.deref-in-loop-key.ensures c.steps.ensures.kept c.steps.ensures.steps c.min-count.ensures in
     let e = c.in_ok-push.ensures.items in
     let p = part_last c.loop-key.runs.items (c.in_ok-settled.settled.run, c.min-count.result) in
     rw (e, p) w

@@ -1,6 +1,4 @@
-use Rattle.std.proofs.Common.{◌+◌, length, sym, subst, arith, ◌∙◌, ap}
-use Rattle.schedule_trie.specs.Cut.{forest, ArePushed}
-use Rattle.schedule_trie.specs.Forks.{IsForked}
+use Rattle.std.proofs.Common.{length, sym, subst, arith, ap}
 use Rattle.schedule_trie.specs.Loads.{IsGrown}
 use Rattle.schedule_trie.proofs.LoadSteps.{grown_small, grown_long, is_grown}
 use Rattle.schedule_trie.proofs.trie.Trie.grow.Goals as goal
@@ -13,22 +11,11 @@ overflow_add-limb g c =
 
 pub keep_len-requires-clause-len : goal.keep_len-requires-clause-len
 keep_len-requires-clause-len g c =
-    let a = c.args.self.now in
-    let l = c.args.limb.now in
-    let same = c.learn_len-index.ensures.same in
-    let last = c.branches-index.ensures.count ∙ ap (λ z. length (forest z).branches) same in
-    let forked = subst (λ z. IsForked z c.fork_at.new.self l.from l.shared l.name) same c.in_ok-fork_at.ensures.ok in
-    let pushed = subst (ArePushed c.fork_at.new.self c.push_all.new.self c.branches-index.result) c.as_slice-steps.ensures c.in_ok-push_all.ensures in
-    ap (λ s. l.shared + length s) c.as_slice-steps.ensures
-    ∙ grown_long a c.fork_at.new.self c.push_all.new.self l c.branches-index.result c.requires last forked pushed
+    grown_long c.args.self.now _ c.fork_at.new.self c.push_all.new.self c.args.limb.now _ c.branches-index.result c.requires c.learn_len-index.ensures.same c.as_slice-steps.ensures
+    c.branches-index.ensures.count c.in_ok-fork_at.ensures.ok c.in_ok-push_all.ensures
 
 pub returns : goal.returns
 returns g c =
-    let a = c.args.self.now in
-    let l = c.args.limb.now in
-    let same = c.learn_len-index.ensures.same in
-    let last = c.branches-index.ensures.count ∙ ap (λ z. length (forest z).branches) same in
-    let forked = subst (λ z. IsForked z c.fork_at.new.self l.from l.shared l.name) same c.in_ok-fork_at.ensures.ok in
-    let pushed = subst (ArePushed c.fork_at.new.self c.push_all.new.self c.branches-index.result) c.as_slice-steps.ensures c.in_ok-push_all.ensures in
-    subst (λ z. IsGrown a z l) (sym c.keep_len.ensures)
-    (is_grown a c.fork_at.new.self c.push_all.new.self l c.branches-index.result c.requires last forked pushed c.held.ensures.forest)
+    subst (λ z. IsGrown c.args.self.now z c.args.limb.now) (sym c.keep_len.ensures)
+    (is_grown c.args.self.now _ c.fork_at.new.self c.push_all.new.self c.args.limb.now _ c.branches-index.result c.requires c.learn_len-index.ensures.same c.as_slice-steps.ensures
+    c.branches-index.ensures.count c.in_ok-fork_at.ensures.ok c.in_ok-push_all.ensures c.held.ensures.forest)
