@@ -17,10 +17,10 @@ STEPS = 900
 CYCLE = ["w 0 1", "r 1"] + ["g 0 0", "g 1 1"] * 11
 TOWERS = ("safe 0", "regular 2 0", "matrix 2 2 1 3")
 # Behind a script that ends well the program leaves its desk's memory to the end of its process, so
-# that what is lost can't be told. Behind a fault it lets it go: so memcheck has it read a script that
-# is too long (`crates/conversation/src/limits.rt`), whose whole lines are answered first.
+# that what is lost can't be told. Behind a fault it gives that back: so memcheck has it read a script
+# that is too long (`crates/conversation/src/limits.rt`), whose whole lines are answered first.
 MOST_BYTES = 1 << 24
-FAULTED = 1
+TOO_LONG = b"towerbench: script too long\n"
 # A call that was refused: not what a history tells of an operation.
 REFUSED = re.compile(rb"^(?:line )?[0-9]+: refused ", re.MULTILINE)
 # The built tests of chairs, and those of them that are run, with the tools. Helgrind knows pthread's
@@ -67,8 +67,8 @@ def found(log):
     return None
 
 
-def checked(counts, name, tool, words, given, want, log, status=0):
-    """Runs a command under a tool, and holds it to its status, its answers, if told, and no error."""
+def checked(counts, name, tool, words, given, want, log, fault=b""):
+    """Runs a command under a tool, and holds it to no error, and to its answers and its fault, if told."""
     valgrind = ["valgrind", *TOOLS[tool], f"--log-file={log}"]
     how = {"stdout": subprocess.PIPE, "stderr": subprocess.PIPE, "timeout": UNDER_VALGRIND}
     try:
@@ -78,8 +78,8 @@ def checked(counts, name, tool, words, given, want, log, status=0):
         return
     with open(log, encoding="utf-8", errors="replace") as file:
         counts.told(f"{name}, {tool}: its errors", found(file.read()))
-    is_same = done.returncode == status and (want is None or done.stdout == want)
-    told = f"status {done.returncode}, {shown(done.stdout)}"
+    is_same = done.returncode == bool(fault) and (want is None or (done.stdout, done.stderr) == (want, fault))
+    told = f"status {done.returncode}, {shown(done.stdout)}, {shown(done.stderr)}"
     counts.told(f"{name}, {tool}: its answers", None if is_same else told)
 
 
@@ -92,7 +92,7 @@ def fills(counts, room):
         counts.told(f"{line}, by none", None if is_good else f"{alone}")
         words = [program(), path, "--workers", "4"]
         too_long = script() + b"#" * MOST_BYTES
-        checked(counts, line, "memcheck", words, too_long, alone.output, f"{room}/log", FAULTED)
+        checked(counts, line, "memcheck", words, too_long, alone.output, f"{room}/log", TOO_LONG)
         checked(counts, line, "helgrind", words, script(), alone.output, f"{room}/log")
     counts.end()
 

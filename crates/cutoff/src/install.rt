@@ -31,8 +31,8 @@ pub enum Installation {
     Gone,
 }
 
-/// Whether a run fits the segment of a key, and stored runs fit all segments above, as they are known to down to the mark; and
-/// the number of the run right above it, if that has one.
+/// Whether a run fits the segment of a key, and stored runs fit all segments above: down to the mark they are known to. And the
+/// number of the run right above it, if that has one.
 pub(crate) fn fits_down<R: Register>(
     trie: &Trie<Stored<R>>,
     start: &Config<R>,
@@ -108,16 +108,17 @@ fn are_steps(slots: &[Slot], steps: &[Step]) -> bool
     true
 }
 
-/// Whether two steps are the same: by words of memory and not by halves, as the comparison that is derived goes.
+/// Whether two steps are the same. Two numbers are compared as one word of memory, where the derived comparison takes one after
+/// the other.
 #[inline(always)]
 fn is_same(a: &Step, b: &Step) -> bool
     ensures { Decides result (a.now ≡ b.now) }
 {
     match (a, b) {
-        (Step::Write { p, v }, Step::Write { p: q, v: w }) => [*p, *v] == [*q, *w],
-        (Step::Read { p }, Step::Read { p: q }) => *p == *q,
-        (Step::Go { p, c }, Step::Go { p: q, c: d }) => [*p, *c] == [*q, *d],
-        (Step::Stop { p }, Step::Stop { p: q }) => *p == *q,
+        (Step::Write { p, v }, Step::Write { p: who, v: value }) => [*p, *v] == [*who, *value],
+        (Step::Read { p }, Step::Read { p: who }) => *p == *who,
+        (Step::Go { p, c }, Step::Go { p: who, c: choice }) => [*p, *c] == [*who, *choice],
+        (Step::Stop { p }, Step::Stop { p: who }) => *p == *who,
         _ => false,
     }
 }

@@ -6,8 +6,7 @@ use command_line::options::Options;
 use tower_file::BenchFile;
 
 /// A tower and its branches, the limits, whether what is left of the branches is told, and whether
-/// the process ends behind the run, so that behind a script that ended well its memory needn't be
-/// given back. Behind a fault it is given back all the same.
+/// the process ends behind the run (`leave`).
 #[derive(Drop)]
 pub struct Setup {
     pub bench: BenchFile,
@@ -17,8 +16,8 @@ pub struct Setup {
 }
 
 impl Setup {
-    /// What a run is opened with behind which its process goes on. Whether what is left is told,
-    /// `run_bench` and `run_leaving` set anew.
+    /// What a run is opened with where its process goes on behind it. `run_bench` and `run_leaving`
+    /// set `keeps`.
     pub(crate) fn new(bench: BenchFile, options: Options) -> Setup
         ensures bench { result.bench ≡ bench }
         ensures options { result.options ≡ options }

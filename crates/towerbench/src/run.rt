@@ -236,7 +236,7 @@ where
 }
 
 /// Leaves a seat behind a script that ended well; behind a fault `begin` drops it. Behind a last run
-/// nothing that its desk holds is given back, piece by piece: the system takes it all as the process ends.
+/// nothing that its desk holds is given back piece by piece: the system takes it all as the process ends.
 fn leave<B: Register, H>(seat: Seat<'_, B, H>, is_last: bool) {
     if is_last {
         forget(seat);

@@ -17,8 +17,8 @@ use std::alloc::Global;
 
 impl<R: Register> Chart<R> {
     /// The last of the stored runs of a branch's first `place` cells, which are settled as `settle` does it. Asked for the same
-    /// place again, with no install, `settle` and edit between but forks of whole branches, it goes over no segment but the one
-    /// that holds the last of them.
+    /// place again, with no other place asked for, no install and no `settle` between, and no edit but forks of whole branches, it
+    /// goes over no segment but the one that holds the last of them.
     ///
     /// # Errors
     ///
