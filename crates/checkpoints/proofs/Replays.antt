@@ -1,23 +1,38 @@
 -- One step of a replay.
-use Rattle.std.proofs.Common.{◌≡◌, ◌∙◌, ℕ, suc, ◌+◌, ◌<◌, List, [], ◌∷◌, ◌++◌, length, drop, get_or, drop-cons, sym, ap, arith, append_assoc}
+use Rattle.std.proofs.Common.{◌≡◌, ◌∙◌, ℕ, suc, ◌+◌, ◌<◌, true, List, [], ◌∷◌, ◌++◌, map, length, drop, get_or, drop-cons, sym, ap, subst, arith, append_assoc}
+use Rattle.std.proofs.lemmas.List.Elements.{All-head, All-tail}
 use Rattle.frames.specs.declared.types.Step.{Step}
 use Rattle.frames.specs.declared.types.StepEvents.{StepEvents}
 use Rattle.frames.specs.Behaviour.{Behaviour}
-use Rattle.frames.specs.Configuration.{Configuration, stepped, events_of, replayed, history}
+use Rattle.frames.specs.Configuration.{Configuration, fits_step, stepped, events_of, replayed, history}
+use Rattle.frames.specs.Recorded.{AllFit}
 
--- the step at an index is made, from c to d
-module _ {R P : Type 0} (b : Behaviour P) (c d : Configuration R P) (steps : List Step) (i : ℕ) (z : Step) (within : i < length steps) (after : d ≡ stepped b c (get_or steps i z)) where
-  front : drop i steps ≡ get_or steps i z ∷ drop (i + 1) steps
-  front =
-      let next : suc i ≡ i + 1 = omega arith in
-      drop-cons steps i z within ∙ ap (λ n. get_or steps i z ∷ drop n steps) next
+-- what is left from an index on begins with the step of what stands there
+pub left_at : {S : Type 0} (step_in : S → Step) (those : List S) (i : ℕ) (that : S) → i < length those → that ≡ get_or those i that
+    → map step_in (drop i those) ≡ step_in that ∷ map step_in (drop (i + 1) those)
+left_at step_in those i that within is =
+    let next : suc i ≡ i + 1 = omega arith in
+    ap (map step_in) (drop-cons those i that within)
+    ∙ ap (λ s. step_in s ∷ map step_in (drop (suc i) those)) (sym is)
+    ∙ ap (λ n. step_in that ∷ map step_in (drop n those)) next
 
-  pub step_replayed : replayed b d (drop (i + 1) steps) ≡ replayed b c (drop i steps)
-  step_replayed = ap (λ e. replayed b e (drop (i + 1) steps)) after ∙ sym (ap (replayed b c) front)
+-- the first of the steps that are left is made, from c to d
+module _ {R P : Type 0} (b : Behaviour P) (c d : Configuration R P) (step : Step) (left rest : List Step) (first : left ≡ step ∷ rest) where
+  pub step_fits : AllFit b left → fits_step b step ≡ true
+  step_fits all = All-head (λ s. fits_step b s ≡ true) step rest (subst (AllFit b) first all)
 
-  pub step_told : (told more : List StepEvents) (one : StepEvents) → one ≡ events_of b c (get_or steps i z) → more ≡ told ++ one ∷ []
-      → more ++ history b d (drop (i + 1) steps) ≡ told ++ history b c (drop i steps)
-  step_told told more one is is_more =
-      ap (λ l. l ++ history b d (drop (i + 1) steps)) is_more ∙ append_assoc told (one ∷ []) (history b d (drop (i + 1) steps))
-      ∙ ap (λ e. told ++ e ∷ history b d (drop (i + 1) steps)) is ∙ ap (λ e. told ++ events_of b c (get_or steps i z) ∷ history b e (drop (i + 1) steps)) after
-      ∙ sym (ap (λ l. told ++ history b c l) front)
+  pub rest_fits : AllFit b left → AllFit b rest
+  rest_fits all = All-tail (λ s. fits_step b s ≡ true) step rest (subst (AllFit b) first all)
+
+  pub step_kept : (steps more : List Step) → more ≡ steps ++ step ∷ [] → more ++ rest ≡ steps ++ left
+  step_kept steps more is_more = ap (λ l. l ++ rest) is_more ∙ append_assoc steps (step ∷ []) rest ∙ sym (ap (λ l. steps ++ l) first)
+
+  pub step_replayed : d ≡ stepped b c step → replayed b d rest ≡ replayed b c left
+  step_replayed after = ap (λ e. replayed b e rest) after ∙ sym (ap (replayed b c) first)
+
+  pub step_told : d ≡ stepped b c step → (told more : List StepEvents) (one : StepEvents) → one ≡ events_of b c step → more ≡ told ++ one ∷ []
+      → more ++ history b d rest ≡ told ++ history b c left
+  step_told after told more one is is_more =
+      ap (λ l. l ++ history b d rest) is_more ∙ append_assoc told (one ∷ []) (history b d rest)
+      ∙ ap (λ e. told ++ e ∷ history b d rest) is ∙ ap (λ e. told ++ events_of b c step ∷ history b e rest) after
+      ∙ sym (ap (λ l. told ++ history b c l) first)

@@ -2,49 +2,46 @@
 
 ghost use Rattle.std.specs.Prelude.{◌≡◌, [], ◌∷◌, ◌++◌, List, IfOk, OnOk, OnErr, IfSome, IfNone, take, length, ◌+◌, ◌<◌, ◌≤◌, vec_len, vec_capacity};
 ghost use Rattle.frames.specs.Recorded.{at_index, indexed};
-ghost use Rattle.checkpoints.specs.declared.events.Mark.{Mark as MarkSpec};
+ghost use Rattle.frames.specs.declared.types.Step.{Step as StepSpec};
+ghost use Rattle.checkpoints.specs.declared.mark.Mark.{Mark as MarkSpec};
 ghost use Rattle.checkpoints.specs.Kept.{recorded};
-ghost use Rattle.checkpoints.specs.Told.{IsTold};
 ghost use Rattle.checkpoints.specs.Told as spec;
 
 use crate::kept::{Kept, event_of, kept_of};
-use frames::types::{Event, StepEvents};
+use crate::mark::{Mark, own_event, own_mark};
+use frames::types::{Event, Step, StepEvents};
 use std::alloc::{AllocError, Global};
 use std::marker::Model;
 
-/// Which of its two events a step has.
-#[derive(Clone, Copy, Debug, PartialEq, Eq)]
-pub(crate) enum Mark {
-    Nothing,
-    First,
-    Second,
-    Both,
+/// Steps with what each recorded: a mark a step, and the events that no mark tells, in order.
+#[derive(Debug, Drop)]
+pub(crate) struct Told {
+    pub(crate) steps: Vec<Step>,
+    marks: Vec<Mark>,
+    events: Vec<Kept>,
 }
 
 /// The events of steps made one after another. A contract sees one item a step, so that an event's
 /// index is that of its step.
 #[derive(Debug, Drop)]
 pub struct Events {
-    marks: Vec<Mark>,
-    events: Vec<Kept>,
+    told: Told,
 }
 
 impl Model for Events {
     ghost use Rattle.std.specs.Prelude.{List};
     ghost use Rattle.frames.specs.declared.types.StepEvents.{StepEvents};
-    ghost use Rattle.checkpoints.specs.Kept.{recorded};
-    ghost use Rattle.checkpoints.specs.Told.{told, IsTold};
+    ghost use Rattle.checkpoints.specs.Told.{told_in};
 
     ghost Value = { List StepEvents };
 
-    ghost view = { λ e. told e.marks.items (recorded e.events.items) };
-
-    ghost invariant = { λ e. IsTold e.marks.items (recorded e.events.items) };
+    ghost view = { λ e. told_in e.told };
 }
 
 /// A walk over the events of steps, one step after the other. A contract sees those that are left.
 #[derive(Drop)]
 pub struct EventWalk<'a> {
+    steps: &'a [Step],
     marks: &'a [Mark],
     events: &'a [Kept],
 }
@@ -57,41 +54,77 @@ impl<'a> Model for EventWalk<'a> {
 
     ghost Value = { List StepEvents };
 
-    ghost view = { λ w. told w.marks.now (recorded w.events.now) };
+    ghost view = { λ w. told w.steps.now w.marks.now (recorded w.events.now) };
 }
 
-impl Events {
-    /// The events that are told so, in no more room than they need.
+impl Told {
+    /// Steps with these marks and events, in no more room than they need.
     #[inline(never)]
-    pub(crate) fn told_by(marks: Vec<Mark>, events: Vec<Kept>) -> Events
-        requires { IsTold marks.items (recorded events.items) }
-        ensures { result ≡ spec.told marks.items (recorded events.items) }
+    pub(crate) fn new(steps: Vec<Step>, marks: Vec<Mark>, events: Vec<Kept>) -> Told
+        ensures steps { result.steps.items ≡ steps.items }
+        ensures told { spec.told_in result
+            ≡ spec.told steps.items marks.items (recorded events.items) }
     {
         let mut events = events;
         events.shrink_to_fit();
-        Events { marks, events }
+        Told {
+            steps,
+            marks,
+            events,
+        }
     }
 
-    /// A walk over the events of the first `count` steps; of all where there are fewer.
-    pub fn walk(&self, count: usize) -> EventWalk<'_>
-        ensures { result ≡ take count self.now }
+    /// A walk over the events.
+    pub(crate) fn walk(&self) -> EventWalk<'_>
+        ensures { result ≡ spec.told_in self.now }
     {
         EventWalk {
-            marks: front(&self.marks, count),
+            steps: &self.steps,
+            marks: &self.marks,
             events: &self.events,
         }
+    }
+}
+
+impl Events {
+    /// The events that are told so.
+    pub(crate) fn of(told: Told) -> Events
+        ensures { result ≡ spec.told_in told }
+    {
+        Events { told }
     }
 
     /// Each event with the index of its step, in order.
     pub fn indexed(&self, alloc: Global) -> Result<Vec<(usize, Event)>, AllocError>
         ensures { IfOk result (λ all. all.items ≡ indexed 0 self.now) }
     {
+        self.told.walk().indexed(alloc)
+    }
+}
+
+impl<'a> EventWalk<'a> {
+    /// The events of the first `count` steps; of all where there are fewer.
+    pub fn front(self, count: usize) -> EventWalk<'a>
+        ensures { result ≡ take count self.entry }
+    {
+        let Self {
+            steps,
+            marks,
+            events,
+        } = self;
+        EventWalk {
+            steps: front(steps, count),
+            marks,
+            events,
+        }
+    }
+
+    /// Each event with the index of its step, in order.
+    pub fn indexed(self, alloc: Global) -> Result<Vec<(usize, Event)>, AllocError>
+        ensures { IfOk result (λ all. all.items ≡ indexed 0 self.entry) }
+    {
         let mut all = Vec::new(alloc);
-        let walk = EventWalk {
-            marks: &self.marks,
-            events: &self.events,
-        };
-        walk.push_indexed(0, &mut all)?;
+        self.push_indexed(0, &mut all)?;
         Ok(all)
     }
 }
@@ -103,8 +136,10 @@ impl EventWalk<'_> {
         ensures some { IfSome result (λ told. self.old ≡ told ∷ self.new) }
         ensures none { IfNone result (self.old ≡ []) }
     {
+        let (step, steps) = self.steps.split_first()?;
         let (mark, marks) = self.marks.split_first()?;
-        let (told, events) = split(*mark, self.events);
+        let (told, events) = split(*step, *mark, self.events);
+        self.steps = steps;
         self.marks = marks;
         self.events = events;
         Some(told)
@@ -131,30 +166,34 @@ impl EventWalk<'_> {
     }
 }
 
-/// Adds the events of the next step, and its mark, for which there is room.
+/// Adds the mark of the next step, for which there is room, and what the mark doesn't tell of the events
+/// that it recorded.
 #[inline(always)]
-pub(crate) fn push_told(marks: &mut Vec<Mark>, events: &mut Vec<Kept>, told: StepEvents)
+pub(crate) fn push_told(marks: &mut Vec<Mark>, events: &mut Vec<Kept>, step: Step, told: StepEvents)
     requires mark { vec_len marks.old < vec_capacity marks.old }
     requires two { vec_len events.old + 2 ≤ vec_capacity events.old }
-    ensures mark { marks.new.items ≡ marks.old.items ++ spec.mark_of told ∷ [] }
+    ensures added { spec.IsAdded step told marks.old.items marks.new.items
+        (recorded events.old.items) (recorded events.new.items) }
     ensures marks { vec_len marks.new ≡ vec_len marks.old + 1 }
     ensures marks_room { vec_capacity marks.new ≡ vec_capacity marks.old }
-    ensures told { recorded events.new.items
-        ≡ (recorded events.old.items ++ spec.listed told.first) ++ spec.listed told.second }
     ensures events { vec_len events.new ≤ vec_len events.old + 2 }
     ensures events_room { vec_capacity events.new ≡ vec_capacity events.old }
 {
     match told.first {
-        Some(first) => {
-            push_kept(events, first);
-            match told.second {
-                Some(second) => {
-                    push_kept(events, second);
-                    marks.push_reserved(Mark::Both);
-                }
-                None => marks.push_reserved(Mark::First),
+        Some(first) => match told.second {
+            Some(second) => {
+                push_kept(events, first);
+                push_kept(events, second);
+                marks.push_reserved(Mark::Both);
             }
-        }
+            None => match own_mark(step, first) {
+                Some(mark) => marks.push_reserved(mark),
+                None => {
+                    push_kept(events, first);
+                    marks.push_reserved(Mark::First);
+                }
+            },
+        },
         None => match told.second {
             Some(second) => {
                 push_kept(events, second);
@@ -176,21 +215,21 @@ fn push_kept(events: &mut Vec<Kept>, event: Event)
     events.push_reserved(kept_of(event));
 }
 
-/// The first `count` marks; all where there are fewer.
-fn front(marks: &[Mark], count: usize) -> &[Mark]
-    ensures { result.now ≡ take count marks.now }
+/// The first `count` steps; all where there are fewer.
+fn front(steps: &[Step], count: usize) -> &[Step]
+    ensures { result.now ≡ take count steps.now }
 {
-    &marks[..marks.len().min(count)]
+    &steps[..steps.len().min(count)]
 }
 
-/// The events of a step with a mark, where its own are the next, and those behind.
+/// The events of a step with a mark, and those that are left.
 #[inline(always)]
-fn split(mark: Mark, events: &[Kept]) -> (StepEvents, &[Kept])
-    ensures { (marks : List MarkSpec) → spec.told (mark ∷ marks) (recorded events.now)
-        ≡ result.0 ∷ spec.told marks (recorded result.1.now) }
+fn split(step: Step, mark: Mark, events: &[Kept]) -> (StepEvents, &[Kept])
+    ensures { (steps : List StepSpec) (marks : List MarkSpec)
+        → spec.told (step ∷ steps) (mark ∷ marks) (recorded events.now)
+        ≡ result.0 ∷ spec.told steps marks (recorded result.1.now) }
 {
     match mark {
-        Mark::Nothing => (told_of(None, None), events),
         Mark::First => {
             let (first, behind) = take_next(events);
             (told_of(first, None), behind)
@@ -204,6 +243,7 @@ fn split(mark: Mark, events: &[Kept]) -> (StepEvents, &[Kept])
             let (second, behind) = take_next(later);
             (told_of(first, second), behind)
         }
+        mark => (told_of(own_event(step, mark), None), events),
     }
 }
 

@@ -3,5 +3,6 @@
 
 pub mod events;
 mod kept;
+mod mark;
 pub mod replay;
 pub mod run;

@@ -1,13 +1,14 @@
 //! Replay: steps made one after another.
 
-ghost use Rattle.std.specs.Prelude.{◌≡◌, ◌<◌, IfOk};
+ghost use Rattle.std.specs.Prelude.{◌≡◌, ◌<◌, IfOk, map};
 ghost use Rattle.frames.specs.Configuration.{initial_configuration, replayed, history};
 ghost use Rattle.frames.specs.Recorded.{AllFit};
+ghost use Rattle.checkpoints.specs.Told.{told_in};
 
-use crate::events::{Events, push_told};
+use crate::events::{Events, Told, push_told};
 use frames::config::Config;
 use frames::register::Register;
-use frames::types::Step;
+use frames::types::{HasStep, Step};
 use std::alloc::{AllocError, Global};
 
 /// What a replay comes to: the configuration after its steps, and the events of each step.
@@ -15,6 +16,27 @@ use std::alloc::{AllocError, Global};
 pub struct Replayed<R: Register> {
     pub config: Config<R>,
     pub events: Events,
+}
+
+/// Steps that were made one after another, with what each recorded, and the configuration after them.
+#[derive(Drop)]
+pub(crate) struct Made<R: Register> {
+    pub(crate) told: Told,
+    pub(crate) config: Config<R>,
+}
+
+impl<R: Register> Made<R> {
+    /// What was come to, and the events.
+    fn into_replayed(self) -> Replayed<R>
+        ensures config { result.config ≡ self.config }
+        ensures events { result.events ≡ told_in self.told }
+    {
+        let Self { told, config } = self;
+        Replayed {
+            config,
+            events: Events::of(told),
+        }
+    }
 }
 
 /// Makes the steps one after another, from the initial configuration.
@@ -32,28 +54,35 @@ pub fn replay<R: Register>(
         IfOk result (λ r. r.events ≡ history (R.is register) initial steps.now) }
 {
     let initial = Config::initial(alloc, register, value)?;
-    replay_from(alloc, initial, steps)
+    let made = replay_from(alloc, initial, steps)?;
+    Ok(made.into_replayed())
 }
 
-/// Makes the steps one after another, from a configuration.
-pub(crate) fn replay_from<R: Register>(
+/// Makes the steps that these have one after another, from a configuration.
+pub(crate) fn replay_from<R: Register, S: HasStep>(
     alloc: Global,
     entry: Config<R>,
-    steps: &[Step],
-) -> Result<Replayed<R>, AllocError>
-    requires { AllFit (R.is entry.register) steps.now }
-    ensures config { IfOk result (λ r. r.config ≡ replayed (R.is entry.register) entry steps.now) }
-    ensures events { IfOk result (λ r. r.events ≡ history (R.is entry.register) entry steps.now) }
+    those: &[S],
+) -> Result<Made<R>, AllocError>
+    requires { AllFit (R.is entry.register) (map S.step_in those.now) }
+    ensures steps { IfOk result (λ r. r.told.steps.items ≡ map S.step_in those.now) }
+    ensures config { IfOk result
+        (λ r. r.config ≡ replayed (R.is entry.register) entry (map S.step_in those.now)) }
+    ensures events { IfOk result
+        (λ r. told_in r.told ≡ history (R.is entry.register) entry (map S.step_in those.now)) }
 {
     // room for two events of each step is taken first, so that no write of one asks for it
-    let most = steps.len().checked_mul(2).ok_or(AllocError)?;
-    let mut marks = Vec::with_capacity(alloc, steps.len())?;
+    let most = those.len().checked_mul(2).ok_or(AllocError)?;
+    let mut steps = Vec::with_capacity(alloc, those.len())?;
+    let mut marks = Vec::with_capacity(alloc, those.len())?;
     let mut events = Vec::with_capacity(alloc, most)?;
     let mut config = entry;
-    for step in steps {
-        let told = config.step(*step);
-        push_told(&mut marks, &mut events, told);
+    for that in those {
+        let step = that.step();
+        let told = config.step(step);
+        steps.push_reserved(step);
+        push_told(&mut marks, &mut events, step, told);
     }
-    let events = Events::told_by(marks, events);
-    Ok(Replayed { config, events })
+    let told = Told::new(steps, marks, events);
+    Ok(Made { told, config })
 }

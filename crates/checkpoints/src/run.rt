@@ -1,15 +1,15 @@
 //! Runs of a segment: its steps, made from where it begins.
 
-ghost use Rattle.std.specs.Prelude.{◌≡◌, IfOk};
+ghost use Rattle.std.specs.Prelude.{◌≡◌, IfOk, map};
 ghost use Rattle.std.specs.Arc.{arc_value};
 ghost use Rattle.checkpoints.specs.Segment.{IsRun};
 ghost use Rattle.frames.specs.Recorded.{AllFit};
 
-use crate::events::Events;
+use crate::events::{EventWalk, Told};
 use crate::replay::replay_from;
 use frames::config::Config;
 use frames::register::Register;
-use frames::types::Step;
+use frames::types::{HasStep, Step};
 use std::alloc::{AllocError, Global};
 use std::marker::Model;
 use std::sync::Arc;
@@ -21,20 +21,20 @@ use std::sync::Arc;
 #[derive(Drop)]
 pub struct Run<R: Register> {
     entry: Arc<Config<R>>,
-    steps: Vec<Step>,
+    told: Told,
     exit: Arc<Config<R>>,
-    events: Events,
 }
 
 impl<R: Register> Model for Run<R> {
     ghost use Rattle.std.specs.Arc.{arc_value};
     ghost use Rattle.checkpoints.specs.Segment.{SegmentRun, IsRun};
+    ghost use Rattle.checkpoints.specs.Told.{told_in};
 
     ghost Value = { SegmentRun R R.Pending };
 
-    ghost view = { λ r. record { entry = arc_value r.entry; steps = r.steps.items; exit = arc_value r.exit; events = r.events } };
+    ghost view = { λ r. record { entry = arc_value r.entry; steps = r.told.steps.items; exit = arc_value r.exit; events = told_in r.told } };
 
-    ghost invariant = { λ r. IsRun (R.is (arc_value r.entry).register) (record { entry = arc_value r.entry; steps = r.steps.items; exit = arc_value r.exit; events = r.events }) };
+    ghost invariant = { λ r. IsRun (R.is (arc_value r.entry).register) (record { entry = arc_value r.entry; steps = r.told.steps.items; exit = arc_value r.exit; events = told_in r.told }) };
 }
 
 impl<R: Register> Run<R> {
@@ -51,7 +51,7 @@ impl<R: Register> Run<R> {
         ensures steps { result.now ≡ self.now.steps }
         ensures kept { IsRun (R.is self.now.entry.register) self.now }
     {
-        &self.steps
+        &self.told.steps
     }
 
     /// The configuration that it comes to.
@@ -70,38 +70,37 @@ impl<R: Register> Run<R> {
         &self.exit
     }
 
-    /// The events of each step, by its offset in the segment.
-    pub fn events(&self) -> &Events
-        ensures events { result.now ≡ self.now.events }
+    /// A walk over the events of each step, by its offset in the segment.
+    pub fn events(&self) -> EventWalk<'_>
+        ensures events { result ≡ self.now.events }
         ensures kept { IsRun (R.is self.now.entry.register) self.now }
     {
-        &self.events
+        self.told.walk()
     }
 }
 
-/// Makes steps one after another, from the configuration that they begin from, and keeps both as they are.
-pub fn run_of<R: Register>(
+/// Makes the steps that these have one after another, from the configuration that they begin from, which
+/// it keeps as it is.
+pub fn run_of<R: Register, S: HasStep>(
     alloc: Global,
     entry: &Arc<Config<R>>,
-    steps: Vec<Step>,
+    those: &[S],
 ) -> Result<Run<R>, AllocError>
-    requires { AllFit (R.is (arc_value entry.now).register) steps.items }
+    requires { AllFit (R.is (arc_value entry.now).register) (map S.step_in those.now) }
     ensures entry { IfOk result (λ run. run.entry ≡ arc_value entry.now) }
-    ensures steps { IfOk result (λ run. run.steps ≡ steps.items) }
+    ensures steps { IfOk result (λ run. run.steps ≡ map S.step_in those.now) }
 {
-    let replayed = replay_from(alloc, entry.copy(alloc)?, &steps)?;
-    let exit = Arc::new(alloc, replayed.config)?;
+    let made = replay_from(alloc, entry.copy(alloc)?, those)?;
+    let exit = Arc::new(alloc, made.config)?;
     let entry = Arc::try_clone(entry)?;
     Ok(Run {
         entry,
-        steps,
+        told: made.told,
         exit,
-        events: replayed.events,
     })
 }
 
-/// Makes a copy of the steps of a segment one after another, from a copy of the configuration that it
-/// begins from.
+/// Makes the steps of a segment one after another, from a copy of the configuration that it begins from.
 pub fn run_segment<R: Register>(
     alloc: Global,
     entry: &Config<R>,
@@ -112,5 +111,5 @@ pub fn run_segment<R: Register>(
     ensures steps { IfOk result (λ run. run.steps ≡ steps.now) }
 {
     let entry = Arc::new(alloc, entry.copy(alloc)?)?;
-    run_of(alloc, &entry, Vec::from_slice(alloc, steps)?)
+    run_of(alloc, &entry, steps)
 }

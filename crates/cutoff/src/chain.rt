@@ -15,28 +15,30 @@ ghost use Rattle.cutoff.specs.Chains as spec;
 
 use crate::descent::descend;
 use crate::plan::{Job, job_at};
-use crate::settle::segment_steps;
+use crate::settle::segment_cells;
 use crate::stored::Stored;
 use frames::config::Config;
 use frames::register::Register;
-use frames::types::Step;
+use schedule_trie::slot::Slot;
 use schedule_trie::trie::{SegKey, Trie};
 use std::alloc::{AllocError, Global};
 use std::marker::Model;
 
-/// A segment that follows a job's on its branch: its key, and its steps.
+/// A segment that follows a job's on its branch: its key, and its cells.
 #[derive(Drop)]
 pub struct Follower {
     key: SegKey,
-    steps: Vec<Step>,
+    cells: Vec<Slot>,
 }
 
 impl Model for Follower {
+    ghost use Rattle.std.specs.Prelude.{map};
+    ghost use Rattle.schedule_trie.specs.Forest.{step_of};
     ghost use Rattle.cutoff.specs.Chains.{Following};
 
     ghost Value = { Following };
 
-    ghost view = { λ f. record { key = f.key; steps = f.steps.items } };
+    ghost view = { λ f. record { key = f.key; steps = map step_of f.cells.items } };
 }
 
 impl Follower {
@@ -47,11 +49,11 @@ impl Follower {
         self.key
     }
 
-    /// Its steps.
-    pub fn steps(&self) -> &[Step]
-        ensures { result.now ≡ self.now.steps }
+    /// Its cells, which have its steps.
+    pub fn cells(&self) -> &[Slot]
+        ensures { map step_of result.now ≡ self.now.steps }
     {
-        &self.steps
+        &self.cells
     }
 }
 
@@ -184,8 +186,8 @@ fn followers_at<R: Register>(
         if !is_bare(trie, *key) {
             return Ok(list);
         }
-        let steps = segment_steps(alloc, trie, *key)?;
-        list.push(Follower { key: *key, steps })?;
+        let cells = Vec::from_slice(alloc, segment_cells(trie, *key))?;
+        list.push(Follower { key: *key, cells })?;
     }
     Ok(list)
 }

@@ -12,6 +12,7 @@ ghost use Rattle.cutoff.specs.Plans.{FitsDown};
 ghost use Rattle.cutoff.specs.Prefixes.{GoesOn, IsMarked};
 
 use crate::climb::comes_down;
+use crate::settle::segment_cells;
 use crate::stored::Stored;
 use checkpoints::run::Run;
 use frames::config::Config;
@@ -87,10 +88,7 @@ fn number_at<R: Register>(trie: &Trie<Stored<R>>, key: Option<SegKey>) -> Option
 fn has_steps<R: Register>(trie: &Trie<Stored<R>>, key: SegKey, steps: &[Step]) -> bool
     ensures { Decides result (steps.now ≡ steps_at trie.now key) }
 {
-    match trie.cells_of(key) {
-        Some(slots) => are_steps(slots, steps),
-        None => steps.is_empty(),
-    }
+    are_steps(segment_cells(trie, key), steps)
 }
 
 /// Whether cells have these steps.

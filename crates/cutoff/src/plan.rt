@@ -1,15 +1,17 @@
 //! Jobs: segments that no stored run fits.
 
-ghost use Rattle.std.specs.Prelude.{◌≡◌, Some, IfOk};
+ghost use Rattle.std.specs.Prelude.{◌≡◌, Some, IfOk, map};
 ghost use Rattle.frames.specs.Recorded.{AllFit};
+ghost use Rattle.schedule_trie.specs.Forest.{step_of};
 ghost use Rattle.cutoff.specs.Fitting.{steps_at};
 ghost use Rattle.cutoff.specs.Plans.{job_of};
 
-use crate::settle::segment_steps;
+use crate::settle::segment_cells;
 use crate::stored::Stored;
 use frames::config::Config;
 use frames::register::Register;
 use frames::types::Step;
+use schedule_trie::slot::Slot;
 use schedule_trie::trie::{SegKey, Trie};
 use std::alloc::{AllocError, Global};
 use std::marker::Model;
@@ -67,7 +69,18 @@ pub(crate) fn job_at<R: Register>(
     requires { AllFit (R.is config.now.register) (steps_at trie.now key) }
     ensures { IfOk result (λ job. Some job ≡ job_of trie.now (Some key) config.now) }
 {
-    let steps = segment_steps(alloc, trie, key)?;
+    let steps = steps_in(alloc, segment_cells(trie, key))?;
     let entry = config.copy(alloc)?;
     Ok(Job { key, entry, steps })
+}
+
+/// The steps of cells, in order.
+fn steps_in(alloc: Global, slots: &[Slot]) -> Result<Vec<Step>, AllocError>
+    ensures { IfOk result (λ steps. steps.items ≡ map step_of slots.now) }
+{
+    let mut steps = Vec::with_capacity(alloc, slots.len())?;
+    for slot in slots {
+        steps.push_reserved(slot.step);
+    }
+    Ok(steps)
 }

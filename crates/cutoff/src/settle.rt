@@ -4,7 +4,7 @@ ghost use Rattle.std.specs.Prelude.{◌≡◌, ◌≤◌, ◌⊎◌, ℕ, None, 
 ghost use Rattle.std.specs.Arc.{arc_value};
 ghost use Rattle.frames.specs.Recorded.{AllFit};
 ghost use Rattle.schedule_trie.specs.Forest.{step_of};
-ghost use Rattle.schedule_trie.specs.Cut.{piece_at, note_of, keys_in, line, IsCut};
+ghost use Rattle.schedule_trie.specs.Cut.{piece_at, slots_of, note_of, keys_in, line, IsCut};
 ghost use Rattle.cutoff.specs.Fitting.{RunFits, Fits, IsSegmentSettled, steps_at, exit_of, part_of, reached, Settles, IsFilled, KeepsRuns, counted};
 ghost use Rattle.cutoff.specs.Links.{IsLinked, alone};
 
@@ -12,7 +12,6 @@ use crate::stored::Stored;
 use checkpoints::run::{Run, run_of};
 use frames::config::Config;
 use frames::register::Register;
-use frames::types::Step;
 use schedule_trie::slot::Slot;
 use schedule_trie::trie::{SegKey, Trie};
 use std::alloc::{AllocError, Global};
@@ -76,29 +75,14 @@ pub(crate) fn fitting<'a, R: Register>(
     }
 }
 
-/// The steps of a segment, in order; none where no segment has the key.
-pub(crate) fn segment_steps<R: Register>(
-    alloc: Global,
-    trie: &Trie<Stored<R>>,
-    key: SegKey,
-) -> Result<Vec<Step>, AllocError>
-    ensures { IfOk result (λ steps. steps.items ≡ steps_at trie.now key) }
+/// The cells of a segment, in order; none where no segment has the key.
+pub(crate) fn segment_cells<R: Register>(trie: &Trie<Stored<R>>, key: SegKey) -> &[Slot]
+    ensures { result.now ≡ slots_of (piece_at trie.now.pieces key) }
 {
     match trie.cells_of(key) {
-        Some(slots) => steps_in(alloc, slots),
-        None => Ok(Vec::new(alloc)),
+        Some(slots) => slots,
+        None => &[],
     }
-}
-
-/// The steps of cells, in order.
-fn steps_in(alloc: Global, slots: &[Slot]) -> Result<Vec<Step>, AllocError>
-    ensures { IfOk result (λ steps. steps.items ≡ map step_of slots.now) }
-{
-    let mut steps = Vec::with_capacity(alloc, slots.len())?;
-    for slot in slots {
-        steps.push_reserved(slot.step);
-    }
-    Ok(steps)
 }
 
 /// The next number, if there is one left.
@@ -136,9 +120,9 @@ fn replay_segment<R: Register>(
         (alone (arc_value s.run).exit) trie.new) }
     ensures unchanged { OnErr result ((trie.new ≡ trie.old) × (next.new ≡ next.old)) }
 {
-    let steps = segment_steps(alloc, trie, key)?;
-    let replayed = steps.len() as u32;
-    let run = Arc::new(alloc, run_of(alloc, config, steps)?)?;
+    let cells = segment_cells(trie, key);
+    let replayed = cells.len() as u32;
+    let run = Arc::new(alloc, run_of(alloc, config, cells)?)?;
     let kept = Arc::try_clone(&run)?;
     let id = take_number(next);
     trie.set_note(key, Some(Stored::new(kept, id, above)));

@@ -40,12 +40,33 @@ pub enum Step {
 
 impl Step {
     /// The process that makes the step.
-    pub(crate) fn process(self) -> u32
+    pub fn process(self) -> u32
         ensures { result ≡ process_of self }
     {
         match self {
             Step::Write { p, .. } | Step::Read { p } | Step::Go { p, .. } | Step::Stop { p } => p,
         }
+    }
+}
+
+/// A step, or what a schedule keeps it in.
+pub trait HasStep: Copy {
+    ghost use Rattle.frames.specs.declared.types.Step.{Step};
+
+    // Its step.
+    ghost step_in: { Self → Step };
+
+    /// Its step.
+    fn step(&self) -> Step
+        ensures { result ≡ Self.step_in self.now };
+}
+
+impl HasStep for Step {
+    ghost step_in = { λ s. s };
+
+    #[inline(always)]
+    fn step(&self) -> Step {
+        *self
     }
 }
 

@@ -70,7 +70,7 @@ fn run_of_a_segment(rt: HostRuntime) -> Result<(), Fail> {
         run.events().indexed(rt.alloc())?.as_slice(),
         replayed.events.indexed(rt.alloc())?.as_slice()
     );
-    let mut front = run.events().walk(1);
+    let mut front = run.events().front(1);
     assert!(rt; front.next().is_some());
     assert!(rt; front.next().is_none());
     assert!(rt; is_shareable(&run));

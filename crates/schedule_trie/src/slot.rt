@@ -1,10 +1,21 @@
 //! A cell with its step.
 
-use frames::types::Step;
+use frames::types::{HasStep, Step};
 
 /// A cell's number, and its step.
 #[derive(Clone, Copy, Debug, PartialEq, Eq)]
 pub struct Slot {
     pub cell: u32,
     pub step: Step,
+}
+
+impl HasStep for Slot {
+    ghost use Rattle.schedule_trie.specs.Forest.{step_of};
+
+    ghost step_in = { step_of };
+
+    #[inline(always)]
+    fn step(&self) -> Step {
+        self.step
+    }
 }

@@ -204,7 +204,7 @@ fn along_run<R: Register>(
         let steps = front(run.steps(), count);
         return Ok(along_steps(search, config, steps, progress.place, progress.found));
     }
-    let events = run.events().walk(count as usize);
+    let events = run.events().front(count as usize);
     Ok(along_events(search, events, progress.place, progress.found))
 }
 

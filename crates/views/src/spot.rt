@@ -44,7 +44,7 @@ pub fn history_of<R: Register>(
     let mut all = Vec::new(alloc);
     let mut index = 0;
     for (run, count) in runs {
-        let walk = run.events().walk(*count as usize);
+        let walk = run.events().front(*count as usize);
         index = walk.push_indexed(index, &mut all)?;
     }
     Ok(all)

@@ -1,8 +1,9 @@
 //! The chains of a chart's plan are jobs of a crew: one run after the other, each from where the one before ends.
 
-ghost use Rattle.std.specs.Prelude.{◌≡◌, IfOk};
+ghost use Rattle.std.specs.Prelude.{◌≡◌, IfOk, map};
 ghost use Rattle.std.specs.Arc.{arc_value};
 ghost use Rattle.frames.specs.Recorded.{AllFit};
+ghost use Rattle.schedule_trie.specs.Forest.{step_of};
 ghost use Rattle.workers.specs.Chains.{IsChainRun};
 
 use crate::job::{self, Done, Outcome};
@@ -11,6 +12,7 @@ use cutoff::chain::Chain;
 use frames::config::Config;
 use frames::register::Register;
 use frames::types::Step;
+use schedule_trie::slot::Slot;
 use schedule_trie::trie::SegKey;
 use std::alloc::{AllocError, Global};
 use std::sync::Arc;
@@ -48,7 +50,7 @@ fn run_all<R: Register>(alloc: Global, chain: &Chain<R>) -> Result<Vec<Ran<R>>, 
     let mut key = job.key();
     let mut run = run_shared(alloc, job.entry(), job.steps())?;
     for follower in followers {
-        let next = run_behind(alloc, &run, follower.steps());
+        let next = run_behind(alloc, &run, follower.cells());
         let outcome = Outcome::Ran(run);
         all.push_reserved(Done { key, outcome });
         key = follower.key();
@@ -80,18 +82,17 @@ pub(crate) fn run_shared<R: Register>(
     Ok(Arc::new(alloc, run)?)
 }
 
-/// A run of steps from where another run ends, which threads share. The two share the configuration there.
+/// A run of the steps of cells from where another run ends, which threads share. The two share the configuration there.
 fn run_behind<R: Register>(
     alloc: Global,
     run: &Run<R>,
-    steps: &[Step],
+    cells: &[Slot],
 ) -> Result<Arc<Run<R>>, AllocError>
-    requires { AllFit (R.is run.now.entry.register) steps.now }
+    requires { AllFit (R.is run.now.entry.register) (map step_of cells.now) }
     ensures entry { IfOk result (λ next. (arc_value next).entry ≡ run.now.exit) }
     ensures home { IfOk result (λ next. (arc_value next).entry.register ≡ run.now.entry.register) }
-    ensures steps { IfOk result (λ next. (arc_value next).steps ≡ steps.now) }
+    ensures steps { IfOk result (λ next. (arc_value next).steps ≡ map step_of cells.now) }
 {
-    let steps = Vec::from_slice(alloc, steps)?;
-    let next = run_of(alloc, run.shared_exit(), steps)?;
+    let next = run_of(alloc, run.shared_exit(), cells)?;
     Ok(Arc::new(alloc, next)?)
 }

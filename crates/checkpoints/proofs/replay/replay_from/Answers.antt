@@ -1,31 +1,52 @@
-use Rattle.std.proofs.Common.{arith, ◌≡◌, ◌∙◌, ◌+◌, ap, get_or}
-use Rattle.frames.specs.declared.types.Step.TheVariants.{Write}
-use Rattle.frames.specs.Configuration.{stepped, events_of}
+use Rattle.std.proofs.Common.{arith, ◌≡◌, ◌∙◌, ◌+◌, ◌∷◌, true, map, drop, ap, sym, subst}
+use Rattle.frames.specs.Configuration.{fits_step, stepped, events_of}
 use Rattle.checkpoints.specs.Kept.{recorded}
 use Rattle.checkpoints.specs.Told.{told}
-use Rattle.checkpoints.proofs.Replays.{step_replayed, step_told}
+use Rattle.checkpoints.proofs.Replays.{left_at, step_fits, rest_fits, step_kept, step_replayed, step_told}
 use Rattle.checkpoints.proofs.Tellings.{told_more}
 use Rattle.checkpoints.proofs.replay.replay_from.Goals as goal
 
-pub loop-step-preserved : goal.loop-step-preserved
-loop-step-preserved g c =
+pub step-told-requires : goal.step-told-requires
+step-told-requires g c =
+    let is = g.R.Behaves.is in
+    let at = c.loop-that in
+    let step_in = g.S.HasStep.step_in in
+    let those = c.args.those.now in
+    let step = c.step-step.result in
+    let rest = map step_in (drop (at.that-index + 1) those) in
+    let first = left_at step_in those at.that-index c.that-item.result c.loop-that-test.true c.that-item.is ∙ ap (λ s. s ∷ rest) (sym c.step-step.ensures) in
+    let fits = step_fits (is c.args.entry.register) at.config at.config step (map step_in (drop at.that-index those)) rest first at.invariant.fit in
+    subst (λ r. fits_step (is r) step ≡ true) (sym at.invariant.register) fits
+
+pub loop-that-preserved : goal.loop-that-preserved
+loop-that-preserved g c =
     let is = g.R.Behaves.is in
     let b = is c.args.entry.register in
-    let steps = c.args.steps.now in
-    let i = c.loop-step.step-index in
-    let before = c.loop-step.config in
-    let step = get_or steps i (Write 0 0) in
+    let at = c.loop-that in
+    let so_far = at.invariant in
+    let step_in = g.S.HasStep.step_in in
+    let those = c.args.those.now in
+    let step = c.step-step.result in
+    let left = map step_in (drop at.that-index those) in
+    let rest = map step_in (drop (at.that-index + 1) those) in
+    let first = left_at step_in those at.that-index c.that-item.result c.loop-that-test.true c.that-item.is ∙ ap (λ s. s ∷ rest) (sym c.step-step.ensures) in
+    let before = at.config in
+    let behind = c.step-told.new.self in
     let one = c.step-told.result in
-    let so_far = c.loop-step.invariant in
-    let after : c.step-told.new.self ≡ stepped b before step = c.step-told.ensures.after ∙ ap (λ r. stepped (is r) before step) so_far.register in
+    let after : behind ≡ stepped b before step = c.step-told.ensures.after ∙ ap (λ r. stepped (is r) before step) so_far.register in
     let events : one ≡ events_of b before step = c.step-told.ensures.events ∙ ap (λ r. events_of (is r) before step) so_far.register in
-    let more = told_more c.loop-step.marks.items c.push_told.new.marks.items (recorded c.loop-step.events.items) (recorded c.push_told.new.events.items) one so_far.are_told c.push_told.ensures.mark c.push_told.ensures.told in
+    let more = told_more at.steps.items c.push_reserved.new.self.items at.marks.items c.push_told.new.marks.items (recorded at.events.items) (recorded c.push_told.new.events.items) step one
+    so_far.are_told c.push_reserved.ensures.items c.push_told.ensures.added in
     record {
       register = ap (λ d. d.register) c.step-told.ensures.after ∙ so_far.register;
-      config = step_replayed b before c.step-told.new.self steps i (Write 0 0) c.loop-step-test.true after ∙ so_far.config;
+      fit = rest_fits b before behind step left rest first so_far.fit;
+      steps = step_kept b before behind step left rest first at.steps.items c.push_reserved.new.self.items c.push_reserved.ensures.items ∙ so_far.steps;
+      config = step_replayed b before behind step left rest first after ∙ so_far.config;
       are_told = more.kept;
-      events = step_told b before c.step-told.new.self steps i (Write 0 0) c.loop-step-test.true after (told c.loop-step.marks.items (recorded c.loop-step.events.items))
-          (told c.push_told.new.marks.items (recorded c.push_told.new.events.items)) one events more.tells ∙ so_far.events;
+      events = step_told b before behind step left rest first after (told at.steps.items at.marks.items (recorded at.events.items))
+          (told c.push_reserved.new.self.items c.push_told.new.marks.items (recorded c.push_told.new.events.items)) one events more.tells ∙ so_far.events;
+      steps_room = c.push_reserved.ensures.capacity ∙ so_far.steps_room;
+      made = c.push_reserved.ensures.len ∙ ap (λ n. n + 1) so_far.made;
       marks_room = c.push_told.ensures.marks_room ∙ so_far.marks_room;
       marked = c.push_told.ensures.marks ∙ ap (λ n. n + 1) so_far.marked;
       events_room = c.push_told.ensures.events_room ∙ so_far.events_room;

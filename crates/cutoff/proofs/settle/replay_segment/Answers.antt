@@ -1,5 +1,8 @@
-use Rattle.std.proofs.Common.{◌≡◌, length, ap, ◌∙◌}
+use Rattle.std.proofs.Common.{◌≡◌, length, map, ap, sym, ◌∙◌}
+use Rattle.std.proofs.lemmas.List.{length-map}
 use Rattle.std.specs.Arc.{arc_value}
+use Rattle.schedule_trie.specs.Forest.{step_of}
+use Rattle.schedule_trie.specs.Cut.{piece_at, slots_of}
 use Rattle.cutoff.specs.Fitting.{steps_at}
 use Rattle.cutoff.proofs.Segments.{segment_replayed, replayed_linked}
 use Rattle.cutoff.proofs.settle.replay_segment.Goals as goal
@@ -8,15 +11,15 @@ pub returns-clause-settled : goal.returns-clause-settled
 returns-clause-settled g c =
     let kept : c.new-2.result.run ≡ arc_value c.in_ok-run.run' = c.new-2.ensures.run ∙ c.in_ok-kept.ensures in
     let steps : (arc_value c.in_ok-run.run').steps ≡ steps_at c.args.trie.now c.args.key =
-    ap (λ r. r.steps) c.in_ok-run.ensures.ok ∙ c.in_ok-run_of.ensures.steps ∙ c.in_ok-steps.ensures in
+    ap (λ r. r.steps) c.in_ok-run.ensures.ok ∙ c.in_ok-run_of.ensures.steps ∙ ap (map step_of) c.segment_cells-cells.ensures in
     segment_replayed g.R.PartialEq.eq c.args.trie.now c.set_note.new.self (arc_value c.args.config.now) c.args.key _ c.new-2.result c.set_note.ensures kept g.met.R.Eq.laws
-    steps (ap (λ r. r.entry) c.in_ok-run.ensures.ok ∙ c.in_ok-run_of.ensures.entry) c.requires.misses c.len-replayed.result (c.len-replayed.ensures ∙ c.in_ok-steps.steps.ok.0 ∙ ap length c.in_ok-steps.ensures)
+    steps (ap (λ r. r.entry) c.in_ok-run.ensures.ok ∙ c.in_ok-run_of.ensures.entry) c.requires.misses (length c.segment_cells-cells.result.now) (ap length c.segment_cells-cells.ensures ∙ sym (length-map (slots_of (piece_at c.args.trie.now.pieces c.args.key)) step_of))
 
 pub returns-clause-linked : goal.returns-clause-linked
 returns-clause-linked g c =
     let kept : c.new-2.result.run ≡ arc_value c.in_ok-run.run' = c.new-2.ensures.run ∙ c.in_ok-kept.ensures in
     let steps : (arc_value c.in_ok-run.run').steps ≡ steps_at c.args.trie.now c.args.key =
-    ap (λ r. r.steps) c.in_ok-run.ensures.ok ∙ c.in_ok-run_of.ensures.steps ∙ c.in_ok-steps.ensures in
+    ap (λ r. r.steps) c.in_ok-run.ensures.ok ∙ c.in_ok-run_of.ensures.steps ∙ ap (map step_of) c.segment_cells-cells.ensures in
     replayed_linked g.R.PartialEq.eq c.args.trie.now c.set_note.new.self (arc_value c.args.config.now) c.args.key _ c.new-2.result c.set_note.ensures kept
     c.args.next.now c.take_number-id.new.next c.args.above c.take_number-id.result g.met.R.Eq.laws c.requires.linked
     steps (ap (λ r. r.entry) c.in_ok-run.ensures.ok ∙ c.in_ok-run_of.ensures.entry) c.new-2.ensures.link c.new-2.ensures.id c.take_number-id.ensures

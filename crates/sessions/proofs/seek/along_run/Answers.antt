@@ -50,7 +50,7 @@ returns g c = λ test tells start.
     let run = c.args.run.now in
     let breaks = c.args.search.now.breaks.now in
     let place = c.args.progress.place in
-    let events : c.walk-events.result ≡ take c.args.count run.events = c.walk-events.ensures ∙ ap (take c.args.count) c.events.ensures.events in
+    let events : c.front-events.result ≡ take c.args.count run.events = c.front-events.ensures ∙ ap (take c.args.count) c.events.ensures.events in
     let all : (test : ℕ → Bool)
     → ((i : ℕ) → i < length (take c.args.count run.events) → test ((place + 1) + i) ≡ records_any breaks (slice_index_or (take c.args.count run.events) i no_events))
     → c.args.progress.found ≡ next_of c.args.search.now.way c.args.search.now.from (places_with test (place + 1))

@@ -16,10 +16,10 @@ loop-run-preserved g c =
     let run = arc_value item.0 in
     let before = events_of is (map part_of (take i runs)) in
     let kept : IsRun (is run.entry.register) run = subst (λ r. IsRun (is r.entry.register) r) c.deref.ensures c.events.ensures.kept in
-    let walked : c.walk-walk.result ≡ take item.1 run.events = c.walk-walk.ensures ∙ ap (take item.1) (c.events.ensures.events ∙ ap (λ r. r.events) c.deref.ensures) in
+    let walked : c.front-walk.result ≡ take item.1 run.events = c.front-walk.ensures ∙ ap (take item.1) (c.events.ensures.events ∙ ap (λ r. r.events) c.deref.ensures) in
     let next : i + 1 ≡ suc i = omega arith in
-    let both : events_of is (map part_of (take (i + 1) runs)) ≡ before ++ c.walk-walk.result =
+    let both : events_of is (map part_of (take (i + 1) runs)) ≡ before ++ c.front-walk.result =
     ap (λ n. events_of is (map part_of (take n runs))) next ∙ events_more is runs i item c.loop-run-test.true c.loop-run-item.is kept ∙ ap (λ l. before ++ l) (sym walked) in
-    let more = indexed_more c.loop-run.all.items c.push_indexed.new.all.items c.loop-run.index c.in_ok-index.index before c.walk-walk.result (events_of is (map part_of (take (i + 1) runs)))
+    let more = indexed_more c.loop-run.all.items c.push_indexed.new.all.items c.loop-run.index c.in_ok-index.index before c.front-walk.result (events_of is (map part_of (take (i + 1) runs)))
     c.loop-run.invariant.all c.loop-run.invariant.index c.in_ok-index.ensures.all c.in_ok-index.ensures.behind both in
     record { all = more.told; index = more.behind }

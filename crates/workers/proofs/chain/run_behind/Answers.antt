@@ -1,6 +1,7 @@
-use Rattle.std.proofs.Common.{◌≡◌, sym, ap, subst, ◌∙◌}
+use Rattle.std.proofs.Common.{◌≡◌, map, sym, ap, subst, ◌∙◌}
 use Rattle.frames.specs.Behaviour.{Behaviour}
 use Rattle.frames.specs.Recorded.{AllFit}
+use Rattle.schedule_trie.specs.Forest.{step_of}
 use Rattle.checkpoints.specs.Segment.{SegmentRun, IsRun}
 use Rattle.cutoff.proofs.Fits.{register_kept}
 use Rattle.workers.proofs.chain.run_behind.Goals as goal
@@ -14,7 +15,7 @@ run_of-requires g c =
     let is = g.R.Behaves.is in
     let run = c.args.run.now in
     let home = ap (λ e. e.register) c.shared_exit.ensures.exit ∙ exit_home (is run.entry.register) run c.shared_exit.ensures.kept in
-    subst (λ r. AllFit (is r) c.in_ok-steps.steps.items) (sym home) (subst (AllFit (is run.entry.register)) (sym c.in_ok-steps.ensures.items) c.requires)
+    subst (λ r. AllFit (is r) (map step_of c.args.cells.now)) (sym home) c.requires
 
 pub returns-clause-home : goal.returns-clause-home
 returns-clause-home g c =

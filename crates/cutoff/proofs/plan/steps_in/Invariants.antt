@@ -1,6 +1,6 @@
 use Rattle.std.proofs.Common.{◌≡◌, ◌++◌, length, drop, map, vec_len, vec_capacity}
 use Rattle.schedule_trie.specs.Forest.{step_of}
-use Rattle.cutoff.proofs.settle.steps_in.Given as goal
+use Rattle.cutoff.proofs.plan.steps_in.Given as goal
 
 -- with what is still to come they are all, and there is room for it
 abbrev pub invariant-loop-slot : goal.invariant-loop-slot
