@@ -55,31 +55,27 @@ impl Search<'_> {
             return found;
         }
         match self.way {
-            Way::Forth => first_of(found, hit, self.from, place),
-            Way::Back => last_of(found, hit, self.from, place),
+            Way::Forth => first_of(found, self.from, place),
+            Way::Back => last_of(found, self.from, place),
         }
     }
 }
 
-/// What was found, or else a hit above a place.
-fn first_of(found: Option<u32>, hit: bool, from: u32, place: u32) -> Option<u32>
-    ensures { result ≡ option_or found (if hit && nat_lt from place then Some place else None) }
+/// What was found, or else a hit, where that is above a place.
+fn first_of(found: Option<u32>, from: u32, hit: u32) -> Option<u32>
+    ensures { result ≡ option_or found (if nat_lt from hit then Some hit else None) }
 {
-    if hit && from < place && found.is_none() {
-        return Some(place);
+    if found.is_none() && from < hit {
+        return Some(hit);
     }
     found
 }
 
-/// A hit below a place, or else what was found.
-fn last_of(found: Option<u32>, hit: bool, from: u32, place: u32) -> Option<u32>
-    ensures { result ≡ (if hit && nat_lt place from then Some place else found) }
+/// A hit, where that is below a place, or else what was found.
+fn last_of(found: Option<u32>, from: u32, hit: u32) -> Option<u32>
+    ensures { result ≡ (if nat_lt hit from then Some hit else found) }
 {
-    if hit && place < from {
-        Some(place)
-    } else {
-        found
-    }
+    if hit < from { Some(hit) } else { found }
 }
 
 /// Whether a break is on a bit.
