@@ -179,29 +179,30 @@ pub(crate) fn push_told(marks: &mut Vec<Mark>, events: &mut Vec<Kept>, step: Ste
     ensures events { vec_len events.new ≤ vec_len events.old + 2 }
     ensures events_room { vec_capacity events.new ≡ vec_capacity events.old }
 {
-    match told.first {
+    let mark = match told.first {
         Some(first) => match told.second {
             Some(second) => {
                 push_kept(events, first);
                 push_kept(events, second);
-                marks.push_reserved(Mark::Both);
+                Mark::Both
             }
             None => match own_mark(step, first) {
-                Some(mark) => marks.push_reserved(mark),
+                Some(mark) => mark,
                 None => {
                     push_kept(events, first);
-                    marks.push_reserved(Mark::First);
+                    Mark::First
                 }
             },
         },
         None => match told.second {
             Some(second) => {
                 push_kept(events, second);
-                marks.push_reserved(Mark::Second);
+                Mark::Second
             }
-            None => marks.push_reserved(Mark::Nothing),
+            None => Mark::Nothing,
         },
-    }
+    };
+    marks.push_reserved(mark);
 }
 
 /// Adds an event, for which there is room.

@@ -1,9 +1,12 @@
 -- Chains: the jobs of a plan, each with the segments behind its own on a branch for which no run is stored.
-use Rattle.std.specs.Prelude.{ℕ, ◌≡◌, ◌≤◌, ◌^◌, Bool, true, nat_eq, List, [], ◌∷◌, Option, Some, None, All, length, map, take, if◌then◌else◌}
+use Rattle.std.specs.Prelude.{ℕ, ◌≡◌, ◌≤◌, ◌^◌, Bool, true, nat_eq, List, [], ◌∷◌, ◌++◌, Option, Some, None, All, length, map, take, drop, if◌then◌else◌}
 use Rattle.frames.specs.declared.types.Step.{Step}
 use Rattle.frames.specs.Behaviour.{Behaviour}
 use Rattle.frames.specs.Recorded.{AllFit}
+use Rattle.schedule_trie.specs.declared.slot.Slot.{Slot}
+use Rattle.schedule_trie.specs.Forest.{step_of}
 use Rattle.schedule_trie.specs.Cut.{Cut, piece_at, note_of, has, keys_in}
+use Rattle.cutoff.specs.declared.follower.Part.{Part}
 use Rattle.cutoff.specs.Fitting.{StoredRun, steps_at}
 use Rattle.cutoff.specs.Held.{Charted}
 use Rattle.cutoff.specs.Plans.{Planned, IsPlan}
@@ -12,6 +15,15 @@ use Rattle.cutoff.specs.Plans.{Planned, IsPlan}
 pub record Following : Type 0 where
   pub key : ℕ
   pub steps : List Step
+
+-- segments, each with so many of the cells that are left
+abbrev pub parted : List Part → List Slot → List Following
+parted [] cells = []
+parted (part ∷ parts) cells = record { key = part.key; steps = map step_of (take part.count cells) } ∷ parted parts (drop part.count cells)
+
+-- segments have these cells alone, whatever comes behind
+abbrev pub IsParted : List Part → List Slot → Type 0
+IsParted parts cells = (ps : List Part) (cs : List Slot) → parted (parts ++ ps) (cells ++ cs) ≡ parted parts cells ++ parted ps cs
 
 -- a job, and the segments that follow its own
 pub record Chained (R P : Type 0) : Type 0 where

@@ -14,54 +14,21 @@ ghost use Rattle.cutoff.specs.Chains.{FollowersFit, HasFollowers, job_in};
 ghost use Rattle.cutoff.specs.Chains as spec;
 
 use crate::descent::descend;
+use crate::follower::Followers;
 use crate::plan::{Job, job_at};
 use crate::settle::segment_cells;
 use crate::stored::Stored;
 use frames::config::Config;
 use frames::register::Register;
-use schedule_trie::slot::Slot;
 use schedule_trie::trie::{SegKey, Trie};
 use std::alloc::{AllocError, Global};
 use std::marker::Model;
-
-/// A segment that follows a job's on its branch: its key, and its cells.
-#[derive(Drop)]
-pub struct Follower {
-    key: SegKey,
-    cells: Vec<Slot>,
-}
-
-impl Model for Follower {
-    ghost use Rattle.std.specs.Prelude.{map};
-    ghost use Rattle.schedule_trie.specs.Forest.{step_of};
-    ghost use Rattle.cutoff.specs.Chains.{Following};
-
-    ghost Value = { Following };
-
-    ghost view = { λ f. record { key = f.key; steps = map step_of f.cells.items } };
-}
-
-impl Follower {
-    /// Its key.
-    pub fn key(&self) -> SegKey
-        ensures { result ≡ self.now.key }
-    {
-        self.key
-    }
-
-    /// Its cells, which have its steps.
-    pub fn cells(&self) -> &[Slot]
-        ensures { map step_of result.now ≡ self.now.steps }
-    {
-        &self.cells
-    }
-}
 
 /// A job, and the segments that follow its own on a branch, which fit: each begins where the run of the one before ends.
 #[derive(Drop)]
 pub struct Chain<R: Register> {
     job: Job<R>,
-    followers: Vec<Follower>,
+    followers: Followers,
 }
 
 impl<R: Register> Model for Chain<R> {
@@ -69,9 +36,9 @@ impl<R: Register> Model for Chain<R> {
 
     ghost Value = { Chained R R.Pending };
 
-    ghost view = { λ c. record { job = c.job; later = c.followers.items } };
+    ghost view = { λ c. record { job = c.job; later = c.followers } };
 
-    ghost invariant = { λ c. FollowersFit (R.is c.job.entry.register) c.followers.items };
+    ghost invariant = { λ c. FollowersFit (R.is c.job.entry.register) c.followers };
 }
 
 impl<R: Register> Chain<R> {
@@ -91,7 +58,7 @@ impl<R: Register> Chain<R> {
     }
 
     /// The segments that follow its job's.
-    pub fn followers(&self) -> &[Follower]
+    pub fn followers(&self) -> &Followers
         ensures later { result.now ≡ self.now.later }
         ensures fit { FollowersFit (R.is self.now.job.entry.register) self.now.later }
     {
@@ -178,16 +145,15 @@ fn followers_at<R: Register>(
     alloc: Global,
     trie: &Trie<Stored<R>>,
     keys: &[SegKey],
-) -> Result<Vec<Follower>, AllocError>
-    ensures { IfOk result (λ list. list.items ≡ spec.followers trie.now keys.now) }
+) -> Result<Followers, AllocError>
+    ensures { IfOk result (λ list. list ≡ spec.followers trie.now keys.now) }
 {
-    let mut list = Vec::new(alloc);
+    let mut list = Followers::new(alloc);
     for key in keys {
         if !is_bare(trie, *key) {
             return Ok(list);
         }
-        let cells = Vec::from_slice(alloc, segment_cells(trie, *key))?;
-        list.push(Follower { key: *key, cells })?;
+        list.push(*key, segment_cells(trie, *key))?;
     }
     Ok(list)
 }

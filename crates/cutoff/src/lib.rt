@@ -8,6 +8,7 @@ pub mod chain;
 pub mod chart;
 mod climb;
 mod descent;
+pub mod follower;
 pub mod install;
 pub mod last;
 pub mod laws;

@@ -47,13 +47,14 @@ fn run_all<R: Register>(alloc: Global, chain: &Chain<R>) -> Result<Vec<Ran<R>>, 
     let job = chain.job();
     let followers = chain.followers();
     let mut all = Vec::with_capacity(alloc, followers.len().saturating_add(1))?;
+    let mut left = followers.walk();
     let mut key = job.key();
     let mut run = run_shared(alloc, job.entry(), job.steps())?;
-    for follower in followers {
-        let next = run_behind(alloc, &run, follower.cells());
+    while let Some((behind, cells)) = left.next() {
+        let next = run_behind(alloc, &run, cells);
         let outcome = Outcome::Ran(run);
         all.push_reserved(Done { key, outcome });
-        key = follower.key();
+        key = behind;
         match next {
             Ok(next) => run = next,
             Err(AllocError) => {

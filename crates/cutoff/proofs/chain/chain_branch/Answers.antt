@@ -46,8 +46,8 @@ invariant_of-push g c =
     let end = c.descend-missed.result.1.now in
     let list = c.in_ok-followers.ensures ∙ ap (spec.followers c.args.trie.now) (c.first_few.ensures ∙ ap (take c.args.most) c.keys_behind.ensures) in
     let fit = subst (FollowersFit b) (sym list) (followers_fit b c.args.trie.now c.args.most c.in-Some.key c.args.keys.now c.requires.fits) in
-    let there = subst (λ x. FollowersFit x c.in_ok-followers.followers.items) (sym (g.met.R.Register.alike end.register c.args.start.now.register c.descend-missed.ensures.own)) fit in
-    subst (λ e. FollowersFit (g.R.Behaves.is e.register) c.in_ok-followers.followers.items) (sym (entry_is c.args.trie.now c.in-Some.key end c.in_ok-job.job c.in_ok-job.ensures)) there
+    let there = subst (λ x. FollowersFit x c.in_ok-followers.followers) (sym (g.met.R.Register.alike end.register c.args.start.now.register c.descend-missed.ensures.own)) fit in
+    subst (λ e. FollowersFit (g.R.Behaves.is e.register) c.in_ok-followers.followers) (sym (entry_is c.args.trie.now c.in-Some.key end c.in_ok-job.job c.in_ok-job.ensures)) there
 
 pub returns-clause-jobs : goal.returns-clause-jobs
 returns-clause-jobs g c =
