@@ -16,17 +16,19 @@ left_at step_in those i that within is =
     ∙ ap (λ s. step_in s ∷ map step_in (drop (suc i) those)) (sym is)
     ∙ ap (λ n. step_in that ∷ map step_in (drop n those)) next
 
--- the first of the steps that are left is made, from c to d
-module _ {R P : Type 0} (b : Behaviour P) (c d : Configuration R P) (step : Step) (left rest : List Step) (first : left ≡ step ∷ rest) where
-  pub step_fits : AllFit b left → fits_step b step ≡ true
-  step_fits all = All-head (λ s. fits_step b s ≡ true) step rest (subst (AllFit b) first all)
+-- the first of the steps that are left
+module _ (step : Step) (left rest : List Step) (first : left ≡ step ∷ rest) where
+  pub step_fits : {P : Type 0} (b : Behaviour P) → AllFit b left → fits_step b step ≡ true
+  step_fits b all = All-head (λ s. fits_step b s ≡ true) step rest (subst (AllFit b) first all)
 
-  pub rest_fits : AllFit b left → AllFit b rest
-  rest_fits all = All-tail (λ s. fits_step b s ≡ true) step rest (subst (AllFit b) first all)
+  pub rest_fits : {P : Type 0} (b : Behaviour P) → AllFit b left → AllFit b rest
+  rest_fits b all = All-tail (λ s. fits_step b s ≡ true) step rest (subst (AllFit b) first all)
 
   pub step_kept : (steps more : List Step) → more ≡ steps ++ step ∷ [] → more ++ rest ≡ steps ++ left
   step_kept steps more is_more = ap (λ l. l ++ rest) is_more ∙ append_assoc steps (step ∷ []) rest ∙ sym (ap (λ l. steps ++ l) first)
 
+-- it is made, from c to d
+module _ {R P : Type 0} (b : Behaviour P) (c d : Configuration R P) (step : Step) (left rest : List Step) (first : left ≡ step ∷ rest) where
   pub step_replayed : d ≡ stepped b c step → replayed b d rest ≡ replayed b c left
   step_replayed after = ap (λ e. replayed b e rest) after ∙ sym (ap (replayed b c) first)
 

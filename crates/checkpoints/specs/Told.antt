@@ -61,6 +61,7 @@ told [] marks events = []
 told (s ∷ steps) [] events = []
 told (s ∷ steps) (mark ∷ marks) events = events_with s mark events ∷ told steps marks (left_behind mark events)
 
+-- the events of steps that are kept flat
 abbrev pub told_in : Told → List StepEvents
 told_in t = told t.steps.items t.marks.items (recorded t.events.items)
 

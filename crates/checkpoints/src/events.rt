@@ -13,6 +13,9 @@ use frames::types::{Event, Step, StepEvents};
 use std::alloc::{AllocError, Global};
 use std::marker::Model;
 
+/// For how many more events room is taken where there is none left, and the most that is left over.
+const MORE_EVENTS: usize = 8;
+
 /// Steps with what each recorded: a mark a step, and the events that no mark tells, in order.
 #[derive(Debug, Drop)]
 pub(crate) struct Told {
@@ -58,15 +61,16 @@ impl<'a> Model for EventWalk<'a> {
 }
 
 impl Told {
-    /// Steps with these marks and events, in no more room than they need.
-    #[inline(never)]
+    /// Steps with these marks and events, of whose room most that is left over is given back.
     pub(crate) fn new(steps: Vec<Step>, marks: Vec<Mark>, events: Vec<Kept>) -> Told
         ensures steps { result.steps.items ≡ steps.items }
         ensures told { spec.told_in result
             ≡ spec.told steps.items marks.items (recorded events.items) }
     {
         let mut events = events;
-        events.shrink_to_fit();
+        if events.capacity() - events.len() > MORE_EVENTS {
+            events.shrink_to_fit();
+        }
         Told {
             steps,
             marks,
@@ -169,51 +173,65 @@ impl EventWalk<'_> {
 /// Adds the mark of the next step, for which there is room, and what the mark doesn't tell of the events
 /// that it recorded.
 #[inline(always)]
-pub(crate) fn push_told(marks: &mut Vec<Mark>, events: &mut Vec<Kept>, step: Step, told: StepEvents)
+pub(crate) fn push_told(
+    marks: &mut Vec<Mark>,
+    events: &mut Vec<Kept>,
+    step: Step,
+    told: StepEvents,
+) -> Result<(), AllocError>
     requires mark { vec_len marks.old < vec_capacity marks.old }
-    requires two { vec_len events.old + 2 ≤ vec_capacity events.old }
-    ensures added { spec.IsAdded step told marks.old.items marks.new.items
-        (recorded events.old.items) (recorded events.new.items) }
-    ensures marks { vec_len marks.new ≡ vec_len marks.old + 1 }
+    ensures added { OnOk result (spec.IsAdded step told marks.old.items marks.new.items
+        (recorded events.old.items) (recorded events.new.items)) }
+    ensures marks { OnOk result (vec_len marks.new ≡ vec_len marks.old + 1) }
     ensures marks_room { vec_capacity marks.new ≡ vec_capacity marks.old }
-    ensures events { vec_len events.new ≤ vec_len events.old + 2 }
-    ensures events_room { vec_capacity events.new ≡ vec_capacity events.old }
 {
     let mark = match told.first {
         Some(first) => match told.second {
             Some(second) => {
-                push_kept(events, first);
-                push_kept(events, second);
+                push_kept(events, first)?;
+                push_kept(events, second)?;
                 Mark::Both
             }
             None => match own_mark(step, first) {
                 Some(mark) => mark,
                 None => {
-                    push_kept(events, first);
+                    push_kept(events, first)?;
                     Mark::First
                 }
             },
         },
         None => match told.second {
             Some(second) => {
-                push_kept(events, second);
+                push_kept(events, second)?;
                 Mark::Second
             }
             None => Mark::Nothing,
         },
     };
     marks.push_reserved(mark);
+    Ok(())
 }
 
-/// Adds an event, for which there is room.
+/// Adds an event.
 #[inline(always)]
-fn push_kept(events: &mut Vec<Kept>, event: Event)
-    requires { vec_len events.old < vec_capacity events.old }
-    ensures event { recorded events.new.items ≡ recorded events.old.items ++ event ∷ [] }
-    ensures len { vec_len events.new ≡ vec_len events.old + 1 }
-    ensures room { vec_capacity events.new ≡ vec_capacity events.old }
+fn push_kept(events: &mut Vec<Kept>, event: Event) -> Result<(), AllocError>
+    ensures { OnOk result (recorded events.new.items ≡ recorded events.old.items ++ event ∷ []) }
 {
+    if events.len() == events.capacity() {
+        take_room(events)?;
+    }
     events.push_reserved(kept_of(event));
+    Ok(())
+}
+
+/// Takes room for more events.
+#[cold]
+#[inline(never)]
+fn take_room(events: &mut Vec<Kept>) -> Result<(), AllocError>
+    ensures items { events.new.items ≡ events.old.items }
+    ensures room { OnOk result (vec_len events.new < vec_capacity events.new) }
+{
+    events.reserve(MORE_EVENTS)
 }
 
 /// The first `count` steps; all where there are fewer.

@@ -71,17 +71,15 @@ pub(crate) fn replay_from<R: Register, S: HasStep>(
     ensures events { IfOk result
         (λ r. told_in r.told ≡ history (R.is entry.register) entry (map S.step_in those.now)) }
 {
-    // room for two events of each step is taken first, so that no write of one asks for it
-    let most = those.len().checked_mul(2).ok_or(AllocError)?;
     let mut steps = Vec::with_capacity(alloc, those.len())?;
     let mut marks = Vec::with_capacity(alloc, those.len())?;
-    let mut events = Vec::with_capacity(alloc, most)?;
+    let mut events = Vec::new(alloc);
     let mut config = entry;
     for that in those {
         let step = that.step();
         let told = config.step(step);
         steps.push_reserved(step);
-        push_told(&mut marks, &mut events, step, told);
+        push_told(&mut marks, &mut events, step, told)?;
     }
     let told = Told::new(steps, marks, events);
     Ok(Made { told, config })

@@ -1,4 +1,4 @@
-use Rattle.std.proofs.Common.{arith, ◌≡◌, ◌∙◌, ◌+◌, ◌∷◌, true, map, drop, ap, sym, subst}
+use Rattle.std.proofs.Common.{◌≡◌, ◌∙◌, ◌+◌, ◌∷◌, true, map, drop, ap, sym, subst}
 use Rattle.frames.specs.Configuration.{fits_step, stepped, events_of}
 use Rattle.checkpoints.specs.Kept.{recorded}
 use Rattle.checkpoints.specs.Told.{told}
@@ -15,7 +15,7 @@ step-told-requires g c =
     let step = c.step-step.result in
     let rest = map step_in (drop (at.that-index + 1) those) in
     let first = left_at step_in those at.that-index c.that-item.result c.loop-that-test.true c.that-item.is ∙ ap (λ s. s ∷ rest) (sym c.step-step.ensures) in
-    let fits = step_fits (is c.args.entry.register) at.config at.config step (map step_in (drop at.that-index those)) rest first at.invariant.fit in
+    let fits = step_fits step (map step_in (drop at.that-index those)) rest first (is c.args.entry.register) at.invariant.fit in
     subst (λ r. fits_step (is r) step ≡ true) (sym at.invariant.register) fits
 
 pub loop-that-preserved : goal.loop-that-preserved
@@ -36,11 +36,11 @@ loop-that-preserved g c =
     let after : behind ≡ stepped b before step = c.step-told.ensures.after ∙ ap (λ r. stepped (is r) before step) so_far.register in
     let events : one ≡ events_of b before step = c.step-told.ensures.events ∙ ap (λ r. events_of (is r) before step) so_far.register in
     let more = told_more at.steps.items c.push_reserved.new.self.items at.marks.items c.push_told.new.marks.items (recorded at.events.items) (recorded c.push_told.new.events.items) step one
-    so_far.are_told c.push_reserved.ensures.items c.push_told.ensures.added in
+    so_far.are_told c.push_reserved.ensures.items c.in_ok-push_told.ensures.added in
     record {
       register = ap (λ d. d.register) c.step-told.ensures.after ∙ so_far.register;
-      fit = rest_fits b before behind step left rest first so_far.fit;
-      steps = step_kept b before behind step left rest first at.steps.items c.push_reserved.new.self.items c.push_reserved.ensures.items ∙ so_far.steps;
+      fit = rest_fits step left rest first b so_far.fit;
+      steps = step_kept step left rest first at.steps.items c.push_reserved.new.self.items c.push_reserved.ensures.items ∙ so_far.steps;
       config = step_replayed b before behind step left rest first after ∙ so_far.config;
       are_told = more.kept;
       events = step_told b before behind step left rest first after (told at.steps.items at.marks.items (recorded at.events.items))
@@ -48,7 +48,5 @@ loop-that-preserved g c =
       steps_room = c.push_reserved.ensures.capacity ∙ so_far.steps_room;
       made = c.push_reserved.ensures.len ∙ ap (λ n. n + 1) so_far.made;
       marks_room = c.push_told.ensures.marks_room ∙ so_far.marks_room;
-      marked = c.push_told.ensures.marks ∙ ap (λ n. n + 1) so_far.marked;
-      events_room = c.push_told.ensures.events_room ∙ so_far.events_room;
-      few = omega (arith, c.push_told.ensures.events, so_far.few);
+      marked = c.in_ok-push_told.ensures.marks ∙ ap (λ n. n + 1) so_far.marked;
     }

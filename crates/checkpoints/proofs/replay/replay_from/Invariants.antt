@@ -1,4 +1,4 @@
-use Rattle.std.proofs.Common.{◌≡◌, ◌≤◌, ◌*◌, ◌++◌, map, length, drop, vec_len, vec_capacity}
+use Rattle.std.proofs.Common.{◌≡◌, ◌++◌, map, length, drop, vec_len, vec_capacity}
 use Rattle.frames.specs.Configuration.{replayed, history}
 use Rattle.frames.specs.Recorded.{AllFit}
 use Rattle.checkpoints.specs.Kept.{recorded}
@@ -23,6 +23,4 @@ invariant-loop-that g l =
       made : vec_len l.steps ≡ l.that-index;
       marks_room : vec_capacity l.marks ≡ length l.those;
       marked : vec_len l.marks ≡ l.that-index;
-      events_room : vec_capacity l.events ≡ 2 * length l.those;
-      few : vec_len l.events ≤ 2 * l.that-index;
     }
