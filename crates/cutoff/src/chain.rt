@@ -148,7 +148,7 @@ fn followers_at<R: Register>(
 ) -> Result<Followers, AllocError>
     ensures { IfOk result (λ list. list ≡ spec.followers trie.now keys.now) }
 {
-    let mut list = Followers::new(alloc);
+    let mut list = Followers::with_room(alloc, keys.len(), cells_at(trie, keys))?;
     for key in keys {
         if !is_bare(trie, *key) {
             return Ok(list);
@@ -156,6 +156,18 @@ fn followers_at<R: Register>(
         list.push(*key, segment_cells(trie, *key))?;
     }
     Ok(list)
+}
+
+/// How many cells the segments with these keys have, as far as no run is stored: the room that they take.
+fn cells_at<R: Register>(trie: &Trie<Stored<R>>, keys: &[SegKey]) -> usize {
+    let mut count: usize = 0;
+    for key in keys {
+        if !is_bare(trie, *key) {
+            return count;
+        }
+        count = count.saturating_add(segment_cells(trie, *key).len());
+    }
+    count
 }
 
 /// Whether no run is stored at a segment.

@@ -1,6 +1,6 @@
 //! What follows a job on its branch: segments, with copies of their cells that lie one behind the other.
 
-ghost use Rattle.std.specs.Prelude.{◌≡◌, [], ◌∷◌, ◌++◌, OnOk, IfSome, IfNone, map, take, drop, length, vec_len};
+ghost use Rattle.std.specs.Prelude.{◌≡◌, [], ◌∷◌, ◌++◌, OnOk, IfOk, IfSome, IfNone, map, take, drop, length, vec_len};
 ghost use Rattle.schedule_trie.specs.Forest.{step_of};
 
 use schedule_trie::slot::Slot;
@@ -50,14 +50,17 @@ impl<'a> Model for FollowerWalk<'a> {
 }
 
 impl Followers {
-    /// None.
-    pub(crate) fn new(alloc: Global) -> Followers
-        ensures { result ≡ [] }
+    /// None, with room for so many segments and cells.
+    pub(crate) fn with_room(
+        alloc: Global,
+        segments: usize,
+        cells: usize,
+    ) -> Result<Followers, AllocError>
+        ensures { IfOk result (λ followers. followers ≡ []) }
     {
-        Followers {
-            parts: Vec::new(alloc),
-            cells: Vec::new(alloc),
-        }
+        let parts = Vec::with_capacity(alloc, segments)?;
+        let cells = Vec::with_capacity(alloc, cells)?;
+        Ok(Followers { parts, cells })
     }
 
     /// Adds a segment with these cells.

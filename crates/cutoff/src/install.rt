@@ -106,17 +106,23 @@ fn are_steps(slots: &[Slot], steps: &[Step]) -> bool
     true
 }
 
-/// Whether two steps are the same. Two numbers are compared as one word of memory, where the derived comparison takes one after
-/// the other.
+/// Whether two steps are the same. Bit actions, of which there are most, are told first, and without a table of jumps. Two numbers
+/// are compared as one word of memory, where the derived comparison takes one after the other.
 #[inline(always)]
 fn is_same(a: &Step, b: &Step) -> bool
     ensures { Decides result (a.now ≡ b.now) }
 {
+    if let Step::Go { p: who, c: choice } = b {
+        return match a {
+            Step::Go { p, c } => [*p, *c] == [*who, *choice],
+            Step::Write { .. } | Step::Read { .. } | Step::Stop { .. } => false,
+        };
+    }
     match (a, b) {
         (Step::Write { p, v }, Step::Write { p: who, v: value }) => [*p, *v] == [*who, *value],
-        (Step::Read { p }, Step::Read { p: who }) => *p == *who,
-        (Step::Go { p, c }, Step::Go { p: who, c: choice }) => [*p, *c] == [*who, *choice],
-        (Step::Stop { p }, Step::Stop { p: who }) => *p == *who,
+        (Step::Read { p }, Step::Read { p: who }) | (Step::Stop { p }, Step::Stop { p: who }) => {
+            *p == *who
+        }
         _ => false,
     }
 }
