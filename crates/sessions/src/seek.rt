@@ -106,7 +106,7 @@ fn is_in_any(breaks: &[Break], event: Option<Event>) -> bool
 {
     match event {
         None => false,
-        Some(event) => breaks.iter().any(|one| one.is_event(event)),
+        Some(event) => breaks.iter().any(|one| one.is_met_by(event)),
     }
 }
 

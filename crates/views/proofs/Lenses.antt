@@ -47,9 +47,6 @@ module _ {R P : Type 0} (is : R → Behaviour P) where
   pub end_home : (part : RunPart R P) → is (part_end is part).register ≡ behaviour_of part
   end_home part = ap is (register_kept (behaviour_of part) part.run.entry (take part.count part.run.steps))
 
-  pub itself : (c d : Configuration R P) → c ≡ d → IsAlike is c d
-  itself c d e = record { home = ap (λ x. is x.register) e; comes = ap alone e }
-
   like_symm : (c d : Configuration R P) → IsAlike is c d → IsAlike is d c
   like_symm c d e = record { home = sym e.home; comes = sym e.comes }
 

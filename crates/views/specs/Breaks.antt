@@ -30,16 +30,16 @@ is_refusal (event.Refused q layer) = true
 is_refusal e = false
 
 -- an event meets a break
-abbrev pub is_event : Break → Event → Bool
-is_event (Returns p) e = is_return_of p e
-is_event (Bit j v) e = false
-is_event Chosen e = is_choice e
-is_event Void e = is_void e
-is_event Refused e = is_refusal e
+abbrev pub is_met_by : Break → Event → Bool
+is_met_by (Returns p) e = is_return_of p e
+is_met_by (Bit j v) e = false
+is_met_by Chosen e = is_choice e
+is_met_by Void e = is_void e
+is_met_by Refused e = is_refusal e
 
 abbrev pub is_in : Break → Option Event → Bool
 is_in break None = false
-is_in break (Some e) = is_event break e
+is_in break (Some e) = is_met_by break e
 
 -- a step that records these events meets a break
 abbrev pub is_recorded : Break → StepEvents → Bool

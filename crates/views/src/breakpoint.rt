@@ -36,13 +36,13 @@ impl Break {
     {
         match event {
             None => false,
-            Some(event) => self.is_event(event),
+            Some(event) => self.is_met_by(event),
         }
     }
 
     /// Whether an event meets it.
-    pub fn is_event(self, event: Event) -> bool
-        ensures { result ≡ spec.is_event self event }
+    pub fn is_met_by(self, event: Event) -> bool
+        ensures { result ≡ spec.is_met_by self event }
     {
         match self {
             Break::Returns(p) => is_return_of(p, event),

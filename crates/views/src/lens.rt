@@ -7,7 +7,7 @@ ghost use Rattle.views.specs.declared.lens.TheConstants.{PLACES};
 ghost use Rattle.views.specs.Lenses.{IsAt};
 
 use crate::run_place::RunPlace;
-use crate::spot::{exit_at, front, make};
+use crate::spot::{front, make};
 use checkpoints::run::Run;
 use frames::config::Config;
 use frames::register::Register;
@@ -55,18 +55,17 @@ impl<R: Register> Lens<R> {
         Ok(Lens { places })
     }
 
-    /// A configuration like the one that the first `count` steps of a run come to. It goes on from the nearest place that it looks for.
+    /// A configuration like the one that the first `count` steps of a run come to, which has more. It goes on from the nearest place that
+    /// it looks for.
     pub(crate) fn config_in(
         &mut self,
         alloc: Global,
         run: &Arc<Run<R>>,
         count: u32,
     ) -> Result<Config<R>, AllocError>
+        requires { count < length (arc_value run.now).steps }
         ensures { IfOk result (λ c. IsAt R.is (arc_value run.now) count c) }
     {
-        if count as usize >= run.steps().len() {
-            return ended(alloc, run, count);
-        }
         let (made, config) = self.nearest(alloc, run, count)?;
         let first = self.kept_from(run, made, count);
         let config = advanced(run, made, first, config);
@@ -167,14 +166,6 @@ impl<R: Register> Lens<R> {
             Err(_) => Err(AllocError),
         }
     }
-}
-
-/// A configuration like the one that a run comes to.
-fn ended<R: Register>(alloc: Global, run: &Run<R>, count: u32) -> Result<Config<R>, AllocError>
-    requires { length run.now.steps ≤ count }
-    ensures { IfOk result (λ c. IsAt R.is run.now count c) }
-{
-    exit_at(run, count).copy(alloc)
 }
 
 /// Goes on from a place of a run to a later one.
