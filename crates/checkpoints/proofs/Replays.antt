@@ -1,5 +1,7 @@
 -- One step of a replay.
-use Rattle.std.proofs.Common.{◌≡◌, ◌∙◌, ℕ, suc, ◌+◌, ◌<◌, true, List, [], ◌∷◌, ◌++◌, map, length, drop, get_or, drop-cons, sym, ap, subst, arith, append_assoc}
+use Rattle.std.proofs.Common.{◌≡◌, ◌∙◌, ℕ, suc, ◌+◌, ◌<◌, ◌≤◌, true, List, [], ◌∷◌, ◌++◌, map, length, drop, get_or, drop-cons, sym, ap, subst, arith, append_assoc}
+use Rattle.std.proofs.Math.ListN.{drop_of_length-le}
+use Rattle.std.proofs.lemmas.List.{map-id}
 use Rattle.std.proofs.lemmas.List.Elements.{All-head, All-tail}
 use Rattle.frames.specs.declared.types.Step.{Step}
 use Rattle.frames.specs.declared.types.StepEvents.{StepEvents}
@@ -15,6 +17,10 @@ left_at step_in those i that within is =
     ap (map step_in) (drop-cons those i that within)
     ∙ ap (λ s. step_in s ∷ map step_in (drop (suc i) those)) (sym is)
     ∙ ap (λ n. step_in that ∷ map step_in (drop n those)) next
+
+-- behind the last of them nothing is left
+pub none_left : {S : Type 0} (step_in : S → Step) (those : List S) (i : ℕ) → length those ≤ i → map step_in (drop i those) ≡ []
+none_left step_in those i past = ap (map step_in) (drop_of_length-le those past)
 
 -- the first of the steps that are left
 module _ (step : Step) (left rest : List Step) (first : left ≡ step ∷ rest) where
@@ -38,3 +44,8 @@ module _ {R P : Type 0} (b : Behaviour P) (c d : Configuration R P) (step : Step
       ap (λ l. l ++ history b d rest) is_more ∙ append_assoc told (one ∷ []) (history b d rest)
       ∙ ap (λ e. told ++ e ∷ history b d rest) is ∙ ap (λ e. told ++ events_of b c step ∷ history b e rest) after
       ∙ sym (ap (λ l. told ++ history b c l) first)
+
+-- what steps come to from a configuration, where these are told as what has them
+pub from_same : {R P T : Type 0} (is : R → Behaviour P) (come_to : Behaviour P → Configuration R P → List Step → T) (c d : Configuration R P) (steps : List Step) → c ≡ d
+    → come_to (is c.register) c (map (λ s. s) steps) ≡ come_to (is d.register) d steps
+from_same is come_to c d steps same = ap (λ e. come_to (is e.register) e (map (λ s. s) steps)) same ∙ ap (come_to (is d.register) d) (map-id steps)

@@ -1,15 +1,17 @@
 -- A chart whose stored runs changed, and whose forest didn't.
-use Rattle.std.proofs.Common.{◌≡◌, ℕ, ◌<◌, ◌≤◌, Bool, true, false, nat_lt, cond, List, length, map, Option, Some, None, IsSome, Ok, Err, refl, sym, ap, subst, ◌∙◌, arith}
+use Rattle.std.proofs.Common.{◌≡◌, ℕ, ◌<◌, ◌≤◌, Bool, true, false, nat_lt, cond, List, length, map, Option, Some, None, IsSome, Result, Ok, Err, IfErr, inl, refl, sym, ap, subst, ◌∙◌, arith}
 use Rattle.std.specs.Option.{option_map, IfSome}
+use Rattle.std.specs.Result.{IsErrAnd}
 use Rattle.std.proofs.lemmas.Bool.Decides.{nat_tests}
 use Rattle.frames.specs.Behaviour.{Behaviour}
+use Rattle.frames.specs.Configuration.{Configuration, initial_configuration}
 use Rattle.frames.specs.Recorded.{AllFit}
 use Rattle.schedule_trie.specs.declared.slot.Slot.{Slot}
 use Rattle.schedule_trie.specs.declared.refusal.Refusal.TheVariants.{NoPlace}
 use Rattle.schedule_trie.specs.Forest.{slots_in, step_of, index_of, on_found}
 use Rattle.schedule_trie.specs.Cut.{Cut, Piece, piece_at, line, forest, has, keys_in, SharesAbove, IsCut}
 use Rattle.schedule_trie.proofs.Lines.{slots_in_on}
-use Rattle.cutoff.specs.Fitting.{StoredRun, KeepsRuns}
+use Rattle.cutoff.specs.Fitting.{StoredRun, KeepsRuns, IsFilled}
 use Rattle.cutoff.specs.Links.{alone, IsLinked}
 use Rattle.cutoff.specs.Prefixes.{IsMarked}
 use Rattle.cutoff.specs.Held.{Charted, IsCharted, StepsFit, keys_or, keys_named, looked_at, look}
@@ -84,3 +86,29 @@ module _ {R P : Type 0} (b : Behaviour P) (cut : Cut (StoredRun R P)) (name : Li
     where
       not_behind : (n : ℕ) → n ≡ len → nat_lt n place ≡ false
       not_behind n e = grind (arith, nat_tests)
+
+-- a refused step keeps what was kept before it
+pub keeps_still : {R P : Type 0} (E : R → R → Bool) (b : Behaviour P) (old : Cut (StoredRun R P)) (start : Configuration R P) (ks : List ℕ) {cut new : Cut (StoredRun R P)} → new ≡ cut
+    → KeepsRuns old cut (IsFilled E b old cut start ks) → KeepsRuns old new (IsFilled E b old new start ks)
+keeps_still E b old start ks same = subst (λ t. KeepsRuns old t (IsFilled E b old t start ks)) (sym same)
+
+-- what a refusal that is handed up says
+pub passed_up : {T E : Type 0} {Is : E → Type 0} (r : Result T E) (P : E → Type 0) → ((e : E) → Is e → P e) → IsErrAnd r Is → IfErr r P
+passed_up (Ok x) P f h = absurd h
+passed_up (Err e) P f h = f e h
+
+-- what is seen of a chart and what it is
+module _ {R P : Type 0} {v w : Charted R P} (seen : v ≡ w) where
+  pub same_start : v.start ≡ w.start
+  same_start = ap (λ (c : Charted R P). c.start) seen
+
+  pub same_value : v.value ≡ w.value
+  same_value = ap (λ (c : Charted R P). c.value) seen
+
+  pub seen_begins : (E : R → R → Bool) (is : R → Behaviour P) (next : ℕ) (mark : Option ℕ) → IsCharted E is next mark v
+      → w.start ≡ initial_configuration (is w.start.register) w.start.register w.value
+  seen_begins E is next mark was = subst (λ (c : Charted R P). c.start ≡ initial_configuration (is c.start.register) c.start.register c.value) seen was.begins
+
+-- nothing is changed
+pub all_kept : {R P : Type 0} (cut : Cut (StoredRun R P)) (Filled : ℕ → Type 0) → KeepsRuns cut cut Filled
+all_kept cut Filled = record { strands = refl; limits = refl; forest_kept = refl; slots = λ k. refl; runs = λ k. inl refl }

@@ -81,6 +81,11 @@ place_found cut i place key offset lies positive = record {
     some_more zero positive b = absurd (positive refl)
     some_more (suc n) positive b = omega (arith, b)
 
+-- and a number as the place is
+pub found_fits : {T : Type 0} (cut : Cut T) (i place key offset n : ℕ) → LiesIn (piece_at cut.pieces) (keys_in cut.strands i) (place - 1) (key, offset) → (place ≡ 0 → ⊥)
+    → place < n → (offset < n) × (offset + 1 < n)
+found_fits cut i place key offset n lies positive small = let sum = (place_found cut i place key offset lies positive).ends.sum in (omega arith, omega arith)
+
 -- nothing is wanted
 pub none_settled : {R P : Type 0} (E : R → R → Bool) (b : Behaviour P) (c : Charted R P) (name : List ℕ) (place : ℕ) → place ≡ 0 → IsSettledLast E b c c name place None 0
 none_settled {R} {P} E b c name place none = (

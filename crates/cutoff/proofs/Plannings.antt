@@ -1,8 +1,9 @@
 -- Jobs of branches one after the other.
-use Rattle.std.proofs.Common.{◌≡◌, ℕ, zero, suc, ◌+◌, ◌<◌, ◌≤◌, Bool, List, [], ◌∷◌, length, map, drop, Option, Some, None, refl, sym, ap, subst, ◌∙◌, arith}
+use Rattle.std.proofs.Common.{◌≡◌, ℕ, zero, suc, ◌+◌, ◌<◌, ◌≤◌, Bool, List, [], ◌∷◌, length, map, drop, Option, Some, None, IsSome, refl, sym, ap, subst, ◌∙◌, arith, true≢false}
 use Rattle.frames.specs.Behaviour.{Behaviour}
 use Rattle.frames.specs.Configuration.{Configuration}
-use Rattle.schedule_trie.specs.Cut.{Cut, Strand, keys_in, keys_by}
+use Rattle.schedule_trie.specs.declared.refusal.Refusal.TheVariants.{Memory}
+use Rattle.schedule_trie.specs.Cut.{Cut, Strand, keys_in, keys_by, if_lacks}
 use Rattle.cutoff.specs.Fitting.{StoredRun}
 use Rattle.cutoff.specs.Held.{keys_or}
 use Rattle.cutoff.specs.Plans.{Planned, keys_of, Descends, job_of, with_job, Plans}
@@ -44,3 +45,11 @@ module _ {R P : Type 0} (E : R → R → Bool) (b : Behaviour P) (cut : Cut (Sto
 pub keys_found : (o : Option ℕ) (strands : List Strand) (keys : List ℕ) → keys_by o strands ≡ Some keys → keys_or o strands ≡ keys
 keys_found None strands keys e = absurd (let f : ◌≡◌ {A = Option (List ℕ)} None (Some keys) = e in cc)
 keys_found (Some i) strands keys e = cc
+
+pub keys_some : (o : Option ℕ) (strands : List Strand) (keys : List ℕ) → keys_by o strands ≡ Some keys → IsSome o
+keys_some None strands keys e = absurd (let f : ◌≡◌ {A = Option (List ℕ)} None (Some keys) = e in cc)
+keys_some (Some i) strands keys e = refl
+
+pub lacks_none : (o : Option ℕ) → IsSome o → if_lacks o ≡ Memory
+lacks_none None some = absurd (true≢false (sym some))
+lacks_none (Some i) some = refl

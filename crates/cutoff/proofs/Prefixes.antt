@@ -3,7 +3,7 @@ use Rattle.std.proofs.Common.{◌≡◌, ℕ, Bool, true, false, nat_eq, List, [
 use Rattle.std.specs.Prelude.{⊤}
 use Rattle.std.specs.Option.{option_eq, option_map}
 use Rattle.std.proofs.lemmas.Bool.{eqb-true}
-use Rattle.std.specs.Cmp.{IsPartialEquivalence}
+use Rattle.std.specs.Cmp.{IsEquivalence, IsPartialEquivalence}
 use Rattle.frames.specs.Behaviour.{Behaviour}
 use Rattle.frames.specs.Configuration.{Configuration, replayed}
 use Rattle.frames.specs.Equality.{SameConfiguration}
@@ -14,7 +14,7 @@ use Rattle.schedule_trie.proofs.Climbs.{IsStepUp}
 use Rattle.schedule_trie.proofs.Once.{has_cases, has-head, has-tail}
 use Rattle.cutoff.specs.Fitting.{StoredRun, run_of, RunFits, steps_at}
 use Rattle.cutoff.specs.Links.{alone, IsLinked}
-use Rattle.cutoff.specs.Prefixes.{RunsDown, RunsTo, come_to, exit_or}
+use Rattle.cutoff.specs.Prefixes.{RunsDown, RunsTo, IsKnown, come_to, exit_or}
 use Rattle.cutoff.specs.Plans.{ComesDown}
 use Rattle.cutoff.proofs.Fits.{register_kept, same_trans, exit_same, stored_at, fits_to_note}
 use Rattle.cutoff.proofs.Walks.{linked_home}
@@ -82,3 +82,7 @@ module _ {R P : Type 0} (E : R → R → Bool) (per : IsPartialEquivalence E) (b
   exit_linked =
       linked_home E per h s.run.exit.register next s.id (alone s.run.exit) cut (per.symm h s.run.exit.register ∙ exit_own)
       (record { exits = linked.exits; as_many = linked.as_many; each = linked.each; came = (stored_at E h linked.exits cut k s (linked.each k) noted).id })
+
+-- no run need be known
+pub none_known : {R P : Type 0} (E : R → R → Bool) (equal : IsEquivalence E) (is : R → Behaviour P) (cut : Cut (StoredRun R P)) (start : Configuration R P) (key : ℕ) → IsKnown E is cut start key None
+none_known E equal is cut start key = λ i h. (tt, record { register = equal.refl start.register; memory = refl; running = refl; stopped = refl })

@@ -381,6 +381,17 @@ exit_last c (y ∷ z ∷ rs) x e =
     let less : length (y ∷ z ∷ rs) - 1 ≡ suc (length (z ∷ rs) - 1) = omega arith in
     exit_last (arc_value y.0).exit (z ∷ rs) x (e ∙ ap (slice_get (y ∷ z ∷ rs)) less)
 
+some_last : {X : Type 0} (x : X) (xs : List X) → ◌≡◌ {A = Option X} None (slice_get (x ∷ xs) (length (x ∷ xs) - 1)) → ⊥
+some_last x [] e = cc
+some_last x (y ∷ xs) e =
+    let less : length (x ∷ y ∷ xs) - 1 ≡ suc (length (y ∷ xs) - 1) = omega arith in
+    some_last y xs (e ∙ ap (slice_get (x ∷ y ∷ xs)) less)
+
+pub exit_none : {R P Z : Type 0} (c : Configuration R P) (runs : List (Arc (SegmentRun R P) Z × ℕ)) → ◌≡◌ {A = Option (Arc (SegmentRun R P) Z × ℕ)} None (slice_get runs (length runs - 1))
+    → exit_of c (map part_of runs) ≡ c
+exit_none c [] e = refl
+exit_none c (x ∷ runs) e = absurd (some_last x runs e)
+
 pub part_last : {R P Z : Type 0} (runs : List (Arc (SegmentRun R P) Z × ℕ)) (x : Arc (SegmentRun R P) Z × ℕ)
     → map part_of (runs ++ x ∷ []) ≡ map part_of runs ++ part (arc_value x.0) x.1 ∷ []
 part_last runs x = map-append part_of runs (x ∷ [])

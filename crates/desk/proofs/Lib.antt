@@ -6,3 +6,4 @@ pub mod Works
 pub mod Holdings
 pub mod Fillings
 pub mod Chainings
+pub mod Beginnings

@@ -12,7 +12,7 @@ use Rattle.frames.specs.Equality.{SameConfiguration}
 use Rattle.safe_bit.specs.Memory.{Memory}
 use Rattle.safe_bit.specs.Parts.{origin}
 use Rattle.frames.specs.declared.types.Action.{Action}
-use Rattle.frames.specs.Placed.{placed_action}
+use Rattle.frames.specs.Placed.{placed_action, placed_bit}
 use Rattle.frames.specs.declared.types.Op.{Op}
 use Rattle.frames.specs.declared.types.Frame.{Frame}
 use Rattle.frames.specs.declared.types.StepEvents.{StepEvents}
@@ -117,6 +117,10 @@ of_point (Some r) p f e = let same : r.point ≡ p = cc in ap (λ q. Some (f q))
 -- an action at the first of all places
 pub at_origin : (a : Action) → placed_action origin a ≡ a
 at_origin a = λ i. record a { cell = zero-add a.cell i }
+
+pub bit_at_origin : (bit : Option (ℕ × Bool)) → placed_bit origin bit ≡ bit
+bit_at_origin None = refl
+bit_at_origin (Some bit) = ap (λ n. Some (n, bit.1)) (zero-add bit.0)
 
 -- processes are the same where their stacks and marks are
 same_parked : (xs ys : List Parked) → stacks_of xs ≡ stacks_of ys → marks_of xs ≡ marks_of ys → xs ≡ ys

@@ -1,18 +1,19 @@
 -- What a step of one process leaves of a configuration, by what was done on the process's stack.
-use Rattle.std.proofs.Common.{◌≡◌, ℕ, ◌<◌, Bool, true, false, List, get_or, set, Option, sym, ap, subst, ◌∙◌}
+use Rattle.std.proofs.Common.{◌≡◌, ℕ, ◌<◌, Bool, true, false, List, length, length-set, get_or, set, Option, None, sym, ap, subst, ◌∙◌}
 use Rattle.std.proofs.Math.ListN.{get_or-map}
 use Rattle.std.proofs.Math.Seq.{map-set_same}
-use Rattle.std.proofs.lemmas.List.{get_or_default, map-set}
+use Rattle.std.proofs.lemmas.List.{get_or_default, map-set, set-get_or}
 use Rattle.safe_bit.specs.Memory.{Memory}
 use Rattle.frames.specs.declared.types.Op.{Op}
+use Rattle.frames.specs.declared.types.Event.{Event}
 use Rattle.frames.specs.declared.types.Frame.{Frame}
 use Rattle.frames.specs.declared.types.StepEvents.{StepEvents}
 use Rattle.frames.specs.declared.config.Parked.{Parked}
 use Rattle.frames.specs.declared.running.Running.{Running}
 use Rattle.frames.specs.Behaviour.{Behaviour, IsLawful}
-use Rattle.frames.specs.Configuration.{Acted, Configuration, running_at, put_acted, going, invoking}
+use Rattle.frames.specs.Configuration.{Acted, Configuration, running_at, put_acted, only_records, going, invoking}
 use Rattle.frames.specs.Parked.{IsFlat, marks_of, shown, stacks_of}
-use Rattle.frames.specs.Flat.{FramesTell, Acts, IsReached, stack_of}
+use Rattle.frames.specs.Flat.{FramesTell, Acts, IsReached, running_from, stack_of}
 use Rattle.frames.specs.laws.Steps.{LeavesWell, going_well, invoking_well}
 use Rattle.frames.proofs.Stacks.{found_there, put_shown, put_flat}
 
@@ -31,6 +32,29 @@ module _ {R P : Type 0} {b : Behaviour P} {Holds : Memory → Type 0} {Reaches :
     pub events : told ≡ done.events
     pub flat : IsFlat b Holds Reaches (shown find r m' (stacks_of now) (marks_of now)) (stacks_of now)
     pub after : shown find r m' (stacks_of now) (marks_of now) ≡ put_acted who done before
+
+  -- marks alone have changed
+  pub marked_flat : (now : List Parked) → stacks_of now ≡ stacks_of ps → marks_of now ≡ set (marks_of ps) who true
+      → IsFlat b Holds Reaches (shown find r m (stacks_of now) (marks_of now)) (stacks_of now)
+  marked_flat now stacks marks =
+      subst (λ l. IsFlat b Holds Reaches (shown find r m l (marks_of now)) l) (sym stacks)
+      (record {
+        configuration = record {
+          holds = was.configuration.holds;
+          each = was.configuration.each;
+          each_mark = ap length marks ∙ length-set (marks_of ps) who true ∙ was.configuration.each_mark;
+          reached = was.configuration.reached;
+        };
+        flat = was.flat;
+      })
+
+  pub marked_shown : (event : Event) (now : List Parked) → stacks_of now ≡ stacks_of ps
+      → marks_of now ≡ set (marks_of ps) who true
+      → shown find r m (stacks_of now) (marks_of now) ≡ put_acted who (only_records event slot m)
+      (record before { stopped = set before.stopped who true })
+  marked_shown event now stacks marks =
+      let same = ap (running_from find 0) stacks ∙ sym (set-get_or (running_from find 0 (stacks_of ps)) who None) in
+      λ i. record before { running = same i; stopped = marks i }
 
   module _ (p : Parked) (is : p ≡ get_or ps who p) where
     abbrev with_stack : List Frame → List Parked

@@ -3,7 +3,7 @@ use Rattle.std.proofs.Common.{◌≡◌, ℕ, Bool, true, ◌+◌, ◌<◌, ◌�
 use Rattle.std.specs.Prelude.{IfSome}
 use Rattle.safe_bit.specs.declared.Place.{Place}
 use Rattle.safe_bit.specs.Memory.{Memory}
-use Rattle.safe_bit.specs.Parts.{behind, part, with_part}
+use Rattle.safe_bit.specs.Parts.{LiesIn, behind, part, with_part}
 use Rattle.frames.specs.declared.types.Op.{Op}
 use Rattle.frames.specs.declared.types.Outcome.{Outcome}
 use Rattle.frames.specs.declared.types.Frame.{Frame}
@@ -18,7 +18,7 @@ use Rattle.layers.specs.InPlace.{own, LayerLies}
 use Rattle.layers.specs.Flat.{task_frames, cut_where_ended}
 use Rattle.layers.specs.laws.Nested.{asks_fit}
 use Rattle.layers.specs.laws.Flat.{part_leaves, index_there, behind_there, front_there}
-use Rattle.layers.specs.laws.InPlace.{part_holds, asked_next, asked_memory, pushed_next, pushed_chosen, pushed_memory}
+use Rattle.layers.specs.laws.InPlace.{part_holds, part_inside, asked_next, asked_memory, pushed_next, pushed_chosen, pushed_memory}
 use Rattle.layers.specs.laws.Over.{LayerOver}
 
 -- an operation that has ended leaves what stood in front of it
@@ -44,6 +44,10 @@ module _ {Task P : Type 0} (l : LayerOver Task P) (at : Place) (m : Memory) (lie
     -- what the part's memory keeps
     pub part_keeps : l.Holds (part q l.below.size m)
     part_keeps = subst (λ x. l.Holds (part x l.below.size m)) (sym is) (part_holds l at m lies a.part part_there)
+
+    -- the part lies in the memory
+    pub part_lies : LiesIn q l.below.size m
+    part_lies = subst (λ x. LiesIn x l.below.size m) (sym is) (part_inside l at m lies a.part part_there)
 
     -- the part is asked behind the layer's own frame, which goes where the part has ended
     pub part_asked : (stack behind_own left closed : List Frame) (first : ℕ) (given : Option Outcome) (after : Memory)

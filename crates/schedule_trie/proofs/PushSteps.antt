@@ -1,5 +1,6 @@
 -- A push, by what the fields become.
 use Rattle.std.proofs.Common.{◌≡◌, ℕ, ◌+◌, ◌<◌, true, false, ◌||◌, List, [], ◌∷◌, ◌++◌, length, Option, Some, None, IsSome, Result, Ok, Err, refl, sym, ap, subst, ◌∙◌, append-nil, arith}
+use Rattle.std.specs.Map.{keys_of}
 use Rattle.std.specs.Result.{OnErr}
 use Rattle.std.proofs.Math.Seq.{map-set_same}
 use Rattle.std.proofs.lemmas.List.{length_push}
@@ -9,7 +10,7 @@ use Rattle.schedule_trie.specs.declared.segment.Segment.{Segment}
 use Rattle.schedule_trie.specs.declared.trie.Trie.TheInside.{Inside}
 use Rattle.schedule_trie.specs.Forest.{slot}
 use Rattle.schedule_trie.specs.Cut.{forest, piece, piece_at, slots_of, note_of, line, keys_in, set_keys, has, Once, IsOwnEnd, IsChangedEnd, HasChanged, IsPushed, IsWhole}
-use Rattle.schedule_trie.specs.Held.{piece_of, cut_of, AreLengths, IsHeld, IsKept}
+use Rattle.schedule_trie.specs.Held.{piece_of, pieces_of, strands_of, cut_of, AreLengths, AreNames, IsHeld, IsKept}
 use Rattle.schedule_trie.proofs.Once.{has-append, Once-from_linked}
 use Rattle.schedule_trie.proofs.Changes.{Changes, piece_at_set}
 use Rattle.schedule_trie.proofs.Climbs.{last_parts}
@@ -41,6 +42,28 @@ kept_held t key w kept same = record {
   lengths = subst (λ c. AreLengths t.branches.entries (forest c).branches) (sym same) kept.lengths;
   names = kept.names;
 }
+
+-- room alone has been made
+module _ {T : Type 0} (t u : Inside T) (entries : u.branches.entries ≡ t.branches.entries)
+    (segments : u.segments ≡ t.segments) (made : u.made ≡ t.made) (limits : u.limits ≡ t.limits) where
+  pub roomed_seen : cut_of u ≡ cut_of t
+  roomed_seen = λ i. record {
+    strands = strands_of (keys_of (entries i)) (segments i).paths;
+    pieces = pieces_of (segments i).items;
+    made = made i;
+    limits = limits i;
+  }
+
+  pub roomed_held : IsKept t → IsKept u
+  roomed_held kept = record {
+    held = record {
+      whole = subst IsWhole (sym roomed_seen) kept.held.whole;
+      paths = ap (λ s. length s.paths) segments ∙ kept.held.paths ∙ sym (ap (λ es. length (keys_of es)) entries);
+    };
+    lengths = subst (λ es. AreLengths es (forest (cut_of u)).branches) (sym entries)
+        (subst (λ c. AreLengths t.branches.entries (forest c).branches) (sym roomed_seen) kept.lengths);
+    names = subst (λ es. AreNames (keys_of es)) (sym entries) kept.names;
+  }
 
 -- in the last segment of a branch
 module _ {T : Type 0} (t : Inside T) (index key : ℕ) (held : IsHeld t) (end : IsOwnEnd (cut_of t) index key) where

@@ -1,7 +1,7 @@
 -- Segments that are made again, with new cells.
-use Rattle.std.proofs.Common.{◌≡◌, ℕ, suc, ◌+◌, ◌<◌, ◌≤◌, true, List, [], ◌∷◌, ◌++◌, length, map, take, drop, get_or, Option, Some, None, IsSome, refl, sym, ap, subst, ◌∙◌, true≢false, arith, append-nil}
+use Rattle.std.proofs.Common.{◌≡◌, ℕ, suc, ◌+◌, ◌<◌, ◌≤◌, true, List, [], ◌∷◌, ◌++◌, length, map, take, drop, get_or, Option, Some, None, IsSome, refl, sym, ap, subst, ◌∙◌, true≢false, arith, add-one, append_assoc, append-nil}
 use Rattle.std.specs.Option.{IfSome}
-use Rattle.std.proofs.lemmas.List.{length-map, length-append, map-append, take_more}
+use Rattle.std.proofs.lemmas.List.{length-map, length-append, map-append, take_all, take_more, at_drop_more, at_drop_all}
 use Rattle.frames.specs.declared.types.Step.{Step}
 use Rattle.schedule_trie.specs.declared.slot.Slot.{Slot}
 use Rattle.schedule_trie.specs.declared.segment.Segment.{Segment}
@@ -29,6 +29,26 @@ renumbered-append : (n : ℕ) (xs ys : List Slot) → renumbered n (xs ++ ys) �
 renumbered-append n xs ys =
     ap (numbered n) (map-append step_of xs ys) ∙ numbered-append n (map step_of xs) (map step_of ys)
     ∙ ap (λ m. renumbered n xs ++ numbered (n + m) (map step_of ys)) (length-map xs step_of)
+
+-- cells that are numbered one by one
+module _ (slots : List Slot) (first cell i : ℕ) (done : List Slot)
+    (was : done ++ numbered cell (map step_of (drop i slots)) ≡ renumbered first slots) where
+  pub renumbered_more : (d : Slot) (more : List Slot) → i < length slots
+      → more ≡ done ++ slot cell (get_or slots i d).step ∷ []
+      → more ++ numbered (cell + 1) (map step_of (drop (i + 1) slots)) ≡ renumbered first slots
+  renumbered_more d more less pushed =
+      let rest = map step_of (drop (i + 1) slots) in
+      ap (λ l. l ++ numbered (cell + 1) rest) pushed
+      ∙ append_assoc done (slot cell (get_or slots i d).step ∷ []) (numbered (cell + 1) rest)
+      ∙ ap (λ n. done ++ slot cell (get_or slots i d).step ∷ numbered n rest) (add-one cell)
+      ∙ ap (λ l. done ++ l) (sym (at_drop_more (λ l. numbered cell (map step_of l)) slots i d less))
+      ∙ was
+
+  pub renumbered_all : length slots ≤ i → done ≡ renumbered first slots
+  renumbered_all past =
+      sym (append-nil done)
+      ∙ ap (λ l. done ++ l) (sym (at_drop_all (λ l. numbered cell (map step_of l)) slots i past))
+      ∙ was
 
 -- the numbers that are given
 numbered_cell : (n : ℕ) (steps : List Step) (x : ℕ) → has_cell x (numbered n steps) ≡ true → (n ≤ x) × (x < n + length steps)
@@ -166,6 +186,11 @@ module _ {T : Type 0} where
         subst (λ m. (cell + length (slots_of (at (get_or keys i 0)))) + length (line at (drop m keys)) ≡ made + length (line at keys)) (sym step)
         (omega (arith, ap length (line-drop at keys i inside), length-append (slots_of (at (get_or keys i 0))) (line at (drop (suc i) keys))))
 
+    pub cell_fits : (slots : List Slot) (most : ℕ) → slots ≡ slots_of (at (get_or keys i 0))
+        → cell + length (line at (drop i keys)) ≡ made + length (line at keys)
+        → made + length (line at keys) ≤ most → cell + length slots ≤ most
+    cell_fits slots most are sum fits = omega (arith, ap length are, cell_below sum, fits)
+
     pub cell_after : cell ≡ made + length (line at (take i keys))
         → cell + length (slots_of (at (get_or keys i 0))) ≡ made + length (line at (take (i + 1) keys))
     cell_after same =
@@ -183,3 +208,7 @@ module _ {T : Type 0} where
         subst (λ l. AreCopies at made l more) (sym (take_more keys i 0 inside))
         (subst (AreCopies at made (take i keys ++ get_or keys i 0 ∷ [])) (sym grown)
         (copies_last at made (take i keys) done (get_or keys i 0) s so_far (slots ∙ ap (λ m. renumbered m (slots_of (at (get_or keys i 0)))) same) note))
+
+  pub copies_all : (at : ℕ → Option (Piece T)) (made : ℕ) (keys : List ℕ) (i : ℕ) (done : List (Segment T))
+      → length keys ≤ i → AreCopies at made (take i keys) done → AreCopies at made keys done
+  copies_all at made keys i done past = subst (λ ks. AreCopies at made ks done) (take_all i keys past)

@@ -1,7 +1,8 @@
 -- What a command leaves of a book.
-use Rattle.std.proofs.Common.{◌≡◌, ℕ, ◌+◌, ◌<◌, Bool, true, false, [], ◌∷◌, ◌++◌, cond, nat_le, length, refl, sym, ap, subst, ◌∙◌, arith}
+use Rattle.std.proofs.Common.{◌≡◌, ℕ, ◌+◌, ◌<◌, Bool, true, false, List, [], ◌∷◌, ◌++◌, cond, nat_le, length, refl, sym, ap, subst, ◌∙◌, arith}
 use Rattle.std.proofs.lemmas.List.{length_push}
 use Rattle.frames.specs.Behaviour.{Behaviour}
+use Rattle.schedule_trie.specs.declared.limits.Limits.{Limits}
 use Rattle.schedule_trie.specs.declared.refusal.Refusal.TheVariants.{LogFull}
 use Rattle.schedule_trie.specs.Cut.{forest}
 use Rattle.sessions.specs.declared.log.Entry.{Entry}
@@ -16,7 +17,7 @@ use Rattle.cutoff.specs.Held.{Charted}
 use Rattle.sessions.proofs.LegalLogs.{legal_more, after_more}
 use Rattle.sessions.proofs.Ordinary.{acted_logged, acted_full}
 
-below : (a b : ℕ) (t : Bool) → nat_le a b ≡ t → t ≡ false → b < a
+pub below : (a b : ℕ) (t : Bool) → nat_le a b ≡ t → t ≡ false → b < a
 below a b t e f = grind (arith, e, f)
 
 -- what lies in a book's fields
@@ -67,3 +68,20 @@ module _ {R P : Type 0} (is : R → Behaviour P) (old new : Held R P) (e : Entry
           few = omega (arith, counted, log, few);
           most_log = omega (arith, log, h.most_log);
         }
+
+-- a book whose log and world are as before
+pub held_same : {R P : Type 0} (is : R → Behaviour P) (first : Charted R P) (old now : Staged R P) (log same : List Entry)
+    (m n : ℕ) → same ≡ log → world_of is now ≡ world_of is old → IsHeld is (record { first = first; now = old; log = log; room = m })
+    → IsHeld is (record { first = first; now = now; log = same; room = n })
+held_same is first old now log same m n is_log is_world h =
+    let limits : old.limits ≡ now.limits = sym (ap (λ w. w.limits) is_world) in
+    let logged : now.logged ≡ old.logged = ap (λ w. w.logged) is_world in
+    let opens = λ (l : Limits). opening (is first.start.register) first.value l (forest first.cut) in
+    let most = ap (λ l. l.log) limits in
+    record {
+      legal = subst (IsLegal (opens now.limits)) (sym is_log) (subst (λ l. IsLegal (opens l) log) limits h.legal);
+      after = is_world ∙ h.after ∙ λ i. world_after (opens (limits i)) (sym is_log i);
+      count = ap length is_log ∙ h.count ∙ sym logged;
+      few = omega (arith, logged, most, h.few);
+      most_log = omega (arith, most, h.most_log);
+    }

@@ -2,6 +2,7 @@
 use Rattle.std.proofs.Common.{◌≡◌, ℕ, ◌+◌, ◌<◌, Bool, true, false, cond, ◌&&◌, ◌⊎◌, nat_lt, nat_le, List, [], ◌∷◌, length, Option, None, Some, IsSome, Result, Ok, Err, IsOk, is_some, inl, inr, refl, sym, ap, subst, ◌∙◌, arith}
 use Rattle.std.specs.Option.{option_map}
 use Rattle.std.specs.List.{remove}
+use Rattle.std.specs.Result.{IsErrAnd}
 use Rattle.std.proofs.lemmas.Bool.Decides.{nat_tests}
 use Rattle.std.proofs.lemmas.List.{length-map, length-set}
 use Rattle.frames.specs.Behaviour.{Behaviour}
@@ -17,12 +18,13 @@ use Rattle.sessions.specs.declared.cursor.Cursor.{Cursor}
 use Rattle.sessions.specs.declared.cursor.Shift.TheVariants as shift
 use Rattle.sessions.specs.declared.command.Command.{Command}
 use Rattle.sessions.specs.declared.command.Command.TheVariants as command
+use Rattle.sessions.specs.declared.reply.Reply.{Reply}
 use Rattle.sessions.specs.declared.reply.Reply.TheVariants.{Edited}
 use Rattle.sessions.specs.World.{World}
 use Rattle.sessions.specs.Cursors.{shifted, is_occupied, AllStand, StandsIn}
 use Rattle.sessions.specs.Edits.{edit_of, moved_by, moved_if, drops_occupied, is_held_up}
 use Rattle.sessions.specs.Acts.{late_by, first_refusal, refusal_in, refused_if, left_by, reply_to, edited_world, kept_or}
-use Rattle.sessions.specs.Held.{Staged, IsStaged, Changes, Done, IsLate, world_of}
+use Rattle.sessions.specs.Held.{Staged, IsStaged, Changes, Does, Done, IsLate, world_of}
 use Rattle.sessions.proofs.Standing.{edited_stand, made_within, put_stands}
 use Rattle.views.specs.declared.breakpoint.Break.{Break}
 use Rattle.std.specs.Prelude.{slice_set, IfSome}
@@ -62,7 +64,7 @@ held_up_of f (Some i) occupied h = by (nat_lt 1 (length f.branches)) refl h
     by false t d = absurd (cc)
 
 module _ {P : Type 0} (who : ℕ) (c : Command) (w : World P) where
-  held_up_by : (o : Option Edit) → is_held_up o w.forest w.cursors ≡ true → first_refusal (late_by o who c w) ≡ Some Occupied
+  pub held_up_by : (o : Option Edit) → is_held_up o w.forest w.cursors ≡ true → first_refusal (late_by o who c w) ≡ Some Occupied
   held_up_by None h = absurd (cc)
   held_up_by (Some (Insert name place step)) h = absurd (cc)
   held_up_by (Some (Remove name place)) h = absurd (cc)
@@ -208,6 +210,19 @@ module _ {R P : Type 0} (is : R → Behaviour P) (old : Staged R P) (chart : Cha
     pub why_edit : (e : Refusal) → IsSome (edit_of c) → Changes (edit_of c) old.chart chart (Err e) → IsLate who c (world_of is old) e
     why_edit e some h = why_by (edit_of c) e some h
 
+    -- it is refused, or wants memory
+    pub undone_edit : (r : Result Reply Refusal) (e : Refusal) (Is : Refusal → Type 0) → IsErrAnd r Is
+        → ((x : Refusal) → Is x → x ≡ e) → IsSome (edit_of c) → Changes (edit_of c) old.chart chart (Err e) → cursors ≡ old.cursors
+        → Does is who c old (record old { chart = chart; cursors = cursors }) r
+    undone_edit (Ok reply) e Is told one some h kept = absurd told
+    undone_edit (Err x) e Is told one some h kept =
+        let same = unchanged (edit_of c) e some h in
+        record {
+          why = subst (IsLate who c (world_of is old)) (sym (one x told)) (why_edit e some h);
+          same = λ i. world_of is (record old { chart = same i; cursors = kept i });
+        }
+
+    -- a cursor holds it up
     pub held_up : is_held_up (edit_of c) (forest old.chart.cut) old.cursors ≡ true → IsLate who c (world_of is old) Occupied
     held_up h = inl (held_up_by who c (world_of is old) (edit_of c) h)
 

@@ -11,3 +11,5 @@ pub mod Standing
 pub mod Unmoved
 pub mod EditAnswers
 pub mod Loads
+pub mod Kept
+pub mod BreakAnswers

@@ -1,16 +1,19 @@
 -- What a book opens with where it is loaded, and what is saved of it.
-use Rattle.std.proofs.Common.{◌≡◌, ◌≤◌, Bool, true, false, cond, nat_lt, ◌<◌, List, length, Result, Ok, Err, IfOk, refl, sym, subst, arith}
+use Rattle.std.proofs.Common.{◌≡◌, ◌≤◌, Bool, true, false, cond, nat_lt, ◌<◌, ℕ, List, length, Result, Ok, Err, IfOk, refl, sym, subst, arith}
 use Rattle.std.proofs.lemmas.Bool.Decides.{nat_tests}
 use Rattle.frames.specs.Behaviour.{Behaviour}
+use Rattle.frames.specs.declared.types.Step.{Step}
 use Rattle.schedule_trie.specs.declared.limb.Limb.{Limb}
 use Rattle.schedule_trie.specs.declared.limits.Limits.{Limits}
 use Rattle.schedule_trie.specs.declared.refusal.Refusal.TheVariants.{Full, TooManyBranches}
-use Rattle.schedule_trie.specs.Forest.{Forest}
+use Rattle.schedule_trie.specs.Forest.{Forest, opened}
+use Rattle.schedule_trie.specs.Forest as forests
 use Rattle.schedule_trie.specs.Cut.{forest}
 use Rattle.schedule_trie.specs.Limbs.{FitLimits, IsLawful, cells_of, forest_of, limbs, loaded}
 use Rattle.schedule_trie.proofs.LimbLaws.{forest_made}
-use Rattle.cutoff.specs.Held.{LimbsFit}
-use Rattle.sessions.specs.Held.{Staged, world_of}
+use Rattle.cutoff.specs.Held.{Charted, LimbsFit}
+use Rattle.sessions.specs.World.{opening}
+use Rattle.sessions.specs.Held.{Staged, opening_over, world_of}
 use Rattle.sessions.specs.Saves.{IsSaved}
 
 pub loaded_is : (limits : Limits) (ls : List Limb) (f : Forest) → loaded limits ls ≡ Ok f → (f ≡ forest_of ls) × (f.made ≤ limits.cells)
@@ -24,6 +27,20 @@ loaded_is limits ls f e = by (nat_lt limits.cells (cells_of ls)) refl (nat_lt li
         let same : forest_of ls ≡ f = cc in
         let few : cells_of ls ≤ limits.cells = grind (arith, nat_tests) in
         (sym same, subst (λ g. g.made ≤ limits.cells) same (subst (λ n. n ≤ limits.cells) (sym (forest_made ls)) few))
+
+pub opened_is : (limits : Limits) (steps : List Step) (f : Forest) → opened limits steps ≡ Ok f → f ≡ forests.opening steps
+opened_is limits steps f e = by (nat_lt limits.cells (length steps)) e
+  where
+    by : (full : Bool) → cond full (Err Full) (Ok (forests.opening steps)) ≡ Ok f → f ≡ forests.opening steps
+    by true h = absurd (cc)
+    by false h = cc
+
+-- the opening over a chart is that of what the chart was made of
+pub opening_so : {R P : Type 0} (is : R → Behaviour P) (chart : Charted R P) (register : R) (value : ℕ) (limits : Limits)
+    (f : Forest) → chart.start.register ≡ register → chart.value ≡ value → forest chart.cut ≡ f
+    → opening_over is chart limits ≡ opening (is register) value limits f
+opening_so is chart register value limits f same_register same_value same =
+    λ i. opening (is (same_register i)) (same_value i) limits (same i)
 
 -- what a chart tells of its limbs
 pub saved_so : {R P A E : Type 0} (is : R → Behaviour P) (s : Staged R P) (items : A → List Limb) (told : Result A E) → s.chart.cut.limits ≡ s.limits

@@ -1,11 +1,15 @@
--- Looks at one branch.
-use Rattle.std.proofs.Common.{◌≡◌, true, refl}
+-- Looks at one branch, and at a session.
+use Rattle.std.proofs.Common.{◌≡◌, ◌∙◌, ◌<◌, ◌||◌, ℕ, true, false, nat_lt, List, length, Option, None, Some, is_none, get_or, refl, sym, ap, arith}
+use Rattle.std.proofs.lemmas.Bool.Decides.{nat_tests}
+use Rattle.std.proofs.lemmas.List.{get_or_default}
 use Rattle.views.specs.declared.query.Query.{Query}
 use Rattle.views.specs.declared.query.Query.TheVariants.{Branches, Cursor}
 use Rattle.views.specs.Looks as views
 use Rattle.views.specs.Looks.{is_at_branch}
 use Rattle.sessions.specs.World.{World}
-use Rattle.sessions.specs.Looks.{shown_in, looked}
+use Rattle.sessions.specs.declared.cursor.Cursor as declared
+use Rattle.sessions.specs.Cursors.{cursor_at}
+use Rattle.sessions.specs.Looks.{lacks_cursor, shown_in, looked}
 
 alike_at : {P : Type 0} (w : World P) (query : Query) → is_at_branch query ≡ true
     → (views.page_of w.tower w.value w.forest query ≡ shown_in w query) × (views.looked query w.forest ≡ looked w query)
@@ -18,3 +22,16 @@ shown_at w query h = (alike_at w query h).0
 
 pub looked_at : {P : Type 0} (w : World P) (query : Query) → is_at_branch query ≡ true → views.looked query w.forest ≡ looked w query
 looked_at w query h = (alike_at w query h).1
+
+not_past : (who : ℕ) → who < 16 → nat_lt 15 who ≡ false
+not_past who h = grind (arith, nat_tests)
+
+-- where a session stands
+module _ (inside now : List (Option declared.Cursor)) (who : ℕ) (default : Option declared.Cursor) (cursor : declared.Cursor)
+    (same : inside ≡ now) (sixteen : length inside ≡ 16) (within : who < 16) (here : get_or inside who default ≡ Some cursor) where
+  pub stands_at : cursor_at now who ≡ Some cursor
+  stands_at =
+      ap (λ l. cursor_at l who) (sym same) ∙ get_or_default inside who None default (omega (arith, within, sixteen)) ∙ here
+
+  pub lacks_none : lacks_cursor who now ≡ false
+  lacks_none = ap (λ b. b || is_none (cursor_at now who)) (not_past who within) ∙ ap is_none stands_at

@@ -1,5 +1,5 @@
 -- What a search has found behind one more place.
-use Rattle.std.proofs.Common.{◌≡◌, ℕ, zero, suc, ◌+◌, Bool, true, false, ◌&&◌, ◌||◌, cond, nat_lt, List, [], ◌∷◌, ◌++◌, Option, Some, None, refl, sym, ap, ◌∙◌, arith, append-nil, reverse}
+use Rattle.std.proofs.Common.{◌≡◌, ℕ, zero, suc, ◌+◌, Bool, true, false, ◌&&◌, ◌||◌, cond, nat_lt, List, [], ◌∷◌, ◌++◌, ◌<◌, length, get_or, drop, drop-cons, Option, Some, None, refl, sym, ap, ◌∙◌, arith, append-nil, reverse}
 use Rattle.std.specs.List.{find, filter, list_any, range_with_len}
 use Rattle.std.specs.Option.{option_or}
 use Rattle.std.proofs.lemmas.List.{reverse-append}
@@ -125,3 +125,22 @@ pub tells_behind : (breaks : List Break) (test : ℕ → Bool) (place : ℕ) (ev
 tells_behind breaks test place events later tells i within =
     let next : ((place + 1) + 1) + i ≡ (place + 1) + suc i = omega arith in
     ap test next ∙ tells (suc i) (omega (arith, within))
+
+-- whether one break is met decides of all from it on
+module _ (breaks : List Break) (events : StepEvents) (store m : Memory) (i : ℕ) (default : Break) (t : Bool)
+    (within : i < length breaks) (same : store ≡ m)
+    (here : t ≡ (is_recorded (get_or breaks i default) events || is_shown (get_or breaks i default) store))
+    (so_far : is_met breaks events m ≡ is_met (drop i breaks) events m) where
+  met_from : is_met breaks events m ≡ (t || is_met (drop (i + 1) breaks) events m)
+  met_from =
+      let one = get_or breaks i default in
+      let next : suc i ≡ i + 1 = omega arith in
+      so_far ∙ ap (λ l. is_met l events m) (drop-cons breaks i default within)
+      ∙ ap (λ k. (is_recorded one events || is_shown one m) || is_met (drop k breaks) events m) next
+      ∙ ap (λ b. b || is_met (drop (i + 1) breaks) events m) (sym (here ∙ ap (λ s. is_recorded one events || is_shown one s) same))
+
+  pub met_here : t ≡ true → true ≡ is_met breaks events m
+  met_here e = sym (met_from ∙ ap (λ b. b || is_met (drop (i + 1) breaks) events m) e)
+
+  pub met_later : t ≡ false → is_met breaks events m ≡ is_met (drop (i + 1) breaks) events m
+  met_later e = met_from ∙ ap (λ b. b || is_met (drop (i + 1) breaks) events m) e

@@ -6,7 +6,7 @@ use Rattle.std.specs.Cmp.Lexicographic.{pointwise, nat_list_eq_equiv}
 use Rattle.std.proofs.lemmas.Bool.Decides.{nat_tests}
 use Rattle.std.proofs.lemmas.List.{length-append, length-map, length-take-le, get_or-set_same, get_or-set_other}
 use Rattle.std.specs.List.{IsDistinct, AllByRecursion}
-use Rattle.std.specs.Prelude.{slice_set}
+use Rattle.std.specs.Prelude.{replicate, slice_set}
 use Rattle.std.proofs.lemmas.Map.Steps.{length-le_from_distinct_below}
 use Rattle.std.proofs.lemmas.List.Folds.{list_any_at}
 use Rattle.std.proofs.Math.ListN.{get_or-map}
@@ -23,6 +23,8 @@ use Rattle.schedule_trie.specs.Edits.{Edit, Insert, Remove, Replace, Fork, Detac
 use Rattle.schedule_trie.specs.Forest as forests
 use Rattle.schedule_trie.specs.Forest.{Forest, Branch, IsForest, AreNamedApart, ShareUpTo, index_of, slots_in, name_in, name_of, changed, everywhere, only_in, before_cell, put_before, put_last, without, is_cell, is_other, cell_in, cell_of, cell_at, cell_by, place_of, place_by, len_of}
 use Rattle.cutoff.specs.Held.{looked_at}
+use Rattle.views.specs.Looks.{steps_in}
+use Rattle.views.proofs.Spots.{length_told}
 use Rattle.sessions.specs.declared.cursor.Cursor.{Cursor}
 use Rattle.sessions.specs.declared.cursor.Shift.{Shift}
 use Rattle.sessions.specs.declared.cursor.Shift.TheVariants as shift
@@ -599,3 +601,30 @@ goes_within f c place n h len few =
     let lengths : Some (length (slots_in f.branches p.0)) ≡ Some n = ap (option_map (λ i. length (slots_in f.branches i))) (sym p.1) ∙ len in
     let same : length (slots_in f.branches p.0) ≡ n = cc in
     ap (λ o. forests.on_found o (looked_at f place)) p.1 ∙ ap (λ b. cond b (Err NoPlace) (Ok f)) (lt_false (length (slots_in f.branches p.0)) place (omega arith))
+
+-- where a branch is long enough
+pub goes_to : (f : Forest) (branch : List ℕ) (place n : ℕ) → len_of f branch ≡ Some n → place ≤ n → StandsIn f (cursor branch place)
+goes_to f branch place n = by (index_of f.branches branch)
+  where
+    by : (o : Option ℕ) → option_map (λ i. length (slots_in f.branches i)) o ≡ Some n → place ≤ n
+        → forests.on_found o (looked_at f place) ≡ Ok f
+    by None len few = absurd (cc)
+    by (Some i) len few =
+        let same : length (slots_in f.branches i) ≡ n = cc in
+        ap (λ b. cond b (Err NoPlace) (Ok f)) (lt_false (length (slots_in f.branches i)) place (omega (arith, same, few)))
+
+-- where a seek found a hit
+pub hit_stands : (f : Forest) (c : Cursor) (place : ℕ) → StandsIn f c → place < length (steps_in f c.branch) + 1
+    → StandsIn f (cursor c.branch place)
+hit_stands f c place h within =
+    let p = looked f c.place (index_of f.branches c.branch) h in
+    let n = length (slots_in f.branches p.0) in
+    let len : len_of f c.branch ≡ Some n = ap (option_map (λ i. length (slots_in f.branches i))) p.1 in
+    let long = length_told f c.branch n (sym len) in
+    goes_within f c place n h len (omega (arith, long, within))
+
+-- before anybody has joined
+pub none_stand : (f : Forest) (n who : ℕ) → IfSome (cursor_at (replicate n None) who) (StandsIn f)
+none_stand f zero who = tt
+none_stand f (suc n) zero = tt
+none_stand f (suc n) (suc who) = none_stand f n who

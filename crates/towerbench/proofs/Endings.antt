@@ -1,5 +1,5 @@
 -- What the program comes to, from what its parts come to.
-use Rattle.std.proofs.Common.{◌≡◌, ◌≤◌, ◌⊎◌, Bor, Bool, true, List, ℕ, Option, Some, None, Result, Ok, Err, OnOk, inl, inr, refl, sym, subst}
+use Rattle.std.proofs.Common.{◌≡◌, ◌≤◌, ◌⊎◌, Bor, Bool, true, false, List, ℕ, Option, Some, None, Result, Ok, Err, OnOk, inl, inr, refl, sym, ap, subst, true≢false}
 use Rattle.std.specs.Prelude.{⊤, IfErr, option_map}
 use Rattle.std.specs.Option.{is_some}
 use Rattle.std.specs.Result.{IsErrAnd}
@@ -18,6 +18,9 @@ use Rattle.towerbench.specs.declared.fault.Fault.TheVariants as fault
 use Rattle.towerbench.specs.Opening.{opened, FailsOver, IsDone, IsUnopened}
 use Rattle.towerbench.specs.Endings.{ending_of, FailsBy, IsLacking, WorksOut, RunsBy, IsPrinted, EndsBy}
 use Rattle.towerbench.proofs.Opened.{over_open, unopened}
+
+some_none : {A : Type 0} {s : A} → Some s ≡ None → ⊥
+some_none e = true≢false (ap is_some e)
 
 is_named : (o : Option (Bor Text)) → is_some (option_map (λ p. p.now) o) ≡ is_some o
 is_named None = refl
@@ -50,6 +53,24 @@ module _ (old now before after : Option (List ℕ)) where
       saved (Err x) ending e s h (inr f) =
           subst (WorksOut named limits saves old now before after) (sym e)
           (bytes, read, subst (FailsBy saves bytes limits old now before after) (sym f) (s, (b, (is, h))))
+
+  -- over what is set up
+  module _ (b set : Bench) (options given : Options) (same_bench : set ≡ b) (same_options : given ≡ options) where
+    pub done_over : IsDone (limits_of given) set old now before after → IsDone (limits_of options) b old now before after
+    done_over h =
+        let there = subst (λ o. IsDone (limits_of o) set old now before after) same_options h in
+        subst (λ s. IsDone (limits_of options) s old now before after) same_bench there
+
+    -- a run that saves nothing, and what it comes to
+    pub worked_over : {A : Type 0} (save : Option A) (named : Bool) (bytes : Option (List ℕ)) (r : Result ⊤ Fault) (ending : Ending) → save ≡ None → is_some bytes ≡ named → opened bytes ≡ Ok b → ending ≡ ending_of r
+        → OnOk r (IsDone (limits_of given) set old now before after) → IfErr r (FailsOver false (limits_of given) set old now before after)
+        → WorksOut named (limits_of options) (is_some save) old now before after ending
+    worked_over (Some s) named bytes r ending none read is e h f = absurd (some_none none)
+    worked_over None named bytes (Ok done) ending none read is e h f = worked false bytes (limits_of options) b is named read (Ok done) ending e (done_over h) tt
+    worked_over None named bytes (Err x) ending none read is e h f =
+        let there = subst (λ o. FailsOver false (limits_of o) set old now before after x) same_options f in
+        let fails = subst (λ s. FailsOver false (limits_of options) s old now before after x) same_bench there in
+        worked false bytes (limits_of options) b is named read (Err x) ending e tt (failed false bytes (limits_of options) b is x fails)
 
   module _ (words : List Text) where
     runs : (ending : Ending) (file : Option (Bor Text)) (options : Options) (save : Option (Bor Text)) → Says words (option_map (λ p. p.now) file) options (option_map (λ p. p.now) save)

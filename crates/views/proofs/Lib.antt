@@ -1,4 +1,5 @@
 pub mod Ranges
+pub mod Lines
 pub mod Alone
 pub mod Lenses
 pub mod Spots

@@ -1,6 +1,7 @@
--- Items of a range, one after another.
-use Rattle.std.proofs.Common.{◌≡◌, ℕ, ◌+◌, List, [], ◌∷◌, ◌++◌, map, sym, ap, ◌∙◌, arith}
+-- Items of a range or a list, one after another.
+use Rattle.std.proofs.Common.{◌≡◌, ℕ, ◌+◌, ◌<◌, ◌≤◌, List, [], ◌∷◌, ◌++◌, length, get_or, take, map, sym, ap, ◌∙◌, arith}
 use Rattle.std.specs.List.{range_with_len}
+use Rattle.std.proofs.lemmas.List.{map_more, take_all}
 use Rattle.std.proofs.lemmas.List.FromFn.{map-range_with_len_more}
 
 -- what is there, with one more
@@ -8,3 +9,13 @@ pub mapped_more : {A : Type 0} (f : ℕ → A) (n : ℕ) (old new : List A) (her
     → new ≡ map f (range_with_len 0 (n + 1))
 mapped_more f n old new here so_far h e =
     h ∙ ap (λ l. l ++ here ∷ []) so_far ∙ ap (λ x. map f (range_with_len 0 n) ++ x ∷ []) e ∙ sym (map-range_with_len_more f 0 n n (omega arith))
+
+-- the same of a list's items, and all of them
+pub taken_more : {X A : Type 0} (f : X → A) (xs : List X) (i : ℕ) (d : X) (old new : List A) → i < length xs
+    → old ≡ map f (take i xs) → new ≡ old ++ f (get_or xs i d) ∷ [] → new ≡ map f (take (i + 1) xs)
+taken_more f xs i d old new here so_far h =
+    h ∙ ap (λ l. l ++ f (get_or xs i d) ∷ []) so_far ∙ sym (map_more f xs i d here)
+
+pub taken_all : {X A : Type 0} (f : X → A) (xs : List X) (i : ℕ) (all : List A) → length xs ≤ i
+    → all ≡ map f (take i xs) → all ≡ map f xs
+taken_all f xs i all done so_far = so_far ∙ ap (map f) (take_all i xs done)

@@ -1,7 +1,7 @@
 -- Outcomes that are put into slots and trays.
 use Rattle.std.proofs.Common.{◌≡◌, ◌≢◌, ℕ, zero, suc, ◌+◌, ◌-◌, ◌<◌, ◌≤◌, All, drop, List, [], ◌∷◌, ◌++◌, length, map, replicate, set, get_or, sym, refl, ap, ◌∙◌, subst, append_assoc, append-nil, length-append, arith}
 use Rattle.std.specs.Prelude.{Option, Some, None}
-use Rattle.std.proofs.lemmas.List.{map-append}
+use Rattle.std.proofs.lemmas.List.{map-append, length-map}
 use Rattle.std.proofs.lemmas.List.Elements.{All-append, All-cons, All-tail}
 use Rattle.workers.specs.declared.hand.Hand.{Hand}
 use Rattle.workers.specs.declared.job.Outcome.{Outcome}
@@ -121,11 +121,14 @@ module _ {J R : Type 0} (gives : J → R → Type 0) where
   full_none (job ∷ jobs) zero slots full = full
   full_none (job ∷ jobs) (suc k) slots full = full_none jobs k slots full
 
-  pub full_below : (jobs : List J) (k : ℕ) (slot : Option (Outcome R)) (slots : List (Option (Outcome R))) → AreFull gives (drop k jobs) (slot ∷ slots) → k < length jobs
+  full_below : (jobs : List J) (k : ℕ) (slot : Option (Outcome R)) (slots : List (Option (Outcome R))) → AreFull gives (drop k jobs) (slot ∷ slots) → k < length jobs
   full_below [] zero slot slots full = absurd full
   full_below [] (suc k) slot slots full = absurd full
   full_below (job ∷ jobs) zero slot slots full = omega arith
   full_below (job ∷ jobs) (suc k) slot slots full = omega (arith, full_below jobs k slot slots full)
+
+  pub full_at : (jobs : List J) (k : ℕ) (items slots : List (Option (Outcome R))) (slot : Option (Outcome R)) → items ≡ slot ∷ slots → AreFull gives (drop k jobs) items → k < length jobs
+  full_at jobs k items slots slot split full = full_below jobs k slot slots (subst (AreFull gives (drop k jobs)) split full)
 
   pub full_next : (jobs : List J) (k : ℕ) (o : Outcome R) (slots : List (Option (Outcome R))) → AreFull gives (drop k jobs) (Some o ∷ slots) → AreFull gives (drop (suc k) jobs) slots
   full_next [] zero o slots full = absurd full
@@ -191,6 +194,15 @@ module _ {J R : Type 0} (gives : J → R → Type 0) where
         taken = map-append (λ (y : Taken R). y.index) tray (t ∷ []) ∙ ap (λ (ys : List ℕ). ys ++ x ∷ []) h.taken;
         outcomes = All-append (λ (y : Taken R). IsOutcomeAt gives jobs y.index y.outcome) tray (t ∷ []) h.outcomes (All-cons (λ (y : Taken R). IsOutcomeAt gives jobs y.index y.outcome) t [] at (λ k d none. absurd (omega arith)));
       })
+
+  -- who takes one more job had taken fewer than there are
+  pub tray_room : (jobs : List J) (v w : Hand) (tray : List (Taken R)) (x : ℕ) → HasTray gives jobs v tray → HasTaken v (x ∷ []) w → length tray < length jobs
+  tray_room jobs v w tray x h took =
+      let count = h.count in
+      let len : length tray ≡ length v.taken = sym (length-map tray (λ (t : Taken R). t.index)) ∙ ap length h.taken in
+      let more : length w.taken ≡ length (v.taken ++ x ∷ []) = ap (λ (u : Hand). length u.taken) took.hand_is in
+      let within = took.within in
+      omega (arith, length-append v.taken (x ∷ []))
 
   -- each outcome on a tray has its slot
   pub tray_slots : (jobs : List J) (v u : Hand) (slots : List (Option (Outcome R))) (tray : List (Taken R)) → IsAtWork gives jobs v slots → HasTray gives jobs u tray → All (λ t. t.index < length slots) tray

@@ -1,8 +1,8 @@
-use Rattle.std.proofs.Common.{◌≡◌, ◌∙◌, ◌+◌, ◌∷◌, true, map, drop, ap, sym, subst}
-use Rattle.frames.specs.Configuration.{fits_step, stepped, events_of}
+use Rattle.std.proofs.Common.{◌≡◌, ◌∙◌, ◌+◌, ◌∷◌, ◌++◌, true, map, drop, ap, sym, subst, append-nil}
+use Rattle.frames.specs.Configuration.{fits_step, stepped, events_of, replayed, history}
 use Rattle.checkpoints.specs.Kept.{recorded}
 use Rattle.checkpoints.specs.Told.{told}
-use Rattle.checkpoints.proofs.Replays.{left_at, step_fits, rest_fits, step_kept, step_replayed, step_told}
+use Rattle.checkpoints.proofs.Replays.{left_at, none_left, step_fits, rest_fits, step_kept, step_replayed, step_told}
 use Rattle.checkpoints.proofs.Tellings.{told_more}
 use Rattle.checkpoints.proofs.replay.replay_from.Goals as goal
 
@@ -50,3 +50,24 @@ loop-that-preserved g c =
       marks_room = c.push_told.ensures.marks_room ∙ so_far.marks_room;
       marked = c.in_ok-push_told.ensures.marks ∙ ap (λ n. n + 1) so_far.marked;
     }
+
+pub returns-clause-steps : goal.returns-clause-steps
+returns-clause-steps g c =
+    let at = c.loop-that in
+    let none = none_left g.S.HasStep.step_in c.args.those.now at.that-index c.loop-that-test.false in
+    let made = at.steps.items in
+    c.new-told.ensures.steps ∙ sym (append-nil made) ∙ ap (λ l. made ++ l) (sym none) ∙ at.invariant.steps
+
+pub returns-clause-config : goal.returns-clause-config
+returns-clause-config g c =
+    let at = c.loop-that in
+    let none = none_left g.S.HasStep.step_in c.args.those.now at.that-index c.loop-that-test.false in
+    ap (replayed (g.R.Behaves.is c.args.entry.register) at.config) (sym none) ∙ at.invariant.config
+
+pub returns-clause-events : goal.returns-clause-events
+returns-clause-events g c =
+    let at = c.loop-that in
+    let none = none_left g.S.HasStep.step_in c.args.those.now at.that-index c.loop-that-test.false in
+    let made = told at.steps.items at.marks.items (recorded at.events.items) in
+    let later = history (g.R.Behaves.is c.args.entry.register) at.config in
+    c.new-told.ensures.told ∙ sym (append-nil made) ∙ ap (λ l. made ++ later l) (sym none) ∙ at.invariant.events

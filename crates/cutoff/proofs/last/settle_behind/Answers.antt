@@ -1,8 +1,10 @@
-use Rattle.std.proofs.Common.{◌≡◌, None, true, sym, ap, subst, ◌∙◌}
+use Rattle.std.proofs.Common.{◌≡◌, None, true, refl, sym, ap, subst, ◌∙◌}
 use Rattle.std.specs.Arc.{arc_value}
+use Rattle.frames.specs.Recorded.{AllFit}
 use Rattle.checkpoints.specs.Segment.{IsRun}
-use Rattle.cutoff.specs.Fitting.{IsSegmentSettled}
-use Rattle.cutoff.specs.Links.{alone}
+use Rattle.schedule_trie.proofs.PushSteps.{on_err}
+use Rattle.cutoff.specs.Fitting.{IsSegmentSettled, steps_at}
+use Rattle.cutoff.specs.Links.{alone, IsLinked}
 use Rattle.cutoff.specs.Prefixes.{come_to, exit_or}
 use Rattle.cutoff.proofs.Links.{linked_none}
 use Rattle.cutoff.proofs.Walks.{linked_home}
@@ -29,3 +31,29 @@ returns-clause-linked g c =
     let own = subst (λ d. E d.register start.register ≡ true) (sym came) c.exit_named-number.ensures.own in
     linked_home E g.met.R.PartialEq.laws (arc_value c.in_ok-config.config).register start.register c.settle_segment.new.next None (alone start) c.settle_segment.new.trie own
     (linked_none E (arc_value c.in_ok-config.config).register c.settle_segment.new.next _ _ (alone start) c.settle_segment.new.trie c.in_ok-settled.ensures.linked)
+
+pub returns-then-is_known_behind-clause-settled : goal.returns-then-is_known_behind-clause-settled
+returns-then-is_known_behind-clause-settled g c = c.is_known_behind.ensures c.if-is_known_behind.true
+
+pub settle_segment-requires-clause-linked : goal.settle_segment-requires-clause-linked
+settle_segment-requires-clause-linked g c =
+    let came : arc_value c.in_ok-config.config ≡ c.exit_named-number.result.0.now =
+    c.in_ok-config.ensures ∙ ap (exit_or c.args.start.now) c.in_ok-run.ensures ∙ sym c.exit_named-number.ensures.exit in
+    subst (λ d. IsLinked g.R.PartialEq.eq d.register c.args.next.now c.exit_named-number.result.1 (alone d) c.args.trie.now) (sym came)
+    (c.exit_named-number.ensures.moved c.args.next.now c.requires.linked)
+
+pub settle_segment-requires-clause-fits : goal.settle_segment-requires-clause-fits
+settle_segment-requires-clause-fits g c =
+    let start = c.args.start.now in
+    let own = subst (λ d. g.R.PartialEq.eq d.register start.register ≡ true) (c.exit_named-number.ensures.exit ∙ sym (ap (exit_or start) c.in_ok-run.ensures) ∙ sym c.in_ok-config.ensures)
+    c.exit_named-number.ensures.own in
+    subst (λ b. AllFit b (steps_at c.args.trie.now c.args.key)) (sym (g.met.R.Register.alike (arc_value c.in_ok-config.config).register start.register own)) c.requires.fits
+
+pub returns-in_err-settled-clause-unchanged : goal.returns-in_err-settled-clause-unchanged
+returns-in_err-settled-clause-unchanged g c = on_err c.from_residual-in_err-settled.result _ c.in_err-settled.ensures.unchanged.0
+
+pub returns-in_err-run-clause-unchanged : goal.returns-in_err-run-clause-unchanged
+returns-in_err-run-clause-unchanged g c = on_err c.from_residual.result _ refl
+
+pub returns-in_err-config-clause-unchanged : goal.returns-in_err-config-clause-unchanged
+returns-in_err-config-clause-unchanged g c = on_err c.from_residual-in_err-config.result _ refl

@@ -1,17 +1,10 @@
-use Rattle.std.proofs.Common.{◌≡◌, ℕ, ◌+◌, Bool, List, ◌++◌, [], Some, true, drop, get_or, refl, sym, subst, ◌∙◌, arith, append-nil}
-use Rattle.frames.specs.Behaviour.{Behaviour}
-use Rattle.frames.specs.Configuration.{Configuration}
-use Rattle.cutoff.specs.Fitting.{StoredRun, KeepsRuns, IsFilled}
+use Rattle.std.proofs.Common.{◌≡◌, ◌+◌, ◌++◌, [], Some, true, drop, get_or, refl, sym, subst, ◌∙◌, arith, append-nil}
 use Rattle.cutoff.specs.Prefixes.{Hangs, come_to}
-use Rattle.schedule_trie.specs.Cut.{Cut, has, keys_in}
+use Rattle.schedule_trie.specs.Cut.{has, keys_in}
+use Rattle.cutoff.proofs.Kept.{cut_kept, keeps_still}
 use Rattle.cutoff.proofs.Rests.{IsGoing, going_starts, going_past, going_next, kept_next, going_settles, small_next, fits_next}
 use Rattle.cutoff.proofs.Lefts.{again_left, hangs_next, kept_settles, early_settles}
 use Rattle.cutoff.proofs.last.settle_rest.Goals as goal
-
--- a refused step keeps what was kept before it
-keeps_still : {R P : Type 0} (E : R → R → Bool) (b : Behaviour P) (old : Cut (StoredRun R P)) (start : Configuration R P) (ks : List ℕ) {cut new : Cut (StoredRun R P)} → new ≡ cut
-    → KeepsRuns old cut (IsFilled E b old cut start ks) → KeepsRuns old new (IsFilled E b old new start ks)
-keeps_still E b old start ks same = subst (λ t. KeepsRuns old t (IsFilled E b old t start ks)) (sym same)
 
 pub loop-segment-init : goal.loop-segment-init
 loop-segment-init g c = record {
@@ -194,3 +187,8 @@ returns-clause-settles g c = λ i count place left.
 
 pub returns-clause-keeps : goal.returns-clause-keeps
 returns-clause-keeps g c = λ i count place left. (c.loop-below.invariant.going i count place left).1.walk.keeps
+
+pub keys_behind-requires-clause-cut : goal.keys_behind-requires-clause-cut
+keys_behind-requires-clause-cut g c =
+    let r = c.requires.left in
+    cut_kept c.args.trie.now c.loop-segment.trie _ (c.loop-segment.invariant.going r.0 r.1 r.2 r.3).1.walk.keeps c.requires.cut

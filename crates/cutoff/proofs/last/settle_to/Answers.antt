@@ -2,6 +2,7 @@ use Rattle.std.proofs.Common.{sym, ap, ◌∙◌}
 use Rattle.std.specs.Arc.{arc_value}
 use Rattle.std.specs.Option.{option_map}
 use Rattle.cutoff.specs.Fitting.{run_of}
+use Rattle.cutoff.proofs.Kept.{all_kept}
 use Rattle.cutoff.proofs.Lasts.{marked_now}
 use Rattle.cutoff.proofs.last.settle_to.Goals as goal
 
@@ -39,3 +40,9 @@ returns-clause-marked g c =
 pub returns-clause-keeps : goal.returns-clause-keeps
 returns-clause-keeps g c =
     λ i count place lies. c.settle_rest.ensures.keeps i count place (c.in_ok-rest.ensures i count place lies)
+
+pub returns-clause-run : goal.returns-clause-run
+returns-clause-run g c = ap (option_map arc_value) (sym c.in-Some.is) ∙ c.in_ok-run.ensures
+
+pub returns-in_err-rest-clause-keeps : goal.returns-in_err-rest-clause-keeps
+returns-in_err-rest-clause-keeps g c = λ i count place lies. all_kept c.args.trie.now _

@@ -4,11 +4,11 @@ use Rattle.frames.specs.Equality.{SameConfiguration}
 use Rattle.schedule_trie.specs.Cut.{keys_in, note_of, piece_at}
 use Rattle.schedule_trie.specs.Climbs.{keys_to, IsReached}
 use Rattle.schedule_trie.proofs.Climbs.{step_up}
-use Rattle.cutoff.specs.Prefixes.{RunsDown}
+use Rattle.cutoff.specs.Prefixes.{RunsDown, IsKnown}
 use Rattle.cutoff.proofs.Climbs.{path_once}
 use Rattle.cutoff.proofs.Fits.{stored_at}
 use Rattle.cutoff.proofs.Lefts.{hung_runs, hung_marked}
-use Rattle.cutoff.proofs.Prefixes.{up_new}
+use Rattle.cutoff.proofs.Prefixes.{up_new, none_known}
 use Rattle.cutoff.proofs.prefix.known_prefix.Goals as goal
 
 pub returns-then-is_marked : goal.returns-then-is_marked
@@ -53,3 +53,14 @@ pub step_up_from-above-requires : goal.step_up_from-above-requires
 step_up_from-above-requires g c =
     let i = c.requires.there.0 in
     c.requires.cut.held i c.hung_from-top.result (c.hung_from-top.ensures i (c.loop.invariant i c.requires.there.1)).there
+
+pub returns-else-eq : goal.returns-else-eq
+returns-else-eq g c = none_known g.R.PartialEq.eq g.met.R.Eq.laws g.R.Behaves.is c.args.trie.now c.args.start.now c.args.key
+
+pub returns : goal.returns
+returns g c = none_known g.R.PartialEq.eq g.met.R.Eq.laws g.R.Behaves.is c.args.trie.now c.args.start.now c.args.key
+
+pub returns-in_err-stored : goal.returns-in_err-stored
+returns-in_err-stored g c =
+    subst (IsKnown g.R.PartialEq.eq g.R.Behaves.is c.args.trie.now c.args.start.now c.args.key) (sym c.from_residual.ensures)
+    (none_known g.R.PartialEq.eq g.met.R.Eq.laws g.R.Behaves.is c.args.trie.now c.args.start.now c.args.key)

@@ -1,6 +1,8 @@
-use Rattle.std.proofs.Common.{inl, inr, arith}
+use Rattle.std.proofs.Common.{◌≡◌, length, get_or, inl, inr, ap, ◌∙◌, arith}
+use Rattle.cutoff.specs.Fitting.{steps_at}
+use Rattle.cutoff.proofs.Kept.{keeps_still}
 use Rattle.cutoff.proofs.Links.{linked_none}
-use Rattle.cutoff.proofs.Walks.{walk_starts, walk_ends, walk_wants, walk_step, part_last}
+use Rattle.cutoff.proofs.Walks.{walk_starts, walk_ends, walk_counts, walk_wants, walk_step, part_last}
 use Rattle.cutoff.proofs.settle.settle_along.Goals as goal
 use Rattle.cutoff.proofs.settle.settle_along.Goals.{else-loop-key-test, then-loop-key-test+then-rest-eq0}
 
@@ -58,3 +60,21 @@ returns-clause-settles g c = elim c.loop-key-test.branch [
   | else-loop-key-test w ↦ walk_ends _ _ _ _ _ _ _ _ _ _ _ _ _ c.loop-key.invariant (inl w.loop-key-test.false)
   | then-loop-key-test+then-rest-eq0 w ↦ walk_ends _ _ _ _ _ _ _ _ _ _ _ _ _ c.loop-key.invariant (inr w.if-rest-eq0.true)
 ]
+
+pub returns-clause-counted : goal.returns-clause-counted
+returns-clause-counted g c = elim c.loop-key-test.branch [
+  | else-loop-key-test w ↦ walk_counts _ _ _ _ _ _ _ _ _ _ _ _ _ c.loop-key.invariant (inl w.loop-key-test.false)
+  | then-loop-key-test+then-rest-eq0 w ↦ walk_counts _ _ _ _ _ _ _ _ _ _ _ _ _ c.loop-key.invariant (inr w.if-rest-eq0.true)
+]
+
+pub overflow_cast-steps : goal.overflow_cast-steps
+overflow_cast-steps g c =
+    let few = (walk_wants g.R.PartialEq.eq g.met.R.Eq.laws g.met.R.PartialEq.laws g.R.Behaves.is g.met.R.Register.alike c.loop-key.invariant c.loop-key-test.true c.if-rest-eq0.false
+    c.in_ok-config.ensures c.deref.ensures.value).1 in
+    let same : length c.steps.result.now ≡ length (steps_at c.loop-key.trie (get_or c.args.keys.now c.loop-key.key-index 0)) =
+    ap length (c.steps.ensures.steps ∙ ap (λ r. r.steps) c.deref-in-loop-key.ensures ∙ c.in_ok-settled.ensures.settled.fits.steps) in
+    omega (arith, few, same)
+
+pub returns-in_err-settled-clause-keeps : goal.returns-in_err-settled-clause-keeps
+returns-in_err-settled-clause-keeps g c =
+    keeps_still g.R.PartialEq.eq (g.R.Behaves.is c.args.start.now.register) c.args.trie.now c.args.start.now _ c.in_err-settled.ensures.unchanged.0 c.loop-key.invariant.keeps

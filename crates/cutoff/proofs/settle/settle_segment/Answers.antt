@@ -1,5 +1,8 @@
-use Rattle.std.proofs.Common.{inr, refl, sym, ◌∙◌}
+use Rattle.std.proofs.Common.{inr, refl, sym, subst, ◌∙◌}
 use Rattle.std.specs.Arc.{arc_value}
+use Rattle.cutoff.specs.Fitting.{Fits}
+use Rattle.cutoff.specs.Links.{alone, IsLinked}
+use Rattle.schedule_trie.proofs.PushSteps.{on_err}
 use Rattle.cutoff.proofs.Segments.{noted_still, segment_taken, taken_again}
 use Rattle.cutoff.proofs.settle.settle_segment.Goals as goal
 
@@ -26,3 +29,18 @@ returns-then-is_as_found-clause-linked g c =
     (noted_still c.args.trie.now c.args.key c.in-Some.stored.now c.in-Some.ensures.0)
     (sym c.run.ensures ∙ sym c.in_ok-run.ensures) c.in-Some.stored.now c.in-Some.ensures.0 _ c.deref.ensures c.in-Some.ensures.1 refl
     c.args.next.now c.args.above c.id-id.result c.requires.linked refl (sym c.id-id.ensures) (inr refl)
+
+pub returns-in_err-run-clause-unchanged : goal.returns-in_err-run-clause-unchanged
+returns-in_err-run-clause-unchanged g c = on_err c.from_residual.result _ (refl, refl)
+
+pub returns-in_err-again-clause-unchanged : goal.returns-in_err-again-clause-unchanged
+returns-in_err-again-clause-unchanged g c = on_err c.from_residual-in_err-again.result _ (refl, refl)
+
+pub fitting-requires : goal.fitting-requires
+fitting-requires g c =
+    let linked = subst (λ d. IsLinked g.R.PartialEq.eq d.register c.args.next.now c.args.above (alone d) c.args.trie.now) (sym c.deref.ensures) c.requires.linked in
+    record { linked = (c.args.next.now, linked) }
+
+pub replay_segment-requires-clause-misses : goal.replay_segment-requires-clause-misses
+replay_segment-requires-clause-misses g c =
+    subst (λ d. Fits g.R.PartialEq.eq c.args.trie.now d c.args.key → ⊥) c.deref.ensures c.in_default.ensures

@@ -1,4 +1,5 @@
-use Rattle.std.proofs.Common.{◌≡◌, ◌∙◌, ◌<◌, ◌+◌, ℕ, Bool, sym, ap, subst, true, length, take, slice_index_or}
+use Rattle.std.proofs.Common.{◌≡◌, ◌∙◌, ◌<◌, ◌+◌, ℕ, Bool, sym, ap, subst, true, length, take, slice_index_or, arith}
+use Rattle.std.proofs.lemmas.List.{length-take}
 use Rattle.std.proofs.lemmas.List.Elements.{All-take}
 use Rattle.frames.specs.Configuration.{fits_step, history, replayed}
 use Rattle.frames.specs.Recorded.{AllFit}
@@ -61,3 +62,11 @@ returns g c = λ test tells start.
     → c.along_events.result ≡ next_of c.args.search.now.way c.args.search.now.from (places_with test ((place + length es) + 1))) events c.along_events.ensures in
     subst (λ n. c.along_events.result ≡ next_of c.args.search.now.way c.args.search.now.from (places_with test ((place + n) + 1))) (events_count is breaks test place run c.args.count tells c.events.ensures.kept)
     (all test (events_tell is breaks test place run c.args.count tells c.events.ensures.kept (sym c.any_on_bit.ensures ∙ c.if-any_on_bit.false)) start)
+
+pub along_steps-requires-clause-room : goal.along_steps-requires-clause-room
+along_steps-requires-clause-room g c =
+    omega (arith, ap length c.front-steps.ensures, length-take c.args.count c.steps.result.now, c.requires)
+
+pub along_events-requires : goal.along_events-requires
+along_events-requires g c =
+    omega (arith, ap length c.front-events.ensures, length-take c.args.count c.events.result, c.requires)

@@ -2,9 +2,11 @@ use Rattle.std.proofs.Common.{◌≡◌, ◌∙◌, ◌+◌, ℕ, Bool, sym, ap,
 use Rattle.std.proofs.lemmas.Result.{IfOk-weaker}
 use Rattle.schedule_trie.specs.Cut.{forest}
 use Rattle.cutoff.specs.Fitting.{counted, part_of}
+use Rattle.safe_bit.specs.Parts.{HasSize}
 use Rattle.views.specs.Breaks.{is_met}
 use Rattle.views.specs.Looks.{steps_in}
 use Rattle.sessions.specs.Seeks.{next_of, no_events, places_with, is_hit}
+use Rattle.sessions.specs.Bounds.{IsPlace}
 use Rattle.sessions.specs.Walks.{TellAll}
 use Rattle.sessions.proofs.NextHits.{next_is_hit}
 use Rattle.sessions.proofs.seek.next_hit.Goals as goal
@@ -44,3 +46,12 @@ returns-clause-met g c =
     _
     (λ place h. next_is_hit test c.args.search.now.from c.args.search.now.way (length steps + 1) place h)
     (found g c)
+
+pub along_runs-requires-clause-room : goal.along_runs-requires-clause-room
+along_runs-requires-clause-room g c =
+    subst (λ rs. IsPlace (counted (map part_of rs))) (sym c.deref.ensures.value) c.in_ok-runs.ensures.room
+
+pub along_runs-requires-clause-size : goal.along_runs-requires-clause-size
+along_runs-requires-clause-size g c =
+    subst (λ d. HasSize (g.R.Behaves.is d.register).size d.memory) c.first.view_is
+    ((g.met.R.Register.lawful c.first.inside.register).size_holds c.first.inside.store c.first.invariant.configuration.holds)

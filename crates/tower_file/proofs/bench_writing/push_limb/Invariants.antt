@@ -6,4 +6,4 @@ use Rattle.tower_file.specs.BenchSpelling.{branch_text}
 use Rattle.tower_file.proofs.bench_writing.push_limb.Given as goal
 
 abbrev pub invariant-loop-step : goal.invariant-loop-step
-invariant-loop-step l = l.out.items ≡ l.fn.out.items ++ (line (branch_text l.limb) ++ flat_map (λ s. line (step_text s)) (take l.step-index l.limb.steps))
+invariant-loop-step l = l.out.items ≡ l.fn.out.items ++ line (branch_text l.limb) ++ flat_map (λ s. line (step_text s)) (take l.step-index l.step-items)

@@ -6,4 +6,4 @@ use Rattle.tower_file.specs.Versions.{header}
 use Rattle.tower_file.proofs.writing.print.Given as goal
 
 abbrev pub invariant-loop-step : goal.invariant-loop-step
-invariant-loop-step l = l.out.items ≡ line (header l.file.version) ++ line (tower_text l.file.spec) ++ flat_map (λ s. line (step_text s)) (take l.step-index l.file.steps)
+invariant-loop-step l = l.out.items ≡ line (header l.file.version) ++ line (tower_text l.file.spec) ++ flat_map (λ s. line (step_text s)) (take l.step-index l.step-items)

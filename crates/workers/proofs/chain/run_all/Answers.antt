@@ -3,7 +3,7 @@ use Rattle.std.proofs.lemmas.List.Elements.{All-head, All-tail}
 use Rattle.frames.specs.Recorded.{AllFit}
 use Rattle.schedule_trie.specs.Forest.{step_of}
 use Rattle.cutoff.specs.Chains.{Following, FollowersFit}
-use Rattle.workers.proofs.Chaining.{SoFar, so_far_on}
+use Rattle.workers.proofs.Chaining.{SoFar, so_far_on, so_far_wants}
 use Rattle.workers.proofs.chain.run_all.Goals as goal
 
 pub run_behind-next-requires : goal.run_behind-next-requires
@@ -32,3 +32,12 @@ loop-behind-preserved g c =
       home = c.in-Ok.ensures.home ∙ (ap (λ r. r.entry.register) c.deref.ensures ∙ at.invariant.home);
       room = search rules;
     }
+
+pub returns-in-Err : goal.returns-in-Err
+returns-in-Err g c =
+    let job = c.args.chain.now.job in
+    let later = c.args.chain.now.later in
+    let at = c.loop-behind in
+    let f : Following = record { key = c.in-Some.behind; steps = map step_of c.in-Some.cells.now } in
+    so_far_wants job later at.all.items c.push_reserved.new.self.items at.key at.run f c.next.new.self c.push_reserved.ensures.items
+    (subst (SoFar job later at.all.items at.key at.run) c.in-Some.ensures.some at.invariant.so_far) c.push_reserved-in-Err.new.self.items c.push_reserved-in-Err.ensures.items

@@ -1,5 +1,6 @@
 use Rattle.std.proofs.Common.{◌∙◌, ap, sym, subst, arith, rules}
 use Rattle.crossbeam_deque.specs.Handles.{worker_view}
+use Rattle.workers.specs.Hands.{HasAll}
 use Rattle.workers.specs.Slots.{IsAtWork}
 use Rattle.workers.proofs.Dealing.{takes, finds}
 use Rattle.workers.proofs.Slotting.{works_on, next_below, nearer, slots_length}
@@ -43,3 +44,6 @@ loop-index-preserved g c =
 
 pub loop-index-smaller : goal.loop-index-smaller
 loop-index-smaller g c = nearer _ _ c.in-Some.index c.in-Some.ensures.rule
+
+pub returns-clause-all : goal.returns-clause-all
+returns-clause-all g c = subst HasAll (sym c.in_default.ensures.rule.0) c.in_default.ensures.rule.1

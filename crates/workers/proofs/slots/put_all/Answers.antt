@@ -1,4 +1,5 @@
-use Rattle.std.proofs.Common.{length, sym, ap, ◌∙◌, arith, length-set}
+use Rattle.std.proofs.Common.{◌≡◌, length, sym, ap, ◌∙◌, arith, length-set}
+use Rattle.std.proofs.lemmas.List.{nil_from_length}
 use Rattle.std.specs.Vec.Iter.{into_iter_items}
 use Rattle.workers.specs.Slots.{with_all}
 use Rattle.workers.proofs.Slotting.{tray_within, tray_later}
@@ -17,3 +18,10 @@ loop-taken-preserved g c =
       within = tray_later _ _ _ rest c.in-Some.taken steps.0 (ap length c.put.ensures ∙ length-set at.slots.items _ _) at.invariant.within;
       len = let was = at.invariant.len in let gone = steps.1 in let short = ap length steps.0 in omega arith;
     }
+
+pub returns : goal.returns
+returns g c =
+    let at = c.loop-taken in
+    let none = nil_from_length (into_iter_items at.taken-iterator) (sym at.invariant.len ∙ c.in-None.ensures.steps.0) in
+    let all : into_iter_items c.into_iter-taken-iterator.result ≡ c.args.tray.items = c.into_iter-taken-iterator.ensures.into_iter_gives.0 in
+    ap (with_all at.slots.items) (sym none) ∙ at.invariant.later ∙ ap (with_all c.args.slots.now.items) all

@@ -2,7 +2,7 @@ use Rattle.std.proofs.Common.{◌≡◌, ◌∷◌, drop, get_or, length, ap, su
 use Rattle.std.specs.Vec.Iter.{into_iter_items}
 use Rattle.std.specs.Prelude.{vec_len}
 use Rattle.workers.specs.Slots.{AreFull}
-use Rattle.workers.proofs.Slotting.{full_none, full_over, begins_next, begins_all}
+use Rattle.workers.proofs.Slotting.{full_none, full_at, full_over, begins_next, begins_all}
 use Rattle.workers.proofs.slots.under_keys.Goals as goal
 
 pub unreachable-requires : goal.unreachable-requires
@@ -12,6 +12,24 @@ unreachable-requires g c =
     let later = drop at c.args.jobs.now in
     let full = subst (AreFull g.J.Job.gives later) c.in-Some.ensures.steps.0 c.loop-slot.invariant.full in
     full_none g.J.Job.gives c.args.jobs.now at rest (subst (λ s. AreFull g.J.Job.gives later (s ∷ rest)) c.in_default.is full)
+
+pub offset_bounds-jobs-len : goal.offset_bounds-jobs-len
+offset_bounds-jobs-len g c =
+    let below = full_at g.J.Job.gives c.args.jobs.now _ _ _ _ c.in-Some.ensures.steps.0 c.loop-slot.invariant.full in
+    let len = c.len.ensures in
+    omega arith
+
+pub bounds-jobs-len : goal.bounds-jobs-len
+bounds-jobs-len g c =
+    let below = full_at g.J.Job.gives c.args.jobs.now _ _ _ _ c.in-Some.ensures.steps.0 c.loop-slot.invariant.full in
+    let len = c.len.ensures in
+    omega arith
+
+pub push_reserved-requires : goal.push_reserved-requires
+push_reserved-requires g c =
+    let below = full_at g.J.Job.gives c.args.jobs.now _ _ _ _ c.in-Some.ensures.steps.0 c.loop-slot.invariant.full in
+    let room = c.loop-slot.invariant.room in
+    omega arith
 
 pub loop-slot-preserved : goal.loop-slot-preserved
 loop-slot-preserved g c =

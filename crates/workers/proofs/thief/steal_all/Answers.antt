@@ -2,7 +2,7 @@ use Rattle.std.proofs.Common.{sym, subst, rules, arith}
 use Rattle.crossbeam_deque.specs.Handles.{view}
 use Rattle.workers.specs.Slots.{HasTray}
 use Rattle.workers.proofs.Dealing.{takes}
-use Rattle.workers.proofs.Slotting.{next_below, steals_on}
+use Rattle.workers.proofs.Slotting.{next_below, steals_on, tray_room}
 use Rattle.workers.proofs.thief.steal_all.Goals as goal
 
 pub steal_as-requires-clause-takes : goal.steal_as-requires-clause-takes
@@ -12,6 +12,12 @@ pub run_job-outcome-requires : goal.run_job-outcome-requires
 run_job-outcome-requires g c =
     let all = c.loop.invariant.tray.count in
     let below = next_below _ _ c.in-Success.index c.in-Success.ensures.rule in
+    omega arith
+
+pub push_reserved-requires : goal.push_reserved-requires
+push_reserved-requires g c =
+    let fewer = tray_room g.J.Job.gives c.args.jobs.now _ _ c.loop.tray.items c.in-Success.index c.loop.invariant.tray c.in-Success.ensures.rule in
+    let room = c.loop.invariant.room in
     omega arith
 
 pub loop-preserved-in-Success : goal.loop-preserved-in-Success

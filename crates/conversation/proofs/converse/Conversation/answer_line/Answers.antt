@@ -19,3 +19,7 @@ returns-then-is_empty-clause-answer g c =
     c.answer.new.arg5.items)
     (front_alone c.args.self.now.line.items c.args.end.now c.kept_front.result.now (sym c.as_slice.ensures.value ∙ nothing c.as_slice.result.now c.if-is_empty.ensures) c.kept_front.ensures)
     (search rules)
+
+pub returns-then-is_empty-clause-line : goal.returns-then-is_empty-clause-line
+returns-then-is_empty-clause-line g c =
+    sym c.as_slice.ensures.value ∙ nothing c.as_slice.result.now c.if-is_empty.ensures

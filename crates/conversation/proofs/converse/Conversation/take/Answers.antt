@@ -1,4 +1,4 @@
-use Rattle.std.proofs.Common.{◌≡◌, ◌++◌, ◌∷◌, ◌+◌, ◌≤◌, [], ℕ, List, length, refl, sym, ap, subst, ◌∙◌, arith, append_assoc}
+use Rattle.std.proofs.Common.{◌≡◌, ◌++◌, ◌∷◌, ◌+◌, ◌≤◌, [], ℕ, List, length, refl, sym, ap, subst, ◌∙◌, arith, append_assoc, append-nil}
 use Rattle.std.proofs.lemmas.List.{length-append}
 use Rattle.std.proofs.lemmas.Result.{on_ok_weaker}
 use Rattle.conversation.specs.Told.{Told, kept_with}
@@ -12,6 +12,34 @@ joined before rest line later e =
 
 shorter : (rest line later : List ℕ) → rest ≡ line ++ 10 ∷ later → length later + 1 ≤ length rest
 shorter rest line later e = omega (arith, ap length e, length-append line (10 ∷ later))
+
+pub lines-init : goal.lines-init
+lines-init g c =
+    let A = g.A.Answers in
+    let old = c.args.self.now in
+    record {
+      few = omega arith;
+      told = (
+        [],
+        refl,
+        λ start seen front t.
+            subst (λ xs. Told A.define start xs (A.world c.args.answers.now) old.lines old.line.items (front ++ old.out.items))
+            (sym (append-nil seen)) t,
+      );
+    }
+
+pub answer_line-requires-clause-few : goal.answer_line-requires-clause-few
+answer_line-requires-clause-few g c =
+    let less = shorter c.lines.rest.now c.in-Some.end.now c.in-Some.behind.now c.in-Some.ensures.1 in
+    omega (arith, c.requires.few, c.lines.invariant.few, less)
+
+pub returns-in_err-answer_line-clause-lines : goal.returns-in_err-answer_line-clause-lines
+returns-in_err-answer_line-clause-lines g c =
+    let less = shorter c.lines.rest.now c.in-Some.end.now c.in-Some.behind.now c.in-Some.ensures.1 in
+    omega (arith, c.lines.invariant.few, less, c.answer_line.ensures.lines)
+
+pub lines-smaller : goal.lines-smaller
+lines-smaller g c = omega (arith, shorter c.lines.rest.now c.in-Some.end.now c.in-Some.behind.now c.in-Some.ensures.1)
 
 pub lines-preserved : goal.lines-preserved
 lines-preserved g c =

@@ -1,9 +1,10 @@
-use Rattle.std.proofs.Common.{◌≡◌, ◌+◌, Some, None, Ok, length, sym, ap, subst, ◌∙◌, arith}
+use Rattle.std.proofs.Common.{◌≡◌, ◌+◌, Some, None, Ok, IsOk, length, inr, refl, sym, ap, subst, ◌∙◌, arith}
+use Rattle.schedule_trie.specs.Forest.{IsRefused, len_of}
 use Rattle.schedule_trie.specs.Cut.{line, piece_at, keys_in, forest}
 use Rattle.cutoff.specs.Fitting.{part_of}
 use Rattle.cutoff.specs.Held.{IsSettledLast, look}
-use Rattle.cutoff.proofs.Kept.{charted_kept, charted_marked, len_there, look_there}
-use Rattle.cutoff.proofs.Lasts.{place_found, none_settled, last_settled, keeps_named}
+use Rattle.cutoff.proofs.Kept.{charted_kept, charted_marked, len_there, look_there, passed_up, seen_begins, all_kept}
+use Rattle.cutoff.proofs.Lasts.{place_found, found_fits, none_settled, last_settled, keeps_named}
 use Rattle.cutoff.proofs.chart.Chart.settle_last.Goals as goal
 
 pub returns-then-place-eq0-clause-ok : goal.returns-then-place-eq0-clause-ok
@@ -24,13 +25,6 @@ invariant_of-self g c =
     let lies = place_found c.self.inside.trie index c.args.place c.in-Some.key c.in-Some.offset c.in-Some.ensures.lies c.if-place-eq0.false in
     let keeps = c.settle_to.ensures.keeps index (c.in-Some.offset + 1) c.args.place lies in
     charted_kept g.R.PartialEq.eq g.R.Behaves.is c.self.inside.next c.settle_to.new.next c.self.inside.mark _ c.settle_to.new.trie _ keeps c.settle_to.ensures.linked c.self.invariant
-
-pub returns-in_err-run-clause-keeps : goal.returns-in_err-run-clause-keeps
-returns-in_err-run-clause-keeps g c =
-    let index = c.in_ok-index.index in
-    let lies = place_found c.self.inside.trie index c.args.place c.in-Some.key c.in-Some.offset c.in-Some.ensures.lies c.if-place-eq0.false in
-    let keeps = c.settle_to.ensures.keeps index (c.in-Some.offset + 1) c.args.place lies in
-    keeps_named g.R.PartialEq.eq g.R.Behaves.is c.args.self.now c.self.inside.trie c.settle_to.new.trie c.self.inside.start c.self.inside.value c.self.view_is c.args.branch.now c.args.place index c.in_ok-index.ensures.index keeps
 
 pub invariant_of-self-2 : goal.invariant_of-self-2
 invariant_of-self-2 g c =
@@ -60,6 +54,54 @@ returns-clause-found g c =
 
 pub returns-clause-keeps : goal.returns-clause-keeps
 returns-clause-keeps g c =
+    let index = c.in_ok-index.index in
+    let lies = place_found c.self.inside.trie index c.args.place c.in-Some.key c.in-Some.offset c.in-Some.ensures.lies c.if-place-eq0.false in
+    let keeps = c.settle_to.ensures.keeps index (c.in-Some.offset + 1) c.args.place lies in
+    keeps_named g.R.PartialEq.eq g.R.Behaves.is c.args.self.now c.self.inside.trie c.settle_to.new.trie c.self.inside.start c.self.inside.value c.self.view_is c.args.branch.now c.args.place index c.in_ok-index.ensures.index keeps
+
+pub returns-in_err-index-clause-err : goal.returns-in_err-index-clause-err
+returns-in_err-index-clause-err g c =
+    let why = subst (λ v. IsRefused (look (forest v.cut) c.args.branch.now c.args.place) c.in_err-index.field-0.0) c.self.view_is c.in_err-index.ensures.err in
+    passed_up c.from_residual.result (IsRefused (look (forest c.args.self.now.cut) c.args.branch.now c.args.place))
+    (λ e h. subst (IsRefused (look (forest c.args.self.now.cut) c.args.branch.now c.args.place)) (sym h) why) c.from_residual.ensures.1
+
+pub returns-in_err-run-clause-err : goal.returns-in_err-run-clause-err
+returns-in_err-run-clause-err g c =
+    let found = c.in_ok-index.ensures in
+    let there = look_there (g.R.Behaves.is c.self.inside.start.register) c.self.inside.trie c.args.branch.now c.in_ok-index.index c.in_ok-index.len found.index found.long c.args.place found.within in
+    passed_up c.from_residual-in_err-run.result (IsRefused (look (forest c.args.self.now.cut) c.args.branch.now c.args.place))
+    (λ e h. inr (h, subst (λ v. IsOk (look (forest v.cut) c.args.branch.now c.args.place)) c.self.view_is (subst IsOk (sym there) refl))) c.from_residual-in_err-run.ensures.1
+
+pub returns-clause-begins : goal.returns-clause-begins
+returns-clause-begins g c = seen_begins c.self.view_is g.R.PartialEq.eq g.R.Behaves.is c.self.inside.next c.self.inside.mark c.self.invariant
+
+pub returns-in_err-run-clause-begins : goal.returns-in_err-run-clause-begins
+returns-in_err-run-clause-begins g c = seen_begins c.self.view_is g.R.PartialEq.eq g.R.Behaves.is c.self.inside.next c.self.inside.mark c.self.invariant
+
+pub returns-then-place-eq0-clause-keeps : goal.returns-then-place-eq0-clause-keeps
+returns-then-place-eq0-clause-keeps g c = all_kept c.args.self.now.cut _
+
+pub returns-clause-len : goal.returns-clause-len
+returns-clause-len g c = subst (λ v. len_of (forest v.cut) c.args.branch.now ≡ Some c.in_ok-index.len) c.self.view_is c.in_ok-index.ensures.len
+
+pub overflow_cast-part : goal.overflow_cast-part
+overflow_cast-part g c = record {
+  fits = (found_fits c.self.inside.trie c.in_ok-index.index c.args.place c.in-Some.key c.in-Some.offset _ c.in-Some.ensures.lies c.if-place-eq0.false c.ranges.place.fits).0;
+}
+
+pub overflow_add-part : goal.overflow_add-part
+overflow_add-part g c = record {
+  fits = (found_fits c.self.inside.trie c.in_ok-index.index c.args.place c.in-Some.key c.in-Some.offset _ c.in-Some.ensures.lies c.if-place-eq0.false c.ranges.place.fits).1;
+}
+
+pub returns-in_err-index-clause-begins : goal.returns-in_err-index-clause-begins
+returns-in_err-index-clause-begins g c = seen_begins c.self.view_is g.R.PartialEq.eq g.R.Behaves.is c.self.inside.next c.self.inside.mark c.self.invariant
+
+pub returns-then-place-eq0-clause-begins : goal.returns-then-place-eq0-clause-begins
+returns-then-place-eq0-clause-begins g c = seen_begins c.self.view_is g.R.PartialEq.eq g.R.Behaves.is c.self.inside.next c.self.inside.mark c.self.invariant
+
+pub returns-in_err-run-clause-keeps : goal.returns-in_err-run-clause-keeps
+returns-in_err-run-clause-keeps g c =
     let index = c.in_ok-index.index in
     let lies = place_found c.self.inside.trie index c.args.place c.in-Some.key c.in-Some.offset c.in-Some.ensures.lies c.if-place-eq0.false in
     let keeps = c.settle_to.ensures.keeps index (c.in-Some.offset + 1) c.args.place lies in

@@ -1,4 +1,4 @@
-use Rattle.std.proofs.Common.{Ok, arith}
+use Rattle.std.proofs.Common.{Ok, Err, refl, arith}
 use Rattle.turn.specs.Chairs.{view}
 use Rattle.desk.proofs.Fillings.{fills_so}
 use Rattle.desk.proofs.Chainings.{room_so}
@@ -19,3 +19,11 @@ returns-clause-sum g c =
 
 pub rounds-requires-clause-room : goal.rounds-requires-clause-room
 rounds-requires-clause-room g c κs lives = room_so g.R.PartialEq.eq g.R.Behaves.is c.args.self.now.first.value c.args.branch.now 63 c.in-Ok.chains (view c.args.chair.now) (view c.planned.new.chair) (omega arith) c.in-Ok.ensures.reads
+
+pub returns-in-Err-clause-rounds : goal.returns-in-Err-clause-rounds
+returns-in-Err-clause-rounds g c = (view c.planned.new.chair, Err c.in-Err.refusal, c.in-Err.ensures.reads, (refl, refl))
+
+pub returns-in-Err-clause-filled : goal.returns-in-Err-clause-filled
+returns-in-Err-clause-filled g c =
+    (fills_so g.R.PartialEq.eq g.R.Behaves.is c.args.self.now.first.value c.args.branch.now (view c.args.chair.now)
+    (view c.planned.new.chair) (Err c.in-Err.refusal) (returns-in-Err-clause-rounds g c)).0

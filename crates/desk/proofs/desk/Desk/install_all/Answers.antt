@@ -42,3 +42,21 @@ returns-clause-offered g c =
     subst (λ all. AreOffered g.R.PartialEq.eq g.R.Behaves.is c.args.self.now.first.value all (view c.args.chair.now) (view c.loop-done.chair) c.loop-done.report) c.into_iter-done-iterator.ensures.into_iter_gives.0
     (offered_all g.R.PartialEq.eq g.R.Behaves.is c.args.self.now.first.value _ (view c.args.chair.now) _ _ (view c.loop-done.chair) c.loop-done.report c.loop-done.invariant.kept.len c.in-None.ensures.steps.0
     c.loop-done.invariant.offered)
+
+pub install-answer-requires : goal.install-answer-requires
+install-answer-requires g c = c.loop-done.invariant.kept.seat
+
+pub returns-then-not-is_installed-clause-chair : goal.returns-then-not-is_installed-clause-chair
+returns-then-not-is_installed-clause-chair g c = c.install-answer.ensures.chair
+
+pub returns-then-not-is_installed-clause-owns : goal.returns-then-not-is_installed-clause-owns
+returns-then-not-is_installed-clause-owns g c = c.install-answer.ensures.owns
+
+pub returns-clause-chair : goal.returns-clause-chair
+returns-clause-chair g c = c.loop-done.invariant.kept.seat
+
+pub returns-clause-owns : goal.returns-clause-owns
+returns-clause-owns g c = c.loop-done.invariant.kept.owns
+
+pub count-requires-clause-sum : goal.count-requires-clause-sum
+count-requires-clause-sum g c = c.loop-done.invariant.kept.sum

@@ -1,4 +1,4 @@
-use Rattle.std.proofs.Common.{◌≡◌, ℕ, ◌+◌, Bool, List, ◌∷◌, take, drop, Some, sym, ap, refl, ◌∙◌, arith, add-zero}
+use Rattle.std.proofs.Common.{◌≡◌, ℕ, ◌+◌, Bool, List, ◌∷◌, length, length-drop, take, drop, Some, sym, ap, refl, ◌∙◌, arith, add-zero}
 use Rattle.safe_bit.specs.laws.Parts.{cell_at-part}
 use Rattle.safe_bit.specs.Memory.{Memory, cell_at, on_cell}
 use Rattle.safe_bit.specs.Parts.{part, LiesIn}
@@ -59,3 +59,18 @@ returns-else-hit-clause-lands c =
     rw c.leave-in-ReadEnd.ensures
     (read_ended c.args.at c.args.store.now c.args._who c.args.first c.args.stack.now c.args.choice c.frame-frame.result c.frame-frame.ensures (sym c.in-ReadEnd.is ∙ c.point_of.ensures)
     c.end_read-value.result c.from.result c.end_read-value.new.self c.end_read-value.ensures.value c.from.ensures c.end_read-value.ensures.after c.requires.inside)
+
+pub set-requires : goal.set-requires
+set-requires c = omega (arith, ap length c.frame-frame.ensures, length-drop c.args.first c.args.stack.now)
+
+pub set-requires-in-ReadStart : goal.set-requires-in-ReadStart
+set-requires-in-ReadStart c = omega (arith, ap length c.frame-frame.ensures, length-drop c.args.first c.args.stack.now)
+
+pub leave-requires : goal.leave-requires
+leave-requires c = omega (arith, ap length c.frame-frame.ensures, length-drop c.args.first c.args.stack.now)
+
+pub leave-requires-in-ReadEnd : goal.leave-requires-in-ReadEnd
+leave-requires-in-ReadEnd c = omega (arith, ap length c.frame-frame.ensures, length-drop c.args.first c.args.stack.now)
+
+pub frame-frame-requires : goal.frame-frame-requires
+frame-frame-requires c = omega (arith, ap length c.requires.stands.1.1.there, length-drop c.args.first c.args.stack.now)

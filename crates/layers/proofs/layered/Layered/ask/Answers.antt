@@ -1,6 +1,6 @@
-use Rattle.std.proofs.Common.{[], ◌∷◌, ◌++◌, sym, ap, ◌∙◌}
+use Rattle.std.proofs.Common.{[], ◌∷◌, ◌++◌, length, length-append, sym, ap, ◌∙◌, arith}
 use Rattle.layers.specs.laws.Over.{over}
-use Rattle.layers.proofs.PartSteps.{part_keeps, part_asked, behind_long}
+use Rattle.layers.proofs.PartSteps.{part_keeps, part_lies, part_asked, behind_long}
 use Rattle.layers.proofs.layered.Layered.ask.Goals as goal
 
 pub begin_on-end-requires-clause-holds : goal.begin_on-end-requires-clause-holds
@@ -8,6 +8,17 @@ begin_on-end-requires-clause-holds g c =
     let r = c.args.self.now in
     let l = over (g.met.S.Register.lawful r.below) (g.met.L.Construction.sound r.layer) r.fit in
     part_keeps l c.args.at c.args.store.now c.requires.lies c.args.task c.asks-ask.result c.asks-ask.ensures c.part_place-place.result c.part_place-place.ensures c.requires.stands.0 c.requires.stands.1.0 c.requires.stands.1.1
+
+pub begin_on-end-requires-clause-inside : goal.begin_on-end-requires-clause-inside
+begin_on-end-requires-clause-inside g c =
+    let r = c.args.self.now in
+    let l = over (g.met.S.Register.lawful r.below) (g.met.L.Construction.sound r.layer) r.fit in
+    part_lies l c.args.at c.args.store.now c.requires.lies c.args.task c.asks-ask.result c.asks-ask.ensures c.part_place-place.result c.part_place-place.ensures c.requires.stands.0 c.requires.stands.1.0 c.requires.stands.1.1
+
+pub begin_on-end-requires-clause-room : goal.begin_on-end-requires-clause-room
+begin_on-end-requires-clause-room g c =
+    let room = c.requires.room in
+    omega (arith, ap length c.push.ensures, length-append c.args.stack.now (c.frame.result ∷ []))
 
 pub returns : goal.returns
 returns g c =

@@ -1,13 +1,18 @@
 use Rattle.std.proofs.Common.{refl}
 use Rattle.layers.specs.laws.Over.{over}
 use Rattle.layers.specs.Flat.{cut_where_ended}
-use Rattle.layers.proofs.PartSteps.{part_keeps, part_stands, part_chooses, part_moved, part_ended}
+use Rattle.layers.proofs.PartSteps.{part_keeps, part_lies, part_stands, part_chooses, part_moved, part_ended}
 use Rattle.layers.proofs.layered.Layered.push.Goals as goal
 
 pub go_on-requires-clause-holds : goal.go_on-requires-clause-holds
 go_on-requires-clause-holds g c =
     let l = over (g.met.S.Register.lawful c.args.self.now.below) (g.met.L.Construction.sound c.args.self.now.layer) c.args.self.now.fit in
     part_keeps l c.args.at c.args.store.now c.requires.lies c.args.task c.asks-ask.result c.asks-ask.ensures c.part_place-place.result c.part_place-place.ensures c.requires.stands.0 c.requires.stands.1.0 c.requires.stands.1.1.1.reached.stands
+
+pub go_on-requires-clause-inside : goal.go_on-requires-clause-inside
+go_on-requires-clause-inside g c =
+    let l = over (g.met.S.Register.lawful c.args.self.now.below) (g.met.L.Construction.sound c.args.self.now.layer) c.args.self.now.fit in
+    part_lies l c.args.at c.args.store.now c.requires.lies c.args.task c.asks-ask.result c.asks-ask.ensures c.part_place-place.result c.part_place-place.ensures c.requires.stands.0 c.requires.stands.1.0 c.requires.stands.1.1.1.reached.stands
 
 pub go_on-requires-clause-stands : goal.go_on-requires-clause-stands
 go_on-requires-clause-stands g c =

@@ -53,3 +53,6 @@ loop-onward-preserved g c =
       asked_leaves l c.args.at aim c.args.store.now c.loop-onward.onward c.loop-onward.store c.loop-onward.invariant.0 c.in-Asks.task c.in-Asks.is c.ask.result c.loop-onward.stack c.ask.new.stack c.ask.new.store c.ask.ensures c.in_ok-outcome.outcome some
           ∙ c.loop-onward.invariant.1,
     )
+
+pub ask-requires-clause-lies : goal.ask-requires-clause-lies
+ask-requires-clause-lies g c = c.loop-onward.invariant.0.lies

@@ -1,4 +1,5 @@
 use Rattle.std.proofs.Common.{rules, ◌≡◌, None, length, ap, arith, length-take}
+use Rattle.layers.specs.laws.Flat.{index_there}
 use Rattle.layers.specs.laws.Over.{over}
 use Rattle.layers.proofs.Runs.{stands_at, stands_still, found_again, chooses, waits, ended_lies, again_stands, ended_goes_on}
 use Rattle.layers.proofs.layered.LayeredRegister.go_on.Goals as goal
@@ -78,3 +79,9 @@ returns-clause-chosen g c =
     let l = over (g.met.S.Register.lawful c.args.self.now.below) (g.met.L.Construction.sound c.args.self.now.layer) c.args.self.now.fit in
     chooses l c.lies.ensures c.args.who c.args.first c.args.stack.now c.args.choice c.frame.ensures c.find-task.ensures
     c.push-progress.result.chosen (c.push-progress.ensures.chosen c.args.who)
+
+pub frame-requires : goal.frame-requires
+frame-requires g c = index_there c.args.first c.args.stack.now _ _ c.requires.stands.1.1.there
+
+pub push-progress-requires-clause-lies : goal.push-progress-requires-clause-lies
+push-progress-requires-clause-lies g c = c.lies.ensures

@@ -1,9 +1,9 @@
-use Rattle.std.proofs.Common.{◌≡◌, ◌+◌, ◌<◌, ◌^◌, [], ◌∷◌, ◌++◌, Some, length, sym, ◌∙◌, ap, subst}
+use Rattle.std.proofs.Common.{◌≡◌, ◌+◌, ◌<◌, ◌^◌, [], ◌∷◌, ◌++◌, Some, length, refl, sym, ◌∙◌, ap, subst}
 use Rattle.std.specs.Prelude.{is_some, IsSome}
 use Rattle.std.specs.List.{count_by}
 use Rattle.lineage.specs.declared.node.Node.{Node}
 use Rattle.lineage.specs.Family.{item_at}
-use Rattle.lineage.specs.Held.{node_at, over, under}
+use Rattle.lineage.specs.Held.{node_at, item_in, over, under}
 use Rattle.lineage.proofs.Forks.{some_node}
 use Rattle.lineage.proofs.Walks.{item_is}
 use Rattle.lineage.proofs.ForksAbove.{above_sound, forked_above}
@@ -44,3 +44,12 @@ returns-clause-ok g c =
     (here.len ∙ ap (λ s. count_by is_some s + 1) same) (room g c) c.hold.ensures.nodes
     (c.push_reserved.ensures.items ∙ ap (λ e. c.reserve_path.new.tips.items ++ e ∷ []) c.of.ensures
     ∙ ap (λ xs. xs ++ Some c.put_above-fresh.result ∷ []) c.in_ok-reserve_path.ensures.items) c.hold.ensures.slots)
+
+pub put_above-fresh-requires-clause-there : goal.put_above-fresh-requires-clause-there
+put_above-fresh-requires-clause-there g c =
+    let a = c.self.inside in
+    let some : IsSome (item_at c.args.self.now c.args.key) = c.requires in
+    let here : IsSome (item_in (node_at a.nodes.slots c.args.key)) =
+    subst IsSome (ap (λ f. item_at f c.args.key) (sym c.self.view_is) ∙ item_is a.nodes.slots a.tips.items c.args.key) some in
+    let n = some_node (node_at a.nodes.slots c.args.key) here in
+    subst IsSome (sym (ap (λ s. node_at s c.args.key) c.in_ok-reserve_path.ensures.slots ∙ n.1)) refl

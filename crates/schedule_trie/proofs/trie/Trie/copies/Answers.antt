@@ -1,9 +1,10 @@
 use Rattle.std.proofs.Common.{◌≡◌, ◌+◌, ◌≤◌, length, ap, sym, ◌∙◌, [], subst, slice_index_or, arith}
+use Rattle.std.proofs.lemmas.Result.{IfOk-from_err}
 use Rattle.schedule_trie.specs.Forest.{renumbered}
 use Rattle.schedule_trie.specs.Cut.{piece_at, line, slots_of}
 use Rattle.schedule_trie.specs.Copies.{AreCopies}
 use Rattle.schedule_trie.proofs.Lines.{slots_in_on}
-use Rattle.schedule_trie.proofs.Renumbered.{copies_more, cell_after, cell_below}
+use Rattle.schedule_trie.proofs.Renumbered.{copies_more, copies_all, cell_after, cell_below, cell_fits}
 use Rattle.schedule_trie.proofs.trie.Trie.copies.Goals as goal
 use Rattle.schedule_trie.specs.declared.limits.TheConstants.{MOST_CELLS_MADE}
 
@@ -24,13 +25,21 @@ loop-key-init g c =
 
 pub renumbered-requires : goal.renumbered-requires
 renumbered-requires g c =
-    let at = piece_at c.args.self.now.pieces in
-    let keys = c.deref-key-items.result.now in
-    let i = c.loop-key.key-index in
-    let was = c.loop-key.invariant in
-    let len : length (slots_of (at (slice_index_or keys i 0))) ≡ length c.slots_at-slots.result.now = sym (ap length c.slots_at-slots.ensures) in
-    let below = cell_below at c.args.self.now.made keys i c.loop-key.cell (omega arith) was.rest in
-    omega (arith, len, below, was.fits)
+    let fits = cell_fits (piece_at c.args.self.now.pieces) c.args.self.now.made c.deref-key-items.result.now c.loop-key.key-index c.loop-key.cell c.loop-key-test.true
+    c.slots_at-slots.result.now MOST_CELLS_MADE c.slots_at-slots.ensures c.loop-key.invariant.rest c.loop-key.invariant.fits in
+    omega (arith, fits)
+
+pub overflow_cast-cell : goal.overflow_cast-cell
+overflow_cast-cell g c =
+    let fits = cell_fits (piece_at c.args.self.now.pieces) c.args.self.now.made c.deref-key-items.result.now c.loop-key.key-index c.loop-key.cell c.loop-key-test.true
+    c.slots_at-slots.result.now MOST_CELLS_MADE c.slots_at-slots.ensures c.loop-key.invariant.rest c.loop-key.invariant.fits in
+    omega (arith, fits)
+
+pub overflow_add-cell : goal.overflow_add-cell
+overflow_add-cell g c =
+    let fits = cell_fits (piece_at c.args.self.now.pieces) c.args.self.now.made c.deref-key-items.result.now c.loop-key.key-index c.loop-key.cell c.loop-key-test.true
+    c.slots_at-slots.result.now MOST_CELLS_MADE c.slots_at-slots.ensures c.loop-key.invariant.rest c.loop-key.invariant.fits in
+    omega (arith, fits)
 
 pub loop-key-preserved : goal.loop-key-preserved
 loop-key-preserved g c =
@@ -48,3 +57,17 @@ loop-key-preserved g c =
       fits = was.fits;
       keys = was.keys;
     }
+
+pub returns-in_err-renumbered : goal.returns-in_err-renumbered
+returns-in_err-renumbered g c = IfOk-from_err _ _ c.from_residual-in_err-renumbered.ensures.0
+
+pub returns-in_err-push : goal.returns-in_err-push
+returns-in_err-push g c = IfOk-from_err _ _ c.from_residual-in_err-push.ensures.0
+
+pub returns : goal.returns
+returns g c =
+    let now = c.args.self.now in
+    let was = c.loop-key.invariant in
+    subst (λ keys. AreCopies (piece_at now.pieces) now.made keys c.loop-key.copies.items) was.keys
+    (copies_all (piece_at now.pieces) now.made c.deref-key-items.result.now c.loop-key.key-index c.loop-key.copies.items
+    c.loop-key-test.false was.copies)

@@ -1,16 +1,28 @@
 use Rattle.schedule_trie.specs.Held.{cut_of}
-use Rattle.std.proofs.Common.{◌≡◌, ◌+◌, ◌<◌, ◌≤◌, length, refl, sym, subst}
+use Rattle.std.proofs.Common.{◌≡◌, ◌+◌, ◌<◌, ◌≤◌, length, refl, sym, subst, ◌∙◌}
 use Rattle.schedule_trie.specs.Forest.{slots_in}
 use Rattle.schedule_trie.specs.Cut.{forest, piece_at, keys_in}
 use Rattle.schedule_trie.specs.Copies.{AreCopies}
 use Rattle.schedule_trie.proofs.Detaches.{detach_held, detach_told}
 use Rattle.schedule_trie.proofs.Lines.{path_within}
 use Rattle.schedule_trie.proofs.LengthSteps.{detached_lengths}
+use Rattle.schedule_trie.proofs.PushSteps.{on_err, roomed_seen, roomed_held}
 use Rattle.schedule_trie.proofs.trie.Trie.detach_at.Goals as goal
 
 pub replace_path-requires : goal.replace_path-requires
 replace_path-requires g c =
     path_within c.self.inside c.self.invariant.held c.args.index (subst (λ z. c.args.index < length z.strands) (sym c.self.view_is) c.requires.index)
+
+pub invariant_of-self : goal.invariant_of-self
+invariant_of-self g c =
+    roomed_held c.self.inside (record c.self.inside { segments = c.replace_path.new.self })
+    refl c.in_err-replace_path.ensures.err refl refl c.self.invariant
+
+pub returns-in_err-replace_path-clause-err : goal.returns-in_err-replace_path-clause-err
+returns-in_err-replace_path-clause-err g c =
+    on_err c.from_residual-in_err-replace_path.result _
+    (roomed_seen c.self.inside (record c.self.inside { segments = c.replace_path.new.self })
+    refl c.in_err-replace_path.ensures.err refl refl ∙ c.self.view_is)
 
 pub invariant_of-self-2 : goal.invariant_of-self-2
 invariant_of-self-2 g c =

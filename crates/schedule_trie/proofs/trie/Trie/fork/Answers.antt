@@ -1,12 +1,20 @@
-use Rattle.std.proofs.Common.{◌≡◌, ◌≤◌, None, Some, length, refl, sym, ap, subst, ◌∙◌, Ok, is_some, inl, arith}
-use Rattle.std.proofs.lemmas.Result.{err_from_is_err_and}
+use Rattle.std.proofs.Common.{◌≡◌, ◌≤◌, nat_le, None, Some, length, refl, sym, ap, subst, ◌∙◌, Ok, is_some, inl, arith}
+use Rattle.std.proofs.lemmas.Bool.{and_from, le-leb}
+use Rattle.std.proofs.lemmas.Result.{IfOk-from_err, err_from_is_err_and}
 use Rattle.schedule_trie.specs.Edits.{Fork, IsEdited}
+use Rattle.schedule_trie.specs.Names.{is_well_formed}
 use Rattle.schedule_trie.specs.Forest.{index_of, slots_in}
 use Rattle.schedule_trie.specs.Cut.{forest}
 use Rattle.schedule_trie.specs.Forks.{IsForked, IsForkedWhole}
 use Rattle.schedule_trie.proofs.ForkAnswers.{name_taken, bad_name, no_place, too_many, is_forked, memory_alone, none_from}
 use Rattle.schedule_trie.proofs.LengthsAfter.{branch_count, fork_last, fork_long}
 use Rattle.schedule_trie.proofs.trie.Trie.fork.Goals as goal
+
+pub returns-in_default-clause-ok : goal.returns-in_default-clause-ok
+returns-in_default-clause-ok g c = tt
+
+pub learn_len-requires : goal.learn_len-requires
+learn_len-requires g c = c.in-Some.ensures.within
 
 pub returns-then-is_some-clause-err : goal.returns-then-is_some-clause-err
 returns-then-is_some-clause-err g c =
@@ -15,6 +23,10 @@ returns-then-is_some-clause-err g c =
           (ap is_some (sym c.index-2.ensures.index) ∙ sym c.is_some.ensures ∙ c.if-is_some.true));
       unchanged = refl;
     }
+
+pub prove-unreachable-requires : goal.prove-unreachable-requires
+prove-unreachable-requires g c =
+    omega (arith, c.if-prove.true, ap length c.as_bytes.ensures.bytes, c.as_bytes.ensures.short)
 
 pub returns-then-not-is_well_formed-clause-err : goal.returns-then-not-is_well_formed-clause-err
 returns-then-not-is_well_formed-clause-err g c =
@@ -44,16 +56,30 @@ returns-then-count-self-clause-err g c =
       unchanged = c.learn_len.ensures.same;
     }
 
+pub fork_at-requires-clause-place : goal.fork_at-requires-clause-place
+fork_at-requires-clause-place g c =
+    subst (λ z. c.args.place ≤ length (slots_in (forest z).branches c.in-Some.index)) (sym c.learn_len.ensures.same)
+    (omega (arith, c.learn_len.ensures.len, c.if-learn_len-place.false))
+
 pub fork_at-requires-clause-name : goal.fork_at-requires-clause-name
 fork_at-requires-clause-name g c =
     subst (λ z. index_of (forest z).branches c.args.name ≡ None) (sym c.learn_len.ensures.same)
     (none_from _ (ap is_some (sym c.index-2.ensures.index) ∙ sym c.is_some.ensures ∙ c.if-is_some.false))
+
+pub fork_at-requires-clause-form : goal.fork_at-requires-clause-form
+fork_at-requires-clause-form g c =
+    and_from (nat_le (length c.args.name) 16) (is_well_formed c.args.name)
+    (le-leb (length c.args.name) 16 c.as_bytes.ensures.short)
+    (sym c.is_well_formed.ensures ∙ c.if-not-is_well_formed.false)
 
 pub fork_at-requires-clause-room : goal.fork_at-requires-clause-room
 fork_at-requires-clause-room g c =
     let most = ap (λ z. z.limits.branches) c.self.view_is in
     let count = branch_count c.learn_len.new.self in
     omega (arith, most, count, c.branches-count.ensures.count, c.if-count-self.false)
+
+pub overflow_cast-count : goal.overflow_cast-count
+overflow_cast-count g c = omega (arith, c.branches-count.type_inv)
 
 pub keep_len-requires-clause-index : goal.keep_len-requires-clause-index
 keep_len-requires-clause-index g c =
@@ -81,6 +107,12 @@ returns-clause-ok g c =
       cut = told.cut;
       limits = told.limits;
     })
+
+pub returns-in_err-fork_at-clause-ok : goal.returns-in_err-fork_at-clause-ok
+returns-in_err-fork_at-clause-ok g c = IfOk-from_err _ _ c.from_residual.ensures.0
+
+pub returns-in_err-fork_at-clause-end : goal.returns-in_err-fork_at-clause-end
+returns-in_err-fork_at-clause-end g c = IfOk-from_err _ _ c.from_residual.ensures.0
 
 pub returns-in_err-fork_at-clause-err : goal.returns-in_err-fork_at-clause-err
 returns-in_err-fork_at-clause-err g c =

@@ -8,11 +8,22 @@ use Rattle.schedule_trie.specs.Climbs.{keys_to, IsReached}
 use Rattle.schedule_trie.proofs.ForkSteps.{reached_there, behind_held, behind_told, behind_whole}
 use Rattle.schedule_trie.proofs.LengthSteps.{forked_lengths}
 use Rattle.schedule_trie.proofs.NamesKept.{forked_names}
+use Rattle.schedule_trie.proofs.PushSteps.{roomed_held}
 use Rattle.schedule_trie.proofs.trie.Trie.fork_behind.Goals as goal
 
 pub fork-requires : goal.fork-requires
 fork-requires g c =
     reached_there c.self.inside c.args.index c.args.last c.self.invariant.held (subst (λ z. IsReached (keys_in z.strands c.args.index) c.args.last) (sym c.self.view_is) c.requires.last)
+
+pub invariant_of-self : goal.invariant_of-self
+invariant_of-self g c =
+    roomed_held c.self.inside (record c.self.inside { branches = c.reserve.new.self })
+    c.in_err-reserve.ensures.entries refl refl refl c.self.invariant
+
+pub invariant_of-self-in_err-fork : goal.invariant_of-self-in_err-fork
+invariant_of-self-in_err-fork g c =
+    roomed_held c.self.inside (record c.self.inside { segments = c.fork.new.self; branches = c.reserve.new.self })
+    c.in_ok-reserve.ensures.entries c.in_err-fork.ensures.err refl refl c.self.invariant
 
 pub invariant_of-self-2 : goal.invariant_of-self-2
 invariant_of-self-2 g c =

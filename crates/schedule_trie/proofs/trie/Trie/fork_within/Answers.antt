@@ -1,4 +1,5 @@
-use Rattle.std.proofs.Common.{◌≡◌, ◌<◌, true, nat_eq, None, length, take, drop, refl, sym, ap, subst, ◌∙◌}
+use Rattle.std.proofs.Common.{arith, ◌≡◌, ◌<◌, true, nat_eq, None, length, take, drop, refl, sym, ap, subst, ◌∙◌}
+use Rattle.std.proofs.lemmas.Result.{IfOk-from_err}
 use Rattle.std.specs.Cmp.Lexicographic.{pointwise}
 use Rattle.indexmap.specs.IndexMap.{insert_entry}
 use Rattle.lineage.specs.Family.{with_item}
@@ -8,10 +9,52 @@ use Rattle.schedule_trie.specs.Held.{cut_of}
 use Rattle.schedule_trie.proofs.DivisionSteps.{still_there}
 use Rattle.schedule_trie.proofs.ForkCutSteps.{cut_fork, cut_fork_told}
 use Rattle.schedule_trie.proofs.Partings.{parting}
+use Rattle.schedule_trie.proofs.PushSteps.{on_err, roomed_seen, roomed_held}
 use Rattle.schedule_trie.proofs.StepSet.{held_there}
 use Rattle.schedule_trie.proofs.LengthSteps.{forked_lengths}
 use Rattle.schedule_trie.proofs.NamesKept.{forked_names}
 use Rattle.schedule_trie.proofs.trie.Trie.fork_within.Goals as goal
+
+pub parts_at-requires : goal.parts_at-requires
+parts_at-requires g c = omega (arith, c.requires.inside, ap length c.slots_at.ensures)
+
+pub invariant_of-self : goal.invariant_of-self
+invariant_of-self g c =
+    let t = c.self.inside in
+    roomed_held t (record t { branches = c.reserve.new.self }) c.in_err-reserve.ensures.entries refl refl refl
+    c.self.invariant
+
+pub returns-in_err-reserve-clause-ok : goal.returns-in_err-reserve-clause-ok
+returns-in_err-reserve-clause-ok g c front back e = IfOk-from_err _ _ c.from_residual-in_err-reserve.ensures.0
+
+pub returns-in_err-reserve-clause-err : goal.returns-in_err-reserve-clause-err
+returns-in_err-reserve-clause-err g c =
+    let t = c.self.inside in
+    on_err c.from_residual-in_err-reserve.result _
+    (roomed_seen t (record t { branches = c.reserve.new.self }) c.in_err-reserve.ensures.entries refl refl refl
+    ∙ c.self.view_is)
+
+pub invariant_of-self-in_err-fork_above : goal.invariant_of-self-in_err-fork_above
+invariant_of-self-in_err-fork_above g c =
+    let t = c.self.inside in
+    roomed_held t (record t { segments = c.fork_above.new.self; branches = c.reserve.new.self })
+    c.in_ok-reserve.ensures.entries c.in_err-fork_above.ensures.err refl refl c.self.invariant
+
+pub returns-in_err-fork_above-clause-ok : goal.returns-in_err-fork_above-clause-ok
+returns-in_err-fork_above-clause-ok g c front back e = IfOk-from_err _ _ c.from_residual-in_err-fork_above.ensures.0
+
+pub returns-in_err-fork_above-clause-err : goal.returns-in_err-fork_above-clause-err
+returns-in_err-fork_above-clause-err g c =
+    let t = c.self.inside in
+    on_err c.from_residual-in_err-fork_above.result _
+    (roomed_seen t (record t { segments = c.fork_above.new.self; branches = c.reserve.new.self })
+    c.in_ok-reserve.ensures.entries c.in_err-fork_above.ensures.err refl refl ∙ c.self.view_is)
+
+pub fork_above-requires : goal.fork_above-requires
+fork_above-requires g c =
+    held_there c.self.inside c.args.key c.args.count
+    (subst (λ z. c.args.count < length (slots_of (piece_at z.pieces c.args.key))) (sym c.self.view_is)
+    c.requires.inside)
 
 pub item_mut-requires : goal.item_mut-requires
 item_mut-requires g c =

@@ -1,14 +1,28 @@
-use Rattle.std.proofs.Common.{◌<◌, ◌++◌, ◌∷◌, [], length, sym, ap, subst, ◌∙◌, arith}
+use Rattle.std.proofs.Common.{◌≡◌, ◌≤◌, ℕ, map, ◌<◌, ◌++◌, ◌∷◌, [], length, sym, ap, subst, ◌∙◌, arith}
+use Rattle.std.proofs.lemmas.List.{length-map}
 use Rattle.schedule_trie.specs.Cut.{forest}
+use Rattle.schedule_trie.specs.Forest.{Forest, name_of}
 use Rattle.schedule_trie.specs.Limbs.{FitLimits, IsLawful, limbs}
 use Rattle.schedule_trie.proofs.LimbCounts.{taken_whole}
 use Rattle.schedule_trie.proofs.LimbsLawful.{limbs_lawful}
 use Rattle.schedule_trie.proofs.LimbsNear.{limbs_near}
 use Rattle.schedule_trie.proofs.LimbsSaved.{length-limbs, taken_next}
+use Rattle.schedule_trie.proofs.StepSet.{slice_get_some}
 use Rattle.schedule_trie.proofs.trie.Trie.limbs.Goals as goal
+
+past_all : (f : Forest) {count i : ℕ} → count ≡ length f.branches → count ≤ i → length (limbs f) ≤ i
+past_all f is past = omega (arith, length-limbs f, is, past)
 
 pub loop-index-init : goal.loop-index-init
 loop-index-init g c = record { told = c.new-limbs.ensures.items; marked = c.in_ok-marks.ensures }
+
+pub unreachable-requires : goal.unreachable-requires
+unreachable-requires g c =
+    let branches = (forest c.args.self.now).branches in
+    let names = length-map branches name_of in
+    let there = slice_get_some (map name_of branches) c.loop-index.index
+    (omega (arith, names, c.branches-index-end.ensures.count, c.loop-index-test.true)) in
+    c.in_default.not-Some there.0 (c.name_at.ensures ∙ there.1)
 
 pub limb_at-requires-clause-marks : goal.limb_at-requires-clause-marks
 limb_at-requires-clause-marks g c = c.loop-index.invariant.marked
@@ -22,27 +36,19 @@ loop-index-preserved g c = record {
 
 pub returns-clause-limbs : goal.returns-clause-limbs
 returns-clause-limbs g c =
-    let all = limbs (forest c.args.self.now) in
-    let count = length-limbs (forest c.args.self.now) in
-    c.loop-index.invariant.told ∙ taken_whole c.loop-index.index all (omega (arith, count, c.branches-index-end.ensures.count, c.loop-index-test.false))
+    c.loop-index.invariant.told ∙ taken_whole c.loop-index.index (limbs (forest c.args.self.now)) (past_all (forest c.args.self.now) c.branches-index-end.ensures.count c.loop-index-test.false)
 
 pub returns-clause-lawful : goal.returns-clause-lawful
 returns-clause-lawful g c =
-    let all = limbs (forest c.args.self.now) in
-    let count = length-limbs (forest c.args.self.now) in
-    let told = c.loop-index.invariant.told ∙ taken_whole c.loop-index.index all (omega (arith, count, c.branches-index-end.ensures.count, c.loop-index-test.false)) in
+    let told = c.loop-index.invariant.told ∙ taken_whole c.loop-index.index (limbs (forest c.args.self.now)) (past_all (forest c.args.self.now) c.branches-index-end.ensures.count c.loop-index-test.false) in
     subst IsLawful (sym told) (limbs_lawful (forest c.args.self.now) c.held.ensures.forest c.held.ensures.names)
 
 pub returns-clause-some : goal.returns-clause-some
 returns-clause-some g c =
-    let all = limbs (forest c.args.self.now) in
-    let count = length-limbs (forest c.args.self.now) in
-    let told = c.loop-index.invariant.told ∙ taken_whole c.loop-index.index all (omega (arith, count, c.branches-index-end.ensures.count, c.loop-index-test.false)) in
-    subst (λ l. 0 < length l) (sym told) (omega (arith, count, c.branches-index-end.ensures.count, c.branches-index-end.ensures.some))
+    let told = c.loop-index.invariant.told ∙ taken_whole c.loop-index.index (limbs (forest c.args.self.now)) (past_all (forest c.args.self.now) c.branches-index-end.ensures.count c.loop-index-test.false) in
+    subst (λ l. 0 < length l) (sym told) (omega (arith, length-limbs (forest c.args.self.now), c.branches-index-end.ensures.count, c.branches-index-end.ensures.some))
 
 pub returns-clause-near : goal.returns-clause-near
 returns-clause-near g c =
-    let all = limbs (forest c.args.self.now) in
-    let count = length-limbs (forest c.args.self.now) in
-    let told = c.loop-index.invariant.told ∙ taken_whole c.loop-index.index all (omega (arith, count, c.branches-index-end.ensures.count, c.loop-index-test.false)) in
+    let told = c.loop-index.invariant.told ∙ taken_whole c.loop-index.index (limbs (forest c.args.self.now)) (past_all (forest c.args.self.now) c.branches-index-end.ensures.count c.loop-index-test.false) in
     subst (FitLimits c.args.self.now.limits) (sym told) (limbs_near c.args.self.now c.held.ensures.whole)

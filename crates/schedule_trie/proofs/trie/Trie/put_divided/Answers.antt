@@ -1,11 +1,27 @@
-use Rattle.schedule_trie.specs.Cut.{IsPutBefore}
+use Rattle.schedule_trie.specs.Cut.{IsPutBefore, piece_at, slots_of}
 use Rattle.schedule_trie.specs.Held.{cut_of}
-use Rattle.std.proofs.Common.{◌+◌, refl, sym, subst}
+use Rattle.std.proofs.Common.{◌+◌, ◌<◌, length, refl, sym, subst}
 use Rattle.lineage.specs.Family.{with_item}
 use Rattle.schedule_trie.proofs.InsertSteps.{divided_held, divided_told}
 use Rattle.schedule_trie.proofs.Lengths.{relength_seen}
 use Rattle.schedule_trie.proofs.LengthSteps.{none_held}
+use Rattle.schedule_trie.proofs.DivisionSteps.{still_there}
+use Rattle.schedule_trie.proofs.StepSet.{held_there}
 use Rattle.schedule_trie.proofs.trie.Trie.put_divided.Goals as goal
+
+pub divide-requires : goal.divide-requires
+divide-requires g c =
+    held_there c.self.inside c.args.key c.args.offset
+    (subst (λ z. c.args.offset < length (slots_of (piece_at z.pieces c.args.key))) (sym c.self.view_is)
+    c.requires.offset)
+
+pub item_mut-requires : goal.item_mut-requires
+item_mut-requires g c =
+    let t = c.self.inside in
+    still_there t.segments c.divide.new.self c.args.key c.in_ok-divide.field-0 _ c.in_ok-divide.ensures.item
+    (held_there t c.args.key c.args.offset
+    (subst (λ z. c.args.offset < length (slots_of (piece_at z.pieces c.args.key))) (sym c.self.view_is)
+    c.requires.offset))
 
 pub invariant_of-self-2 : goal.invariant_of-self-2
 invariant_of-self-2 g c =

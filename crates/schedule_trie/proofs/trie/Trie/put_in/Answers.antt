@@ -1,13 +1,24 @@
 use Rattle.lineage.specs.Family.{with_item}
-use Rattle.schedule_trie.specs.Cut.{IsPutBefore}
+use Rattle.schedule_trie.specs.Cut.{piece_at, slots_of, IsPutBefore}
 use Rattle.schedule_trie.specs.Held.{cut_of}
-use Rattle.std.proofs.Common.{sym, subst, refl, ◌∙◌, ◌+◌, ◌<◌, length}
+use Rattle.std.proofs.Common.{sym, subst, refl, ◌∙◌, ◌+◌, ◌<◌, length, arith}
 use Rattle.schedule_trie.proofs.PushSteps.{on_err, kept_held, cut_written}
-use Rattle.schedule_trie.proofs.StepSet.{inside_from}
+use Rattle.schedule_trie.proofs.StepSet.{held_there, inside_from}
 use Rattle.schedule_trie.proofs.InsertSteps.{slots_seen, put_held, put_told}
 use Rattle.schedule_trie.proofs.Lengths.{relength_seen}
 use Rattle.schedule_trie.proofs.LengthSteps.{none_held}
 use Rattle.schedule_trie.proofs.trie.Trie.put_in.Goals as goal
+
+pub item_mut-requires : goal.item_mut-requires
+item_mut-requires g c =
+    held_there c.self.inside c.args.key c.args.offset
+    (subst (λ z. c.args.offset < length (slots_of (piece_at z.pieces c.args.key))) (sym c.self.view_is) c.requires.offset)
+
+pub insert-requires : goal.insert-requires
+insert-requires g c =
+    let inside = inside_from c.self.inside c.args.key c.args.offset c.item_mut.result.now c.args.self.now c.self.view_is
+    c.item_mut.ensures.value c.requires.offset in
+    omega (arith, inside)
 
 pub invariant_of-self : goal.invariant_of-self
 invariant_of-self g c =

@@ -2,10 +2,16 @@ use Rattle.lineage.specs.Family.{with_item}
 use Rattle.schedule_trie.specs.Held.{cut_of}
 use Rattle.std.proofs.Common.{refl, sym, subst, ◌<◌, length}
 use Rattle.schedule_trie.specs.Cut.{piece_at, slots_of, IsRemoved}
+use Rattle.schedule_trie.proofs.StepSet.{inside_from}
 use Rattle.schedule_trie.proofs.RemoveSteps.{within_held, within_told}
 use Rattle.schedule_trie.proofs.Lengths.{relength_seen}
 use Rattle.schedule_trie.proofs.LengthSteps.{none_held}
 use Rattle.schedule_trie.proofs.trie.Trie.remove_within.Goals as goal
+
+pub remove-requires : goal.remove-requires
+remove-requires g c =
+    inside_from c.self.inside c.args.key c.args.offset c.item_mut.result.now c.args.self.now c.self.view_is
+    c.item_mut.ensures.value c.requires.offset
 
 pub invariant_of-self : goal.invariant_of-self
 invariant_of-self g c =

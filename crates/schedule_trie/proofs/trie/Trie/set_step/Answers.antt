@@ -2,9 +2,19 @@ use Rattle.std.proofs.Common.{◌<◌, length, sym, subst}
 use Rattle.lineage.specs.Family.{with_item}
 use Rattle.schedule_trie.specs.Cut.{piece_at, slots_of}
 use Rattle.schedule_trie.specs.Held.{cut_of}
-use Rattle.schedule_trie.proofs.StepSet.{inside_from, set_held, set_told}
+use Rattle.schedule_trie.proofs.StepSet.{held_there, inside_from, set_held, set_told}
 use Rattle.schedule_trie.proofs.LengthSteps.{set_lengths}
 use Rattle.schedule_trie.proofs.trie.Trie.set_step.Goals as goal
+
+pub item_mut-requires : goal.item_mut-requires
+item_mut-requires g c =
+    held_there c.self.inside c.args.key c.args.offset
+    (subst (λ z. c.args.offset < length (slots_of (piece_at z.pieces c.args.key))) (sym c.self.view_is) c.requires)
+
+pub set_step-requires : goal.set_step-requires
+set_step-requires g c =
+    inside_from c.self.inside c.args.key c.args.offset c.item_mut.result.now c.args.self.now c.self.view_is
+    c.item_mut.ensures.value c.requires
 
 pub invariant_of-self : goal.invariant_of-self
 invariant_of-self g c =

@@ -1,4 +1,8 @@
+use Rattle.std.proofs.Common.{sym, ap, ◌∙◌}
+use Rattle.schedule_trie.specs.Cut.{slots_of}
+use Rattle.schedule_trie.specs.Held.{piece_of}
 use Rattle.schedule_trie.proofs.ClimbSteps.{each_up, ends_up}
+use Rattle.schedule_trie.proofs.StepSet.{piece_seen}
 use Rattle.schedule_trie.proofs.trie.Trie.slots_up.Goals as goal
 
 pub returns-in-Some-clause-each : goal.returns-in-Some-clause-each
@@ -8,3 +12,9 @@ returns-in-Some-clause-each g c i front back e =
 
 pub returns-in-None-clause-end : goal.returns-in-None-clause-end
 returns-in-None-clause-end g c = ends_up c.self.inside c.args.self.now c.self.view_is c.self.invariant.held c.args.at c.in-None.ensures.end
+
+pub returns-in-Some-clause-slots : goal.returns-in-Some-clause-slots
+returns-in-Some-clause-slots g c =
+    rw (← c.self.view_is)
+    (c.as_slice.ensures.value
+    ∙ sym (ap slots_of (piece_seen c.self.inside c.in-Some.key ∙ ap piece_of c.in-Some.ensures.item)))

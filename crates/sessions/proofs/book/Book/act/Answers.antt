@@ -1,8 +1,13 @@
 use Rattle.std.proofs.Common.{◌∙◌, ◌∷◌, [], ◌++◌, inl, inr, refl, sym, ap, subst, arith}
+use Rattle.schedule_trie.specs.declared.refusal.Refusal.TheVariants.{LogFull}
+use Rattle.schedule_trie.specs.Cut.{forest}
+use Rattle.sessions.specs.declared.reply.Reply.TheVariants.{No}
+use Rattle.sessions.specs.Acts.{is_full}
 use Rattle.sessions.specs.Logs.{entry}
-use Rattle.sessions.specs.Held.{MayWant, world_of}
+use Rattle.sessions.specs.World.{opening}
+use Rattle.sessions.specs.Held.{MayWant, opening_of, world_of}
 use Rattle.sessions.proofs.Ordinary.{never_memory}
-use Rattle.sessions.proofs.Books.{kept, done_acts, held_more, same_opening}
+use Rattle.sessions.proofs.Books.{below, kept, done_acts, full_acts, held_more, held_same, same_opening}
 use Rattle.sessions.proofs.book.Book.act.Goals as goal
 
 pub returns-in_default-clause-acts : goal.returns-in_default-clause-acts
@@ -57,3 +62,40 @@ returns-clause-opening g c =
     let more = c.push_within.ensures ∙ ap (λ l. l ++ c.entry.result ∷ []) c.reserve.ensures.items ∙ ap (λ x. i.log.items ++ x ∷ []) c.entry.ensures in
     rw (← c.self.view_is) (same_opening g.R.Behaves.is (kept i.first.value i.stage i.log) (kept i.first.value c.act.new.self c.push_within.new.list)
     (entry c.args.chair c.args.who c.args.if_at c.args.command.now c.in-Ok-act.reply) (sym c.is_full.ensures ∙ c.if-is_full.false) c.in-Ok-act.ensures.ok more refl)
+
+pub returns-then-is_full-clause-acts : goal.returns-then-is_full-clause-acts
+returns-then-is_full-clause-acts g c =
+    let is = g.R.Behaves.is in
+    let now = c.args.self.now in
+    let full = ap (λ h. is_full (world_of is h.now)) (sym c.self.view_is) ∙ sym c.is_full.ensures ∙ c.if-is_full.true in
+    inl (full_acts is now now (entry c.args.chair c.args.who c.args.if_at c.args.command.now (No LogFull)) full refl refl)
+
+pub invariant_of-self : goal.invariant_of-self
+invariant_of-self g c =
+    let i = c.self.inside in
+    held_same g.R.Behaves.is i.first.value i.stage i.stage i.log.items c.reserve.new.self.items _ _ c.reserve.ensures.items refl
+    c.self.invariant
+
+pub invariant_of-self-in_default-act : goal.invariant_of-self-in_default-act
+invariant_of-self-in_default-act g c =
+    let i = c.self.inside in
+    held_same g.R.Behaves.is i.first.value i.stage c.act.new.self i.log.items c.reserve.new.self.items _ _ c.reserve.ensures.items
+    c.in_default-act.ensures.err c.self.invariant
+
+pub act-requires : goal.act-requires
+act-requires g c =
+    let stage = c.self.inside.stage in
+    record { room = below stage.limits.log stage.logged c.is_full.result (sym c.is_full.ensures) c.if-is_full.false }
+
+pub returns-then-is_full-clause-memory : goal.returns-then-is_full-clause-memory
+returns-then-is_full-clause-memory g c = λ e. absurd (cc)
+
+pub returns-in_default-clause-opening : goal.returns-in_default-clause-opening
+returns-in_default-clause-opening g c = ap (opening_of g.R.Behaves.is) c.self.view_is
+
+pub returns-in_default-act-clause-opening : goal.returns-in_default-act-clause-opening
+returns-in_default-act-clause-opening g c =
+    let is = g.R.Behaves.is in
+    let first = c.self.inside.first.value in
+    ap (λ w. opening (is first.start.register) first.value w.limits (forest first.cut)) c.in_default-act.ensures.err
+    ∙ ap (opening_of is) c.self.view_is

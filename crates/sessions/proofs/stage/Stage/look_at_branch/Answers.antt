@@ -3,6 +3,7 @@ use Rattle.schedule_trie.specs.Forest.{IsRefused}
 use Rattle.schedule_trie.specs.Cut.{forest}
 use Rattle.sessions.specs.Held.{Staged, world_of}
 use Rattle.sessions.proofs.Looks.{shown_at, looked_at}
+use Rattle.sessions.proofs.Kept.{kept_staged}
 use Rattle.sessions.proofs.stage.Stage.look_at_branch.Goals as goal
 
 pub returns-clause-page : goal.returns-clause-page
@@ -22,3 +23,9 @@ returns-clause-found g c =
     let i = c.self.inside in
     let held : Staged g.row.R.Denot g.row.R-Pending.Denot = record { chart = i.chart; limits = i.limits; cursors = i.cursors; breaks = i.breaks.items; edits = i.edits; logged = i.logged } in
     rw (← c.self.view_is) (subst (λ r. OnOk c.at.result (r ≡ Ok (forest i.chart.cut))) (looked_at (world_of g.R.Behaves.is held) c.args.query c.requires) c.at.ensures.found)
+
+pub invariant_of-self : goal.invariant_of-self
+invariant_of-self g c =
+    let i = c.self.inside in
+    let held : Staged g.row.R.Denot g.row.R-Pending.Denot = record { chart = i.chart; limits = i.limits; cursors = i.cursors; breaks = i.breaks.items; edits = i.edits; logged = i.logged } in
+    kept_staged held c.at.new.chart c.at.ensures.kept c.self.invariant

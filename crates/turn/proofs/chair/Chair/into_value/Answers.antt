@@ -1,4 +1,6 @@
-use Rattle.std.proofs.Common.{◌≡◌, sym, ap, ◌∙◌, Some}
+use Rattle.std.proofs.Common.{◌≡◌, sym, ap, ◌∙◌, Some, Bool, false, List, [], ◌∷◌, get_or, set, refl, subst, arith}
+use Rattle.std.specs.Slots.{slots_filled}
+use Rattle.atomic_table.specs.declared.owned.Table.{Table}
 use mathlib.Core.Option.{some-injective}
 use Rattle.atomic_table.specs.declared.shared.Seat.{Seat}
 use Rattle.turn.specs.declared.view.View.{View}
@@ -23,3 +25,22 @@ returns g c =
     let is = c.in-Some.is in
     let same : c.in-Some.value ≡ home.0 = cc in
     ap g.T.Counted.entries same ∙ (home.2 ∙ ap (λ (p : Seat _ (View _)). p.me.0.seen) e)
+
+pub take-value-requires : goal.take-value-requires
+take-value-requires g c =
+    let e = c.close_with-closed.ensures in
+    let one = e.counts.1 ∙ ap (λ (t : Table _ _ _ _ _). t.shared.table_id.slots) c.into_table.ensures ∙ c.args.turn.sized.1 in
+    (omega (arith, one), e.values.1 0 (omega arith) (omega (arith, one)))
+
+unset : (xs : List Bool) → get_or (set xs 0 false) 0 false ≡ false
+unset [] = refl
+unset (x ∷ xs) = refl
+
+pub free-requires : goal.free-requires
+free-requires g c k within =
+    let one = c.close_with-closed.ensures.counts.1 ∙ ap (λ (t : Table _ _ _ _ _). t.shared.table_id.slots) c.into_table.ensures ∙ c.args.turn.sized.1 in
+    let e = c.take-value.ensures.others in
+    let same = e.2 in
+    let first : k ≡ 0 = omega (arith, within, same, one) in
+    subst (λ i. get_or (slots_filled c.take-value.new.self.slots) i false ≡ false) (sym first)
+    (ap (λ fs. get_or fs 0 false) e.1 ∙ unset (slots_filled c.close_with-closed.result.slots))
