@@ -9,6 +9,7 @@ ghost use Rattle.checkpoints.specs.Told as spec;
 
 use crate::kept::{Kept, event_of, kept_of};
 use crate::mark::{Mark, own_event, own_mark};
+use crate::slices::front;
 use frames::types::{Event, Step, StepEvents};
 use std::alloc::{AllocError, Global};
 use std::marker::Model;
@@ -232,13 +233,6 @@ fn take_room(events: &mut Vec<Kept>) -> Result<(), AllocError>
     ensures room { OnOk result (vec_len events.new < vec_capacity events.new) }
 {
     events.reserve(MORE_EVENTS)
-}
-
-/// The first `count` steps; all where there are fewer.
-fn front(steps: &[Step], count: usize) -> &[Step]
-    ensures { result.now ≡ take count steps.now }
-{
-    &steps[..steps.len().min(count)]
 }
 
 /// The events of a step with a mark, and those that are left.

@@ -6,3 +6,4 @@ mod kept;
 mod mark;
 pub mod replay;
 pub mod run;
+pub mod slices;

@@ -99,12 +99,6 @@ passed_up (Err e) P f h = f e h
 
 -- what is seen of a chart and what it is
 module _ {R P : Type 0} {v w : Charted R P} (seen : v ≡ w) where
-  pub same_start : v.start ≡ w.start
-  same_start = ap (λ (c : Charted R P). c.start) seen
-
-  pub same_value : v.value ≡ w.value
-  same_value = ap (λ (c : Charted R P). c.value) seen
-
   pub seen_begins : (E : R → R → Bool) (is : R → Behaviour P) (next : ℕ) (mark : Option ℕ) → IsCharted E is next mark v
       → w.start ≡ initial_configuration (is w.start.register) w.start.register w.value
   seen_begins E is next mark was = subst (λ (c : Charted R P). c.start ≡ initial_configuration (is c.start.register) c.start.register c.value) seen was.begins

@@ -50,6 +50,7 @@ pub keys_some : (o : Option ℕ) (strands : List Strand) (keys : List ℕ) → k
 keys_some None strands keys e = absurd (let f : ◌≡◌ {A = Option (List ℕ)} None (Some keys) = e in cc)
 keys_some (Some i) strands keys e = refl
 
-pub lacks_none : (o : Option ℕ) → IsSome o → if_lacks o ≡ Memory
-lacks_none None some = absurd (true≢false (sym some))
-lacks_none (Some i) some = refl
+-- where the branch is there, all that is lacking is memory
+pub lacks_memory : (o : Option ℕ) → IsSome o → if_lacks o ≡ Memory
+lacks_memory None some = absurd (true≢false (sym some))
+lacks_memory (Some i) some = refl

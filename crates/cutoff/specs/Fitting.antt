@@ -107,5 +107,6 @@ pub record KeepsRuns {R P : Type 0} (old new : Cut (StoredRun R P)) (Filled : �
   pub slots : (k : ℕ) → slots_at new k ≡ slots_at old k
   pub runs : (k : ℕ) → (run_at new k ≡ run_at old k) ⊎ Filled k
 
+-- a shared run and how many of its steps count, by value
 abbrev pub part_of : {R P Z : Type 0} → (Arc (SegmentRun R P) Z × ℕ) → RunPart R P
 part_of p = record { run = arc_value p.0; count = p.1 }

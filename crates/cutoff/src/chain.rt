@@ -1,6 +1,6 @@
 //! Chains: jobs with the segments behind theirs, so that one run after the other is made without another plan.
 
-ghost use Rattle.std.specs.Prelude.{◌≡◌, ◌+◌, ◌≤◌, ◌^◌, ℕ, [], ◌∷◌, Option, None, OnOk, IfOk, All, map, take, length, vec_len};
+ghost use Rattle.std.specs.Prelude.{◌≡◌, ◌+◌, ◌≤◌, ◌^◌, ℕ, [], ◌∷◌, Option, None, OnOk, IfOk, All, map, length, vec_len};
 ghost use Rattle.std.specs.Bool.{Decides};
 ghost use Rattle.frames.specs.Configuration.{Configuration};
 ghost use Rattle.frames.specs.Recorded.{AllFit};
@@ -18,6 +18,7 @@ use crate::follower::Followers;
 use crate::plan::{Job, job_at};
 use crate::settle::segment_cells;
 use crate::stored::Stored;
+use checkpoints::slices::front;
 use frames::config::Config;
 use frames::register::Register;
 use schedule_trie::trie::{SegKey, Trie};
@@ -94,7 +95,8 @@ fn chain_branch<R: Register>(
         return Ok(());
     }
     let job = job_at(alloc, trie, key, config)?;
-    let followers = followers_at(alloc, trie, first_few(keys_behind(keys, key), most))?;
+    let later = front(keys_behind(keys, key), most as usize);
+    let followers = followers_at(alloc, trie, later)?;
     chains.push(Chain { job, followers })?;
     Ok(())
 }
@@ -175,13 +177,6 @@ fn is_bare<R: Register>(trie: &Trie<Stored<R>>, key: SegKey) -> bool
     ensures { Decides result (note_of (piece_at trie.now.pieces key) ≡ None) }
 {
     trie.note(key).is_none()
-}
-
-/// The first keys, so many at most.
-fn first_few(keys: &[SegKey], most: u32) -> &[SegKey]
-    ensures { result.now ≡ take most keys.now }
-{
-    &keys[..(most as usize).min(keys.len())]
 }
 
 /// The keys of a path behind a key.

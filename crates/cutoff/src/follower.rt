@@ -1,8 +1,9 @@
 //! What follows a job on its branch: segments, with copies of their cells that lie one behind the other.
 
-ghost use Rattle.std.specs.Prelude.{◌≡◌, [], ◌∷◌, ◌++◌, OnOk, IfOk, IfSome, IfNone, map, take, drop, length, vec_len};
+ghost use Rattle.std.specs.Prelude.{◌≡◌, [], ◌∷◌, ◌++◌, OnOk, IfOk, IfSome, IfNone, map, length, vec_len};
 ghost use Rattle.schedule_trie.specs.Forest.{step_of};
 
+use checkpoints::slices::{behind, front};
 use schedule_trie::slot::Slot;
 use schedule_trie::trie::SegKey;
 use std::alloc::{AllocError, Global};
@@ -108,18 +109,4 @@ impl<'a> FollowerWalk<'a> {
         self.parts = parts;
         Some((part.key, cells))
     }
-}
-
-/// The first cells, so many at most.
-fn front(cells: &[Slot], count: usize) -> &[Slot]
-    ensures { result.now ≡ take count cells.now }
-{
-    &cells[..count.min(cells.len())]
-}
-
-/// The cells behind the first ones, of which there are so many at most.
-fn behind(cells: &[Slot], count: usize) -> &[Slot]
-    ensures { result.now ≡ drop count cells.now }
-{
-    &cells[count.min(cells.len())..]
 }

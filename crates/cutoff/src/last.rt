@@ -11,7 +11,7 @@ ghost use Rattle.cutoff.specs.Held.{StepsFit};
 ghost use Rattle.cutoff.specs.Links.{IsLinked, alone};
 ghost use Rattle.cutoff.specs.Prefixes.{IsMarked, IsPlaceIn, IsLeft, SettlesTo, come_to, exit_or, run_named};
 
-use crate::prefix::{Rest, keys_behind, rest_to};
+use crate::prefix::{Rest, keys_down_to, rest_to};
 use crate::settle::{fitting, settle_segment};
 use crate::stored::Stored;
 use checkpoints::run::Run;
@@ -177,7 +177,7 @@ fn settle_rest<R: Register>(
         return Ok(replayed);
     }
     trie.held();
-    let (_, hanging) = keys_behind(alloc, trie, Some(rest.hung), key)?;
+    let (_, hanging) = keys_down_to(alloc, trie, Some(rest.hung), key)?;
     for below in &hanging {
         let here = settle_behind(alloc, trie, next, start, above, *below)?;
         replayed += here;

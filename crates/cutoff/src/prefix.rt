@@ -129,13 +129,13 @@ pub(crate) fn rest_to<R: Register>(
 {
     let hung = hung_from(trie, mark, key);
     let known = known_prefix(trie, start, mark, hung);
-    let (front, keys) = keys_behind(alloc, trie, known, hung)?;
+    let (front, keys) = keys_down_to(alloc, trie, known, hung)?;
     Ok(Rest { front, keys, hung })
 }
 
 /// The keys of the segments down to one: from right behind another on, or from the first where that one isn't above it. And
 /// the one that they come behind.
-pub(crate) fn keys_behind<T: Drop>(
+pub(crate) fn keys_down_to<T: Drop>(
     alloc: Global,
     trie: &Trie<T>,
     front: Option<SegKey>,

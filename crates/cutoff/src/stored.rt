@@ -43,6 +43,7 @@ impl<R: Register> Model for Stored<R> {
 }
 
 impl<R: Register> Stored<R> {
+    /// A stored run with its number, and that of the run that it was found behind.
     pub(crate) fn new(run: Arc<Run<R>>, id: Option<u64>, link: Option<u64>) -> Stored<R>
         ensures run { result.run ≡ arc_value run }
         ensures id { result.id ≡ id }

@@ -1,5 +1,5 @@
 -- What a holding of a desk's turn tells its chair.
-use Rattle.std.proofs.Common.{◌≡◌, ℕ, ◌≤◌, List, [], ◌++◌, length, Option, Some, None, Result, Ok, Err, IsSome, refl, sym, ap, subst, ◌∙◌, arith, append-nil, append_assoc}
+use Rattle.std.proofs.Common.{◌≡◌, ℕ, ◌<◌, ◌≤◌, List, [], ◌++◌, length, Option, Some, None, Result, Ok, Err, IsSome, refl, sym, ap, subst, ◌∙◌, arith, append-nil, append_assoc}
 use Rattle.std.proofs.lemmas.List.{append_cancel_left}
 use Rattle.frames.specs.Behaviour.{Behaviour}
 use Rattle.schedule_trie.specs.declared.refusal.Refusal.{Refusal}
@@ -62,7 +62,8 @@ module _ {R P : Type 0} (is : R → Behaviour P) (first : Held R P) (v w : View 
         let sees : seen w ≡ logged (call n) found = ap calls_in list ∙ calls_as R P (logged (call n) found) in
         let legal : IsLegal (opening_of is first) (logged (call n) found) =
         subst (λ o. IsLegal (opening_of is o) (logged (call n) found)) (sym one_first) (subst (IsLegal (opening_of is act.first)) both.1 act.legal) in
-        let full : receipt.reply ≡ No LogFull → length found ≡ (opening_of is first).limits.log = λ e. act.full e ∙ ap (λ o. (opening_of is o).limits.log) (sym one_first) in (
+        let full : receipt.reply ≡ No LogFull → length found ≡ (opening_of is first).limits.log = λ e. act.full e ∙ ap (λ o. (opening_of is o).limits.log) (sym one_first) in
+        let room : receipt.reply ≡ No Memory → length found < (opening_of is first).limits.log = λ e. subst (λ o. length found < (opening_of is o).limits.log) (sym one_first) (act.room e) in (
           record {
             found = found;
             finds = finds_so before found starts told whole is_found;
@@ -72,6 +73,7 @@ module _ {R P : Type 0} (is : R → Behaviour P) (first : Held R P) (v w : View 
             replies = replies_so (opening_of is first) n who guard command found refl receipt.reply (seen w) sees (legal_found (opening_of is first) (call n) found legal) legal full;
             at = act.at ∙ (ap length both.1 ∙ ap length (sym sees));
             full = full;
+            room = room;
             shares = ap (λ x. x.shares) after;
             told = ap (λ x. x.told) after;
           },

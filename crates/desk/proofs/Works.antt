@@ -1,5 +1,6 @@
 -- What a book's calls do to the list behind the turn.
-use Rattle.std.proofs.Common.{◌≡◌, ◌⊎◌, ℕ, ◌≤◌, Bool, true, false, cond, nat_le, List, [], ◌∷◌, ◌++◌, length, Option, Some, Result, Ok, Err, IsOk, IfOk, OnOk, IfErr, IsSome, refl, sym, ap, subst, ◌∙◌, arith, inl, inr}
+use Rattle.std.proofs.Common.{◌≡◌, ◌⊎◌, ℕ, ◌<◌, ◌≤◌, Bool, true, false, cond, nat_le, List, [], ◌∷◌, ◌++◌, length, Option, Some, Result, Ok, Err, IsOk, IfOk, OnOk, IfErr, IsSome, refl, sym, ap, subst, ◌∙◌, arith, inl, inr}
+use Rattle.std.proofs.lemmas.Bool.Decides.{nat_tests}
 use Rattle.std.specs.Global.{Vec}
 use Rattle.std.specs.Result.{IsErrAnd}
 use Rattle.frames.specs.Behaviour.{Behaviour}
@@ -16,7 +17,7 @@ use Rattle.sessions.specs.declared.reply.Reply.TheVariants.{No}
 use Rattle.sessions.specs.World.{World}
 use Rattle.sessions.specs.Acts.{acted, is_full}
 use Rattle.sessions.specs.Looks.{looked, shown_in}
-use Rattle.sessions.specs.Held.{Held, IsHeld, Acts, Wants, opening_of, world_of}
+use Rattle.sessions.specs.Held.{Held, IsHeld, Acts, TellsMemoryLast, Wants, opening_of, world_of}
 use Rattle.sessions.specs.Logs.{IsLegal, entry, logged, is_logged, world_after}
 use Rattle.turn.specs.Entries.{AtMostOne}
 use Rattle.sessions.proofs.Ordinary.{acted_logged, acted_full}
@@ -84,6 +85,22 @@ module _ {R P : Type 0} (is : R → Behaviour P) where
     pub full_log : length old.log ≡ new.now.limits.log
     full_log = by_room (is_full (world_of is old.now)) refl
 
+  -- where the log has room, a command's reply in its world isn't Memory; and where neither changes, the log is shorter than its limit
+  module _ (old new : Held R P) (room : is_full (world_of is old.now) ≡ false) where
+    none_wanted : (who : ℕ) (guard : Option ℕ) (command : Command) → acted who guard command (world_of is old.now) ≡ record { world = world_of is new.now; reply = No Memory } → ⊥
+    none_wanted who guard command acts =
+        let clash : false ≡ true = ap (λ a. is_logged a.reply) (sym acts) ∙ (acted_logged who (world_of is old.now) guard command room).0 in
+        cc
+
+    shorter : IsHeld is new → world_of is new.now ≡ world_of is old.now → new.log ≡ old.log → length old.log < new.now.limits.log
+    shorter held same same_log =
+        let few = below new.now.limits.log new.now.logged (ap is_full same ∙ room) in
+        let count : length old.log ≡ new.now.logged = ap length (sym same_log) ∙ held.count in
+        omega arith
+      where
+        below : (most count : ℕ) → nat_le most count ≡ false → count < most
+        below most count h = grind (arith, nat_tests)
+
   module _ (first old new : Held R P) {before : List (Item R P)} (book : IsBook is first old before) (same : opening_of is new ≡ opening_of is old) (held : IsHeld is new) where
     module _ (chair who : ℕ) (guard : Option ℕ) (command : Command) (receipt : Receipt) where
       call : Entry
@@ -102,10 +119,19 @@ module _ {R P : Type 0} (is : R → Behaviour P) where
           ∙ ap (λ w. w.limits.log) (same ∙ book.opened)
       full (inr w) is_log_full = absurd (let clash : No Memory ≡ No LogFull = sym w.replies ∙ is_log_full in cc)
 
-      pub acts_so : Acts is old new (entry chair who guard command receipt.reply) ⊎ Wants is old new receipt.reply → receipt.at ≡ length new.log
+      shorter_log : Acts is old new call ⊎ Wants is old new receipt.reply → TellsMemoryLast is old who guard command receipt.reply
+          → receipt.reply ≡ No Memory → length old.log < (opening_of is first).limits.log
+      unfolding call
+      shorter_log (inl a) last wanting =
+          absurd (none_wanted old new (last wanting).first who guard command (a.acts ∙ ap (λ r. record { world = world_of is new.now; reply = r }) wanting))
+      shorter_log (inr w) last wanting =
+          subst (λ (o : World P). length old.log < o.limits.log) (same ∙ book.opened) (shorter old new (last wanting).first held w.world w.log)
+
+      pub acts_so : Acts is old new (entry chair who guard command receipt.reply) ⊎ Wants is old new receipt.reply
+          → TellsMemoryLast is old who guard command receipt.reply → receipt.at ≡ length new.log
           → IsAct is who guard command before (items first new.log) receipt
       unfolding call
-      acts_so did at =
+      acts_so did last at =
           let more = logs did in
           record {
             first = first;
@@ -116,6 +142,7 @@ module _ {R P : Type 0} (is : R → Behaviour P) where
             legal = subst (λ l. IsLegal (opening_of is first) l) more (subst (λ w. IsLegal w new.log) (same ∙ book.opened) held.legal);
             at = at ∙ ap length more;
             full = full did;
+            room = shorter_log did last;
           }
 
       -- the call is added, or nothing

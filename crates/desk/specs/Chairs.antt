@@ -1,5 +1,5 @@
 -- Chairs of a desk, and what its calls do to what they know.
-use Rattle.std.specs.Prelude.{ℕ, ◌+◌, ◌≡◌, ◌≤◌, ◌⊎◌, List, Option, Result, length}
+use Rattle.std.specs.Prelude.{ℕ, ◌+◌, ◌<◌, ◌≡◌, ◌≤◌, ◌⊎◌, List, Option, Result, length}
 use Rattle.frames.specs.Behaviour.{Behaviour}
 use Rattle.schedule_trie.specs.declared.refusal.Refusal.{Refusal}
 use Rattle.schedule_trie.specs.declared.refusal.Refusal.TheVariants.{LogFull, Memory}
@@ -52,7 +52,7 @@ module _ {R P : Type 0} where
   module _ (is : R → Behaviour P) (first : Held R P) where
     -- A command makes a legal history: the one that was found, and this call under the chair's number with this reply, unless the reply isn't
     -- logged. The chair has then seen it, and the call is its own. The reply is that of the world after what was found, or Memory; LogFull
-    -- comes only where the history is as long as the limit
+    -- comes only where the history is as long as the limit, and Memory only where it is shorter
     pub record Received (who : ℕ) (guard : Option ℕ) (command : Command) (v w : View (Item R P)) (receipt : Receipt) : Type 0 where
       pub found : List Entry
       pub finds : Finds v found
@@ -63,6 +63,7 @@ module _ {R P : Type 0} where
           ⊎ (receipt.reply ≡ No Memory)
       pub at : receipt.at ≡ length (seen w)
       pub full : receipt.reply ≡ No LogFull → length found ≡ (opening_of is first).limits.log
+      pub room : receipt.reply ≡ No Memory → length found < (opening_of is first).limits.log
       pub shares : w.shares ≡ v.shares
       pub told : w.told ≡ v.told
 

@@ -1,5 +1,5 @@
 -- What the works at a desk's turn promise: of the list before and after, and of the answer.
-use Rattle.std.specs.Prelude.{ℕ, ◌≡◌, ◌⊎◌, Bool, List, Option, Some, None, IsSome, Result, Ok, Err, length}
+use Rattle.std.specs.Prelude.{ℕ, ◌<◌, ◌≡◌, ◌⊎◌, Bool, List, Option, Some, None, IsSome, Result, Ok, Err, length}
 use Rattle.std.specs.Arc.{arc_value}
 use Rattle.std.specs.Global.{Vec}
 use Rattle.frames.specs.Behaviour.{Behaviour}
@@ -72,7 +72,7 @@ module _ {R P : Type 0} (E : R → R → Bool) (is : R → Behaviour P) where
 
 module _ {R P : Type 0} (is : R → Behaviour P) where
   -- A command, brought by some chair, finds a legal history and leaves it with the call at its end, unless the call isn't logged; it is
-  -- then legal and as long as was told. LogFull comes where it is as long as the limit
+  -- then legal and as long as was told. LogFull comes where it is as long as the limit, and Memory only where it is shorter
   pub record IsAct (who : ℕ) (guard : Option ℕ) (command : Command) (before after : List (Item R P)) (receipt : Receipt) : Type 0 where
     pub first : Held R P
     pub found : List Entry
@@ -82,6 +82,7 @@ module _ {R P : Type 0} (is : R → Behaviour P) where
     pub legal : IsLegal (opening_of is first) (logged (entry chair who guard command receipt.reply) found)
     pub at : receipt.at ≡ length (logged (entry chair who guard command receipt.reply) found)
     pub full : receipt.reply ≡ No LogFull → length found ≡ (opening_of is first).limits.log
+    pub room : receipt.reply ≡ No Memory → length found < (opening_of is first).limits.log
 
   -- A reading finds a legal history and leaves it. It tells of its length, and of the world after it
   pub record IsReading (tells : ℕ → World P → Type 0) (before after : List (Item R P)) : Type 0 where

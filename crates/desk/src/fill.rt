@@ -86,8 +86,8 @@ where
         self.fill_with(rt, alloc, chair, branch, thieves, &NoGate)
     }
 
-    /// Fills as `fill` does. Each job is offered to the gate by the thread that is about to run it, while the turn is free: the gate may
-    /// wait, and may take the turn by another chair.
+    /// Fills as `fill` does. Each job of a plan is offered to the gate, with all that follow it, by the thread that is about to run
+    /// them, while the turn is free: the gate may wait, and may take the turn by another chair.
     ///
     /// # Errors
     ///

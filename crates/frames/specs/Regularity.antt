@@ -59,9 +59,11 @@ pub record AlwaysReads {P : Type 0} (b : Behaviour P) (Says : Known → ℕ → 
   pub refuses_none : (value : ℕ) (steps : List Step) → value < b.values → AllFit b steps → NoneRefused (recorded b value steps)
   pub each_read : (value : ℕ) (steps : List Step) → value < b.values → AllFit b steps → EachRead Says (initially value) (recorded b value steps)
 
+-- a register is safe: of each returned read that no write overlaps, the value is that of the last write before it
 abbrev pub IsSafe : {P : Type 0} → Behaviour P → Type 0
 IsSafe b = AlwaysReads b FreshAlone
 
+-- a register is regular: each returned read gives the value of the last write before it, or of one that overlaps it
 abbrev pub IsRegular : {P : Type 0} → Behaviour P → Type 0
 IsRegular b = AlwaysReads b NotStray
 

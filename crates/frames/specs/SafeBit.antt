@@ -67,6 +67,7 @@ safe_acts (at.WriteEnd v) = record { kind = WriteEnd; cell = 0 }
 safe_acts at.ReadStart = record { kind = ReadStart; cell = 0 }
 safe_acts at.ReadEnd = record { kind = ReadEnd; cell = 0 }
 
+-- the safe bit as a register of its one bit
 abbrev pub safe_behaviour : Behaviour SafePoint
 safe_behaviour = record {
   size = record { cell = 1; word = 0 };

@@ -290,7 +290,7 @@ fn all_idle(alloc: Global, processes: u32) -> Result<Vec<Parked>, AllocError>
 {
     let mut all = Vec::with_capacity(alloc, processes as usize)?;
     for _ in 0..processes {
-        all.push(Parked::idle())?;
+        all.push_reserved(Parked::idle());
     }
     Ok(all)
 }

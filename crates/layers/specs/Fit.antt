@@ -24,6 +24,7 @@ size_fits t b = nat_le (t.parts * b.size.cell) MOST_CELLS && nat_le (t.parts * b
 abbrev pub refusal_below : {Task P : Type 0} → Table Task → Behaviour P → Option LayerError
 refusal_below t b = if limits_hold t && kind_fits t b then (if size_fits t b then None else Some TooManyBits) else Some BadSize
 
+-- a refusal's number
 abbrev pub number_of : LayerError → ℕ
 number_of BadSize = 1
 number_of TooManyBits = 2

@@ -3,6 +3,7 @@ use Rattle.std.specs.Prelude.{ℕ, ◌<◌, ◌^◌, List, length, slice_set, sl
 use Rattle.safe_bit.specs.declared.Cell.{Cell}
 use Rattle.safe_bit.specs.Actions.{idle_cell}
 
+-- bit cells and words
 pub record Memory : Type 0 where
   pub cells : List Cell
   pub words : List ℕ

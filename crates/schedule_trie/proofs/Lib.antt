@@ -44,6 +44,7 @@ pub mod LengthsAfter
 pub mod LimbLists
 pub mod LimbLaws
 pub mod LimbsLawful
+pub mod LimbsKept
 pub mod LimbCounts
 pub mod LoadSteps
 pub mod OwnParts

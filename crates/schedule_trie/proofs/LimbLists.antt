@@ -22,7 +22,7 @@ by_order i n P below same above = by (nat_lt i n) refl
     by true e = below (grind (arith, nat_tests))
     by false e = other (nat_lt n i) refl (grind (arith, nat_tests))
 
-turned : (x y : ℕ) → nat_eq x y ≡ nat_eq y x
+pub turned : (x y : ℕ) → nat_eq x y ≡ nat_eq y x
 turned x y = by (nat_eq x y) (nat_eq y x) refl refl
   where
     by : (b c : Bool) → nat_eq x y ≡ b → nat_eq y x ≡ c → nat_eq x y ≡ nat_eq y x

@@ -52,7 +52,7 @@ place_of_cell x (s ∷ xs) h =
     (λ e. (0, s, refl, sym e)) (λ r. let p = place_of_cell x xs r in (suc p.0, p.1, p.2, p.3))
 
 module _ {X : Type 0} (test : X → Bool) where
-  passes_at : (xs : List X) (k : ℕ) (s : X) → slice_get xs k ≡ Some s → k < prefix_len test xs → test s ≡ true
+  pub passes_at : (xs : List X) (k : ℕ) (s : X) → slice_get xs k ≡ Some s → k < prefix_len test xs → test s ≡ true
   passes_at [] k s e h = cc
   passes_at (x ∷ xs) k s e h = by (passes_at xs) (test x) refl k e h
     where

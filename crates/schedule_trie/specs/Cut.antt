@@ -146,6 +146,7 @@ pub record IsCut {T : Type 0} (c : Cut T) : Type 0 where
   pub live : (k : ℕ) → IsSome (piece_at c.pieces k) → (i : ℕ) × (has k (keys_in c.strands i) ≡ true)
   pub shares : SharesAbove c.strands
 
+-- the note of a piece, where there is a piece and it has one
 abbrev pub note_of : {T : Type 0} → Option (Piece T) → Option T
 note_of None = None
 note_of (Some p) = p.note

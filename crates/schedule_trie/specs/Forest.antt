@@ -56,6 +56,7 @@ opened limits steps = if nat_lt limits.cells (length steps) then Err Full else O
 abbrev pub index_of : List Branch → List ℕ → Option ℕ
 index_of branches name = position (pointwise nat_eq name) (map name_of branches)
 
+-- the cells of a branch by its place in the order of making; none where there is no such branch
 abbrev pub slots_in : List Branch → ℕ → List Slot
 slots_in [] i = []
 slots_in (b ∷ bs) zero = b.slots

@@ -11,6 +11,7 @@ pub mod Forks
 pub mod Releases
 pub mod Copies
 pub mod Limbs
+pub mod Renumbering
 pub mod LimbRows
 pub mod Loads
 pub mod Marks

@@ -128,10 +128,5 @@ fn is_letter(byte: u8) -> bool
 fn are_letters_or_digits(bytes: &[u8]) -> bool
     ensures { result ≡ list_all is_letter_or_digit bytes.now }
 {
-    for byte in bytes {
-        if !(is_letter(*byte) || (b'0' <= *byte && *byte <= b'9')) {
-            return false;
-        }
-    }
-    true
+    bytes.iter().all(|byte| is_letter(*byte) || (b'0' <= *byte && *byte <= b'9'))
 }

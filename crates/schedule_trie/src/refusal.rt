@@ -7,24 +7,38 @@ use std::alloc::AllocError;
 use std::fmt;
 use thiserror::Error;
 
-/// Why a call is refused, or a line is none.
+/// Why a call is refused. Each has a number, its own for good, and the name that it has here.
 #[derive(Clone, Copy, Debug, PartialEq, Eq, Error)]
 pub enum Refusal {
+    /// No branch has this name.
     NoBranch,
+    /// A branch has the new one's name.
     NameTaken,
+    /// The new name hasn't the form of one: 1 to 16 bytes, a lower-case letter, then such letters or digits.
     BadName,
+    /// The branch is shorter than this place; for a step to be removed or replaced, no longer than it.
     NoPlace,
+    /// More cells would be made than may be.
     Full,
+    /// The branch to be dropped is the only one.
     LastBranch,
+    /// There are as many branches as may be.
     TooManyBranches,
+    /// The step doesn't fit the register: its process, or its value, or who may write and read.
     BadStep,
+    /// A cursor stands on the branch to be dropped.
     Occupied,
+    /// The break to be cleared isn't set.
     NoBreak,
+    /// There is no such session, or it hasn't joined.
     NoSession,
-    /// With the edit count.
+    /// A guard isn't the edit count, which is told.
     Newer(u64),
+    /// As many commands are logged as may be.
     LogFull,
+    /// A line of a script is no call.
     BadLine,
+    /// Memory was refused.
     Memory,
 }
 

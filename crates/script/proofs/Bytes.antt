@@ -1,16 +1,14 @@
 -- The bytes of words, and of the text that joins them.
-use Rattle.std.proofs.Common.{◌≡◌, ◌==◌, ℕ, ◌+◌, ◌*◌, ◌<◌, ◌≤◌, ◌^◌, Bool, true, false, cond, ◌&&◌, nat_le, nat_lt, List, [], ◌∷◌, length, map, refl, ap, ◌∙◌, arith, length-append}
+use Rattle.std.proofs.Common.{◌≡◌, ◌==◌, ℕ, ◌+◌, ◌*◌, ◌<◌, ◌≤◌, ◌^◌, Bool, true, false, cond, ◌&&◌, nat_le, nat_lt, List, [], ◌∷◌, ◌++◌, length, map, refl, sym, ap, ◌∙◌, subst, arith, length-append}
 use Rattle.std.specs.List.{list_all, onto_first, join_with_byte}
 use Rattle.std.specs.Char.{is_ascii_digit}
 use Rattle.std.specs.Fmt.{decimal}
-use Rattle.std.specs.Str.Parse.{digits_value}
 use Rattle.std.specs.Prelude.{Some}
 use Rattle.std.proofs.lemmas.Bool.{and_parts, and_from}
 use Rattle.std.proofs.lemmas.Bool.Decides.{nat_tests}
-use Rattle.std.proofs.lemmas.Option.{cond_some}
-use Rattle.words.specs.Words.{words, number, is_number}
+use Rattle.words.specs.Words.{words, number}
 use Rattle.words.proofs.Digits.{digit_bounds}
-use Rattle.words.proofs.Numbers.{digits-decimal, number-decimal}
+use Rattle.words.proofs.Numbers.{decimal-number, digits-decimal, nine_digits, digit_first}
 use Rattle.words.proofs.Texts.{all_weaker, all_append, is_not, cut_at, no_cut}
 use Rattle.script.specs.Lines.{is_plain}
 use Rattle.script.specs.Spelling.{Word, spelled, is_visible, is_sound}
@@ -72,15 +70,6 @@ sound_words (x ∷ xs) h k =
 
 -- ---- sound words
 
-short_number : (w : List ℕ) (n : ℕ) → number w ≡ Some n → length w ≤ 9
-short_number [] n h = absurd cc
-short_number (d ∷ ds) n h =
-    let a = cond_some (is_number (d ∷ ds)) (digits_value 10 (d ∷ ds)) n h in
-    let b = and_parts _ (list_all is_ascii_digit (d ∷ ds)) a.0 in
-    let c = and_parts (nat_le (length ds) 8) _ b.0 in
-    let few : length ds ≤ 8 = le_is (length ds) 8 c.0 in
-    omega arith
-
 decimal_digits : (n : ℕ) → nat_lt n (10 ^ 9) ≡ true → list_all is_ascii_digit (decimal n) ≡ true
 decimal_digits n h = digits-decimal n (lt_is n (10 ^ 9) h)
 
@@ -88,7 +77,7 @@ decimal_visible : (n : ℕ) → nat_lt n (10 ^ 9) ≡ true → list_all is_visib
 decimal_visible n h = all_weaker is_ascii_digit is_visible digit_is_visible (decimal n) (decimal_digits n h)
 
 decimal_short : (n : ℕ) → nat_lt n (10 ^ 9) ≡ true → length (decimal n) ≤ 9
-decimal_short n h = short_number (decimal n) n (number-decimal n (lt_is n (10 ^ 9) h))
+decimal_short n h = nine_digits n (lt_is n (10 ^ 9) h)
 
 word_visible : (x : Word) → is_sound x ≡ true → list_all is_visible (spelled x) ≡ true
 word_visible (Text t) h = (and_parts (nat_le 1 (length t) && nat_le (length t) 16) (list_all is_visible t) h).1
@@ -138,22 +127,6 @@ short-join x (y ∷ ys) h =
 
 -- ---- a text that begins with a number
 
-abbrev begins_with_digit : List ℕ → Bool
-begins_with_digit [] = false
-begins_with_digit (b ∷ bs) = is_ascii_digit b
-
-first_digit : (w : List ℕ) (n : ℕ) → number w ≡ Some n → begins_with_digit w ≡ true
-first_digit [] n h = absurd cc
-first_digit (d ∷ ds) n h =
-    let a = cond_some (is_number (d ∷ ds)) (digits_value 10 (d ∷ ds)) n h in
-    let b = and_parts _ (list_all is_ascii_digit (d ∷ ds)) a.0 in
-    (and_parts (is_ascii_digit d) (list_all is_ascii_digit ds) b.1).0
-
-joined_digit : (w : List ℕ) (ws : List (List ℕ)) → begins_with_digit w ≡ true → begins_with_digit (join_with_byte 32 (w ∷ ws)) ≡ true
-joined_digit [] ws h = absurd cc
-joined_digit (d ∷ ds) [] h = h
-joined_digit (d ∷ ds) (v ∷ vs) h = h
-
 no_comment : (b : ℕ) → is_ascii_digit b ≡ true → (b == 35) ≡ false
 no_comment b h = let d = digit_bounds b h in grind (arith, nat_tests, d)
 
@@ -164,9 +137,12 @@ pub record Speaks (text : List ℕ) : Type 0 where
   pub same : text ≡ first ∷ others
   pub plain : (first == 35) ≡ false
 
+speaks_so : (d : ℕ) (ds : List ℕ) (ws : List (List ℕ)) → is_ascii_digit d ≡ true → Speaks (join_with_byte 32 ((d ∷ ds) ∷ ws))
+speaks_so d ds [] h = record { first = d; others = ds; same = refl; plain = no_comment d h }
+speaks_so d ds (v ∷ vs) h = record { first = d; others = ds ++ 32 ∷ join_with_byte 32 (v ∷ vs); same = refl; plain = no_comment d h }
+
 pub speaks : (w : List ℕ) (ws : List (List ℕ)) (n : ℕ) → number w ≡ Some n → Speaks (join_with_byte 32 (w ∷ ws))
-speaks w ws n h = by (join_with_byte 32 (w ∷ ws)) (joined_digit w ws (first_digit w n h))
-  where
-    by : (text : List ℕ) → begins_with_digit text ≡ true → Speaks text
-    by [] k = absurd cc
-    by (b ∷ bs) k = record { first = b; others = bs; same = refl; plain = no_comment b k }
+speaks w ws n h =
+    let a = decimal-number w n h in
+    let d = digit_first n a.0 in
+    subst (λ (x : List ℕ). Speaks (join_with_byte 32 (x ∷ ws))) (sym (a.1 ∙ d.3)) (speaks_so d.0 d.1 ws d.2)

@@ -63,5 +63,6 @@ answer_to memory n line.Blank w = record { world = w; text = [] }
 answer_to memory n line.Bad w = record { world = w; text = bad_line_text n }
 answer_to memory n (line.Call c) w = answer_call memory c w
 
+-- what a line is answered, by its number and its text, refused memory or not, and the world that it leaves
 abbrev pub answer_line : {P : Type 0} → Bool → ℕ → List ℕ → World P → Answered (World P)
 answer_line memory n text w = answer_to memory n (read_line text) w

@@ -31,6 +31,7 @@ pub record Staged (R P : Type 0) : Type 0 where
   pub edits : ℕ
   pub logged : ℕ
 
+-- the world of a stage: what its chart, its sessions and its counts tell, register and value first
 abbrev pub world_of : {R P : Type 0} → (R → Behaviour P) → Staged R P → World P
 world_of is s =
     record {
@@ -63,6 +64,7 @@ pub record Held (R P : Type 0) : Type 0 where
   pub log : List Entry
   pub room : ℕ
 
+-- the world that a book opened at, before its first command
 abbrev pub opening_of : {R P : Type 0} → (R → Behaviour P) → Held R P → World P
 opening_of is h = opening (is h.first.start.register) h.first.value h.now.limits (forest h.first.cut)
 

@@ -8,6 +8,7 @@ use Rattle.sessions.specs.declared.reply.Reply.TheVariants.{No}
 use Rattle.sessions.specs.World.{World}
 use Rattle.sessions.specs.Acts.{Acted, acted}
 
+-- a call as the log has it: under its chair, its session's number and its guard, with its command and its reply
 abbrev pub entry : ℕ → ℕ → Option ℕ → Command → Reply → Entry
 entry chair who guard c reply = record { chair = chair; who = who; if_at = guard; command = c; reply = reply }
 

@@ -124,6 +124,7 @@ pub(crate) fn any_behind(cursors: &[Option<Cursor>], place: u32) -> bool
     cursors.iter().any(|cursor| stands_behind(place, cursor))
 }
 
+/// Whether there is a cursor, and it stands behind a place.
 fn stands_behind(place: u32, cursor: &Option<Cursor>) -> bool
     ensures { result ≡ spec.stands_behind place cursor.now }
 {

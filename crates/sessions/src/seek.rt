@@ -18,6 +18,7 @@ ghost use Rattle.sessions.specs.Walks as spec;
 use crate::way::Way;
 use checkpoints::events::EventWalk;
 use checkpoints::run::Run;
+use checkpoints::slices::front;
 use cutoff::chart::Chart;
 use frames::config::Config;
 use frames::register::Register;
@@ -27,7 +28,6 @@ use schedule_trie::name::Name;
 use std::alloc::{AllocError, Global};
 use std::sync::Arc;
 use views::breakpoint::Break;
-use views::spot::front;
 
 /// A seek: the breaks that it looks for, its way, and the place from which it goes.
 #[derive(Clone, Copy)]
@@ -197,7 +197,7 @@ fn along_run<R: Register>(
 {
     if any_on_bit(search.breaks) {
         let config = run.entry().copy(alloc)?;
-        let steps = front(run.steps(), count);
+        let steps = front(run.steps(), count as usize);
         return Ok(along_steps(search, config, steps, progress.place, progress.found));
     }
     let events = run.events().front(count as usize);

@@ -209,6 +209,14 @@ impl Counts {
         Ok(Counts { offers })
     }
 
+    /// Whether a job has been offered.
+    fn has_offered(&self, index: usize) -> bool {
+        match self.offers.get(index) {
+            Some(offers) => offers.load(Ordering::SeqCst) > 0,
+            None => false,
+        }
+    }
+
     /// Whether each job was offered once.
     fn each_once(&self) -> bool {
         self.offers
@@ -243,59 +251,68 @@ fn any_number_of_thieves(rt: HostRuntime) -> Result<(), Fail> {
     Ok(())
 }
 
-/// A job that is refused memory, and counts how often it is run.
+/// A job that gives a number or is refused memory, and counts its runs that begin behind its own offer.
 #[derive(Drop)]
-struct Refused<'a> {
-    key: u32,
+struct Watched<'a> {
+    index: usize,
+    number: Option<u64>,
+    gate: &'a Counts,
     runs: &'a AtomicU64,
 }
 
-impl Job for Refused<'_> {
-    type Key = u32;
+impl Job for Watched<'_> {
+    type Key = usize;
 
     type Run = u64;
 
-    ghost named = { λ job. job.key };
+    ghost named = { λ job. job.index };
 
     ghost gives = { λ _ _. Unit {0} };
 
-    fn key(&self) -> u32 {
-        self.key
+    fn key(&self) -> usize {
+        self.index
     }
 
     fn run(&self, _alloc: Global) -> Result<u64, AllocError> {
-        self.runs.fetch_add(1, Ordering::SeqCst);
-        Err(AllocError)
+        if self.gate.has_offered(self.index) {
+            self.runs.fetch_add(1, Ordering::SeqCst);
+        }
+        self.number.ok_or(AllocError)
     }
 }
 
-/// Whether three jobs that are refused memory come to that, with so many thieves.
-fn all_refused<W: Threads + Wait + Sync>(
+/// How many runs behind their own offers three jobs have that give a number or are refused memory, with so many thieves.
+fn runs_of_three<W: Threads + Wait + Sync>(
     rt: &W,
     alloc: Global,
-    runs: &AtomicU64,
+    number: Option<u64>,
     thieves: u32,
-) -> Result<bool, AllocError>
+) -> Result<u64, AllocError>
     requires { thieves ≤ 4 }
 {
+    let gate = Counts::new(alloc, 3)?;
+    let runs = AtomicU64::new(0);
     let mut jobs = Vec::new(alloc);
-    for key in 0..3u32 {
-        jobs.push(Refused { key, runs })?;
+    for index in 0..3usize {
+        jobs.push(Watched {
+            index,
+            number,
+            gate: &gate,
+            runs: &runs,
+        })?;
     }
-    let all = Crew::run(rt, alloc, jobs, thieves, &NoGate)?;
-    Ok(
-        all.iter()
-            .all(|done| matches!(done.outcome, Outcome::NoMemory)),
-    )
+    Crew::run(rt, alloc, jobs, thieves, &gate)?;
+    Ok(runs.load(Ordering::SeqCst))
 }
 
-/// A job whose run is refused memory isn't run again.
+/// Each job is run once, and behind its own offer, also where it is refused memory.
 #[test]
-fn refused_jobs_run_once(rt: HostRuntime) -> Result<(), Fail> {
+fn each_job_runs_once_behind_its_offer(rt: HostRuntime) -> Result<(), Fail> {
     for thieves in [0, 2] {
-        let runs = AtomicU64::new(0);
-        assert!(rt; all_refused(&rt, rt.alloc(), &runs, thieves)?);
-        assert_eq!(rt; runs.load(Ordering::SeqCst), 3);
+        for number in [Some(1), None] {
+            let runs = runs_of_three(&rt, rt.alloc(), number, thieves)?;
+            assert_eq!(rt; runs, 3);
+        }
     }
     Ok(())
 }

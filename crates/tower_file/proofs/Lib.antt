@@ -10,4 +10,3 @@ pub mod BenchAgain
 pub mod BenchAnswers
 pub mod LimbNames
 pub mod TowerNames
-pub mod Lines

@@ -11,6 +11,7 @@ pub record Bench : Type 0 where
   pub spec : TowerSpec
   pub limbs : List Limb
 
+-- the bench of a tower and limbs
 abbrev pub bench_of : TowerSpec → List Limb → Bench
 bench_of t limbs = record { spec = t; limbs = limbs }
 

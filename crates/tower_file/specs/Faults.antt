@@ -4,6 +4,7 @@ use Rattle.tower_file.specs.declared.fault.FaultKind.{FaultKind}
 use Rattle.tower_file.specs.declared.fault.FaultKind.TheVariants.{NotAscii, BadHeader, UnknownTower, BadField, BadStep, BadSize, BadBranch, Tangled, Memory}
 use Rattle.tower_file.specs.declared.fault.FileFault.{FileFault}
 
+-- a fault's number, and its name
 abbrev pub number : FaultKind → ℕ
 number NotAscii = 10
 number BadHeader = 11

@@ -28,6 +28,7 @@ module _ {E : Type 0} where
   abbrev pub released : View E → View E
   released v = record v { holds = false }
 
+  -- a view that was told of so many calls
   abbrev pub told_of : View E → ℕ → View E
   told_of v n = record v { told = n }
 
@@ -65,6 +66,7 @@ module _ {E : Type 0} (by : E → ℕ) where
   abbrev pub kept : List Bool → View E → View E
   kept given v = record v { shares = without v.shares given; calls = filter (λ e. not (has given (by e))) v.calls }
 
+  -- what is handed on with shares: these, and the calls that were made under them
   abbrev pub handed : List Bool → View E → View E
   handed given v = record v { shares = given; calls = filter (λ e. has given (by e)) v.calls }
 

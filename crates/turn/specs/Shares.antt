@@ -6,6 +6,7 @@ use Rattle.std.specs.List.{range_with_len}
 abbrev pub has : List Bool → ℕ → Bool
 has shares i = slice_index_or shares i false
 
+-- all sixteen are there
 abbrev pub HasAll : List Bool → Type 0
 HasAll shares = (i : ℕ) → i < 16 → has shares i ≡ true
 

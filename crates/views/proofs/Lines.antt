@@ -1,8 +1,7 @@
 -- Texts that are pushed one after another.
-use Rattle.std.proofs.Common.{◌≡◌, ◌∙◌, ℕ, ◌+◌, ◌<◌, ◌≤◌, List, ◌++◌, length, get_or, take, drop, sym, ap, append_assoc}
+use Rattle.std.proofs.Common.{◌≡◌, ◌∙◌, ℕ, ◌+◌, ◌<◌, ◌≤◌, List, ◌++◌, length, get_or, drop, sym, ap, append_assoc}
 use Rattle.std.specs.Prelude.{OnOk, Result}
-use Rattle.std.specs.List.{flat_map}
-use Rattle.std.proofs.lemmas.List.{append-nil, drop_all, drop_more, flat_map_more, take_all, take_more}
+use Rattle.std.proofs.lemmas.List.{append-nil, drop_all, drop_more}
 use Rattle.std.proofs.lemmas.Result.{on_ok_weaker}
 use Rattle.views.specs.Numbered.{numbered}
 
@@ -17,18 +16,6 @@ pub piece_last : {T E : Type 0} (r : Result T E) (out pieces now piece text whol
 piece_last r out pieces now piece text whole new so_far same all ok =
     let end : pieces ++ piece ≡ whole = ap (λ l. pieces ++ l) same ∙ sym all in
     on_ok_weaker r (λ h. piece_more out pieces now piece new so_far h ∙ ap (λ l. out ++ l) end) ok
-
--- the texts so far, with that of one item more
-pub texts_more : {X : Type 0} (text : X → List ℕ) (xs : List X) (i : ℕ) (d : X) (out now new : List ℕ) → i < length xs
-    → now ≡ out ++ flat_map text (take i xs) → new ≡ now ++ text (get_or xs i d)
-    → new ≡ out ++ flat_map text (take (i + 1) xs)
-texts_more text xs i d out now new here so_far h =
-    h ∙ ap (λ l. l ++ text (get_or xs i d)) so_far ∙ flat_map_more text out (take i xs) (get_or xs i d)
-    ∙ ap (λ l. out ++ flat_map text l) (sym (take_more xs i d here))
-
-pub texts_all : {X : Type 0} (text : X → List ℕ) (xs : List X) (i : ℕ) (out now : List ℕ) → length xs ≤ i
-    → now ≡ out ++ flat_map text (take i xs) → now ≡ out ++ flat_map text xs
-texts_all text xs i out now done so_far = so_far ∙ ap (λ l. out ++ flat_map text l) (take_all i xs done)
 
 -- where those still to come make it the whole: one line more, and all lines
 pub lines_more : {X : Type 0} (line : ℕ → X → List ℕ) (xs : List X) (i : ℕ) (d : X) (now new whole : List ℕ)

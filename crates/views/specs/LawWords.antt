@@ -28,6 +28,7 @@ pub record AlwaysInWords {P : Type 0} (b : Behaviour P) (Says : (history : List 
   pub refuses_none : (value : ℕ) (steps : List Step) → value < b.values → AllFit b steps → NoneRefused (recorded b value steps)
   pub each_read : (value : ℕ) (steps : List Step) → value < b.values → AllFit b steps → (r : ReturnedRead (recorded b value steps)) → Says (recorded b value steps) value r
 
+-- a register that is safe, and one that is regular, in Lamport's words
 abbrev pub IsSafeInWords : {P : Type 0} → Behaviour P → Type 0
 IsSafeInWords b = AlwaysInWords b (λ history initial r. FreshIfAlone initial r)
 

@@ -27,6 +27,7 @@ page_at b kind.Pending head c events = Pending (pending_page b head c)
 page_at b kind.History head c events = History (record { head = head; events = events })
 page_at b (kind.Verdict value) head c events = Verdict (verdict_page head value events)
 
+-- a page's text, as the session with this number is answered
 abbrev pub page_text : ℕ → Page → List ℕ
 page_text session (State page) = state_text session page
 page_text session (Process page) = process_text session page

@@ -7,8 +7,9 @@ ghost use Rattle.views.specs.declared.lens.TheConstants.{PLACES};
 ghost use Rattle.views.specs.Lenses.{IsAt};
 
 use crate::run_place::RunPlace;
-use crate::spot::{front, make};
+use crate::spot::make;
 use checkpoints::run::Run;
+use checkpoints::slices::front;
 use frames::config::Config;
 use frames::register::Register;
 use lru::LruCache;
@@ -176,6 +177,9 @@ fn advanced<R: Register>(run: &Run<R>, made: u32, count: u32, config: Config<R>)
     ensures { IsAt R.is run.now count result }
 {
     let mut config = config;
-    make(&mut config, &front(run.steps(), count)[made as usize..]);
+    make(
+        &mut config,
+        &front(run.steps(), count as usize)[made as usize..],
+    );
     config
 }

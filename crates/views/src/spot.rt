@@ -1,6 +1,6 @@
 //! What a settled place shows: the configuration that a run comes to, and the events of runs.
 
-ghost use Rattle.std.specs.Prelude.{◌≡◌, ◌≤◌, IfOk, length, map, take};
+ghost use Rattle.std.specs.Prelude.{◌≡◌, ◌≤◌, IfOk, length, map};
 ghost use Rattle.frames.specs.Configuration.{replayed};
 ghost use Rattle.frames.specs.Recorded.{AllFit, indexed};
 ghost use Rattle.cutoff.specs.Fitting.{part_of};
@@ -48,11 +48,4 @@ pub fn history_of<R: Register>(
         index = walk.push_indexed(index, &mut all)?;
     }
     Ok(all)
-}
-
-/// The first `count` items; all where there are fewer.
-pub fn front<T>(items: &[T], count: u32) -> &[T]
-    ensures { result.now ≡ take count items.now }
-{
-    &items[..items.len().min(count as usize)]
 }

@@ -44,7 +44,7 @@ pub invariant_of-push : goal.invariant_of-push
 invariant_of-push g c =
     let b = g.R.Behaves.is c.args.start.now.register in
     let end = c.descend-missed.result.1.now in
-    let list = c.in_ok-followers.ensures ∙ ap (spec.followers c.args.trie.now) (c.first_few.ensures ∙ ap (take c.args.most) c.keys_behind.ensures) in
+    let list = c.in_ok-followers.ensures ∙ ap (spec.followers c.args.trie.now) (c.front-later.ensures ∙ ap (take c.args.most) c.keys_behind.ensures) in
     let fit = subst (FollowersFit b) (sym list) (followers_fit b c.args.trie.now c.args.most c.in-Some.key c.args.keys.now c.requires.fits) in
     let there = subst (λ x. FollowersFit x c.in_ok-followers.followers) (sym (g.met.R.Register.alike end.register c.args.start.now.register c.descend-missed.ensures.own)) fit in
     subst (λ e. FollowersFit (g.R.Behaves.is e.register) c.in_ok-followers.followers) (sym (entry_is c.args.trie.now c.in-Some.key end c.in_ok-job.job c.in_ok-job.ensures)) there
@@ -63,6 +63,6 @@ returns-clause-follow g c =
     let b = g.R.Behaves.is c.args.start.now.register in
     let end = c.descend-missed.result.1.now in
     let ends = subst (λ m. Descends E b c.args.trie.now c.args.start.now c.args.keys.now m end) c.in-Some.is c.descend-missed.ensures.ends in
-    let list = c.in_ok-followers.ensures ∙ ap (spec.followers c.args.trie.now) (c.first_few.ensures ∙ ap (take c.args.most) c.keys_behind.ensures) in
+    let list = c.in_ok-followers.ensures ∙ ap (spec.followers c.args.trie.now) (c.front-later.ensures ∙ ap (take c.args.most) c.keys_behind.ensures) in
     followers_added c.args.trie.now c.in-Some.key end c.push.new.self.items c.args.chains.now.items _ c.in_ok-push.ensures.items c.in_ok-job.ensures c.args.most c.requires.follow c.requires.branch.0 c.args.keys.now c.requires.branch.1
     (missed_has E b c.args.trie.now c.args.start.now end c.args.keys.now c.in-Some.key ends) list

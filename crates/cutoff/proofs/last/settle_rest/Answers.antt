@@ -74,8 +74,8 @@ returns-then-last-eq0-clause-settles g c = λ i count place left.
 pub returns-then-last-eq0-clause-keeps : goal.returns-then-last-eq0-clause-keeps
 returns-then-last-eq0-clause-keeps g c = λ i count place left. (c.loop-segment.invariant.going i count place left).1.walk.keeps
 
-pub keys_behind-requires-clause-there : goal.keys_behind-requires-clause-there
-keys_behind-requires-clause-there g c =
+pub keys_down_to-requires-clause-there : goal.keys_down_to-requires-clause-there
+keys_down_to-requires-clause-there g c =
     let r = c.requires.left in
     let on = c.loop-segment.invariant.going r.0 r.1 r.2 r.3 in
     (r.0, subst (λ s. has c.args.key (keys_in s r.0) ≡ true) (sym on.1.walk.keeps.strands) r.3.rest.lies.there)
@@ -188,7 +188,7 @@ returns-clause-settles g c = λ i count place left.
 pub returns-clause-keeps : goal.returns-clause-keeps
 returns-clause-keeps g c = λ i count place left. (c.loop-below.invariant.going i count place left).1.walk.keeps
 
-pub keys_behind-requires-clause-cut : goal.keys_behind-requires-clause-cut
-keys_behind-requires-clause-cut g c =
+pub keys_down_to-requires-clause-cut : goal.keys_down_to-requires-clause-cut
+keys_down_to-requires-clause-cut g c =
     let r = c.requires.left in
     cut_kept c.args.trie.now c.loop-segment.trie _ (c.loop-segment.invariant.going r.0 r.1 r.2 r.3).1.walk.keeps c.requires.cut

@@ -1,7 +1,11 @@
-use Rattle.std.proofs.Common.{◌≡◌, replicate}
+use Rattle.std.proofs.Common.{◌≡◌, replicate, vec_len, vec_capacity}
 use Rattle.frames.specs.Parked.{idle}
 use Rattle.frames.proofs.config.all_idle.Given as goal
 
--- the processes before this one are idle
+-- the processes before this one are idle, and there is room for the others
 abbrev pub invariant-loop : goal.invariant-loop
-invariant-loop l = l.all.items ≡ replicate l.counter idle
+invariant-loop l = record {
+  idle : l.all.items ≡ replicate l.counter idle;
+  taken : vec_len l.all ≡ l.counter;
+  room : vec_capacity l.all ≡ l.processes;
+}

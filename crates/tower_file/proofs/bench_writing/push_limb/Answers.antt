@@ -1,9 +1,9 @@
 use Rattle.std.proofs.Common.{◌++◌, sym, ap, ◌∙◌, append_assoc, append-nil}
 use Rattle.std.specs.List.{flat_map}
 use Rattle.words.specs.Steps.{step_text}
+use Rattle.words.proofs.Pushed.{texts_more, texts_all}
 use Rattle.tower_file.specs.Spelling.{line}
 use Rattle.tower_file.specs.BenchSpelling.{branch_text}
-use Rattle.tower_file.proofs.Lines.{one_more, all_written}
 use Rattle.tower_file.proofs.bench_writing.push_limb.Goals as goal
 
 pub loop-step-init : goal.loop-step-init
@@ -11,13 +11,13 @@ loop-step-init c = c.in_ok-push_branch.ensures ∙ sym (append-nil (c.args.out.n
 
 pub loop-step-preserved : goal.loop-step-preserved
 loop-step-preserved c =
-    one_more (λ s. line (step_text s)) c.as_slice-step-items.result.now c.loop-step.step-index _ _ c.loop-step.invariant _ _ c.loop-step-test.true c.in_ok-push_step_line.ensures
+    texts_more (λ s. line (step_text s)) c.as_slice-step-items.result.now c.loop-step.step-index _ _ _ _ c.loop-step-test.true c.loop-step.invariant c.in_ok-push_step_line.ensures
 
 pub returns : goal.returns
 returns c =
     let front = c.args.out.now.items in
     let branch = line (branch_text c.args.limb.now) in
     let steps = flat_map (λ s. line (step_text s)) in
-    all_written (λ s. line (step_text s)) c.as_slice-step-items.result.now c.loop-step.step-index _ _ c.loop-step.invariant c.loop-step-test.false
+    texts_all (λ s. line (step_text s)) c.as_slice-step-items.result.now c.loop-step.step-index _ _ c.loop-step-test.false c.loop-step.invariant
     ∙ append_assoc front branch (steps c.as_slice-step-items.result.now)
     ∙ ap (λ l. front ++ (branch ++ steps l)) c.as_slice-step-items.ensures

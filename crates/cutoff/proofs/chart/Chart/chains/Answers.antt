@@ -4,7 +4,7 @@ use Rattle.schedule_trie.specs.Cut.{forest, if_lacks}
 use Rattle.cutoff.specs.Held.{keys_named}
 use Rattle.cutoff.specs.Plans.{Plans, keys_of}
 use Rattle.cutoff.specs.Chains.{AreChains, job_in}
-use Rattle.cutoff.proofs.Plannings.{keys_found, keys_some, lacks_none}
+use Rattle.cutoff.proofs.Plannings.{keys_found, keys_some, lacks_memory}
 use Rattle.cutoff.proofs.Kept.{passed_up}
 use Rattle.cutoff.proofs.chart.Chart.chains.Goals as goal
 
@@ -28,4 +28,4 @@ pub returns-in_err-chains-clause-err : goal.returns-in_err-chains-clause-err
 returns-in_err-chains-clause-err g c =
     let some = keys_some (index_of (forest c.self.inside.trie).branches c.args.branch.now) c.self.inside.trie.strands c.in_ok-keys.keys.items c.in_ok-keys.ensures.ok in
     passed_up c.from_residual-in_err-chains.result _
-    (λ e h. subst (λ v. if_lacks (index_of (forest v.cut).branches c.args.branch.now) ≡ e) c.self.view_is (lacks_none _ some ∙ sym h)) c.from_residual-in_err-chains.ensures.1
+    (λ e h. subst (λ v. if_lacks (index_of (forest v.cut).branches c.args.branch.now) ≡ e) c.self.view_is (lacks_memory _ some ∙ sym h)) c.from_residual-in_err-chains.ensures.1

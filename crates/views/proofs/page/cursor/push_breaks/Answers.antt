@@ -1,6 +1,6 @@
 use Rattle.std.proofs.lemmas.Result.{IfOk-from_err}
 use Rattle.views.specs.page.Cursor.{break_line}
-use Rattle.views.proofs.Lines.{texts_all, texts_more}
+use Rattle.words.proofs.Pushed.{texts_all, texts_more}
 use Rattle.views.proofs.page.cursor.push_breaks.Goals as goal
 
 pub loop-at-preserved : goal.loop-at-preserved

@@ -4,7 +4,7 @@ use Rattle.std.specs.List.{flat_map}
 use Rattle.std.proofs.lemmas.Result.{IfOk-from_err}
 use Rattle.frames.specs.declared.types.Event.{Event}
 use Rattle.views.specs.page.History.{event_line, history_lines}
-use Rattle.views.proofs.Lines.{texts_all, texts_more}
+use Rattle.words.proofs.Pushed.{texts_all, texts_more}
 use Rattle.views.proofs.page.history.push_events.Goals as goal
 
 pub loop-index-preserved : goal.loop-index-preserved

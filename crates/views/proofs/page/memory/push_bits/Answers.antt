@@ -3,7 +3,8 @@ use Rattle.std.specs.Prelude.{codes}
 use Rattle.std.specs.List.{flat_map}
 use Rattle.std.proofs.lemmas.Result.{IfOk-from_err, on_ok_weaker}
 use Rattle.views.specs.page.Memory.{bit_name}
-use Rattle.views.proofs.Lines.{piece_more, texts_all, texts_more}
+use Rattle.words.proofs.Pushed.{texts_all, texts_more}
+use Rattle.views.proofs.Lines.{piece_more}
 use Rattle.views.proofs.page.memory.push_bits.Goals as goal
 
 pub loop-bit-preserved : goal.loop-bit-preserved

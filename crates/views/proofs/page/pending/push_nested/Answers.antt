@@ -2,7 +2,8 @@ use Rattle.std.proofs.Common.{◌++◌, ◌∙◌, sym, ap}
 use Rattle.std.specs.List.{flat_map}
 use Rattle.std.proofs.lemmas.Result.{IfOk-from_err}
 use Rattle.views.specs.page.Pending.{frame_text, frames_text, inner_frame}
-use Rattle.views.proofs.Lines.{piece_more, texts_all, texts_more}
+use Rattle.words.proofs.Pushed.{texts_all, texts_more}
+use Rattle.views.proofs.Lines.{piece_more}
 use Rattle.views.proofs.page.pending.push_nested.Goals as goal
 
 pub loop-frame-preserved : goal.loop-frame-preserved

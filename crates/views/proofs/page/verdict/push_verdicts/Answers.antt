@@ -4,7 +4,7 @@ use Rattle.std.specs.List.{flat_map}
 use Rattle.std.proofs.lemmas.Result.{IfOk-from_err}
 use Rattle.frames.specs.declared.verdict.ReadVerdict.{ReadVerdict}
 use Rattle.views.specs.page.Verdict.{verdict_line, verdict_lines}
-use Rattle.views.proofs.Lines.{texts_all, texts_more}
+use Rattle.words.proofs.Pushed.{texts_all, texts_more}
 use Rattle.views.proofs.page.verdict.push_verdicts.Goals as goal
 
 pub loop-read-preserved : goal.loop-read-preserved

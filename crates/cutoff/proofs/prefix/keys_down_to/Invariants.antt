@@ -1,7 +1,7 @@
 use Rattle.std.proofs.Common.{◌≡◌, ◌+◌, ◌++◌, ◌≤◌, ℕ, true, Some, length, reverse}
 use Rattle.schedule_trie.specs.Cut.{has, keys_in}
 use Rattle.schedule_trie.specs.Climbs.{keys_to, keys_up_to, IsReached}
-use Rattle.cutoff.proofs.prefix.keys_behind.Given as goal
+use Rattle.cutoff.proofs.prefix.keys_down_to.Given as goal
 
 abbrev pub invariant-loop : goal.invariant-loop
 invariant-loop g l =
