@@ -24,6 +24,8 @@ REFUSED_WORDS = 2
 MOST_SECONDS = 300
 BYTES_SHOWN = 100
 BYTES_SHOWN_BEFORE = 30
+# What stands at a path that is saved to before a run.
+KEPT = b"as it was\n"
 
 # script: its path; words: those behind the program's name; output, errors and saved: bytes; saved: None: nothing is;
 # save: the path that it is saved to
@@ -130,6 +132,18 @@ def first_difference(wanted, got):
 def saved_by(case):
     """Returns what a run of a case has saved; None: nothing."""
     return read(case.save) if case.save and os.path.exists(case.save) else None
+
+
+def put_kept(path):
+    """Puts at a path what stands there before a run that saves to it, if it ends well."""
+    with open(path, "wb") as file:
+        file.write(KEPT)
+
+
+def fault_of_kept(path):
+    """Returns what is wrong at such a path behind a run that ended by a fault; None: nothing."""
+    is_kept = os.path.exists(path) and read(path) == KEPT
+    return None if is_kept else "the file is not as it was"
 
 
 def difference(case, ran):

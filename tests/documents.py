@@ -1,14 +1,15 @@
 """Documents: what they name is there, their commands print what they say, and their lines fit.
 
 A document is README.md, and each page of docs/, lessons/ and crates/NAME/README.md.
-- A fence ```console is run from the repository's top: each line `$ COMMAND`, and below it what
-  standard output then says.
+- A fence is closed before the next one begins. One ```console is run from the repository's top:
+  each line `$ COMMAND`, and below it what standard output then says.
 - A word between backticks that is a path is that of a file or a folder, or its end (`*` and NAME
   stand for any name); one that is a name of code (with `_`, `::`, `()` or a capital inside) occurs
-  in the sources.
+  in the sources, and a definition's by its file stands there: tests/definitions.py.
 - No line is longer than 100 columns, but in tables, and on a lesson's page, which is a screen wide.
 All names are of the repository's top, which is the current folder.
 """
+import collections
 import fnmatch
 import functools
 import glob
@@ -18,12 +19,14 @@ import shutil
 import subprocess
 
 import cases
+import definitions
 
 MOST_COLUMNS = 100
 SCREENS = re.compile(r"lessons/[^/]+/README\.md")
 SOURCES = (".rt", ".antt", ".py", ".c", ".txt", ".edit", ".html")
 SCRIPTS = ("towerbench", ".ci/*", "tools/*", "tests/*")
-FENCE = re.compile(r"^( *)```(\S*)$")
+FENCE = re.compile(r"^( *)```(.*)$")
+CONSOLE = "console"
 SPAN = re.compile(r"`([^`\n]+)`")
 PATH = re.compile(
     r"(?:\./)?[A-Za-z0-9_.*{},-]+(?:/[A-Za-z0-9_.*{},-]+)+/?"
@@ -34,6 +37,9 @@ WORD = re.compile(r"[A-Za-z_][A-Za-z0-9_]*")
 LINK = re.compile(r"\]\(([^)#\s]+)(?:#[^)\s]*)?\)")
 # What stands for any name in a path, and where paths of words begin that a reader makes himself.
 ANY_NAME, MADE_BY_A_READER = ("NAME", "KIND"), ("/tmp/", "out/", "page.html")
+
+# number: that of the fence's line; kind: its first word, or ""; margin: what stands before it
+Block = collections.namedtuple("Block", "number kind margin lines")
 
 
 def documents():
@@ -91,19 +97,21 @@ def is_code(text):
     return bool(NAME_OF_CODE.fullmatch(text) and re.search(r"_|::|\(\)|[a-z][A-Z]", text))
 
 
-def fault_of_span(text):
+def fault_of_span(text, crate):
+    """Returns what is wrong with what stands between backticks, in a section about the crate."""
     if text.startswith(MADE_BY_A_READER):
         return None
     if PATH.fullmatch(text):
         return None if is_there(text) else f"there is no {text}"
-    if is_code(text):
-        strange = [it for it in WORD.findall(text) if it not in words_of_sources()]
-        return f"no source has {strange[0]}" if strange else None
-    return None
+    words = WORD.findall(text) if is_code(text) else []
+    strange = [it for it in words if it not in words_of_sources()]
+    if strange:
+        return f"no source has {strange[0]}"
+    return definitions.fault_of_span(text, crate)
 
 
 def console_faults(lines, at, document):
-    """Returns the faults of a fence's commands; its first line has the number `at`."""
+    """Returns the faults of a block's commands; its first line has the number `at`."""
     faults, commands = [], []
     for line in lines:
         if line.startswith("$ "):
@@ -118,8 +126,33 @@ def console_faults(lines, at, document):
     return faults
 
 
-def faults_of_text(line, document):
-    found = [fault_of_span(it) for it in SPAN.findall(line)]
+def parted(lines):
+    """Returns the lines of the text, each with its number, the blocks, and what is wrong with their
+    fences, each with its number too."""
+    text, blocks, wrong, block = [], [], [], None
+    for number, line in enumerate(lines, 1):
+        mark = FENCE.match(line)
+        words = mark.group(2).split() if mark else []
+        if mark and block is None:
+            block = Block(number, words[0] if words else "", mark.group(1), [])
+        elif block is None:
+            text.append((number, line))
+        elif mark and not words:
+            blocks.append(block)
+            block = None
+        else:
+            wrong += [(number, "a fence begins where another isn't closed")] * bool(mark)
+            block.lines.append(line[len(block.margin) :])
+    wrong += [(block.number, "the fence isn't closed")] if block else []
+    return text, blocks, wrong
+
+
+def faults_of_text(line, document, crate):
+    """Returns the faults of a line of the text, in a section about the crate."""
+    found = [fault_of_span(it, crate) for it in SPAN.findall(line)]
+    if document == definitions.PAGE and line.startswith("|"):
+        # (what is told of a span is told once)
+        found += [it for it in definitions.faults_of_row(line, crate) if it not in found]
     links = [it for it in LINK.findall(line) if "://" not in it]
     folder = os.path.dirname(document)
     lost = [f"there is no {it}" for it in links if not os.path.exists(os.path.join(folder, it))]
@@ -130,22 +163,19 @@ def faults_of(document):
     """Returns all faults of a document, each with its line."""
     with open(document, encoding="utf-8") as file:
         lines = file.read().split("\n")
-    faults, fence = [], None
+    text, blocks, found = parted(lines)
     for number, line in enumerate(lines, 1):
         is_wide = SCREENS.fullmatch(document) or line.lstrip().startswith("|")
         if len(line) > MOST_COLUMNS and not is_wide:
-            faults.append(f"{document}:{number}: {len(line)} columns")
-        mark = FENCE.match(line)
-        if mark and fence is None:
-            fence = (mark.group(1), mark.group(2), number + 1, [])
-        elif mark:
-            if fence[1] == "console":
-                faults += console_faults(fence[3], fence[2], document)
-            fence = None
-        elif fence is not None:
-            fence[3].append(line[len(fence[0]) :])
-        else:
-            faults += [f"{document}:{number}: {it}" for it in faults_of_text(line, document)]
+            found.append((number, f"{len(line)} columns"))
+    crate = None
+    for number, line in text:
+        crate = definitions.crate_of(line, crate)
+        found += [(number, it) for it in faults_of_text(line, document, crate)]
+    faults = [f"{document}:{number}: {it}" for number, it in sorted(found)]
+    for it in blocks:
+        if it.kind == CONSOLE:
+            faults += console_faults(it.lines, it.number + 1, document)
     return faults
 
 

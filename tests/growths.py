@@ -9,9 +9,9 @@ out of a script is
 - a front of such answers, and the fault `towerbench: memory` with status 1;
 - nothing at all, and the fault of the file or of the opening, `40 Memory`, with status 1;
 - where the branches are saved, the whole answers, and the fault `towerbench: memory` with status 1.
-Nothing else. What is saved is what is saved with ample memory, unless a line was refused; where a run
-ends by a fault, the file is as it was. Rows through the calls of the desk and of the chart are tried by the built tests of
-their crates, which say themselves what may be answered.
+Nothing else. What is saved is what is saved with ample memory, unless a line was refused; where a
+run ends by a fault, the file is as it was. Rows through the calls of the desk and of the chart are
+tried by the built tests of their crates (tests/built.py), which say themselves what may be answered.
 """
 import collections
 import os
@@ -43,8 +43,8 @@ MORE_IN_A_ROW = {
     2: ("bench-file", "detach-replace", "shared-insert"),
     6: ("bench-file", "breaks", "script-lines", "shared-insert", "thousand-steps-filled"),
 }
-# A crate whose tests are tried where they are built, a test's name, and how many growths are refused
-# in a row: some make a call again that was refused memory, more often than that.
+# A crate whose tests are tried where no source is newer than they are, a test's name, and how many
+# growths are refused in a row: some make a call again that was refused memory, more often than so.
 TESTS = (
     ("thread_tests", "desks::growths::two_chairs_wanting_memory", (1,)),
     ("thread_tests", "desks::growths::two_chairs_asking_again", (1, 2, 6)),
@@ -56,8 +56,6 @@ TESTS = (
     ("branch_tests", "charts::growths::thousand_steps_wanting_memory", (1, 2, 6)),
     ("branch_tests", "charts::growths::last_run_of_thousand_steps_wanting_memory", (1, 2, 6)),
 )
-# What stands at the path that is saved to before a run.
-KEPT = b"as it was\n"
 SOURCE = "tests/refuse_growth.c"
 # Past the last growth, so many runs in a row refuse none: threads may grow more or less often.
 RUNS_PAST_THE_LAST = 8
@@ -183,17 +181,12 @@ def fault_of_run(ran, answers, refused):
     return None
 
 
-def put_back(path):
-    with open(path, "wb") as file:
-        file.write(KEPT)
-
-
 def fault_of_save(case, ran):
     """Returns how what a run saved isn't as it may be, or None."""
     if not case.save:
         return None
     if ran.status != 0:
-        return None if cases.saved_by(case) == KEPT else "the file is not as it was"
+        return cases.fault_of_kept(case.save)
     is_ample = ran.output == case.output
     return "something else is saved" if is_ample and cases.saved_by(case) != case.saved else None
 
@@ -214,7 +207,7 @@ def fault_of_script(trial, program, refuse, scratch):
 
     def work(number, environment, refused):
         if case.save:
-            put_back(case.save)
+            cases.put_kept(case.save)
         ran = cases.run(program, words, case.script, environment)
         wrong = fault_of_run(ran, ample, refused()) or fault_of_save(case, ran)
         if wrong:

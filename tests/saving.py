@@ -7,14 +7,12 @@ Of each row, example and lesson that ends well:
   operations, histories and verdicts, at their ends and halfway.
 Where a script ends by a fault, the file at the path is as it was.
 """
-import os
 import shutil
 import tempfile
 
 import cases
 
 LOOKS = ("state", "bits", "pending", "history", "verdict")
-KEPT = b"as it was\n"
 # A script of so many bytes is too long.
 SCRIPT_BYTES = 2**24
 SAVE = "--save"
@@ -69,12 +67,11 @@ def fault_of(name, program, scratch):
     if case.status == 0:
         return fault_of_saving(case, case.words, program, room)
     path = f"{room}/kept"
-    with open(path, "wb") as file:
-        file.write(KEPT)
+    cases.put_kept(path)
     fault = cases.difference(case, cases.run(program, [*case.words, SAVE, path], case.script))
     if fault:
         return f"with {SAVE}: {fault}"
-    return None if cases.read(path) == KEPT else "the file is not as it was"
+    return cases.fault_of_kept(path)
 
 
 def fault_of_place(name, program, scratch):

@@ -9,8 +9,8 @@ SECONDS = 3600
 MOST_CELLS, MOST_LOGGED, MOST_BRANCHES = 2**24, 2**20, 1024
 HEAD = b"tower 1\nsafe 0\n"
 STEP = b"r 1\n"
-# The most steps of a file of 2^26 bytes.
-FILE_STEPS = (2**26 - len(HEAD)) // len(STEP)
+# So many steps are a file's, so that the four inserts of a row take the last cells.
+FILE_STEPS = MOST_CELLS - 4
 LINES_AT_ONCE = 2**12
 FULL = "0: refused 24 Full"
 CELLS = ["--cells", str(MOST_CELLS)]

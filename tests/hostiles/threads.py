@@ -1,10 +1,10 @@
 """Fills by four workers, and chairs on threads of their own, under valgrind's memcheck and helgrind."""
-import os
 import re
 import shutil
 import subprocess
 
-from runs import SECONDS, TOP, ended, program, shown
+import built
+from runs import SECONDS, ended, program, shown
 
 UNDER_VALGRIND = 40 * SECONDS
 TOOLS = {
@@ -23,9 +23,10 @@ MOST_BYTES = 1 << 24
 TOO_LONG = b"towerbench: script too long\n"
 # A call that was refused: not what a history tells of an operation.
 REFUSED = re.compile(rb"^(?:line )?[0-9]+: refused ", re.MULTILINE)
-# The built tests of chairs, and those of them that are run, with the tools. Helgrind knows pthread's
-# locks alone, and would take what two threads do by turns for races: the turn is made of atomics.
-CHAIRS = f"{TOP}/crates/thread_tests/out/thread_tests_tests"
+# The crate with the tests of chairs, and those of them that are run, with the tools. Helgrind knows
+# pthread's locks alone, and would take what two threads do by turns for races: the turn is made of
+# atomics.
+CHAIRS = "thread_tests"
 TESTS = {
     "desks::rows::two_chairs": ("memcheck", "helgrind"),
     "desks::threads::two_threads": ("memcheck",),
@@ -100,12 +101,14 @@ def fills(counts, room):
 def chairs(counts, room):
     """Two chairs in one thread and in two, and at a gate, by the tests of them."""
     counts.begin("threads: two chairs")
-    if not os.access(CHAIRS, os.X_OK):
-        counts.skip("all of it", "the tests of thread_tests aren't built here (rt test)")
+    lack = built.lack_of(CHAIRS)
+    if lack:
+        counts.skip("all of it", lack)
         return
     for test, tools in TESTS.items():
         for tool in tools:
-            checked(counts, test, tool, [CHAIRS, test], b"", None, f"{room}/log")
+            words = [built.tests_of(CHAIRS), test]
+            checked(counts, test, tool, words, b"", None, f"{room}/log")
     counts.end()
 
 
