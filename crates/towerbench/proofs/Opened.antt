@@ -1,6 +1,8 @@
 -- What a run over a file comes to, from what one over the tower and the branches that it says comes to.
-use Rattle.std.proofs.Common.{◌≡◌, ◌≤◌, ℕ, Bool, true, false, cond, nat_lt, arith, refl, List, [], Option, Some, None, Result, Ok, Err, subst, sym, ap, ◌∙◌, inr}
+use Rattle.std.proofs.Common.{◌≡◌, ◌≤◌, ℕ, Bool, true, false, cond, nat_lt, arith, refl, List, [], Option, Result, Ok, Err, subst, sym, ap, ◌∙◌, inr}
 use Rattle.std.specs.Prelude.{⊤, IfErr, IsOk}
+use Rattle.std.specs.declared.alloc.Global.{Global}
+use Rattle.std.specs.declared.vec.Vec.{Vec}
 use Rattle.std.specs.Result.{IsErrAnd}
 use Rattle.std.proofs.lemmas.Bool.Decides.{nat_tests}
 use Rattle.frames.specs.declared.types.Step.{Step}
@@ -69,9 +71,9 @@ none_within limits some = by (nat_lt limits.cells 0) (nat_lt limits.branches 1) 
     by false true e f = absurd (grind (arith, nat_tests))
     by false false e f = refl
 
-module _ (keeps : Bool) (file : Option (List ℕ)) (limits : Limits) where
+module _ (tells : Bool) (file : Option (List ℕ)) (limits : Limits) where
   -- where nothing is opened, nothing is read or written
-  pub unopened : (some : 1 ≤ limits.branches) (old before : Option (List ℕ)) (x : Fault) → IsUnopened file x → RanInto keeps file limits old old before before x
+  pub unopened : (some : 1 ≤ limits.branches) (old before : Option (List ℕ)) (x : Fault) → IsUnopened file x → RanInto tells file limits old old before before x
   unopened some old before (fault.File e) h = (h, (refl, refl))
   unopened some old before (fault.Refused r) h =
       let none : opened file ≡ Ok (one_branch (Safe 0) []) = ap opened h.0 in
@@ -83,13 +85,13 @@ module _ (keeps : Bool) (file : Option (List ℕ)) (limits : Limits) where
 
   -- and the fault is handed on
   pub unopened_so : (some : 1 ≤ limits.branches) (old before : Option (List ℕ)) (r : Result ⊤ Fault) (Is : Fault → Type 0) (e : Fault) → IsErrAnd r Is → ((x : Fault) → Is x → x ≡ e)
-      → IsUnopened file e → IfErr r (RanInto keeps file limits old old before before)
+      → IsUnopened file e → IfErr r (RanInto tells file limits old old before before)
   unopened_so some old before (Ok done) Is e k same h = tt
   unopened_so some old before (Err x) Is e k same h = unopened some old before x (subst (IsUnopened file) (sym (same x k)) h)
 
   module _ (old now before after : Option (List ℕ)) (b : Bench) (is : opened file ≡ Ok b) where
     -- a fault over what a file says is one over the file
-    pub over_open : (x : Fault) → FailsOver keeps limits b old now before after x → RanInto keeps file limits old now before after x
+    pub over_open : (x : Fault) → FailsOver tells limits b old now before after x → RanInto tells file limits old now before after x
     over_open (fault.File e) h = absurd h
     over_open (fault.Refused r) h = (b, (is, h))
     over_open (fault.Stream e) h = (b, (is, h))
@@ -109,11 +111,10 @@ unsaved file limits some old before kept (Err x) Is e k same h = by x (subst (Is
     by fault.Save h = absurd h
     by fault.Memory h = absurd h
 
--- what a run that keeps nothing comes to, clause by clause
+-- a run that has ended well is done
 module _ (limits : Limits) (b : Bench) (old now before after : Option (List ℕ)) where
-  pub done : (left : Option Bench) (keeps : Bool) → EndsOver keeps limits b old now before after (Ok left) → IsDone limits b old now before after
-  done None keeps h = h.1
-  done (Some left) keeps h = h.done
+  pub done : (tells : Bool) (bytes : Vec ℕ Global) → EndsOver tells limits b old now before after (Ok bytes) → IsDone limits b old now before after
+  done tells bytes h = h.1.done
 
 -- What a run from an opening comes to, by what was answered at its desk from the world before the first line on.
 module _ {R P : Type 0} (is : R → Behaviour P) (o : Opening R) (can : CanOpen is o) (w : World P) (at : w ≡ opening_world is o) where
@@ -168,7 +169,7 @@ module _ {R P : Type 0} (is : R → Behaviour P) (o : Opening R) (can : CanOpen 
       branches_at = subst (λ (l : Limits). l.branches ≤ 1024) (sym (ground.limits ∙ ap (λ (x : World P). x.limits) at)) can.limits.few_branches
 
 -- a fault of the streams, handed on
-pub stream_at : (limits : Limits) (b : Bench) (keeps : Bool) (old now before after : Option (List ℕ)) (r : Result (Option Bench) Fault) (Is : Fault → Type 0) (e : StreamFault)
-    → IsErrAnd r Is → ((x : Fault) → Is x → x ≡ fault.Stream e) → IsBroken limits b e old now before after → EndsOver keeps limits b old now before after r
-stream_at limits b keeps old now before after (Ok left) Is e k same h = absurd k
-stream_at limits b keeps old now before after (Err x) Is e k same h = subst (FailsOver keeps limits b old now before after) (sym (same x k)) h
+pub stream_at : (limits : Limits) (b : Bench) (tells : Bool) (old now before after : Option (List ℕ)) (r : Result (Vec ℕ Global) Fault) (Is : Fault → Type 0) (e : StreamFault)
+    → IsErrAnd r Is → ((x : Fault) → Is x → x ≡ fault.Stream e) → IsBroken limits b e old now before after → EndsOver tells limits b old now before after r
+stream_at limits b tells old now before after (Ok bytes) Is e k same h = absurd k
+stream_at limits b tells old now before after (Err x) Is e k same h = subst (FailsOver tells limits b old now before after) (sym (same x k)) h

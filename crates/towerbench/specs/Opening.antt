@@ -1,6 +1,8 @@
 -- What a run opens with, and what it comes to: the tower and the branches of its file, or a safe bit at 0 with one branch of no steps.
 use Rattle.std.specs.Prelude.{◌≡◌, ℕ, Bool, true, false, List, [], ◌∷◌, Option, Some, None, Result, Ok, Err, MatchOption, codes}
 use Rattle.std.specs.Io.KnownBytes.{Appends}
+use Rattle.std.specs.declared.alloc.Global.{Global}
+use Rattle.std.specs.declared.vec.Vec.{Vec}
 use Rattle.frames.specs.declared.types.Step.{Step}
 use Rattle.frames.specs.Behaviour.{Behaviour}
 use Rattle.frames.specs.SafeBit.{safe_behaviour}
@@ -95,19 +97,24 @@ pub record IsBroken (limits : Limits) (b : Bench) (fault : StreamFault) (old now
   pub broke : Breaks (course_on b limits).answering fault old now before after
 
 -- What a run over a bench comes to by a fault: its branches are refused as they are loaded, or a stream failed, or there was no memory to go
--- on; or no memory to tell of the branches, where what is left is kept, behind a run that ended well.
+-- on; or no memory to tell of the branches, where that is asked for, behind a run that ended well.
 abbrev pub FailsOver : Bool → Limits → Bench → Option (List ℕ) → Option (List ℕ) → Option (List ℕ) → Option (List ℕ) → Fault → Type 0
-FailsOver keeps limits b old now before after (fault.File e) = ⊥
-FailsOver keeps limits b old now before after (fault.Refused r) = IsRefused (loaded limits b.limbs) r × IsUntouched old now before after
-FailsOver keeps limits b old now before after (fault.Stream e) = IsBroken limits b e old now before after
-FailsOver keeps limits b old now before after fault.Save = ⊥
-FailsOver keeps limits b old now before after fault.Memory = (keeps ≡ true) × IsDone limits b old now before after
+FailsOver tells limits b old now before after (fault.File e) = ⊥
+FailsOver tells limits b old now before after (fault.Refused r) = IsRefused (loaded limits b.limbs) r × IsUntouched old now before after
+FailsOver tells limits b old now before after (fault.Stream e) = IsBroken limits b e old now before after
+FailsOver tells limits b old now before after fault.Save = ⊥
+FailsOver tells limits b old now before after fault.Memory = (tells ≡ true) × IsDone limits b old now before after
 
--- what it comes to: it has ended well, and left a bench where what is left is kept; or a fault
-abbrev pub EndsOver : Bool → Limits → Bench → Option (List ℕ) → Option (List ℕ) → Option (List ℕ) → Option (List ℕ) → Result (Option Bench) Fault → Type 0
-EndsOver keeps limits b old now before after (Ok None) = (keeps ≡ false) × IsDone limits b old now before after
-EndsOver keeps limits b old now before after (Ok (Some left)) = IsLeft limits b left old now before after
-EndsOver keeps limits b old now before after (Err e) = FailsOver keeps limits b old now before after e
+-- what is told of a bench that a run left: bytes that spell it, or no bytes where nothing is told
+abbrev pub IsTold : Bool → Bench → List ℕ → Type 0
+IsTold true left bytes = SpellsBench bytes left
+IsTold false left bytes = bytes ≡ []
+
+-- what it comes to: it has ended well, and this is told of the bench that it left; or a fault
+abbrev pub EndsOver : Bool → Limits → Bench → Option (List ℕ) → Option (List ℕ) → Option (List ℕ) → Option (List ℕ) → Result (Vec ℕ Global) Fault → Type 0
+EndsOver tells limits b old now before after (Ok bytes) =
+    (left : Bench) × IsLeft limits b left old now before after × IsTold tells left bytes.items
+EndsOver tells limits b old now before after (Err e) = FailsOver tells limits b old now before after e
 
 -- a run over a file, or over none, that ended well
 abbrev pub Ran : Option (List ℕ) → Limits → Option (List ℕ) → Option (List ℕ) → Option (List ℕ) → Option (List ℕ) → Type 0
@@ -132,15 +139,15 @@ IsUnopened file fault.Memory = ⊥
 
 -- the file that was opened, over which a run failed
 abbrev pub FailsOpen : Bool → Option (List ℕ) → Limits → Option (List ℕ) → Option (List ℕ) → Option (List ℕ) → Option (List ℕ) → Fault → Type 0
-FailsOpen keeps file limits old now before after e = (b : Bench) × ((opened file ≡ Ok b) × FailsOver keeps limits b old now before after e)
+FailsOpen tells file limits old now before after e = (b : Bench) × ((opened file ≡ Ok b) × FailsOver tells limits b old now before after e)
 
 -- what a run comes to by a fault: that of its file, where one is named; or one over the file that was opened
 abbrev pub RanInto : Bool → Option (List ℕ) → Limits → Option (List ℕ) → Option (List ℕ) → Option (List ℕ) → Option (List ℕ) → Fault → Type 0
-RanInto keeps file limits old now before after (fault.File e) = MatchOption file ⊥ (IsFileFault e) × IsUntouched old now before after
-RanInto keeps file limits old now before after (fault.Refused r) = FailsOpen keeps file limits old now before after (fault.Refused r)
-RanInto keeps file limits old now before after (fault.Stream e) = FailsOpen keeps file limits old now before after (fault.Stream e)
-RanInto keeps file limits old now before after fault.Save = ⊥
-RanInto keeps file limits old now before after fault.Memory = FailsOpen keeps file limits old now before after fault.Memory
+RanInto tells file limits old now before after (fault.File e) = MatchOption file ⊥ (IsFileFault e) × IsUntouched old now before after
+RanInto tells file limits old now before after (fault.Refused r) = FailsOpen tells file limits old now before after (fault.Refused r)
+RanInto tells file limits old now before after (fault.Stream e) = FailsOpen tells file limits old now before after (fault.Stream e)
+RanInto tells file limits old now before after fault.Save = ⊥
+RanInto tells file limits old now before after fault.Memory = FailsOpen tells file limits old now before after fault.Memory
 
 -- A run over a file, or over none, that ended well, and left what these bytes spell.
 pub record RanLeaving (file : Option (List ℕ)) (limits : Limits) (bytes : List ℕ) (old now before after : Option (List ℕ)) : Type 0 where

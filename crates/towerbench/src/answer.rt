@@ -57,16 +57,16 @@ where
     match read_line(line) {
         Line::Blank => Ok(()),
         Line::Bad => push_bad_line(out, number),
-        Line::Call(call) => answer_call(out, alloc, seat, &call),
+        Line::Call(call) => answer_call(alloc, seat, &call, out),
     }
 }
 
 /// Answers a call.
 fn answer_call<R: Register + Send + Sync, W: Threads + Wait + Sync>(
-    out: &mut Vec<u8>,
     alloc: Global,
     seat: &mut Seat<'_, R, W>,
     call: &Call,
+    out: &mut Vec<u8>,
 ) -> Result<(), AllocError>
 where
     R::Pending: Send + Sync,
@@ -80,18 +80,18 @@ where
             let reply = seat.act(alloc, session, *if_at, command);
             push_reply(out, session, &reply)
         }
-        Request::Look(query) => answer_look(out, alloc, seat, session, *query),
-        Request::Fill(branch) => answer_fill(out, alloc, seat, session, branch),
+        Request::Look(query) => answer_look(alloc, seat, session, *query, out),
+        Request::Fill(branch) => answer_fill(alloc, seat, session, branch, out),
     }
 }
 
 /// Answers a look.
 fn answer_look<R: Register, W: Wait>(
-    out: &mut Vec<u8>,
     alloc: Global,
     seat: &mut Seat<'_, R, W>,
     session: u32,
     query: Query,
+    out: &mut Vec<u8>,
 ) -> Result<(), AllocError>
     ensures text { let w = world_at R.is seat.old in OnOk result ((memory : Bool)
         × (out.new.items ≡ out.old.items
@@ -127,11 +127,11 @@ fn page_in<R: Register, W: Wait>(
 
 /// Answers a fill.
 fn answer_fill<R: Register + Send + Sync, W: Threads + Wait + Sync>(
-    out: &mut Vec<u8>,
     alloc: Global,
     seat: &mut Seat<'_, R, W>,
     session: u32,
     branch: &Name,
+    out: &mut Vec<u8>,
 ) -> Result<(), AllocError>
 where
     R::Pending: Send + Sync,

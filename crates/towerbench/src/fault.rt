@@ -32,8 +32,10 @@ pub enum Fault {
 /// A fault of the program: of reading its words or its file, of its run, or of printing the help.
 #[derive(Clone, Copy, Debug, PartialEq, Eq, Error)]
 pub enum ProgramFault {
+    /// The file that is named can't be read, is too long, or finds no memory; the script stays unread.
     #[error("{0}")]
     Source(SourceFault),
+    /// A fault of the run: of its file or branches, of the script's streams, of memory, or of saving.
     #[error("{0}")]
     Run(Fault),
     /// A write of the help failed, or took no bytes.

@@ -5,19 +5,34 @@ ghost use Rattle.std.specs.Prelude.{◌≡◌};
 use command_line::options::Options;
 use tower_file::BenchFile;
 
-/// A tower and its branches, the limits, whether what is left of the branches is told, and whether
-/// the process ends behind the run (`leave`).
+/// What becomes of a seat when its script has ended well; behind a fault it is dropped.
+#[derive(Clone, Copy)]
+pub enum Fate {
+    /// It is dropped: its process goes on, and has back the memory of the desk.
+    Dropped,
+    /// It is left to the end of the process, where the system takes back all that the desk holds at once.
+    Forgotten,
+}
+
+/// What is told of the branches that a script left.
+#[derive(Clone, Copy)]
+pub(crate) enum Telling {
+    /// Nothing.
+    Nothing,
+    /// The bench file that they are saved as.
+    Branches,
+}
+
+/// A tower and its branches, the limits, and what becomes of the seat.
 #[derive(Drop)]
 pub struct Setup {
     pub bench: BenchFile,
     pub options: Options,
-    pub keeps: bool,
-    pub is_last: bool,
+    pub fate: Fate,
 }
 
 impl Setup {
-    /// What a run is opened with where its process goes on behind it. `run_bench` and `run_leaving`
-    /// set `keeps`.
+    /// What a run is opened with where its process goes on behind it.
     pub(crate) fn new(bench: BenchFile, options: Options) -> Setup
         ensures bench { result.bench ≡ bench }
         ensures options { result.options ≡ options }
@@ -25,8 +40,7 @@ impl Setup {
         Setup {
             bench,
             options,
-            keeps: false,
-            is_last: false,
+            fate: Fate::Dropped,
         }
     }
 
@@ -35,9 +49,11 @@ impl Setup {
         ensures bench { result.bench ≡ bench }
         ensures options { result.options ≡ options }
     {
-        let mut setup = Setup::new(bench, options);
-        setup.is_last = true;
-        setup
+        Setup {
+            bench,
+            options,
+            fate: Fate::Forgotten,
+        }
     }
 }
 

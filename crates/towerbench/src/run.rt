@@ -1,6 +1,6 @@
 //! A run: the script comes from a reader, the answers go to a writer.
 
-ghost use Rattle.std.specs.Prelude.{◌≡◌, ◌<◌, ◌≤◌, true, false, OnOk, IfOk, IfErr};
+ghost use Rattle.std.specs.Prelude.{◌≡◌, ◌<◌, ◌≤◌, true, false, OnOk, OnErr, IfOk, IfErr};
 ghost use Rattle.std.specs.Option.{option_map};
 ghost use Rattle.frames.specs.declared.types.Step.{Step};
 ghost use Rattle.frames.specs.Configuration.{fits_step};
@@ -10,15 +10,15 @@ ghost use Rattle.tower_file.specs.Benches.{Bench, bench_of};
 ghost use Rattle.tower_file.specs.BenchSpelling.{SpellsBench};
 ghost use Rattle.tower_file.specs.Towers as towers;
 ghost use Rattle.command_line.specs.Ranges.{AreLimits, limits_of};
-ghost use Rattle.towerbench.specs.Opening.{EndsOver, FailsOver, IsDone, IsLeft, Ran, RanInto};
-ghost use Rattle.towerbench.specs.Openings.{Builds, EndsFrom};
+ghost use Rattle.towerbench.specs.Opening.{FailsOver, IsDone, IsLeft, IsTold, Ran, RanInto};
+ghost use Rattle.towerbench.specs.Openings.{Builds, EndsFrom, is_told};
 ghost use Rattle.towerbench.specs.Seats.{world_at};
 
 use crate::bench_source::open_file;
 use crate::fault::Fault;
-use crate::opening::{Opening, Setup};
+use crate::opening::{Fate, Opening, Setup, Telling};
 use crate::seat::Seat;
-use crate::serve::answer_all;
+use crate::serve::serve;
 use command_line::options::Options;
 use frames::register::{Behaves, Register};
 use frames::safe::Safe;
@@ -73,9 +73,7 @@ pub(crate) fn run_bench<H: Threads + Wait + Sync, R: Read, W: Write>(
         (R.remaining reader.old) (R.remaining reader.new)
         (W.contents writer.old) (W.contents writer.new)) }
 {
-    let mut setup = setup;
-    setup.keeps = false;
-    run_setup(rt, alloc, setup, reader, writer)?;
+    run_setup(rt, alloc, setup, Telling::Nothing, reader, writer)?;
     Ok(())
 }
 
@@ -96,42 +94,35 @@ pub(crate) fn run_leaving<H: Threads + Wait + Sync, R: Read, W: Write>(
         (R.remaining reader.old) (R.remaining reader.new)
         (W.contents writer.old) (W.contents writer.new)) }
 {
-    let mut setup = setup;
-    setup.keeps = true;
-    let Some(left) = run_setup(rt, alloc, setup, reader, writer)? else {
-        unreachable!();
-    };
-    match print_bench(alloc, &left) {
-        Ok(bytes) => Ok(bytes),
-        Err(AllocError) => Err(Fault::Memory),
-    }
+    run_setup(rt, alloc, setup, Telling::Branches, reader, writer)
 }
 
-/// Answers a script on a tower and its branches, and tells what it left where that is asked for.
+/// Answers a script on a tower and its branches, and gives the bytes that are told of what it left.
 fn run_setup<H: Threads + Wait + Sync, R: Read, W: Write>(
     rt: &H,
     alloc: Global,
     setup: Setup,
+    telling: Telling,
     reader: &mut R,
     writer: &mut W,
-) -> Result<Option<BenchFile>, Fault>
+) -> Result<Vec<u8>, Fault>
     requires limits { AreLimits setup.options }
-    ensures { EndsFrom setup
+    ensures { EndsFrom setup telling
         (R.remaining reader.old) (R.remaining reader.new)
         (W.contents writer.old) (W.contents writer.new) result }
 {
     match setup.bench.spec() {
         TowerSpec::Safe { init } => {
             let opening = Opening::new(Safe, init, setup);
-            begin(rt, alloc, opening, reader, writer)
+            begin(rt, alloc, opening, telling, reader, writer)
         }
         TowerSpec::Copies { readers, init } => {
             let opening = Opening::new(copies(readers), init, setup);
-            begin(rt, alloc, opening, reader, writer)
+            begin(rt, alloc, opening, telling, reader, writer)
         }
         TowerSpec::Regular { readers, init } => {
             let opening = Opening::new(regular(readers), init, setup);
-            begin(rt, alloc, opening, reader, writer)
+            begin(rt, alloc, opening, telling, reader, writer)
         }
         TowerSpec::Unary {
             values,
@@ -139,11 +130,11 @@ fn run_setup<H: Threads + Wait + Sync, R: Read, W: Write>(
             init,
         } => {
             let opening = Opening::new(unary(values, readers), init, setup);
-            begin(rt, alloc, opening, reader, writer)
+            begin(rt, alloc, opening, telling, reader, writer)
         }
         TowerSpec::Stamped { values, last } => {
             let opening = Opening::new(stamped(values, last), 0, setup);
-            begin_stamped(rt, alloc, opening, reader, writer)
+            begin_stamped(rt, alloc, opening, telling, reader, writer)
         }
         TowerSpec::Matrix {
             processes,
@@ -152,12 +143,8 @@ fn run_setup<H: Threads + Wait + Sync, R: Read, W: Write>(
             last_stamp,
         } => {
             let register = matrix(processes, values, last_tag, last_stamp);
-            let opening = Opening {
-                register,
-                value: 0,
-                setup,
-            };
-            begin_matrix(rt, alloc, opening, reader, writer)
+            let opening = Opening::new(register, 0, setup);
+            begin_matrix(rt, alloc, opening, telling, reader, writer)
         }
     }
 }
@@ -167,18 +154,19 @@ fn begin_stamped<H: Threads + Wait + Sync, R: Read, W: Write>(
     rt: &H,
     alloc: Global,
     opening: Opening<StampedTower>,
+    telling: Telling,
     reader: &mut R,
     writer: &mut W,
-) -> Result<Option<BenchFile>, Fault>
+) -> Result<Vec<u8>, Fault>
     requires value { opening.value < (⟦<StampedTower as Behaves>⟧.is opening.register).values }
     requires limits { AreLimits opening.setup.options }
     requires builds { Builds ⟦<StampedTower as Behaves>⟧.is opening.register opening.value
         opening.setup.bench.spec }
-    ensures { EndsFrom opening.setup
+    ensures { EndsFrom opening.setup telling
         (R.remaining reader.old) (R.remaining reader.new)
         (W.contents writer.old) (W.contents writer.new) result }
 {
-    begin(rt, alloc, opening, reader, writer)
+    begin(rt, alloc, opening, telling, reader, writer)
 }
 
 /// Answers a script on a matrix.
@@ -186,18 +174,19 @@ fn begin_matrix<H: Threads + Wait + Sync, R: Read, W: Write>(
     rt: &H,
     alloc: Global,
     opening: Opening<MatrixTower>,
+    telling: Telling,
     reader: &mut R,
     writer: &mut W,
-) -> Result<Option<BenchFile>, Fault>
+) -> Result<Vec<u8>, Fault>
     requires value { opening.value < (⟦<MatrixTower as Behaves>⟧.is opening.register).values }
     requires limits { AreLimits opening.setup.options }
     requires builds { Builds ⟦<MatrixTower as Behaves>⟧.is opening.register opening.value
         opening.setup.bench.spec }
-    ensures { EndsFrom opening.setup
+    ensures { EndsFrom opening.setup telling
         (R.remaining reader.old) (R.remaining reader.new)
         (W.contents writer.old) (W.contents writer.new) result }
 {
-    begin(rt, alloc, opening, reader, writer)
+    begin(rt, alloc, opening, telling, reader, writer)
 }
 
 /// Answers a script at a desk that is opened for it. The limbs are let go before anything is read.
@@ -205,58 +194,62 @@ fn begin<B: Register + Send + Sync, H: Threads + Wait + Sync, R: Read, W: Write>
     rt: &H,
     alloc: Global,
     opening: Opening<B>,
+    telling: Telling,
     reader: &mut R,
     writer: &mut W,
-) -> Result<Option<BenchFile>, Fault>
+) -> Result<Vec<u8>, Fault>
 where
     B::Pending: Send + Sync,
     requires value { opening.value < (B.is opening.register).values }
     requires limits { AreLimits opening.setup.options }
     requires builds { Builds B.is opening.register opening.value opening.setup.bench.spec }
-    ensures { EndsFrom opening.setup
+    ensures { EndsFrom opening.setup telling
         (R.remaining reader.old) (R.remaining reader.new)
         (W.contents writer.old) (W.contents writer.new) result }
 {
-    let keeps = opening.setup.keeps;
-    let is_last = opening.setup.is_last;
+    let fate = opening.setup.fate;
     let tower = opening.setup.bench.spec();
     let mut seat = Seat::open(rt, alloc, opening)?;
-    answer_all(alloc, &mut seat, reader, writer)?;
-    if !keeps {
-        leave(seat, is_last);
-        return Ok(None);
-    }
-    match left_at(alloc, &mut seat, tower) {
-        Ok(left) => {
-            leave(seat, is_last);
-            Ok(Some(left))
+    serve(alloc, &mut seat, reader, writer)?;
+    match tell(alloc, &mut seat, tower, telling) {
+        Ok(told) => {
+            leave(seat, fate);
+            Ok(told)
         }
         Err(AllocError) => Err(Fault::Memory),
     }
 }
 
-/// Leaves a seat behind a script that ended well; behind a fault `begin` drops it. Behind a last run
-/// nothing that its desk holds is given back piece by piece: the system takes it all as the process ends.
-fn leave<B: Register, H>(seat: Seat<'_, B, H>, is_last: bool) {
-    if is_last {
-        forget(seat);
+/// Leaves a seat behind a script that ended well.
+fn leave<B: Register, H>(seat: Seat<'_, B, H>, fate: Fate) {
+    match fate {
+        Fate::Dropped => {}
+        Fate::Forgotten => forget(seat),
     }
 }
 
-/// The tower that a seat's register is, and the branches as they are at the seat.
-fn left_at<B: Register, H: Wait>(
+/// What is told of the branches as they are at a seat, whose register is the tower.
+fn tell<B: Register, H: Wait>(
     alloc: Global,
     seat: &mut Seat<'_, B, H>,
     tower: TowerSpec,
-) -> Result<BenchFile, AllocError>
+    telling: Telling,
+) -> Result<Vec<u8>, AllocError>
     requires lawful { towers.is_lawful_tower tower ≡ true }
     requires alike { (s : Step)
         → towers.fits tower s ≡ fits_step (world_at B.is seat.old).tower s }
     requires cells { (world_at B.is seat.old).limits.cells ≤ MOST_CELLS_MADE }
     requires branches { (world_at B.is seat.old).limits.branches ≤ 1024 }
-    ensures { IfOk result (λ left.
-        left ≡ bench_of tower (limbs (world_at B.is seat.old).forest)) }
+    ensures told { IfOk result (λ bytes. IsTold (is_told telling)
+        (bench_of tower (limbs (world_at B.is seat.old).forest)) bytes.items) }
+    ensures fault { OnErr result (is_told telling ≡ true) }
 {
-    let limbs = seat.limbs(alloc)?;
-    Ok(BenchFile::new(tower, limbs))
+    match telling {
+        Telling::Nothing => Ok(Vec::new(alloc)),
+        Telling::Branches => {
+            let limbs = seat.limbs(alloc)?;
+            let left = BenchFile::new(tower, limbs);
+            print_bench(alloc, &left)
+        }
+    }
 }

@@ -1,7 +1,7 @@
 //! Serving a script at a desk.
 
 ghost use Rattle.std.specs.Prelude.{◌≡◌, OnOk, IfErr};
-ghost use Rattle.conversation.specs.Conversations.{IsAnswered, Leaves, Breaks};
+ghost use Rattle.conversation.specs.Conversations.{Leaves, Breaks};
 ghost use Rattle.conversation.specs.Scripts.{answers_to, IsAnswer};
 ghost use Rattle.script.specs.Answers.{answer_line};
 ghost use Rattle.towerbench.specs.Seats.{world_at};
@@ -16,28 +16,9 @@ use std::io::{Read, Write};
 use std::sync::Wait;
 use std::thread::Threads;
 
-/// Answers a script at a seat: the lines of each read before the next one. No answer depends on how many thieves help with fills.
+/// Answers a script at a seat: the lines of each read before the next one. The seat stays, at the world that they leave. No answer depends
+/// on how many thieves help with fills.
 pub fn serve<B: Register + Send + Sync, H: Threads + Wait + Sync, R: Read, W: Write>(
-    alloc: Global,
-    seat: Seat<'_, B, H>,
-    reader: &mut R,
-    writer: &mut W,
-) -> Result<(), StreamFault>
-where
-    B::Pending: Send + Sync,
-    ensures done { OnOk result (IsAnswered (answers_to answer_line (world_at B.is seat.entry))
-        (R.remaining reader.old) (R.remaining reader.new)
-        (W.contents writer.old) (W.contents writer.new)) }
-    ensures fault { IfErr result (λ e. Breaks (answers_to answer_line (world_at B.is seat.entry)) e
-        (R.remaining reader.old) (R.remaining reader.new)
-        (W.contents writer.old) (W.contents writer.new)) }
-{
-    let mut seat = seat;
-    answer_all(alloc, &mut seat, reader, writer)
-}
-
-/// Answers a script at a seat, which stays.
-pub(crate) fn answer_all<B: Register + Send + Sync, H: Threads + Wait + Sync, R: Read, W: Write>(
     alloc: Global,
     seat: &mut Seat<'_, B, H>,
     reader: &mut R,

@@ -31,6 +31,7 @@ begin_stamped-requires-clause-builds g c =
 
 pub begin_matrix-requires-clause-builds : goal.begin_matrix-requires-clause-builds
 begin_matrix-requires-clause-builds g c =
+    let o = c.new-opening-in-Matrix.result in
     let m = c.in-Matrix in
-    λ κs x. builds_as _ c.matrix-register.result 0 0 (matrix_tower m.processes m.values m.last_tag m.last_stamp) c.args.setup.bench.spec (Matrix m.processes m.values m.last_tag m.last_stamp)
-    c.matrix-register.ensures refl (sym m.is ∙ c.spec.ensures.tower) (λ s. refl) (λ limits ls. refl)
+    λ κs x. builds_as _ o.register o.value 0 (matrix_tower m.processes m.values m.last_tag m.last_stamp) o.setup.bench.spec (Matrix m.processes m.values m.last_tag m.last_stamp) (rw c.new-opening-in-Matrix.ensures.register c.matrix-register.ensures) c.new-opening-in-Matrix.ensures.value
+    (sym m.is ∙ c.spec.ensures.tower ∙ ap (λ (s : Setup). s.bench.spec) (sym c.new-opening-in-Matrix.ensures.setup)) (λ s. refl) (λ limits ls. refl)

@@ -1,12 +1,12 @@
 use Rattle.towerbench.specs.Seats.{world_at}
 use Rattle.towerbench.proofs.Benches.{have_fit, lawful_bench}
-use Rattle.towerbench.proofs.run.left_at.Goals as goal
+use Rattle.towerbench.proofs.run.tell.Goals as goal
 
-pub new-requires : goal.new-requires
-new-requires g c =
+pub new-left-requires : goal.new-left-requires
+new-left-requires g c =
     let w = world_at g.B.Behaves.is c.args.seat.now in
-    let saved = c.in_ok-limbs.ensures in
-    let limbs = c.in_ok-limbs.limbs.items in
+    let saved = c.in_ok-limbs-in-Branches.ensures in
+    let limbs = c.in_ok-limbs-in-Branches.limbs.items in
     record {
       lawful = lawful_bench c.args.tower limbs c.requires.lawful saved.some saved.lawful
           (have_fit c.args.tower w.tower c.requires.alike w.limits c.requires.branches c.requires.cells limbs saved.fit saved.near);
