@@ -6,6 +6,7 @@ A document is README.md, and each page of docs/, lessons/ and crates/NAME/README
 - A word between backticks that is a path is that of a file or a folder, or its end (`*` and NAME
   stand for any name); one that is a name of code (with `_`, `::`, `()` or a capital inside) occurs
   in the sources, and a definition's by its file stands there: tests/definitions.py.
+- docs/DECISIONS.md has a row for each page of docs/decisions/.
 - No line is longer than 100 columns, but in tables, and on a lesson's page, which is a screen wide.
 All names are of the repository's top, which is the current folder.
 """
@@ -35,6 +36,8 @@ PATH = re.compile(
 NAME_OF_CODE = re.compile(r"[A-Za-z_][A-Za-z0-9_]*(?:(?:::|\.)[A-Za-z_][A-Za-z0-9_]*)*(?:\(\))?")
 WORD = re.compile(r"[A-Za-z_][A-Za-z0-9_]*")
 LINK = re.compile(r"\]\(([^)#\s]+)(?:#[^)\s]*)?\)")
+# The page that has a row for each decision, and where these stand.
+LISTED, DECISIONS = "docs/DECISIONS.md", "docs/decisions/*/*.md"
 # What stands for any name in a path, and where paths of words begin that a reader makes himself.
 ANY_NAME, MADE_BY_A_READER = ("NAME", "KIND"), ("/tmp/", "out/", "page.html")
 
@@ -159,11 +162,18 @@ def faults_of_text(line, document, crate):
     return [it for it in found if it] + lost
 
 
+def unlisted(lines):
+    """Returns what is wrong where a decision has no row, each with the number of the last line."""
+    linked = {os.path.join("docs", it) for line in lines for it in LINK.findall(line)}
+    return [(len(lines), f"{it} has no row") for it in glob.glob(DECISIONS) if it not in linked]
+
+
 def faults_of(document):
     """Returns all faults of a document, each with its line."""
     with open(document, encoding="utf-8") as file:
         lines = file.read().split("\n")
     text, blocks, found = parted(lines)
+    found += unlisted(lines) if document == LISTED else []
     for number, line in enumerate(lines, 1):
         is_wide = SCREENS.fullmatch(document) or line.lstrip().startswith("|")
         if len(line) > MOST_COLUMNS and not is_wide:
