@@ -5,7 +5,7 @@ ghost use Rattle.std.specs.Prelude.{◌<◌, ◌≤◌};
 ghost use Rattle.schedule_trie.specs.Cut.{AreLimits};
 ghost use Rattle.schedule_trie.specs.declared.limits.TheConstants.{MOST_CELLS_MADE};
 
-use crate::given::{Branch, Change, Edit, GO, READ, edited_by, name, none_wrong};
+use crate::given::{Branch, Change, Edit, GO, GO_ON, READ, edited_by, name, none_wrong};
 use frames::types::Step;
 use schedule_trie::limits::Limits;
 use schedule_trie::name::Name;
@@ -192,6 +192,25 @@ fn first_wrong(rt: &impl Abort, alloc: Global) -> Result<Option<usize>, Refusal>
 #[test]
 fn cuts(rt: HostRuntime) {
     none_wrong(&rt, first_wrong(&rt, rt.alloc()));
+}
+
+/// A fork of all cells of `main` gets cells of its own, and then the last cell of `main` another step.
+const DETACH_REPLACE: [Edit; 3] = [
+    (Branch::Main, Change::Fork(2, Branch::A)),
+    (Branch::A, Change::Detach),
+    (Branch::Main, Change::Replace(1, GO_ON)),
+];
+
+/// Whether `main` has that step then, and is cut into one or two segments.
+fn has_the_new_step(rt: &impl Abort, alloc: Global) -> Result<bool, Refusal> {
+    let told = tried(rt, alloc, &[READ, GO], &DETACH_REPLACE)?;
+    let steps: &[Step] = &[READ, GO_ON];
+    Ok(told.steps.as_slice() == steps && (told.segments == 1 || told.segments == 2))
+}
+
+#[test]
+fn detach_replace(rt: HostRuntime) {
+    assert_eq!(rt; has_the_new_step(&rt, rt.alloc()), Ok(true));
 }
 
 /// The order in which 1,023 branches are dropped: from the first, from the last, or every seventh

@@ -3,5 +3,6 @@
 mod counting;
 mod growths;
 mod installs;
+mod late;
 mod lenses;
 mod rows;

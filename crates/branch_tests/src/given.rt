@@ -13,6 +13,9 @@ pub(crate) const READ: Step = Step::Read { p: 1 };
 /// Its next bit action, with choice 0.
 pub(crate) const GO: Step = Step::Go { p: 1, c: 0 };
 
+/// The same with choice 1.
+pub(crate) const GO_ON: Step = Step::Go { p: 1, c: 1 };
+
 pub(crate) fn name(rt: &impl Abort, text: &[u8]) -> Name {
     Name::new(text).expect(rt, "a short name")
 }
@@ -45,6 +48,7 @@ fn numbered(rt: &impl Abort, alloc: Global, number: u32) -> Name {
 #[derive(Clone, Copy)]
 pub(crate) enum Change {
     Insert(u32, Step),
+    Replace(u32, Step),
     /// A new branch gets the first cells.
     Fork(u32, Branch),
     Detach,
@@ -60,6 +64,7 @@ fn edited(rt: &impl Abort, alloc: Global, trie: &mut Trie<u32>, edit: Edit) -> R
     let branch = name_of(rt, alloc, branch);
     match change {
         Change::Insert(place, step) => trie.insert(alloc, &branch, place, step),
+        Change::Replace(place, step) => trie.replace(&branch, place, step),
         Change::Fork(place, fresh) => trie.fork(alloc, &branch, place, name_of(rt, alloc, fresh)),
         Change::Detach => trie.detach(alloc, &branch),
         Change::Drop => trie.drop_branch(&branch),

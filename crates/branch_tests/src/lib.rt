@@ -14,4 +14,6 @@ mod charts;
 #[cfg(test)]
 mod given;
 #[cfg(test)]
+mod late;
+#[cfg(test)]
 mod limbs;

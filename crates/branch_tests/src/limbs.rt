@@ -5,7 +5,7 @@ ghost use Rattle.schedule_trie.specs.Cut.{AreLimits};
 ghost use Rattle.schedule_trie.specs.Limbs.{IsLawful};
 ghost use Rattle.schedule_trie.specs.declared.limits.TheConstants.{MOST_CELLS_MADE};
 
-use crate::given::{Branch, Change, Edit, GO, READ, edited_by};
+use crate::given::{Branch, Change, Edit, GO, GO_ON, READ, edited_by};
 use frames::types::Step;
 use schedule_trie::limb::Limb;
 use schedule_trie::limits::Limits;
@@ -19,9 +19,6 @@ const WRITE: Step = Step::Write { p: 0, v: 1 };
 
 /// A write of 0 by process 0.
 const CLEAR: Step = Step::Write { p: 0, v: 0 };
-
-/// The next bit action of process 1, with choice 1.
-const GO_ON: Step = Step::Go { p: 1, c: 1 };
 
 /// Of a limb: its name, the branch that it is from, how many cells it shares, and its steps.
 type Row = (&'static [u8], u32, u32, &'static [Step]);

@@ -151,7 +151,7 @@ impl EventWalk<'_> {
     }
 
     /// Adds each event with the index of its step, where the first step has the index `from`, and
-    /// answers the index behind the last step. It fails also where there is no number for that.
+    /// answers the index after the last step.
     pub fn push_indexed(
         self,
         from: usize,
@@ -165,7 +165,12 @@ impl EventWalk<'_> {
         while let Some(told) = left.next() {
             push_at(all, index, told.first)?;
             push_at(all, index, told.second)?;
-            index = index.checked_add(1).ok_or(AllocError)?;
+            // More steps than there are indices are refused, since no memory holds them.
+            let Some(next) = index.checked_add(1) else {
+                all.reserve(usize::MAX)?;
+                unreachable!();
+            };
+            index = next;
         }
         Ok(index)
     }

@@ -1,1 +1,2 @@
 pub mod CommandLines
+mod Examples

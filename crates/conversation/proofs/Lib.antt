@@ -3,3 +3,4 @@ pub mod Fronts
 pub mod Tellings
 pub mod Known
 pub mod Turns
+mod Examples

@@ -4,7 +4,6 @@ pub mod Links
 pub mod Segments
 pub mod Walks
 pub mod Kept
-pub mod Descents
 pub mod Climbs
 pub mod Paths
 pub mod Prefixes
@@ -14,9 +13,10 @@ pub mod Lefts
 pub mod Lasts
 pub mod Installed
 pub mod Plannings
-pub mod Chainings
+pub mod Sights
 pub mod Commands
 pub mod Edited
 pub mod Marks
 pub mod LimbFits
 pub mod EarlyCutoff
+mod Examples

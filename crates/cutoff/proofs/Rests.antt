@@ -58,7 +58,7 @@ abbrev pub last_or : Option ℕ → List ℕ → Option ℕ
 last_or above [] = above
 last_or above (k ∷ ks) = last_or (Some k) ks
 
-last_or-last : (above : Option ℕ) (front : List ℕ) (k : ℕ) → last_or above (front ++ k ∷ []) ≡ Some k
+pub last_or-last : (above : Option ℕ) (front : List ℕ) (k : ℕ) → last_or above (front ++ k ∷ []) ≡ Some k
 last_or-last above [] k = refl
 last_or-last above (j ∷ front) k = last_or-last (Some j) front k
 

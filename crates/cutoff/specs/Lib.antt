@@ -5,6 +5,6 @@ pub mod Prefixes
 pub mod Held
 pub mod Edits
 pub mod Plans
+pub mod Sights
 pub mod Installs
-pub mod Chains
 pub mod EarlyCutoff

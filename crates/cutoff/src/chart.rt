@@ -11,14 +11,12 @@ ghost use Rattle.cutoff.specs.Fitting.{part_of};
 ghost use Rattle.cutoff.specs.Held.{IsSettled, KeepsOrFills, StepsFit, look};
 ghost use Rattle.schedule_trie.specs.Cut.{AreLimits, IsCut, IsBlank, forest, if_lacks};
 
-mod chains;
 mod edits;
 mod last;
 mod limbs;
 
-use crate::chain::jobs_of;
 use crate::install::{Installation, fits_down, has_segment};
-use crate::plan::Job;
+use crate::plan::{Job, plan_all};
 use crate::settle::{Spot, settle_along, take_number};
 use crate::stored::Stored;
 use checkpoints::run::Run;
@@ -150,9 +148,13 @@ impl<R: Register> Chart<R> {
         self.trie.branches()
     }
 
-    /// What a chart keeps by its type: its branches are a forest. It does nothing: callers learn this by its contract.
+    /// What a chart keeps by its type: its branches are a forest that is cut into segments, and they begin from the initial
+    /// configuration. It does nothing: callers learn this by its contract.
     pub fn held(&self)
-        ensures { IsForest (forest self.now.cut) }
+        ensures forest { IsForest (forest self.now.cut) }
+        ensures cut { IsCut self.now.cut }
+        ensures initial { self.now.start ≡ initial_configuration
+            (R.is self.now.start.register) self.now.start.register self.now.value }
     {
         self.trie.held()
     }
@@ -251,8 +253,10 @@ impl<R: Register> Chart<R> {
         ensures err { IfErr result
             (λ e. if_lacks (index_of (forest self.now.cut).branches branch.now) ≡ e) }
     {
-        let chains = self.chains(alloc, branch, 0)?;
-        let jobs = jobs_of(alloc, chains)?;
+        let Some(index) = self.trie.index(branch) else {
+            return Err(Refusal::NoBranch);
+        };
+        let jobs = plan_all(alloc, &self.trie, &self.start, self.mark, index)?;
         Ok(jobs)
     }
 

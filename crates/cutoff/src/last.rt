@@ -48,7 +48,7 @@ fn run_named<R: Register>(
 
 /// What the run that is stored at a segment comes to, and its number, if it has one. What all branches begin from, if no
 /// segment is named or no run is stored there.
-fn exit_named<'a, R: Register>(
+pub(crate) fn exit_named<'a, R: Register>(
     trie: &'a Trie<Stored<R>>,
     start: &'a Config<R>,
     key: Option<SegKey>,

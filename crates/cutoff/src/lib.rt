@@ -4,15 +4,13 @@
 //! A stored run is trusted only where it is looked at: an edit throws no run away but that of the segment that it touches.
 #![tactic(auto)]
 
-pub mod chain;
 pub mod chart;
 mod climb;
-mod descent;
-pub mod follower;
 pub mod install;
 pub mod last;
 pub mod laws;
 pub mod plan;
 mod prefix;
 pub mod settle;
+mod sight;
 mod stored;

@@ -1,12 +1,20 @@
-//! Jobs: segments that no stored run fits.
+//! Jobs: segments that no stored run fits, of each branch the first.
 
-ghost use Rattle.std.specs.Prelude.{◌≡◌, Some, IfOk, map};
+ghost use Rattle.std.specs.Prelude.{◌≡◌, ℕ, List, [], ◌∷◌, Option, None, Some, OnOk, IfOk, map};
+ghost use Rattle.frames.specs.Configuration.{Configuration};
 ghost use Rattle.frames.specs.Recorded.{AllFit};
 ghost use Rattle.schedule_trie.specs.Forest.{step_of};
+ghost use Rattle.schedule_trie.specs.Cut.{keys_in, forest, IsCut};
 ghost use Rattle.cutoff.specs.Fitting.{steps_at};
-ghost use Rattle.cutoff.specs.Plans.{job_of};
+ghost use Rattle.cutoff.specs.Held.{StepsFit};
+ghost use Rattle.cutoff.specs.Links.{IsLinked, alone};
+ghost use Rattle.cutoff.specs.Plans.{Descends, Planned, Plans, with_job, job_of, keys_of};
+ghost use Rattle.cutoff.specs.Prefixes.{IsMarked, come_to};
+ghost use Rattle.cutoff.specs.Sights.{AreSeen, ComesAbove, IsCome, IsUnseenPart, LooksBelow, sight_at, unseen};
 
-use crate::settle::segment_cells;
+use crate::last::exit_named;
+use crate::settle::{fitting, segment_cells};
+use crate::sight::{Sight, known, see};
 use crate::stored::Stored;
 use frames::config::Config;
 use frames::register::Register;
@@ -59,8 +67,169 @@ impl<R: Register> Job<R> {
     }
 }
 
+/// The jobs of a plan so far, and what it has seen of segments, by their keys.
+#[derive(Drop)]
+struct Planning<R: Register> {
+    jobs: Vec<Job<R>>,
+    seen: Vec<Sight>,
+}
+
+/// The jobs of the branch at an index, and then those of all branches. Each segment is visited once, and none that is above the
+/// mark.
+pub(crate) fn plan_all<R: Register>(
+    alloc: Global,
+    trie: &Trie<Stored<R>>,
+    start: &Config<R>,
+    mark: Option<SegKey>,
+    index: usize,
+) -> Result<Vec<Job<R>>, AllocError>
+    requires linked { (next : ℕ) × IsLinked R.PartialEq.eq start.now.register next None
+        (alone start.now) trie.now }
+    requires cut { IsCut trie.now }
+    requires marked { IsMarked R.PartialEq.eq R.is trie.now start.now mark }
+    requires fits { StepsFit (R.is start.now.register) (forest trie.now) }
+    ensures { IfOk result
+        (λ jobs. Plans R.PartialEq.eq (R.is start.now.register) trie.now start.now []
+        (keys_in trie.now.strands index ∷ map keys_of trie.now.strands) jobs.items) }
+{
+    let mut planning = Planning {
+        jobs: Vec::new(alloc),
+        seen: Vec::new(alloc),
+    };
+    plan_branch(alloc, trie, start, mark, index, &mut planning)?;
+    for other in 0..trie.branches() as usize {
+        plan_branch(alloc, trie, start, mark, other, &mut planning)?;
+    }
+    let Planning { jobs, .. } = planning;
+    Ok(jobs)
+}
+
+/// Adds the job of the branch at an index, unless stored runs fit it all or the segment is planned already.
+fn plan_branch<R: Register>(
+    alloc: Global,
+    trie: &Trie<Stored<R>>,
+    start: &Config<R>,
+    mark: Option<SegKey>,
+    index: usize,
+    planning: &mut Planning<R>,
+) -> Result<(), AllocError>
+    requires linked { (next : ℕ) × IsLinked R.PartialEq.eq start.now.register next None
+        (alone start.now) trie.now }
+    requires cut { IsCut trie.now }
+    requires marked { IsMarked R.PartialEq.eq R.is trie.now start.now mark }
+    requires fits { StepsFit (R.is start.now.register) (forest trie.now) }
+    requires seen { AreSeen R.PartialEq.eq R.is trie.now start.now planning.old.seen.items
+        planning.old.jobs.items }
+    ensures seen { OnOk result (AreSeen R.PartialEq.eq R.is trie.now start.now
+        planning.new.seen.items planning.new.jobs.items) }
+    ensures adds { OnOk result ((missed : Option ℕ) × (end : Configuration R R.Pending)
+        × Descends R.PartialEq.eq (R.is start.now.register) trie.now start.now
+        (keys_in trie.now.strands index) missed end
+        × (planning.new.jobs.items ≡ with_job planning.old.jobs.items
+        (job_of trie.now missed end))) }
+{
+    let (above_fits, keys) = unseen_keys(alloc, trie, mark, &planning.seen, index)?;
+    let mut fits = above_fits;
+    for key in &keys {
+        fits = visit(alloc, trie, start, *key, fits, planning)?;
+    }
+    Ok(())
+}
+
+/// The keys of a branch's segments that a plan hasn't seen and that don't come above the mark, in order; and whether stored runs
+/// fit down to right above them.
+fn unseen_keys<R: Register>(
+    alloc: Global,
+    trie: &Trie<Stored<R>>,
+    mark: Option<SegKey>,
+    seen: &[Sight],
+    index: usize,
+) -> Result<(bool, Vec<SegKey>), AllocError>
+    requires { IsCut trie.now }
+    ensures { IfOk result
+        (λ r. IsUnseenPart mark seen.now (keys_in trie.now.strands index) r.0 r.1.items) }
+{
+    let mut keys = Vec::new(alloc);
+    let mut at = trie.last_at(index);
+    while let Some(key) = at {
+        if let Some(fits) = known(mark, seen, key) {
+            keys.reverse();
+            return Ok((fits, keys));
+        }
+        keys.push(key)?;
+        at = trie.above(key);
+    }
+    keys.reverse();
+    Ok((true, keys))
+}
+
+/// Whether stored runs fit down to a segment that a plan hasn't seen, by whether they fit down to right above it. The first that
+/// none fits gets a job.
+fn visit<R: Register>(
+    alloc: Global,
+    trie: &Trie<Stored<R>>,
+    start: &Config<R>,
+    key: SegKey,
+    above_fits: bool,
+    planning: &mut Planning<R>,
+) -> Result<bool, AllocError>
+    requires linked { (next : ℕ) × IsLinked R.PartialEq.eq start.now.register next None
+        (alone start.now) trie.now }
+    requires cut { IsCut trie.now }
+    requires fits { AllFit (R.is start.now.register) (steps_at trie.now key) }
+    requires seen { AreSeen R.PartialEq.eq R.is trie.now start.now planning.old.seen.items
+        planning.old.jobs.items }
+    requires new { sight_at planning.old.seen.items key ≡ unseen }
+    requires comes { (jobs : List (Planned R R.Pending))
+        × ComesAbove R.PartialEq.eq R.is trie.now start.now jobs planning.old.jobs.items key
+        above_fits }
+    ensures seen { OnOk result (AreSeen R.PartialEq.eq R.is trie.now start.now
+        planning.new.seen.items planning.new.jobs.items) }
+    ensures others { OnOk result ((k : ℕ) → (k ≡ key → ⊥)
+        → sight_at planning.new.seen.items k ≡ sight_at planning.old.seen.items k) }
+    ensures comes { IfOk result (λ fits. (jobs : List (Planned R R.Pending))
+        → ComesAbove R.PartialEq.eq R.is trie.now start.now jobs planning.old.jobs.items key
+        above_fits
+        → IsCome R.PartialEq.eq R.is trie.now start.now jobs planning.new.jobs.items (Some key)
+        fits) }
+{
+    let above = trie.above(key);
+    if !above_fits {
+        see(&mut planning.seen, key, false)?;
+        return Ok(false);
+    }
+    let fits = look_below(alloc, trie, start, above, key, &mut planning.jobs)?;
+    see(&mut planning.seen, key, fits)?;
+    Ok(fits)
+}
+
+/// Whether a stored run fits a segment where the runs above it come to. If none does, its job is added.
+fn look_below<R: Register>(
+    alloc: Global,
+    trie: &Trie<Stored<R>>,
+    start: &Config<R>,
+    above: Option<SegKey>,
+    key: SegKey,
+    jobs: &mut Vec<Job<R>>,
+) -> Result<bool, AllocError>
+    requires linked { (next : ℕ) × IsLinked R.PartialEq.eq start.now.register next None
+        (alone start.now) trie.now }
+    requires fits { AllFit (R.is start.now.register) (steps_at trie.now key) }
+    ensures { IfOk result (λ fits. LooksBelow R.PartialEq.eq R.is trie.now
+        (come_to trie.now start.now above) key fits jobs.old.items jobs.new.items) }
+{
+    let (config, number) = exit_named(trie, start, above);
+    if let Some(stored) = fitting(trie, key, config, number) {
+        let _exit = stored.exit();
+        return Ok(true);
+    }
+    let job = job_at(alloc, trie, key, config)?;
+    jobs.push(job)?;
+    Ok(false)
+}
+
 /// The job of a segment where a walk has come to a configuration.
-pub(crate) fn job_at<R: Register>(
+fn job_at<R: Register>(
     alloc: Global,
     trie: &Trie<Stored<R>>,
     key: SegKey,

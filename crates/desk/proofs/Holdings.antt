@@ -1,5 +1,5 @@
 -- What a holding of a desk's turn tells its chair.
-use Rattle.std.proofs.Common.{◌≡◌, ℕ, ◌<◌, ◌≤◌, List, [], ◌++◌, length, Option, Some, None, Result, Ok, Err, IsSome, refl, sym, ap, subst, ◌∙◌, arith, append-nil, append_assoc}
+use Rattle.std.proofs.Common.{◌≡◌, ℕ, ◌<◌, ◌≤◌, List, [], ◌++◌, length, Option, Some, None, Result, Ok, Err, IsSome, IfOk, refl, sym, ap, subst, ◌∙◌, arith, append-nil, append_assoc}
 use Rattle.std.proofs.lemmas.List.{append_cancel_left}
 use Rattle.frames.specs.Behaviour.{Behaviour}
 use Rattle.schedule_trie.specs.declared.refusal.Refusal.{Refusal}
@@ -8,6 +8,7 @@ use Rattle.schedule_trie.specs.Cut.{if_lacks}
 use Rattle.schedule_trie.specs.Forest.{index_of}
 use Rattle.views.specs.declared.page.Page.{Page}
 use Rattle.views.specs.declared.query.Query.{Query}
+use Rattle.views.specs.Strays.{IsRegularOrAtomic, ShowsNoStray}
 use Rattle.turn.specs.declared.view.View.{View}
 use Rattle.turn.specs.Shares.{HasAll, number}
 use Rattle.turn.specs.Histories.{StartsWith, Holding}
@@ -17,14 +18,16 @@ use Rattle.sessions.specs.declared.reply.Reply.TheVariants.{No}
 use Rattle.sessions.specs.World.{World}
 use Rattle.sessions.specs.Held.{Held, opening_of}
 use Rattle.sessions.specs.Logs.{IsLegal, entry, is_logged, logged, world_after}
+use Rattle.sessions.proofs.Towers.{tower_after}
 use Rattle.desk.specs.declared.item.Item.{Item}
 use Rattle.desk.specs.declared.receipt.Receipt.{Receipt}
+use Rattle.desk.specs.declared.report.Report.{Report}
 use Rattle.desk.specs.Items.{made_under, calls_in, items}
 use Rattle.desk.specs.Histories.{IsHistory, seen, own}
-use Rattle.desk.specs.Works.{IsAct, IsReading, IsLook, IsAnswer, IsPaged, NeedsBranch}
-use Rattle.desk.specs.Chairs.{Finds, Stays, Received, Reads, Looked}
+use Rattle.desk.specs.Works.{IsAct, IsReading, IsLook, IsAnswer, ShowsNoStrayOf, IsPaged, NeedsBranch}
+use Rattle.desk.specs.Chairs.{Finds, Stays, Received, Reads, Looked, Filled}
 use Rattle.desk.proofs.Lists.{calls_as, calls_append, length_items, same_first, calls_begin}
-use Rattle.desk.proofs.Works.{paged_so}
+use Rattle.desk.proofs.Works.{paged_so, paged_no_stray}
 use Rattle.desk.proofs.Logged.{put, put_under, legal_found, logged_last}
 use Rattle.desk.proofs.Answering.{replies_so}
 
@@ -104,7 +107,7 @@ module _ {R P : Type 0} (is : R → Behaviour P) (first : Held R P) (v w : View 
         )
 
     -- what is told may be more than was asked
-    pub reads_more : (more : ℕ → World P → Type 0) → ((n : ℕ) (world : World P) → tells n world → more n world) → Reads is first tells v w → Reads is first more v w
+    reads_more : (more : ℕ → World P → Type 0) → ((n : ℕ) (world : World P) → tells n world → more n world) → Reads is first tells v w → Reads is first more v w
     reads_more more on r = record {
       found = r.found;
       finds = r.finds;
@@ -126,13 +129,27 @@ module _ {R P : Type 0} (is : R → Behaviour P) (first : Held R P) (v w : View 
       told = r.told;
     }
 
-  module _ (query : Query) (at : ℕ) (slip : Result Page Refusal) where
-    pub looked_so : IsHistory is first v.seen → Holding made_under (λ before after. IsLook is query before after at slip) v w → (result : Result Page Refusal)
-        → IsPaged slip result → Looked is first query v w (record { at = at; result = result }) × IsHistory is first w.seen
-    looked_so h held result paged =
-        let asked : ℕ → World P → Type 0 = λ n world. (at ≡ n) × IsAnswer world query slip in
+  module _ (query : Query) (at : ℕ) (slip : Result Page Refusal) (h : IsHistory is first v.seen) (held : Holding made_under (λ before after. IsLook is query before after at slip) v w)
+      (result : Result Page Refusal) (paged : IsPaged slip result) where
+    abbrev asked : ℕ → World P → Type 0
+    asked n world = (at ≡ n) × IsAnswer world query slip × ShowsNoStrayOf world slip
+
+    pub looked_so : Looked is first query v w (record { at = at; result = result }) × IsHistory is first w.seen
+    looked_so =
         let reads = reads_on asked h held in
         (reads_more asked (λ n world. (at ≡ n) × IsAnswer world query result) (λ n world told. (told.0, paged_so world query slip result paged told.1)) reads.0, reads.1)
+
+    pub looked_no_stray : IsRegularOrAtomic (opening_of is first).tower → IfOk result ShowsNoStray
+    looked_no_stray lawful =
+        let reads = (reads_on asked h held).0 in
+        paged_no_stray slip result paged (reads.answers.2 (subst IsRegularOrAtomic (sym (tower_after (opening_of is first) reads.found)) lawful))
+
+-- what is read first needs a branch, and what was seen stays then
+pub filled_so : {R P A : Type 0} (is : R → Behaviour P) (first : Held R P) (v u w : View (Item R P)) (branch : List ℕ) (planned : Result A Refusal) (result : Result Report Refusal)
+    → ((world : World P) → NeedsBranch branch world planned → NeedsBranch branch world result) → Reads is first (λ n world. NeedsBranch branch world planned) v u → Stays u w
+    → Filled is first branch v w result
+filled_so is first v u w branch planned result on reads stays =
+    (u, reads_more is first v u (λ n world. NeedsBranch branch world planned) (λ n world. NeedsBranch branch world result) (λ n world. on world) reads, stays)
 
 -- a branch that is there, though memory is wanting then
 pub wants_memory : {P A : Type 0} (B : Type 0) (world : World P) (branch : List ℕ) (x : A) → NeedsBranch {A = A} branch world (Ok x) → NeedsBranch {A = B} branch world (Err Memory)

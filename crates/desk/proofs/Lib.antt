@@ -5,5 +5,5 @@ pub mod Answering
 pub mod Works
 pub mod Holdings
 pub mod Fillings
-pub mod Chainings
 pub mod Beginnings
+mod Examples

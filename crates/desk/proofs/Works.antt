@@ -1,16 +1,16 @@
 -- What a book's calls do to the list behind the turn.
 use Rattle.std.proofs.Common.{◌≡◌, ◌⊎◌, ℕ, ◌<◌, ◌≤◌, Bool, true, false, cond, nat_le, List, [], ◌∷◌, ◌++◌, length, Option, Some, Result, Ok, Err, IsOk, IfOk, OnOk, IfErr, IsSome, refl, sym, ap, subst, ◌∙◌, arith, inl, inr}
 use Rattle.std.proofs.lemmas.Bool.Decides.{nat_tests}
-use Rattle.std.specs.Global.{Vec}
 use Rattle.std.specs.Result.{IsErrAnd}
 use Rattle.frames.specs.Behaviour.{Behaviour}
 use Rattle.schedule_trie.specs.declared.refusal.Refusal.{Refusal}
 use Rattle.schedule_trie.specs.declared.refusal.Refusal.TheVariants.{LogFull, Memory}
 use Rattle.schedule_trie.specs.Cut.{forest, if_lacks}
 use Rattle.schedule_trie.specs.Forest.{IsRefused, index_of}
-use Rattle.cutoff.specs.Chains.{Chained, AreChains}
 use Rattle.views.specs.declared.page.Page.{Page}
 use Rattle.views.specs.declared.query.Query.{Query}
+use Rattle.views.specs.Slips.{Slipped}
+use Rattle.views.specs.Strays.{IsRegularOrAtomic, ShowsNoStray}
 use Rattle.sessions.specs.declared.command.Command.{Command}
 use Rattle.sessions.specs.declared.log.Entry.{Entry}
 use Rattle.sessions.specs.declared.reply.Reply.TheVariants.{No}
@@ -21,12 +21,13 @@ use Rattle.sessions.specs.Held.{Held, IsHeld, Acts, TellsMemoryLast, Wants, open
 use Rattle.sessions.specs.Logs.{IsLegal, entry, logged, is_logged, world_after}
 use Rattle.turn.specs.Entries.{AtMostOne}
 use Rattle.sessions.proofs.Ordinary.{acted_logged, acted_full}
+use Rattle.sessions.proofs.Towers.{tower_after}
 use Rattle.desk.specs.declared.receipt.Receipt.{Receipt}
 use Rattle.desk.specs.declared.item.Item.{Item}
 use Rattle.desk.specs.declared.item.Item.TheVariants.{Call}
 use Rattle.desk.specs.Items.{made_under, as_items, items}
 use Rattle.desk.specs.declared.receipt.Saved.{Saved}
-use Rattle.desk.specs.Works.{IsAct, IsReading, IsLook, IsAnswer, IsPaged, IsSaving, PlansOf}
+use Rattle.desk.specs.Works.{IsAct, IsReading, IsLook, IsAnswer, ShowsNoStrayOf, answer_by, IsPaged, IsSaving, NeedsBranch}
 use Rattle.desk.proofs.Lists.{items_more}
 use Rattle.desk.proofs.Logged.{put, logged_last}
 
@@ -43,28 +44,36 @@ taken is first same opened listed = record { opened = ap (opening_of is) same �
 reached : (a b : ℕ) (t : Bool) → nat_le a b ≡ t → t ≡ true → a ≤ b
 reached a b t e f = grind (arith, e, f)
 
-pub answer_of : {P : Type 0} (w : World P) (query : Query) (r : Result Page Refusal) → IfOk r (λ page. Some page ≡ shown_in w query) → OnOk r (looked w query ≡ Ok w.forest)
-    → IfErr r (IsRefused (looked w query)) → IsAnswer w query r
-answer_of w query (Ok page) shown found refused = (found, shown)
+pub answer_of : {R P : Type 0} (w : World P) (query : Query) (r : Result (Slipped R) Refusal) → IfOk r (λ slip. Some slip.page ≡ shown_in w query) → OnOk r (looked w query ≡ Ok w.forest)
+    → IfErr r (IsRefused (looked w query)) → IsAnswer w query (answer_by r)
+answer_of w query (Ok slip) shown found refused = (found, shown)
 answer_of w query (Err e) shown found refused = refused
+
+answer_no_stray : {R : Type 0} (r : Result (Slipped R) Refusal) → IfOk r (λ slip. ShowsNoStray slip.page) → IfOk (answer_by r) ShowsNoStray
+answer_no_stray (Ok slip) h = h
+answer_no_stray (Err e) h = tt
 
 -- a save that is refused is refused as Memory, where its fault is
 pub wants_memory : {P : Type 0} (n : ℕ) (w : World P) (r : Result Saved Refusal) (Is : Refusal → Type 0) → IsErrAnd r Is → ((x : Refusal) → Is x → x ≡ Memory) → IsSaving n w r
 wants_memory n w (Ok saved) Is k same = absurd k
 wants_memory n w (Err x) Is k same = same x k
 
--- the chart of a book is one of its world's branches
-plans : {R P : Type 0} (E : R → R → Bool) (is : R → Behaviour P) (h : Held R P) (branch : List ℕ) (most : ℕ) (r : Result (Vec (Chained R P)) Refusal)
-    → IfOk r (λ chains. AreChains E (is h.now.chart.start.register) h.now.chart branch most chains.items) → OnOk r (IsSome (index_of (forest h.now.chart.cut).branches branch))
-    → IfErr r (λ e. if_lacks (index_of (forest h.now.chart.cut).branches branch) ≡ e) → PlansOf E is branch most (world_of is h.now) r
-plans E is h branch most (Ok jobs) plan found refused = (found, (h.now.chart, refl, plan))
-plans E is h branch most (Err e) plan found refused = refused
+-- what is found of a branch, and what refuses it
+needs : {P A : Type 0} (w : World P) (branch : List ℕ) (r : Result A Refusal) → OnOk r (IsSome (index_of w.forest.branches branch))
+    → IfErr r (λ e. if_lacks (index_of w.forest.branches branch) ≡ e) → NeedsBranch branch w r
+needs w branch (Ok x) found refused = found
+needs w branch (Err e) found refused = refused
 
 -- what is made of an answer's slip is the answer too
 pub paged_so : {P : Type 0} (w : World P) (query : Query) (slip result : Result Page Refusal) → IsPaged slip result → IsAnswer w query slip → IsAnswer w query result
 paged_so w query (Ok page) result (inl e) a = subst (IsAnswer w query) (sym e) a
 paged_so w query (Ok page) result (inr e) a = subst (IsAnswer w query) (sym e) (inr (refl, subst IsOk (sym a.0) refl))
 paged_so w query (Err r) result e a = subst (IsAnswer w query) (sym e) a
+
+pub paged_no_stray : (slip result : Result Page Refusal) → IsPaged slip result → IfOk slip ShowsNoStray → IfOk result ShowsNoStray
+paged_no_stray (Ok page) result (inl e) h = subst (λ r. IfOk r ShowsNoStray) (sym e) h
+paged_no_stray (Ok page) result (inr e) h = subst (λ r. IfOk r ShowsNoStray) (sym e) tt
+paged_no_stray (Err r) result e h = subst (λ r. IfOk r ShowsNoStray) (sym e) tt
 
 module _ {R P : Type 0} (is : R → Behaviour P) where
   -- where the reply is LogFull, the log is as long as its limit
@@ -174,20 +183,27 @@ module _ {R P : Type 0} (is : R → Behaviour P) where
           answers = subst (tells (length old.log)) here told;
         }
 
-    pub looks_so : (query : Query) (at : ℕ) (r : Result Page Refusal) → IfOk r (λ page. Some page ≡ shown_in (world_of is old.now) query)
-        → OnOk r (looked (world_of is old.now) query ≡ Ok (world_of is old.now).forest) → IfErr r (IsRefused (looked (world_of is old.now) query))
+    abbrev world_found : World P
+    world_found = world_after (opening_of is old) old.log
+
+    pub looks_so : (query : Query) (at : ℕ) (r : Result (Slipped R) Refusal) → IfOk r (λ slip. Some slip.page ≡ shown_in world_found query)
+        → OnOk r (looked world_found query ≡ Ok world_found.forest) → IfErr r (IsRefused (looked world_found query))
+        → (IsRegularOrAtomic (opening_of is old).tower → IfOk r (λ slip. ShowsNoStray slip.page))
         → world_of is new.now ≡ world_of is old.now → new.log ≡ old.log → at ≡ length new.log
-        → IsLook is query before (items first new.log) at r
-    looks_so query at r shown found refused world log is_at =
-        reads_so (λ n w. (at ≡ n) × IsAnswer w query r) world log (is_at ∙ ap length log, answer_of (world_of is old.now) query r shown found refused)
+        → IsLook is query before (items first new.log) at (answer_by r)
+    looks_so query at r shown found refused never world log is_at =
+        let here : world_of is old.now ≡ world_found =
+        sym world ∙ (held.after ∙ (ap (λ w. world_after w new.log) same ∙ ap (world_after (opening_of is old)) log)) in
+        let answers : IsAnswer (world_of is old.now) query (answer_by r) = subst (λ w. IsAnswer w query (answer_by r)) (sym here) (answer_of world_found query r shown found refused) in
+        let strays : ShowsNoStrayOf (world_of is old.now) (answer_by r) =
+        λ lawful. answer_no_stray r (never (subst IsRegularOrAtomic (ap (λ w. w.tower) here ∙ tower_after (opening_of is old) old.log) lawful)) in
+        reads_so (λ n w. (at ≡ n) × IsAnswer w query (answer_by r) × ShowsNoStrayOf w (answer_by r)) world log (is_at ∙ ap length log, answers, strays)
 
   -- a work that leaves the book tells of the history that it found
   module _ (first old : Held R P) {before : List (Item R P)} (book : IsBook is first old before) (held : IsHeld is old) where
     pub stays_so : (tells : ℕ → World P → Type 0) → tells (length old.log) (world_of is old.now) → IsReading is tells before before
     stays_so tells told = subst (λ l. IsReading is tells before l) book.listed (reads_so first old old book refl held tells refl refl told)
 
-    pub plans_so : (E : R → R → Bool) (branch : List ℕ) (most : ℕ) (r : Result (Vec (Chained R P)) Refusal)
-        → IfOk r (λ chains. AreChains E (is old.now.chart.start.register) old.now.chart branch most chains.items)
-        → OnOk r (IsSome (index_of (forest old.now.chart.cut).branches branch))
-        → IfErr r (λ e. if_lacks (index_of (forest old.now.chart.cut).branches branch) ≡ e) → IsReading is (λ n w. PlansOf E is branch most w r) before before
-    plans_so E branch most r plan found refused = stays_so (λ n w. PlansOf E is branch most w r) (plans E is old branch most r plan found refused)
+    pub plans_so : {A : Type 0} (branch : List ℕ) (r : Result A Refusal) → OnOk r (IsSome (index_of (forest old.now.chart.cut).branches branch))
+        → IfErr r (λ e. if_lacks (index_of (forest old.now.chart.cut).branches branch) ≡ e) → IsReading is (λ n w. NeedsBranch branch w r) before before
+    plans_so branch r found refused = stays_so (λ n w. NeedsBranch branch w r) (needs (world_of is old.now) branch r found refused)

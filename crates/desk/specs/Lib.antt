@@ -3,4 +3,3 @@ pub mod Histories
 pub mod Works
 pub mod Reports
 pub mod Chairs
-pub mod Fills

@@ -1,6 +1,5 @@
 -- Reports of fills.
-use Rattle.std.specs.Prelude.{◌≡◌, ◌+◌, ◌≤◌, ◌^◌, ◌⊎◌, Option, Some, None, Result, Ok, Err}
-use Rattle.schedule_trie.specs.declared.refusal.Refusal.{Refusal}
+use Rattle.std.specs.Prelude.{◌≡◌, ◌+◌, Option, Some, None}
 use Rattle.cutoff.specs.declared.install.Installation.{Installation}
 use Rattle.cutoff.specs.declared.install.Installation.TheVariants.{Installed, Stale, Gone}
 use Rattle.desk.specs.declared.report.Report.{Report}
@@ -33,8 +32,3 @@ both a b =
 -- no job was run: there was none, or each was refused memory
 abbrev pub IsIdle : Report → Type 0
 IsIdle r = r.memory ≡ r.planned
-
--- a report with that of what came later, where there is one and their count has 64 bits
-abbrev pub Adds : Report → Result Report Refusal → Result Report Refusal → Type 0
-Adds a (Ok b) result = (result ≡ Ok (both a b)) ⊎ ((2 ^ 64 ≤ a.planned + b.planned) × (result ≡ Ok a))
-Adds a (Err r) result = result ≡ Err r

@@ -1,21 +1,14 @@
 -- What the works at a desk's turn promise: of the list before and after, and of the answer.
-use Rattle.std.specs.Prelude.{ℕ, ◌<◌, ◌≡◌, ◌⊎◌, Bool, List, Option, Some, None, IsSome, Result, Ok, Err, length}
-use Rattle.std.specs.Arc.{arc_value}
-use Rattle.std.specs.Global.{Vec}
+use Rattle.std.specs.Prelude.{ℕ, ◌<◌, ◌≡◌, ◌⊎◌, List, Option, Some, IsSome, Result, Ok, Err, IfOk, length}
 use Rattle.frames.specs.Behaviour.{Behaviour}
 use Rattle.schedule_trie.specs.declared.refusal.Refusal.{Refusal}
 use Rattle.schedule_trie.specs.declared.refusal.Refusal.TheVariants.{LogFull, Memory}
-use Rattle.schedule_trie.specs.Cut.{if_lacks, forest}
+use Rattle.schedule_trie.specs.Cut.{if_lacks}
 use Rattle.schedule_trie.specs.Forest.{IsRefused, index_of}
-use Rattle.cutoff.specs.declared.install.Installation.{Installation}
-use Rattle.cutoff.specs.Held.{Charted}
-use Rattle.cutoff.specs.Installs.{Installs}
-use Rattle.cutoff.specs.Chains.{Chained, AreChains}
 use Rattle.views.specs.declared.page.Page.{Page}
 use Rattle.views.specs.declared.query.Query.{Query}
-use Rattle.workers.specs.declared.job.Outcome.{Outcome}
-use Rattle.workers.specs.declared.job.Outcome.TheVariants.{Ran, NoMemory}
-use Rattle.workers.specs.Segments.{SharedRun}
+use Rattle.views.specs.Slips.{Slipped}
+use Rattle.views.specs.Strays.{IsRegularOrAtomic, ShowsNoStray}
 use Rattle.sessions.specs.declared.command.Command.{Command}
 use Rattle.sessions.specs.declared.log.Entry.{Entry}
 use Rattle.sessions.specs.declared.reply.Reply.TheVariants.{No}
@@ -34,6 +27,15 @@ abbrev pub IsAnswer : {P : Type 0} → World P → Query → Result Page Refusal
 IsAnswer w query (Ok page) = (looked w query ≡ Ok w.forest) × (Some page ≡ shown_in w query)
 IsAnswer w query (Err r) = IsRefused (looked w query) r
 
+-- on a register that is regular or atomic it shows no stray read
+abbrev pub ShowsNoStrayOf : {P : Type 0} → World P → Result Page Refusal → Type 0
+ShowsNoStrayOf w answer = IsRegularOrAtomic w.tower → IfOk answer ShowsNoStray
+
+-- the answer that a slip stands for
+abbrev pub answer_by : {R : Type 0} → Result (Slipped R) Refusal → Result Page Refusal
+answer_by (Ok slip) = Ok slip.page
+answer_by (Err r) = Err r
+
 -- the page that a slip stands for is made, or memory is wanting
 abbrev pub IsPaged : Result Page Refusal → Result Page Refusal → Type 0
 IsPaged (Ok page) result = (result ≡ Ok page) ⊎ (result ≡ Err Memory)
@@ -48,27 +50,6 @@ NeedsBranch branch w (Err r) = if_lacks (index_of w.forest.branches branch) ≡ 
 abbrev pub IsSaving : {P : Type 0} → ℕ → World P → Result Saved Refusal → Type 0
 IsSaving n w (Ok saved) = (saved.at ≡ n) × IsSaved w saved.limbs.items
 IsSaving n w (Err r) = r ≡ Memory
-
--- the run that a job came to, if it came to one
-abbrev pub run_in : {A : Type 0} → Outcome A → Option A
-run_in (Ran run) = Some run
-run_in NoMemory = None
-
-module _ {R P : Type 0} (E : R → R → Bool) (is : R → Behaviour P) where
-  -- in a chart of the world's branches a run that is offered for a key comes to this answer; to none where there is no run
-  abbrev pub Offers : ℕ → Option (SharedRun R P) → World P → Option Installation → Type 0
-  Offers key None w answer = answer ≡ None
-  Offers key (Some run) w None = ⊥
-  Offers key (Some run) w (Some answer) =
-      (old : Charted R P) × (new : Charted R P) × (forest old.cut ≡ w.forest) × Installs E (is old.start.register) old new key (arc_value run) answer
-
-  -- the chains of a plan for a branch are those that some chart of the world's branches plans, with so many segments behind a job at most; a
-  -- plan is refused as NoBranch only where the branch isn't there, or as Memory
-  abbrev pub PlansOf : List ℕ → ℕ → World P → Result (Vec (Chained R P)) Refusal → Type 0
-  PlansOf branch most w (Ok chains) =
-      IsSome (index_of w.forest.branches branch)
-      × ((chart : Charted R P) × (forest chart.cut ≡ w.forest) × AreChains E (is chart.start.register) chart branch most chains.items)
-  PlansOf branch most w (Err r) = if_lacks (index_of w.forest.branches branch) ≡ r
 
 module _ {R P : Type 0} (is : R → Behaviour P) where
   -- A command, brought by some chair, finds a legal history and leaves it with the call at its end, unless the call isn't logged; it is
@@ -93,6 +74,6 @@ module _ {R P : Type 0} (is : R → Behaviour P) where
     pub legal : IsLegal (opening_of is first) found
     pub answers : tells (length found) (world_after (opening_of is first) found)
 
-  -- a look is told how long the history is, and answers of the world
+  -- a look is told how long the history is, and answers of the world, with no stray read on a regular or an atomic register
   abbrev pub IsLook : Query → List (Item R P) → List (Item R P) → ℕ → Result Page Refusal → Type 0
-  IsLook query before after at answer = IsReading (λ n w. (at ≡ n) × IsAnswer w query answer) before after
+  IsLook query before after at answer = IsReading (λ n w. (at ≡ n) × IsAnswer w query answer × ShowsNoStrayOf w answer) before after

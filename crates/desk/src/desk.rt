@@ -16,7 +16,8 @@ ghost use Rattle.sessions.specs.Logs.{IsLegal};
 ghost use Rattle.sessions.specs.Held.{opening_of};
 ghost use Rattle.desk.specs.Items.{items, made_under};
 ghost use Rattle.desk.specs.Histories.{seen};
-ghost use Rattle.desk.specs.Works.{IsPaged};
+ghost use Rattle.views.specs.Strays.{IsRegularOrAtomic, ShowsNoStray};
+ghost use Rattle.desk.specs.Works.{IsPaged, answer_by};
 ghost use Rattle.desk.specs.Chairs.{IsAt, Received, Looked, book_at_first};
 
 use crate::act::Act;
@@ -150,7 +151,7 @@ impl<R: Register> Desk<R> {
     }
 
     /// Waits for the turn, and looks. The page is made while the turn is free; it is the one of the moment of the look, whatever the lens
-    /// holds.
+    /// holds. On a regular or an atomic register it shows no stray read.
     pub fn look<W: Wait>(
         &self,
         rt: &W,
@@ -163,6 +164,8 @@ impl<R: Register> Desk<R> {
         ensures chair { IsAt R.is self.now chair.new }
         ensures looked { Looked R.is (book_at_first self.now) query (view chair.old)
             (view chair.new) result }
+        ensures never_stray { IsRegularOrAtomic (opening_of R.is (book_at_first self.now)).tower
+            → IfOk result.result ShowsNoStray }
         ensures owns { OwnsItsCalls made_under (view chair.new) }
     {
         let (at, slip) = self.turn.with(rt, chair, &mut Look { alloc, query });
@@ -231,7 +234,7 @@ fn paged<R: Register>(
     lens: &mut Lens<R>,
     slip: Result<Slip<R>, Refusal>,
 ) -> Result<Page, Refusal>
-    ensures { IsPaged slip result }
+    ensures { IsPaged (answer_by slip) result }
 {
     let slip = slip?;
     let Ok(page) = slip.page(alloc, lens) else {

@@ -1,8 +1,9 @@
 //! An install at the turn.
 
 ghost use Rattle.std.specs.Prelude.{◌≡◌};
+ghost use Rattle.std.specs.Arc.{arc_value};
+ghost use Rattle.cutoff.specs.Installs.{Installs};
 ghost use Rattle.sessions.specs.Held.{opening_of, world_of};
-ghost use Rattle.desk.specs.Works.{Offers};
 
 use crate::journal::Journal;
 use checkpoints::run::Run;
@@ -21,31 +22,30 @@ pub(crate) struct Install<R: Register> {
 }
 
 impl<R: Register> Work<Journal<R>> for Install<R> {
-    ghost use Rattle.desk.specs.Works.{IsReading, Offers};
+    ghost use Rattle.desk.specs.Works.{IsReading};
 
     type Out = Option<Installation>;
 
-    ghost relation = { λ work before after answer _. IsReading R.is (λ _ world. Offers R.PartialEq.eq R.is work.key work.run world answer) before after };
+    ghost relation = { λ _ before after _ _. IsReading R.is (λ _ _. Unit {0}) before after };
 
     fn work(&mut self, journal: &mut Journal<R>, _number: u32) -> Option<Installation> {
         let book = &mut *journal.book;
-        let answer = offer(book, self.key, self.run.take());
         book.held();
-        answer
+        let run = self.run.take()?;
+        let answer = offer(book, self.key, run);
+        book.held();
+        Some(answer)
     }
 }
 
-/// Offers a run, if there is one, to the segment of a key.
-fn offer<R: Register>(
-    book: &mut Book<R>,
-    key: SegKey,
-    run: Option<Arc<Run<R>>>,
-) -> Option<Installation>
-    ensures answer { Offers R.PartialEq.eq R.is key run (world_of R.is book.old.now) result }
+/// Offers a run to the segment of a key in a book.
+fn offer<R: Register>(book: &mut Book<R>, key: SegKey, run: Arc<Run<R>>) -> Installation
+    ensures installs { let old = book.old.now.chart in
+        Installs R.PartialEq.eq (R.is old.start.register) old book.new.now.chart key
+        (arc_value run) result }
     ensures world { world_of R.is book.new.now ≡ world_of R.is book.old.now }
     ensures opening { opening_of R.is book.new ≡ opening_of R.is book.old }
     ensures log { book.new.log ≡ book.old.log }
 {
-    let run = run?;
-    Some(book.install(key, run))
+    book.install(key, run)
 }

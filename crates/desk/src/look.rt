@@ -16,11 +16,11 @@ pub(crate) struct Look {
 }
 
 impl<R: Register> Work<Journal<R>> for Look {
-    ghost use Rattle.desk.specs.Works.{IsLook};
+    ghost use Rattle.desk.specs.Works.{IsLook, answer_by};
 
     type Out = (u64, Result<Slip<R>, Refusal>);
 
-    ghost relation = { λ work before after out _. IsLook R.is work.query before after out.0 out.1 };
+    ghost relation = { λ work before after out _. IsLook R.is work.query before after out.0 (answer_by out.1) };
 
     fn work(&mut self, journal: &mut Journal<R>, _number: u32) -> (u64, Result<Slip<R>, Refusal>) {
         let book = &mut *journal.book;

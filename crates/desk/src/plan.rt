@@ -1,31 +1,52 @@
 //! A plan at the turn.
 
+ghost use Rattle.std.specs.Prelude.{◌≡◌, IsSome, IfOk, IfErr, OnOk};
+ghost use Rattle.schedule_trie.specs.Forest.{index_of};
+ghost use Rattle.schedule_trie.specs.Cut.{forest, if_lacks};
+ghost use Rattle.cutoff.specs.Plans.{IsPlan};
+
 use crate::journal::Journal;
-use cutoff::chain::Chain;
+use cutoff::plan::Job;
 use frames::register::Register;
 use schedule_trie::name::Name;
 use schedule_trie::refusal::Refusal;
+use sessions::book::Book;
 use std::alloc::Global;
 use turn::Work;
 
-/// Plans the jobs that a branch and the others have left, each with those that follow it, so many at most.
+/// Plans the jobs that a branch and the others have left.
 #[derive(Drop)]
 pub(crate) struct Plan<'a> {
     pub(crate) alloc: Global,
     pub(crate) branch: &'a Name,
-    pub(crate) most: u32,
 }
 
 impl<R: Register> Work<Journal<R>> for Plan<'_> {
-    ghost use Rattle.desk.specs.Works.{IsReading, PlansOf};
+    ghost use Rattle.desk.specs.Works.{IsReading, NeedsBranch};
 
-    type Out = Result<Vec<Chain<R>>, Refusal>;
+    type Out = Result<Vec<Job<R>>, Refusal>;
 
-    ghost relation = { λ work before after out _. IsReading R.is (λ _ world. PlansOf R.PartialEq.eq R.is work.branch.now work.most world out) before after };
+    ghost relation = { λ work before after out _. IsReading R.is (λ _ world. NeedsBranch work.branch.now world out) before after };
 
-    fn work(&mut self, journal: &mut Journal<R>, _number: u32) -> Result<Vec<Chain<R>>, Refusal> {
+    fn work(&mut self, journal: &mut Journal<R>, _number: u32) -> Result<Vec<Job<R>>, Refusal> {
         let book = &*journal.book;
         book.held();
-        book.chains(self.alloc, self.branch, self.most)
+        jobs_left(self.alloc, book, self.branch)
     }
+}
+
+/// The jobs that a branch and the others have left in a book.
+fn jobs_left<R: Register>(
+    alloc: Global,
+    book: &Book<R>,
+    branch: &Name,
+) -> Result<Vec<Job<R>>, Refusal>
+    ensures ok { let chart = book.now.now.chart in IfOk result
+        (λ jobs. IsPlan R.PartialEq.eq (R.is chart.start.register) chart branch.now jobs.items) }
+    ensures found { OnOk result
+        (IsSome (index_of (forest book.now.now.chart.cut).branches branch.now)) }
+    ensures err { IfErr result
+        (λ e. if_lacks (index_of (forest book.now.now.chart.cut).branches branch.now) ≡ e) }
+{
+    book.plan(alloc, branch)
 }

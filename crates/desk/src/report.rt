@@ -1,11 +1,10 @@
 //! What a fill comes to.
 
-ghost use Rattle.std.specs.Prelude.{◌≡◌, ◌<◌, ◌≤◌, ◌+◌, ◌^◌, IfOk, MatchOption};
+ghost use Rattle.std.specs.Prelude.{◌≡◌, ◌<◌, ◌≤◌, ◌+◌, ◌^◌, MatchOption};
 ghost use Rattle.std.specs.Bool.{Decides};
-ghost use Rattle.desk.specs.Reports.{Adds, IsIdle, IsSum, both, counted, no_jobs};
+ghost use Rattle.desk.specs.Reports.{IsIdle, IsSum, both, counted, no_jobs};
 
 use cutoff::install::Installation;
-use schedule_trie::refusal::Refusal;
 
 /// What became of the jobs of a fill.
 #[derive(Clone, Copy, Debug, PartialEq, Eq)]
@@ -58,19 +57,6 @@ impl Report {
         }
     }
 
-    /// Adds the report of later jobs.
-    pub(crate) fn add(&mut self, later: Report)
-        requires sum { IsSum self.old × IsSum later }
-        requires room { self.old.planned + later.planned < 2 ^ 64 }
-        ensures { self.new ≡ both self.old later }
-    {
-        self.planned += later.planned;
-        self.installed += later.installed;
-        self.stale += later.stale;
-        self.gone += later.gone;
-        self.memory += later.memory;
-    }
-
     /// Both reports together; none where a count would pass 64 bits.
     pub(crate) fn plus(self, other: Report) -> Option<Report>
         requires { IsSum self × IsSum other }
@@ -84,17 +70,5 @@ impl Report {
             gone: self.gone.checked_add(other.gone)?,
             memory: self.memory.checked_add(other.memory)?,
         })
-    }
-
-    /// This report with that of what came later, where there is one; itself where a count would pass 64 bits.
-    pub(crate) fn with(self, later: Result<Report, Refusal>) -> Result<Report, Refusal>
-        requires { IsSum self × IfOk later IsSum }
-        ensures { Adds self later result }
-    {
-        let later = later?;
-        match self.plus(later) {
-            Some(sum) => Ok(sum),
-            None => Ok(self),
-        }
     }
 }

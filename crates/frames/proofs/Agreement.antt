@@ -22,13 +22,14 @@ use Rattle.frames.specs.Fitting.{process_of}
 use Rattle.frames.specs.OneWriter.{HasOneWriter}
 use Rattle.frames.specs.Configuration.{running_at, is_stopped, fits_step, stepped, history, events_of, acted_on, acting, acting_unless, invoking, going, return_of, still_running, chosen_of, in_order}
 use Rattle.frames.specs.Parked.{IsConfiguration}
-use Rattle.frames.specs.Recorded.{AllFit, Alone, at_index, indexed, first_configuration}
+use Rattle.frames.specs.Recorded.{AllFit, Alone, at_index, indexed, first_configuration, recorded}
 use Rattle.frames.specs.Verdicts.{Known, initially, after}
 use Rattle.frames.specs.Regularity.{is_refusal, NoneRefused, OnReturn, EachRead, AlwaysReads}
 use Rattle.frames.specs.laws.Steps.{IsReached, step_keeps, process_there}
 use Rattle.frames.specs.laws.OneWriter.{writer_zero, reader_some}
 use Rattle.frames.proofs.Seen.{Seen, Returned, opening, sees, refuses, refuses_none, after_step, got, read_in, reads, Always}
 use Rattle.frames.proofs.Agreed.{ReadAgrees, Agrees, agrees_same, agrees_write, agrees_read, agrees_ended, agrees_wrote, wrote_quiet, Alike}
+use Rattle.frames.proofs.Accepted.{all_accepted}
 use Rattle.frames.proofs.Halves.{all_left, all_right, all_both, two_false}
 use Rattle.frames.proofs.Pending.{op_of, ops_of, ops_after, none_at, first_well}
 use Rattle.frames.proofs.Pointwise.{put, put_same, put_is, put_put}
@@ -274,11 +275,15 @@ module _ (Says : Known → ℕ → ℕ → Type 0) (Good : Returned → Type 0) 
     always_known h = record {
       one_writer = one;
       refuses_none = λ v steps lt fit. none_known 0 (history b (first_configuration b v) steps) (h v steps lt fit).0;
-      each_read = λ v steps lt fit. known_from (first_configuration b v) steps 0 (initially v) (opening v) (first_well b Holds Reaches lawful v lt) fit (first_agrees b one Holds Reaches lawful v) (h v steps lt fit).0 (h v steps lt fit).1;
+      each_read = λ v steps lt fit.
+          let events = recorded b v steps in
+          subst (EachRead Says (initially v)) (sym (all_accepted events (none_known 0 (history b (first_configuration b v) steps) (h v steps lt fit).0)))
+          (known_from (first_configuration b v) steps 0 (initially v) (opening v) (first_well b Holds Reaches lawful v lt) fit (first_agrees b one Holds Reaches lawful v) (h v steps lt fit).0 (h v steps lt fit).1);
     }
 
     pub always_seen : AlwaysReads b Says → Always Good b
     always_seen h v steps lt fit = (
       none_seen 0 (history b (first_configuration b v) steps) (h.refuses_none v steps lt fit),
-      seen_from (first_configuration b v) steps 0 (initially v) (opening v) (first_well b Holds Reaches lawful v lt) fit (first_agrees b one Holds Reaches lawful v) (h.refuses_none v steps lt fit) (h.each_read v steps lt fit),
+      seen_from (first_configuration b v) steps 0 (initially v) (opening v) (first_well b Holds Reaches lawful v lt) fit (first_agrees b one Holds Reaches lawful v) (h.refuses_none v steps lt fit)
+          (subst (EachRead Says (initially v)) (all_accepted (recorded b v steps) (h.refuses_none v steps lt fit)) (h.each_read v steps lt fit)),
     )

@@ -8,9 +8,11 @@ pub mod Moves
 pub mod Reached
 pub mod Told
 pub mod Pending
+pub mod Accepted
 pub mod Agreed
 pub mod Agreement
 pub mod SafeIsSafe
 pub mod NeverStray
 pub mod Derived
 pub mod Frames
+mod Examples

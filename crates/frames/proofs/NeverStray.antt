@@ -62,15 +62,11 @@ known_read value q k h = record {
     go p r true e = subst (IsNoted value k.returned) (ap (λ o. unwrap_or o (invoked_now q k)) e) (noted_now value q k h)
     go p r false e = h.reads p r e
 
-known_refused : (value : ℕ) (b : Bool) (k : Known) → IsKnown value k → IsKnown value (if b then record k { writing = None } else k)
-known_refused value true k h = record { fresh = h.fresh; reads = h.reads }
-known_refused value false k h = h
-
 known_after : (value : ℕ) (k : Known) (e : Event) → IsKnown value k → IsKnown value (after k e)
 known_after value k (Invoke p (op.Write v)) h = record { fresh = h.fresh; reads = h.reads }
 known_after value k (Invoke p op.Read) h = known_read value p k h
 known_after value k (Wrote p) h = known_returning value k.writing k h
-known_after value k (Refused p layer) h = known_refused value (p == 0) k h
+known_after value k (Refused p layer) h = h
 known_after value k (Got p v) h = h
 known_after value k (Void p reason) h = h
 known_after value k (Stop p) h = h

@@ -1,4 +1,5 @@
--- Safe, regular and atomic registers of one writer (Lamport, "On Interprocess Communication", 1986), by what a register alone records.
+-- Safe, regular and atomic registers of one writer (Lamport, "On Interprocess Communication", 1986), by what a register alone records,
+-- without the writes that it refuses.
 use Rattle.std.specs.Prelude.{◌≡◌, ◌≢◌, ℕ, ◌<◌, ◌≤◌, ⊤, Bool, true, false, List, [], ◌∷◌, ◌++◌, Option, Some, None, length, drop, slice_index_or}
 use Rattle.std.specs.List.{list_any}
 use Rattle.frames.specs.declared.types.Event.{Event}
@@ -8,7 +9,7 @@ use Rattle.frames.specs.declared.verdict.Verdict.TheVariants.{Fresh, Stray}
 use Rattle.frames.specs.Behaviour.{Behaviour}
 use Rattle.frames.specs.OneWriter.{HasOneWriter}
 use Rattle.frames.specs.Recorded.{AllFit, recorded}
-use Rattle.frames.specs.Verdicts.{Known, initially, after, reading, judged}
+use Rattle.frames.specs.Verdicts.{Known, accepted, initially, after, reading, judged}
 
 -- no operation is refused
 abbrev pub is_refusal : Event → Bool
@@ -57,7 +58,7 @@ NotStray k p v = judged k p v ≢ Stray
 pub record AlwaysReads {P : Type 0} (b : Behaviour P) (Says : Known → ℕ → ℕ → Type 0) : Type 0 where
   pub one_writer : HasOneWriter b
   pub refuses_none : (value : ℕ) (steps : List Step) → value < b.values → AllFit b steps → NoneRefused (recorded b value steps)
-  pub each_read : (value : ℕ) (steps : List Step) → value < b.values → AllFit b steps → EachRead Says (initially value) (recorded b value steps)
+  pub each_read : (value : ℕ) (steps : List Step) → value < b.values → AllFit b steps → EachRead Says (initially value) (accepted (recorded b value steps))
 
 -- a register is safe: of each returned read that no write overlaps, the value is that of the last write before it
 abbrev pub IsSafe : {P : Type 0} → Behaviour P → Type 0
@@ -67,7 +68,7 @@ IsSafe b = AlwaysReads b FreshAlone
 abbrev pub IsRegular : {P : Type 0} → Behaviour P → Type 0
 IsRegular b = AlwaysReads b NotStray
 
--- the values of the writes so far that weren't refused, in order; number 0 is the initial value
+-- the values of the writes so far, in order; number 0 is the initial value
 abbrev pub by_number : ℕ → Known → List ℕ
 by_number value k = value ∷ (k.returned ++ in_progress k.writing)
 
@@ -87,8 +88,8 @@ Numbered value floor k (e ∷ es) = (n : ℕ) × ((floor ≤ n) × (OnReturn (λ
 pub record IsAtomic {P : Type 0} (b : Behaviour P) : Type 0 where
   pub one_writer : HasOneWriter b
   pub one_reader : b.processes ≡ 2
-  pub numbered : (value : ℕ) (steps : List Step) → value < b.values → AllFit b steps → Numbered value 0 (initially value) (recorded b value steps)
+  pub numbered : (value : ℕ) (steps : List Step) → value < b.values → AllFit b steps → Numbered value 0 (initially value) (accepted (recorded b value steps))
 
 -- on every list of fitting steps, from every initial value, no returned read is stray
 abbrev pub NeverStray : {P : Type 0} → Behaviour P → Type 0
-NeverStray b = (value : ℕ) (steps : List Step) → value < b.values → AllFit b steps → EachRead NotStray (initially value) (recorded b value steps)
+NeverStray b = (value : ℕ) (steps : List Step) → value < b.values → AllFit b steps → EachRead NotStray (initially value) (accepted (recorded b value steps))

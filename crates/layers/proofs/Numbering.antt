@@ -8,6 +8,7 @@ use Rattle.std.proofs.lemmas.List.Elements.{All-head, All-tail}
 use Rattle.safe_bit.specs.Memory.{Memory}
 use Rattle.frames.specs.declared.types.Op.{Op}
 use Rattle.frames.specs.declared.types.Op.TheVariants as op
+use Rattle.frames.specs.declared.types.Layer.{Layer}
 use Rattle.frames.specs.declared.types.Outcome.TheVariants.{Value, Written, Spent}
 use Rattle.frames.specs.declared.types.Next.{Next}
 use Rattle.frames.specs.declared.types.Next.TheVariants.{Pending, Done}
@@ -25,11 +26,12 @@ use Rattle.frames.specs.OneWriter.{HasOneWriter}
 use Rattle.frames.specs.Configuration.{running_at, is_stopped, fits_step, stepped, history, events_of, acted_on, acting, acting_unless, invoking, going, return_of, still_running, chosen_of, in_order}
 use Rattle.frames.specs.Parked.{IsConfiguration}
 use Rattle.frames.specs.Recorded.{AllFit, Alone, at_index, indexed, first_configuration}
-use Rattle.frames.specs.Verdicts.{Known, initially, after, invoked_now, returning, last_read, reading}
+use Rattle.frames.specs.Verdicts.{Known, refused_by, is_refused, counts, accepted, initially, after, invoked_now, returning, last_read, reading}
 use Rattle.frames.specs.Regularity.{in_progress, OnReturn, by_number, IsNumber, Numbered, IsAtomic}
 use Rattle.frames.specs.laws.Steps.{IsReached, step_keeps, process_there}
 use Rattle.frames.specs.laws.OneWriter.{writer_zero, reader_some, reader_few}
 use Rattle.frames.proofs.Seen.{refuses, Allowed}
+use Rattle.frames.proofs.Accepted.{accepted_one}
 use Rattle.frames.proofs.Agreed.{found_last}
 use Rattle.frames.proofs.Agreement.{afters}
 use Rattle.frames.proofs.Pending.{op_of, ops_of, ops_after, none_at, first_well}
@@ -55,28 +57,38 @@ OneEach p (op.Write v) = p ≡ 0
 OneEach p op.Read = p ≡ 1
 
 module _ (v : ℕ) where
+  -- the reads of events that refuse no write from before them can be numbered, from a floor on
+  abbrev pub Goes : ℕ → Known → List (ℕ × Event) → Type 0
+  Goes floor k events = (is_refused events ≡ false) × Numbered v floor k (accepted events)
+
   pub record EventNumbers (ops : ℕ → Option Op) (e : Option Event) (k : Known) (c z : Counted) : Type 0 where
     pub agrees : CountAgrees v ops (afters e k) z
-    pub join : (i : ℕ) (rest : List (ℕ × Event)) → Numbered v z.floor (afters e k) rest → Numbered v c.floor k (at_index i e ++ rest)
+    pub join : (i : ℕ) (rest : List (ℕ × Event)) → Goes z.floor (afters e k) rest → Goes c.floor k (at_index i e ++ rest)
 
+  -- `next` is known after a step
   pub record StepNumbers (ops : ℕ → Option Op) (e : StepEvents) (k : Known) (c z : Counted) : Type 0 where
-    pub agrees : CountAgrees v ops (afters e.second (afters e.first k)) z
-    pub join : (i : ℕ) (rest : List (ℕ × Event)) → Numbered v z.floor (afters e.second (afters e.first k)) rest
-        → Numbered v c.floor k (at_index i e.first ++ (at_index i e.second ++ rest))
+    pub next : Known
+    pub agrees : CountAgrees v ops next z
+    pub join : (i : ℕ) (rest : List (ℕ × Event)) → Goes z.floor next rest → Goes c.floor k (at_index i e.first ++ (at_index i e.second ++ rest))
 
   same_ops : (from to : ℕ → Option Op) (k : Known) (c : Counted) → ((p : ℕ) → from p ≡ to p) → CountAgrees v from k c → CountAgrees v to k c
   same_ops from to k c same a = record { values = a.values; begun = a.begun; done = a.done; idle = λ e. a.idle (same 0 ∙ e); low = λ e. a.low (same 1 ∙ e) }
 
   both_events : (ops mid_ops : ℕ → Option Op) (first second : Option Event) (k : Known) (c mid z : Counted) → EventNumbers mid_ops first k c mid → EventNumbers ops second (afters first k) mid z
       → StepNumbers ops (record { first = first; second = second }) k c z
-  both_events ops mid_ops first second k c mid z a b = record { agrees = b.agrees; join = λ i rest h. a.join i (at_index i second ++ rest) (b.join i rest h) }
+  both_events ops mid_ops first second k c mid z a b =
+      record { next = afters second (afters first k); agrees = b.agrees; join = λ i rest h. a.join i (at_index i second ++ rest) (b.join i rest h) }
 
   no_event : (ops : ℕ → Option Op) (k : Known) (c z : Counted) → z ≡ c → CountAgrees v ops k c → EventNumbers ops None k c z
-  no_event ops k c z e a = record { agrees = subst (CountAgrees v ops k) (sym e) a; join = λ i rest h. subst (λ (x : Counted). Numbered v x.floor k rest) e h }
+  no_event ops k c z e a = record { agrees = subst (CountAgrees v ops k) (sym e) a; join = λ i rest h. subst (λ (x : Counted). Goes x.floor k rest) e h }
 
-  an_event : (ops : ℕ → Option Op) (e : Event) (k : Known) (c z : Counted) → c.floor ≤ z.floor → OnReturn (λ k p x. IsNumber v k p x z.floor) k e → CountAgrees v ops (after k e) z
-      → EventNumbers ops (Some e) k c z
-  an_event ops e k c z rises says a = record { agrees = a; join = λ i rest h. (z.floor, (rises, (says, h))) }
+  an_event : (ops : ℕ → Option Op) (e : Event) (k : Known) (c z : Counted) → counts e false ≡ true → refused_by e false ≡ false → c.floor ≤ z.floor
+      → OnReturn (λ k p x. IsNumber v k p x z.floor) k e → CountAgrees v ops (after k e) z → EventNumbers ops (Some e) k c z
+  an_event ops e k c z counted kept rises says a = record {
+    agrees = a;
+    join = λ i rest h.
+        (ap (refused_by e) h.0 ∙ kept, subst (Numbered v c.floor k) (sym (accepted_one i e rest h.0 counted)) (z.floor, (rises, (says, h.1))));
+  }
 
   -- where no write is in progress
   quiet_values : (k : Known) (c : Counted) (ops : ℕ → Option Op) → CountAgrees v ops k c → k.writing ≡ None → (n : ℕ) → n ≤ c.begun → get_or (v ∷ k.returned) n v ≡ c.value n
@@ -148,7 +160,7 @@ module _ (v : ℕ) where
   end_numbers Reached values p o (Done (Spent layer)) ops k c z there role well fine counts a = absurd (cc fine)
   end_numbers Reached values p (op.Write x) (Done Written) ops k c z there role well fine counts a =
       subst (λ q. EventNumbers (put q None ops) (Some (Wrote q)) k c z) (sym role)
-      (an_event (put 0 None ops) (Wrote 0) k c z (let e = ap (λ (y : Counted). y.floor) counts in omega (arith, e)) tt
+      (an_event (put 0 None ops) (Wrote 0) k c z refl refl (let e = ap (λ (y : Counted). y.floor) counts in omega (arith, e)) tt
       (subst (CountAgrees v (put 0 None ops) (after k (Wrote 0))) (sym counts) (returns_count k.writing ops k c refl a)))
   end_numbers Reached values p op.Read (Done (Value x)) ops k c z there role well fine counts a =
       let n : ℕ = counts.0 in
@@ -165,38 +177,38 @@ module _ (v : ℕ) where
         value_of = a.values n begun ∙ counts.1.0;
       } in
       subst (λ q. EventNumbers (put q None ops) (Some (Got q x)) k c z) (sym role)
-      (an_event (put 1 None ops) (Got 1 x) k c z (omega (arith, e, rises)) (subst (IsNumber v k 1 x) (sym e) number)
+      (an_event (put 1 None ops) (Got 1 x) k c z refl refl (omega (arith, e, rises)) (subst (IsNumber v k 1 x) (sym e) number)
       (subst (CountAgrees v (put 1 None ops) k) (sym is) (record { values = a.values; begun = a.begun; done = a.done; idle = λ h. a.idle h; low = λ h. absurd (cc h) })))
 
   begin_numbers : (p : ℕ) (o : Op) (ops : ℕ → Option Op) (k : Known) (c mid : Counted) → ops p ≡ None → OneEach p o → Counts (Some (Invoke p o)) c mid → CountAgrees v ops k c
       → EventNumbers (put p (Some o) ops) (Some (Invoke p o)) k c mid
   begin_numbers p (op.Write x) ops k c mid free role counts a =
       subst (λ q. EventNumbers (put q (Some (op.Write x)) ops) (Some (Invoke q (op.Write x))) k c mid) (sym role)
-      (an_event (put 0 (Some (op.Write x)) ops) (Invoke 0 (op.Write x)) k c mid (let e = ap (λ (y : Counted). y.floor) counts in omega (arith, e)) tt
+      (an_event (put 0 (Some (op.Write x)) ops) (Invoke 0 (op.Write x)) k c mid refl refl (let e = ap (λ (y : Counted). y.floor) counts in omega (arith, e)) tt
       (subst (CountAgrees v (put 0 (Some (op.Write x)) ops) (after k (Invoke 0 (op.Write x)))) (sym counts) (write_begins x ops k c (sym (ap ops role) ∙ free) a)))
   begin_numbers p op.Read ops k c mid free role counts a =
       subst (λ q. EventNumbers (put q (Some op.Read) ops) (Some (Invoke q op.Read)) k c mid) (sym role)
-      (an_event (put 1 (Some op.Read) ops) (Invoke 1 op.Read) k c mid (let e = ap (λ (y : Counted). y.floor) counts in omega (arith, e)) tt
+      (an_event (put 1 (Some op.Read) ops) (Invoke 1 op.Read) k c mid refl refl (let e = ap (λ (y : Counted). y.floor) counts in omega (arith, e)) tt
       (subst (CountAgrees v (put 1 (Some op.Read) ops) (after k (Invoke 1 op.Read))) (sym counts) (read_begins ops k c a)))
 
   -- an operation that is refused in the step that invokes it counts for nothing
-  refused_agrees : (p : ℕ) (o : Op) (layer : _) (ops : ℕ → Option Op) (k : Known) (c : Counted) → ops p ≡ None → OneEach p o → CountAgrees v ops k c
-      → CountAgrees v (put p None ops) (after (after k (Invoke p o)) (Refused p layer)) c
-  refused_agrees p (op.Write x) layer ops k c free role a =
-      let none = a.idle (sym (ap ops role) ∙ free) in
-      subst (λ q. CountAgrees v (put q None ops) (after (after k (Invoke q (op.Write x))) (Refused q layer)) c) (sym role) (record {
-        values = λ n l. ap (λ (xs : List ℕ). get_or (v ∷ xs) n v) (append-nil k.returned) ∙ quiet_values k c ops a none n l;
-        begun = (let e = quiet_begun k c ops a none in omega (arith, e));
-        done = a.done;
-        idle = λ h. refl;
-        low = λ h. let r = a.low h in record { read = r.read; last = r.last; since = r.since };
+  refused_numbers : (p : ℕ) (o : Op) (layer : Layer) (ops : ℕ → Option Op) (k : Known) (c : Counted) → ops p ≡ None → OneEach p o → CountAgrees v ops k c
+      → StepNumbers (put p None ops) (record { first = Some (Invoke p o); second = Some (Refused p layer) }) k c c
+  refused_numbers p (op.Write x) layer ops k c free role a =
+      subst (λ q. StepNumbers (put q None ops) (record { first = Some (Invoke q (op.Write x)); second = Some (Refused q layer) }) k c c) (sym role) (record {
+        next = k;
+        agrees = same_ops ops (put 0 None ops) k c (λ i. put_is 0 i None ops (sym (ap ops role) ∙ free)) a;
+        join = λ i rest h. (refl, h.1);
       })
-  refused_agrees p op.Read layer ops k c free role a =
-      subst (λ q. CountAgrees v (put q None ops) (after (after k (Invoke q op.Read)) (Refused q layer)) c) (sym role)
-      (record { values = a.values; begun = a.begun; done = a.done; idle = λ h. a.idle h; low = λ h. absurd (cc h) })
+  refused_numbers p op.Read layer ops k c free role a =
+      subst (λ q. StepNumbers (put q None ops) (record { first = Some (Invoke q op.Read); second = Some (Refused q layer) }) k c c) (sym role) (record {
+        next = after k (Invoke 1 op.Read);
+        agrees = record { values = a.values; begun = a.begun; done = a.done; idle = λ h. a.idle h; low = λ h. absurd (cc h) };
+        join = λ i rest h. (h.0, (c.floor, (omega arith, (tt, (c.floor, (omega arith, (tt, h.1)))))));
+      })
 
   step_same : (from to : ℕ → Option Op) (e : StepEvents) (k : Known) (c z : Counted) → ((p : ℕ) → from p ≡ to p) → StepNumbers from e k c z → StepNumbers to e k c z
-  step_same from to e k c z same s = record { agrees = same_ops from to _ z same s.agrees; join = s.join }
+  step_same from to e k c z same s = record { next = s.next; agrees = same_ops from to s.next z same s.agrees; join = s.join }
 
   begun_numbers : {P : Type 0} (Reached : P → Type 0) (values p : ℕ) (o : Op) (next : Next P) (ops : ℕ → Option Op) (k : Known) (c z : Counted) → ops p ≡ None → OneEach p o
       → StandsWell Reached (Answers values o) next → NumberedStep c (in_order (Some (Invoke p o)) (return_of p next)) z → CountAgrees v ops k c
@@ -210,10 +222,7 @@ module _ (v : ℕ) where
       spent (Pending q) h = absurd (cc h)
       spent (Done (Value x)) h = absurd (cc h)
       spent (Done Written) h = absurd (cc h)
-      spent (Done (Spent layer)) h = record {
-        agrees = refused_agrees p o layer ops k c free role a;
-        join = λ i rest t. (c.floor, (omega arith, (tt, (c.floor, (omega arith, (tt, t))))));
-      }
+      spent (Done (Spent layer)) h = refused_numbers p o layer ops k c free role a
 
       go : (b : Bool) → refuses (return_of p next) ≡ b → NumberedIf b c (in_order (Some (Invoke p o)) (return_of p next)) z
           → StepNumbers (put p (op_of (still_running o next)) ops) (in_order (Some (Invoke p o)) (return_of p next)) k c z
@@ -240,16 +249,16 @@ module _ (v : ℕ) where
       go true fine n = absurd n.0
       go false fine n =
           let mid : CountAgrees v ops k n.0 = subst (CountAgrees v ops k) (sym n.1.0) a in
-          let first : EventNumbers ops (Some (Chosen p bit.0 bit.1)) k c n.0 = an_event ops (Chosen p bit.0 bit.1) k c n.0 (let e = ap (λ (y : Counted). y.floor) n.1.0 in omega (arith, e)) tt mid in
+          let first : EventNumbers ops (Some (Chosen p bit.0 bit.1)) k c n.0 = an_event ops (Chosen p bit.0 bit.1) k c n.0 refl refl (let e = ap (λ (y : Counted). y.floor) n.1.0 in omega (arith, e)) tt mid in
           both_events (put p (op_of (still_running o next)) ops) ops (Some (Chosen p bit.0 bit.1)) (return_of p next) k c n.0 z first
           (end_numbers Reached values p o next ops k n.0 z there role well fine n.1.1 mid)
 
   -- a step that records one event, which changes nothing
-  quiet_step : (ops : ℕ → Option Op) (e : Event) (k : Known) (c mid z : Counted) → mid ≡ c → z ≡ mid → OnReturn (λ k p x. IsNumber v k p x mid.floor) k e → CountAgrees v ops (after k e) c
+  quiet_step : (ops : ℕ → Option Op) (e : Event) (k : Known) (c mid z : Counted) → counts e false ≡ true → refused_by e false ≡ false → mid ≡ c → z ≡ mid → OnReturn (λ k p x. IsNumber v k p x mid.floor) k e → CountAgrees v ops (after k e) c
       → StepNumbers ops (in_order (Some e) None) k c z
-  quiet_step ops e k c mid z e1 e2 says a =
+  quiet_step ops e k c mid z counted kept e1 e2 says a =
       let am = subst (CountAgrees v ops (after k e)) (sym e1) a in
-      both_events ops ops (Some e) None k c mid z (an_event ops e k c mid (let f = ap (λ (y : Counted). y.floor) e1 in omega (arith, f)) says am) (no_event ops (after k e) mid z e2 am)
+      both_events ops ops (Some e) None k c mid z (an_event ops e k c mid counted kept (let f = ap (λ (y : Counted). y.floor) e1 in omega (arith, f)) says am) (no_event ops (after k e) mid z e2 am)
 
   module _ {P : Type 0} (b : Behaviour P) (one : HasOneWriter b) (two : b.processes ≡ 2) (Holds : Memory → Type 0) (Reaches : ℕ → Op → P → Type 0) (lawful : IsLawful b Holds Reaches) where
     role_of : (p : ℕ) (o : Op) → b.suits p o ≡ true → OneEach p o
@@ -264,12 +273,12 @@ module _ (v : ℕ) where
     invoking_numbers p o None m ops k c z h fits there n a =
         begun_numbers (Reaches p o) b.values p o (b.begins p o m).next ops k c z there (role_of p o fits) (lawful.begins_well p o m h fits).stands n a
     invoking_numbers p o (Some r) m ops k c z h fits there n a =
-        step_same ops (put p (Some r.op) ops) _ k c z (λ i. put_is p i (Some r.op) ops there) (quiet_step ops (Void p Busy) k c n.1.0 z n.1.1.0 n.1.1.1 tt a)
+        step_same ops (put p (Some r.op) ops) _ k c z (λ i. put_is p i (Some r.op) ops there) (quiet_step ops (Void p Busy) k c n.1.0 z refl refl n.1.1.0 n.1.1.1 tt a)
 
     going_numbers : (p : ℕ) (choice : Bool) (x : Option (Running P)) (m : Memory) (ops : ℕ → Option Op) (k : Known) (c z : Counted) → Holds m → IsReached Reaches p x → ops p ≡ op_of x
         → NumberedStep c (going b p choice x m).events z → CountAgrees v ops k c → StepNumbers (put p (op_of (going b p choice x m).running) ops) (going b p choice x m).events k c z
     going_numbers p choice None m ops k c z h reached there n a =
-        step_same ops (put p None ops) _ k c z (λ i. put_is p i None ops there) (quiet_step ops (Void p Idle) k c n.1.0 z n.1.1.0 n.1.1.1 tt a)
+        step_same ops (put p None ops) _ k c z (λ i. put_is p i None ops there) (quiet_step ops (Void p Idle) k c n.1.0 z refl refl n.1.1.0 n.1.1.1 tt a)
     going_numbers p choice (Some r) m ops k c z h reached there n a =
         let moved = b.goes r.point choice m in
         gone_numbers (Reaches p r.op) b.values p r.op moved.chosen moved.next ops k c z there (role_of p r.op (lawful.reached_suits p r.op r.point reached))
@@ -281,13 +290,13 @@ module _ (v : ℕ) where
     acting_numbers (step.Read p) y m ops k c z fits h reached there n a = invoking_numbers p op.Read y m ops k c z h fits there n a
     acting_numbers (step.Go p x) y m ops k c z fits h reached there n a = going_numbers p (x == 1) y m ops k c z h reached there n a
     acting_numbers (step.Stop p) y m ops k c z fits h reached there n a =
-        step_same ops (put p (op_of y) ops) _ k c z (λ i. put_is p i (op_of y) ops there) (quiet_step ops (Stop p) k c n.1.0 z n.1.1.0 n.1.1.1 tt a)
+        step_same ops (put p (op_of y) ops) _ k c z (λ i. put_is p i (op_of y) ops there) (quiet_step ops (Stop p) k c n.1.0 z refl refl n.1.1.0 n.1.1.1 tt a)
 
     unless_numbers : (marked : Bool) (s : Step) (x : Option (Running P)) (m : Memory) (ops : ℕ → Option Op) (k : Known) (c z : Counted) → fits_step b s ≡ true → Holds m → IsReached Reaches (process_of s) x
         → ops (process_of s) ≡ op_of x → NumberedStep c (acting_unless marked b s x m).events z → CountAgrees v ops k c
         → StepNumbers (put (process_of s) (op_of (acting_unless marked b s x m).running) ops) (acting_unless marked b s x m).events k c z
     unless_numbers true s x m ops k c z fits h reached there n a =
-        step_same ops (put (process_of s) (op_of x) ops) _ k c z (λ i. put_is (process_of s) i (op_of x) ops there) (quiet_step ops (Void (process_of s) Stopped) k c n.1.0 z n.1.1.0 n.1.1.1 tt a)
+        step_same ops (put (process_of s) (op_of x) ops) _ k c z (λ i. put_is (process_of s) i (op_of x) ops there) (quiet_step ops (Void (process_of s) Stopped) k c n.1.0 z refl refl n.1.1.0 n.1.1.1 tt a)
     unless_numbers false s x m ops k c z fits h reached there n a = acting_numbers s x m ops k c z fits h reached there n a
 
     step_numbers : (d : Alone P) (s : Step) (k : Known) (c z : Counted) → IsConfiguration b Holds Reaches d → fits_step b s ≡ true → NumberedStep c (events_of b d s) z → CountAgrees v (ops_of d) k c
@@ -301,16 +310,16 @@ module _ (v : ℕ) where
         (unless_numbers (is_stopped p d) s (running_at p d) d.memory (ops_of d) k c z fits is.holds (is.reached p) refl n a)
 
     numbered_from : (d : Alone P) (steps : List Step) (i : ℕ) (k : Known) (c : Counted) → IsConfiguration b Holds Reaches d → AllFit b steps → CountAgrees v (ops_of d) k c
-        → Allowed NumberedStep c (history b d steps) → Numbered v c.floor k (indexed i (history b d steps))
-    numbered_from d [] i k c is fit a n = tt
+        → Allowed NumberedStep c (history b d steps) → Goes c.floor k (indexed i (history b d steps))
+    numbered_from d [] i k c is fit a n = (refl, tt)
     numbered_from d (s ∷ steps) i k c is fit a n =
         let fits : fits_step b s ≡ true = All-head (λ x. fits_step b x ≡ true) s steps fit in
         let e : StepEvents = events_of b d s in
         let later : List StepEvents = history b (stepped b d s) steps in
         let g = step_numbers d s k c n.0 is fits n.1.0 a in
-        subst (Numbered v c.floor k) (sym (append_assoc (at_index i e.first) (at_index i e.second) (indexed (i + 1) later)))
+        subst (Goes c.floor k) (sym (append_assoc (at_index i e.first) (at_index i e.second) (indexed (i + 1) later)))
         (g.join i (indexed (i + 1) later)
-        (numbered_from (stepped b d s) steps (i + 1) (afters e.second (afters e.first k)) n.0 (step_keeps b Holds Reaches lawful d s is fits) (All-tail (λ x. fits_step b x ≡ true) s steps fit) g.agrees n.1.1))
+        (numbered_from (stepped b d s) steps (i + 1) g.next n.0 (step_keeps b Holds Reaches lawful d s is fits) (All-tail (λ x. fits_step b x ≡ true) s steps fit) g.agrees n.1.1))
 
     first_counts : CountAgrees v (ops_of (first_configuration b v)) (initially v) (uncounted v)
     first_counts = record {
@@ -328,6 +337,6 @@ numbered_atomic b one two Holds Reaches lawful numbered = record {
   one_writer = one;
   one_reader = two;
   numbered = λ v steps lt fit.
-      numbered_from v b one two Holds Reaches lawful (first_configuration b v) steps 0 (initially v) (uncounted v)
-      (first_well b Holds Reaches lawful v lt) fit (first_counts v b one two Holds Reaches lawful) (numbered v steps lt fit);
+      (numbered_from v b one two Holds Reaches lawful (first_configuration b v) steps 0 (initially v) (uncounted v)
+      (first_well b Holds Reaches lawful v lt) fit (first_counts v b one two Holds Reaches lawful) (numbered v steps lt fit)).1;
 }

@@ -9,6 +9,7 @@ use Rattle.frames.specs.declared.types.Outcome.TheVariants.{Value, Written, Spen
 use Rattle.layers.specs.declared.nested.Nested.{Nested}
 use Rattle.frames.specs.Behaviour.{Behaviour, Answers}
 use Rattle.frames.specs.declared.types.TheConstants.{STACK_FRAMES}
+use Rattle.frames.specs.declared.limits.TheConstants.{LEAST_VALUES, LEAST_PROCESSES, MOST_PROCESSES}
 use Rattle.frames.specs.declared.register.TheConstants.{MOST_CELLS, MOST_WORDS}
 use Rattle.layers.specs.Nested.{Program, Ends, Asks, Reads, Sets, Table, layer_size, own_words, part_place}
 
@@ -64,8 +65,11 @@ pub record IsSoundTable {Task : Type 0} (t : Table Task) (Stands : ℕ → Op �
   pub rest_falls : (who : ℕ) (o : Op) (task : Task) (outcome : Outcome) → Stands who o task → Answers t.inner_values (t.asks task).op outcome → IsNotSpent outcome
       → Falls left (left task) (t.rest task outcome)
 
--- a register that a table can stand on
+-- a table within the limits of every layer, and a register that it can stand on
 pub record FitsBelow {Task P : Type 0} (t : Table Task) (b : Behaviour P) : Type 0 where
+  pub some_values : LEAST_VALUES ≤ t.values
+  pub some_processes : LEAST_PROCESSES ≤ t.processes
+  pub few_processes : t.processes ≤ MOST_PROCESSES
   pub same_values : b.values ≡ t.inner_values
   pub same_processes : b.processes ≡ t.inner_processes
   pub room : b.depth < STACK_FRAMES

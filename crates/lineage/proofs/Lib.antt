@@ -17,3 +17,4 @@ pub mod Exchanges
 pub mod ForksAbove
 pub mod Past
 pub mod Skips
+mod Examples

@@ -5,7 +5,7 @@ use Rattle.std.proofs.lemmas.Bool.{eqb-true}
 use Rattle.std.proofs.lemmas.List.{map-append}
 use Rattle.schedule_trie.specs.declared.slot.Slot.{Slot}
 use Rattle.schedule_trie.specs.Forest.{branch, cell_of, everywhere}
-use Rattle.schedule_trie.specs.Cut.{Cut, Piece, Strand, piece_at, slots_of, note_of, line, branches_on, keys_in, has, has_cell, Once, Linked, IsSegment, IsSound, KeepsNotesBut, divided_keys, divided_strand}
+use Rattle.schedule_trie.specs.Cut.{Cut, Piece, Strand, piece_at, slots_of, note_of, line, branches_on, keys_in, has, has_cell, Once, Linked, IsSegment, IsSound, KeepsNotesOff, divided_keys, divided_strand}
 use Rattle.schedule_trie.proofs.Once.{has-append, has-head, has-tail, has_cases, has_not_from}
 use Rattle.schedule_trie.proofs.Lines.{given_at}
 use Rattle.schedule_trie.proofs.Pushes.{not_equal}
@@ -282,7 +282,7 @@ module _ {T : Type 0} (old new : ℕ → Option (Piece T)) (key fresh : ℕ) (ab
 
 -- the cut segment is touched, and neither part has a note
 pub notes-divided : {T : Type 0} (c d : Cut T) (key fresh : ℕ) (above below : Piece T) → Divides (piece_at c.pieces) (piece_at d.pieces) key fresh above below
-    → above.note ≡ None → below.note ≡ None → KeepsNotesBut c d (λ k. k ≡ key)
+    → above.note ≡ None → below.note ≡ None → KeepsNotesOff c d (λ k. k ≡ key)
 notes-divided c d key fresh above below divides none_above none_below = record {
   notes = record {
     touched = Some key;
@@ -290,6 +290,7 @@ notes-divided c d key fresh above below divides none_above none_below = record {
     cleared = λ k e. let same : k ≡ key = cc in subst (λ j. note_of (piece_at d.pieces j) ≡ None) (sym same) cleared;
     fresh = λ k h. fresh_at k h (nat_eq k key) refl (nat_eq k fresh) refl;
   };
+  each = λ k e. ap Some (sym e);
   only = λ k e. cc;
 }
   where

@@ -19,6 +19,7 @@ use Rattle.schedule_trie.proofs.ForkCuts.{cut, cut_whole, same_branches, cut_fro
 use Rattle.schedule_trie.proofs.ForkSteps.{fork_held, fork_told}
 use Rattle.schedule_trie.proofs.InsertSteps.{unnoted}
 use Rattle.schedule_trie.proofs.Notes.{notes_but}
+use Rattle.schedule_trie.proofs.StepSet.{one_holder}
 use Rattle.schedule_trie.proofs.Strands.{keys_in-of, strands-divided}
 use Rattle.schedule_trie.proofs.Touched.{parted}
 
@@ -110,11 +111,13 @@ module _ {T : Type 0} (t u : Inside T) (mid : Family (Segment T)) (name : List �
     branches = told.branches ∙ ap (λ l. l ++ branch name (take place (slots_in l index)) ∷ []) same;
     made = told.made;
     limits = told.limits;
-    notes = λ source found. notes_but c (cut_of u) key (IsParted c source place)
-        (notes-divided c (cut_of u) key new (piece above.items None) (piece below.items None) divides refl refl)
-        (subst (IsParted c source place) (sym at_key)
+    notes = λ source found.
+        let here : IsParted c source place key = subst (IsParted c source place) (sym at_key)
         (parted c source index found count rest place inside some (subst (λ k. rest < length (slots_of (piece_at c.pieces k))) at_key within)
-        (ap (λ l. length (line (piece_at c.pieces) l) + rest) front_is)));
+        (ap (λ l. length (line (piece_at c.pieces) l) + rest) front_is)) in
+        notes_but c (cut_of u) key (IsParted c source place) (IsParted c source place)
+        (notes-divided c (cut_of u) key new (piece above.items None) (piece below.items None) divides refl refl)
+        (λ k h. one_holder c source place k key held.whole.sound h.below here.below) here;
     cut = told.cut;
   }
 

@@ -2,13 +2,14 @@
 use Rattle.std.proofs.Common.{◌≡◌, ℕ, zero, suc, ◌+◌, ◌<◌, true, ◌||◌, List, [], ◌∷◌, ◌++◌, length, take, drop, Option, Some, None, ◌⊎◌, refl, sym, ap, subst, ◌∙◌, true≢false, arith, inl, inr}
 use Rattle.std.proofs.lemmas.List.{length-append, map-append, take-append-drop}
 use Rattle.std.proofs.Math.Seq.{take-append_seam}
-use Rattle.schedule_trie.specs.Forest.{branch, slots_in}
-use Rattle.schedule_trie.specs.Cut.{Cut, Piece, Strand, strand, piece_at, line, forest, branch_on, branches_on, keys_in, has, note_of, Linked, IsSound, IsWhole, KeepsNotesBut, IsParted}
+use Rattle.schedule_trie.specs.Forest.{branch, index_of, slots_in}
+use Rattle.schedule_trie.specs.Cut.{Cut, Piece, Strand, strand, piece_at, line, forest, branch_on, branches_on, keys_in, has, note_of, Linked, IsSound, IsWhole, KeepsNotesOff, IsParted}
 use Rattle.schedule_trie.specs.Forks.{IsForked}
 use Rattle.schedule_trie.proofs.Once.{has-append}
 use Rattle.schedule_trie.proofs.Lines.{slots_in_on}
 use Rattle.schedule_trie.proofs.Pushes.{line-append}
 use Rattle.schedule_trie.proofs.StepSet.{cut_from_sound}
+use Rattle.schedule_trie.proofs.Touched.{none_parted}
 
 -- the keys of a branch, where one more goes last: those that it had, or the last one's
 keys_in-last : (strands : List Strand) (s : Strand) (i : ℕ) → (keys_in (strands ++ s ∷ []) i ≡ keys_in strands i) ⊎ (keys_in (strands ++ s ∷ []) i ≡ s.keys)
@@ -94,9 +95,12 @@ module _ {T : Type 0} (c : Cut T) (name : List ℕ) (index count : ℕ) (whole :
       ∙ ap (λ n. take n (line (piece_at c.pieces) (keys_in c.strands index))) e
       ∙ ap (take place) (sym (slots_in_on (piece_at c.pieces) c.strands index)))
 
-  front_notes : (May : ℕ → Type 0) → KeepsNotesBut c after May
-  front_notes May = record {
+  -- no segment has cells of the front and cells after it
+  front_notes : (place : ℕ) → length (line (piece_at c.pieces) front) ≡ place → (source : List ℕ) → index_of (forest c).branches source ≡ Some index
+      → KeepsNotesOff c after (IsParted c source place)
+  front_notes place e source found = record {
     notes = record { touched = None; kept = λ k ne h. inl refl; cleared = λ k e. absurd (cc); fresh = λ k h. ap note_of h };
+    each = λ k h. absurd (none_parted c source index place count whole found e k h);
     only = λ k e. absurd (cc);
   }
 
@@ -105,6 +109,6 @@ module _ {T : Type 0} (c : Cut T) (name : List ℕ) (index count : ℕ) (whole :
     branches = front_branches place e;
     made = refl;
     limits = refl;
-    notes = λ source found. front_notes (IsParted c source place);
+    notes = front_notes place e;
     cut = cut_from_sound after c.made sound;
   }

@@ -13,18 +13,18 @@ use Rattle.schedule_trie.specs.declared.slot.Slot.{Slot}
 use Rattle.schedule_trie.specs.declared.segment.Segment.{Segment}
 use Rattle.schedule_trie.specs.declared.trie.Trie.TheInside.{Inside}
 use Rattle.schedule_trie.specs.Forest.{slot, cell_of, slots_in, cell_in, only_in, put_last, put_before, everywhere, inserted}
-use Rattle.schedule_trie.specs.Cut.{Cut, Piece, piece, piece_at, slots_of, note_of, forest, branches_on, keys_in, has, has_cell, Once, StandsAt, IsSegment, IsSound, IsWithin, IsWhole, CanGrowAt, IsPushed, IsPutBefore, IsInserted, divided_strand, HasChanged}
+use Rattle.schedule_trie.specs.Cut.{Cut, Piece, piece, piece_at, slots_of, note_of, forest, branches_on, keys_in, has, has_cell, Once, StandsAt, IsSegment, IsSound, IsWithin, IsWhole, HoldsCellAt, CanGrowAt, IsPushed, IsPutBefore, IsInserted, divided_strand, HasChanged}
 use Rattle.schedule_trie.specs.declared.limits.Limits.{Limits}
 use Rattle.schedule_trie.specs.Held.{piece_of, strands_of, names_of, cut_of, IsHeld}
 use Rattle.schedule_trie.proofs.Strands.{strands-divided}
 use Rattle.schedule_trie.proofs.Lines.{slots_in_on}
 use Rattle.schedule_trie.proofs.Changes.{Changes, piece_at_set}
-use Rattle.schedule_trie.proofs.StepSet.{slice_get_some, cell_in_at, piece_seen, key_within, cut_from_sound, holds_cell}
+use Rattle.schedule_trie.proofs.StepSet.{slice_get_some, cell_in_at, piece_seen, key_within, cut_from_sound, holds_cell, one_holder}
 use Rattle.schedule_trie.proofs.Insertion.{put, grown_put, put_through, put_elsewhere, grown_once, grown_cells, sound_grown, branches_changed}
 use Rattle.schedule_trie.proofs.Division.{Divides, lacked-divided, sound-divided, branches-divided, notes-divided}
 use Rattle.schedule_trie.proofs.DivisionSteps.{divides_from}
 use Rattle.schedule_trie.proofs.Notes.{notes_at, notes_but, unchanged_kept}
-use Rattle.schedule_trie.proofs.Touched.{ends_before}
+use Rattle.schedule_trie.proofs.Touched.{ends_before, none_at_end}
 
 pub within_more : (l : Limits) (made branches : ℕ) → IsWithin l made branches → made < l.cells → IsWithin l (made + 1) branches
 within_more l made branches h room = record {
@@ -94,7 +94,7 @@ module _ {T : Type 0} (t : Inside T) (key offset : ℕ) (step : Step) (v w : Seg
 
 -- what `insert_at` gives
 module _ {T : Type 0} (old new : Cut T) (index place key offset : ℕ) (step : Step) (stands : StandsAt (piece_at old.pieces) (keys_in old.strands index) place (key, offset))
-    (put : IsPutBefore old new key offset step) where
+    (sound : IsSound (piece_at old.pieces) old.strands old.made) (put : IsPutBefore old new key offset step) where
   the_cell : (s : Slot) × (slice_get (slots_of (piece_at old.pieces key)) offset ≡ Some s)
   the_cell = slice_get_some (slots_of (piece_at old.pieces key)) offset stands.within
 
@@ -121,7 +121,9 @@ module _ {T : Type 0} (old new : Cut T) (index place key offset : ℕ) (step : S
   inserted_before = record {
     forest_is = λ i. record { branches = branches i; made = put.made i };
     limits = put.limits;
-    notes = λ name found. notes_but old new key (CanGrowAt old name place) put.notes (inl (holds_cell old name place index key offset found stands));
+    notes = λ name found.
+        let here = holds_cell old name place index key offset found stands in
+        notes_but old new key (HoldsCellAt old name place) (CanGrowAt old name place) put.notes (λ k h. one_holder old name place k key sound h here) (inl here);
     unchanged = unchanged_kept old new put.notes.notes (λ k e. subst (HasChanged old new) (sym (put.notes.only k e)) put.changed);
     cut = put.cut;
   }
@@ -141,6 +143,7 @@ module _ {T : Type 0} (old new : Cut T) (index place : ℕ) (step : Step) (all :
     limits = pushed.limits;
     notes = λ name found. record {
       notes = pushed.notes.notes;
+      each = λ k h. absurd (none_at_end old name index place found all k h);
       only = λ k e. inr (
         ap (option_map (λ i. length (slots_in (forest old).branches i))) found ∙ ap Some all,
         ends_before old name index found k place (pushed.notes.only k e).0 all,

@@ -52,3 +52,5 @@ pub mod MarkSteps
 pub mod LimbsTold
 pub mod LimbsSaved
 pub mod LimbsNear
+mod Examples
+pub mod WrongEdits

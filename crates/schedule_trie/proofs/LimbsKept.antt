@@ -3,7 +3,7 @@ use Rattle.std.proofs.Common.{◌≡◌, ℕ, zero, suc, ◌+◌, ◌-◌, ◌<�
 use Rattle.std.specs.List.{list_all, prefix_len, position_or_len}
 use Rattle.std.proofs.lemmas.Bool.{eqb-true}
 use Rattle.std.proofs.lemmas.Bool.Decides.{nat_tests}
-use Rattle.std.proofs.lemmas.List.{length-append, length-map, map-append}
+use Rattle.std.proofs.lemmas.List.{length-append, length-map, map-append, take-append-drop, take-map}
 use Rattle.std.proofs.lemmas.List.Sums.{prefix_len-le-length}
 use Rattle.frames.specs.declared.types.Step.{Step}
 use Rattle.schedule_trie.specs.declared.slot.Slot.{Slot}
@@ -23,18 +23,6 @@ alike a b c d there back = by (nat_eq a b) refl (nat_eq c d) refl
     by true e y g = e ∙ sym (eq-eqb c d (there (eqb-true a b e)))
     by false e true g = eq-eqb a b (back (eqb-true c d g)) ∙ sym g
     by false e false g = e ∙ sym g
-
--- the steps in front are the front of the steps
-steps_taken : (n : ℕ) (xs : List Slot) → map step_of (take n xs) ≡ take n (map step_of xs)
-steps_taken zero xs = refl
-steps_taken (suc n) [] = refl
-steps_taken (suc n) (x ∷ xs) = ap (λ l. x.step ∷ l) (steps_taken n xs)
-
--- a list is its front and what is behind it
-front_and_rest : (n : ℕ) (xs : List Slot) → take n xs ++ drop n xs ≡ xs
-front_and_rest zero xs = refl
-front_and_rest (suc n) [] = refl
-front_and_rest (suc n) (x ∷ xs) = ap (λ l. x ∷ l) (front_and_rest n xs)
 
 -- as many cells as steps
 same_length : (xs ys : List Slot) → map step_of xs ≡ map step_of ys → length xs ≡ length ys
@@ -188,11 +176,11 @@ module _ (earlier : List Branch) (b : Branch) (agree : (j : ℕ) → j < length 
   steps_new : map step_of b.slots ≡ map step_of new
   steps_new =
       let own = drop l.shared b.slots in
-      ap (map step_of) (sym (front_and_rest l.shared b.slots))
+      ap (map step_of) (sym (take-append-drop l.shared b.slots))
       ∙ map-append step_of (take l.shared b.slots) own
       ∙ ap (λ xs. map step_of xs ++ map step_of own) (front_is earlier b agree)
       ∙ ap (λ ss. ss ++ map step_of own)
-      (steps_taken l.shared (slots_in earlier l.from) ∙ ap (take l.shared) (kept.steps l.from) ∙ sym (steps_taken l.shared origin))
+      (sym (take-map step_of l.shared (slots_in earlier l.from)) ∙ ap (take l.shared) (kept.steps l.from) ∙ take-map step_of l.shared origin)
       ∙ ap (λ ss. map step_of (take l.shared origin) ++ ss) (sym (steps-numbered g.made l.steps))
       ∙ sym (map-append step_of (take l.shared origin) (numbered g.made l.steps))
 

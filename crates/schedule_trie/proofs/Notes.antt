@@ -1,7 +1,7 @@
 -- What an edit leaves of notes.
 use Rattle.std.proofs.Common.{◌≡◌, ℕ, Bool, true, false, nat_eq, Option, Some, None, IsSome, ◌⊎◌, inl, inr, refl, sym, ap, subst, ◌∙◌, true≢false, eq-eqb}
 use Rattle.std.proofs.lemmas.Bool.{eqb-true}
-use Rattle.schedule_trie.specs.Cut.{Cut, Piece, piece_at, slots_of, slots_by, note_of, KeepsNotes, KeepsNotesBut, KeepsUnchanged, HasChanged, IsBlank}
+use Rattle.schedule_trie.specs.Cut.{Cut, Piece, piece_at, slots_of, slots_by, note_of, KeepsNotes, KeepsNotesBut, KeepsNotesOff, Nowhere, KeepsUnchanged, HasChanged, IsBlank}
 
 -- whether a number is the touched one
 is_touched : (t : Option ℕ) (k : ℕ) → (t ≡ Some k) ⊎ (t ≡ Some k → ⊥)
@@ -68,7 +68,7 @@ module _ {T : Type 0} (c d : Cut T) (key : ℕ) (others : (j : ℕ) → (j ≡ k
       by false e = ap note_of (others k (λ f. true≢false (sym (eq-eqb k key f) ∙ e)) ∙ h)
 
   -- that one is touched
-  pub notes_at : KeepsNotesBut c d (λ k. k ≡ key)
+  pub notes_at : KeepsNotesOff c d (λ k. k ≡ key)
   notes_at = record {
     notes = record {
       touched = Some key;
@@ -76,11 +76,12 @@ module _ {T : Type 0} (c d : Cut T) (key : ℕ) (others : (j : ℕ) → (j ≡ k
       cleared = λ k e. let same : k ≡ key = cc in subst (λ j. note_of (piece_at d.pieces j) ≡ None) (sym same) clear;
       fresh = unnoted_still;
     };
+    each = λ k e. ap Some (sym e);
     only = λ k e. cc;
   }
 
   -- that one is new
-  pub notes_beside : (May : ℕ → Type 0) → piece_at c.pieces key ≡ None → KeepsNotesBut c d May
+  pub notes_beside : (May : ℕ → Type 0) → piece_at c.pieces key ≡ None → KeepsNotesBut c d Nowhere May
   notes_beside May vacant = record {
     notes = record {
       touched = None;
@@ -88,9 +89,12 @@ module _ {T : Type 0} (c d : Cut T) (key : ℕ) (others : (j : ℕ) → (j ≡ k
       cleared = λ k e. absurd (cc);
       fresh = unnoted_still;
     };
+    each = λ k h. absurd h;
     only = λ k e. absurd (cc);
   }
 
--- said of more
-pub notes_but : {T : Type 0} (c d : Cut T) (key : ℕ) (May : ℕ → Type 0) → KeepsNotesBut c d (λ k. k ≡ key) → May key → KeepsNotesBut c d May
-notes_but c d key May n may = record { notes = n.notes; only = λ k e. subst May (sym (n.only k e)) may }
+-- said by what holds of that one
+pub notes_but : {T : Type 0} (c d : Cut T) (key : ℕ) (Must May : ℕ → Type 0) → KeepsNotesOff c d (λ k. k ≡ key) → ((k : ℕ) → Must k → k ≡ key) → May key
+    → KeepsNotesBut c d Must May
+notes_but c d key Must May n must may =
+    record { notes = n.notes; each = λ k h. n.each k (must k h); only = λ k e. subst May (sym (n.only k e)) may }

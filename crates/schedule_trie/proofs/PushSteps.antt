@@ -9,7 +9,7 @@ use Rattle.frames.specs.declared.types.Step.{Step}
 use Rattle.schedule_trie.specs.declared.segment.Segment.{Segment}
 use Rattle.schedule_trie.specs.declared.trie.Trie.TheInside.{Inside}
 use Rattle.schedule_trie.specs.Forest.{slot}
-use Rattle.schedule_trie.specs.Cut.{forest, piece, piece_at, slots_of, note_of, line, keys_in, set_keys, has, Once, IsOwnEnd, IsChangedEnd, HasChanged, IsPushed, IsWhole}
+use Rattle.schedule_trie.specs.Cut.{forest, piece, piece_at, slots_of, note_of, line, keys_in, set_keys, has, Once, IsOwnEnd, IsChangedEnd, Nowhere, HasChanged, IsPushed, IsWhole}
 use Rattle.schedule_trie.specs.Held.{piece_of, pieces_of, strands_of, cut_of, AreLengths, AreNames, IsHeld, IsKept}
 use Rattle.schedule_trie.proofs.Once.{has-append, Once-from_linked}
 use Rattle.schedule_trie.proofs.Changes.{Changes, piece_at_set}
@@ -125,8 +125,8 @@ module _ {T : Type 0} (t : Inside T) (index key : ℕ) (held : IsHeld t) (end : 
 
       pub in_pushed : IsPushed (cut_of t) (cut_of after) index step
       in_pushed = is_pushed (cut_of t) (cut_of after) index key step end.front (piece w.slots.items w.note) held.whole room change note slots end.room refl refl strands index_in was kept in_front fresh end.own held.whole.sound.shares
-          (notes_but (cut_of t) (cut_of after) key (IsChangedEnd (cut_of t) (cut_of after) index) (notes_at (cut_of t) (cut_of after) key change.others (ap note_of change.here ∙ note))
-          (record { front = end.front; last = end.last; some = some_slots t.made (piece_at (cut_of t).pieces key) (subst IsSome (sym seen) refl) (held.whole.sound.segments key) }, changed))
+          (notes_but (cut_of t) (cut_of after) key Nowhere (IsChangedEnd (cut_of t) (cut_of after) index) (notes_at (cut_of t) (cut_of after) key change.others (ap note_of change.here ∙ note))
+          (λ k h. absurd h) (record { front = end.front; last = end.last; some = some_slots t.made (piece_at (cut_of t).pieces key) (subst IsSome (sym seen) refl) (held.whole.sound.segments key) }, changed))
 
 -- the last segment of a branch, which no other has
 pub own_told : {T : Type 0} (t : Inside T) (index key : ℕ) → IsHeld t → last_of (path_in t.segments index) ≡ Some key → EndsAlone t.segments index

@@ -13,7 +13,7 @@ use Rattle.schedule_trie.specs.declared.trie.Trie.TheInside.{Inside}
 use Rattle.schedule_trie.specs.declared.refusal.Refusal.TheVariants.{NoPlace}
 use Rattle.schedule_trie.specs.Forest.{branch, cell_at, cell_by, replace_step, at_cell, on_found, replaced_by, index_of, slots_in, cell_in, cell_of, everywhere}
 use Rattle.schedule_trie.specs.Slots.{set_step}
-use Rattle.schedule_trie.specs.Cut.{line, Strand, IsNoted, with_note, branches_on, Cut, Piece, piece, piece_at, slots_of, forest, keys_in, StandsAt, note_of, IsSound, IsCut, IsWithin, IsSegment, KeepsNotesBut, HoldsCellAt, IsStepSet}
+use Rattle.schedule_trie.specs.Cut.{line, has_cell, Strand, IsNoted, with_note, branches_on, Cut, Piece, piece, piece_at, slots_of, forest, keys_in, StandsAt, note_of, IsSound, IsCut, IsWithin, IsSegment, KeepsNotesOff, HoldsCellAt, IsStepSet}
 use Rattle.schedule_trie.specs.Held.{piece_of, cut_of, IsHeld}
 use Rattle.schedule_trie.specs.declared.limits.Limits.{Limits}
 use Rattle.schedule_trie.specs.declared.limits.TheConstants.{MOST_CELLS_MADE}
@@ -178,11 +178,21 @@ holds_cell c name place index key offset found stands =
       held = has_cell_get (slots_of (piece_at c.pieces key)) offset p.0 p.1;
     }
 
--- an edit at that cell touches it alone
-pub notes_here : {T : Type 0} (old new : Cut T) (name : List ℕ) (place index key offset : ℕ) → index_of (forest old).branches name ≡ Some index
-    → StandsAt (piece_at old.pieces) (keys_in old.strands index) place (key, offset) → KeepsNotesBut old new (λ k. k ≡ key) → KeepsNotesBut old new (HoldsCellAt old name place)
-notes_here old new name place index key offset found stands notes =
-    notes_but old new key (HoldsCellAt old name place) notes (holds_cell old name place index key offset found stands)
+-- it is one
+pub one_holder : {T : Type 0} (c : Cut T) (name : List ℕ) (place j k : ℕ) → IsSound (piece_at c.pieces) c.strands c.made
+    → HoldsCellAt c name place j → HoldsCellAt c name place k → j ≡ k
+one_holder c name place j k sound a b =
+    let there : Some a.cell ≡ Some b.cell = sym a.there ∙ b.there in
+    let same : a.cell ≡ b.cell = cc in
+    sound.apart j k a.cell a.held (subst (λ x. has_cell x (slots_of (piece_at c.pieces k)) ≡ true) (sym same) b.held)
+
+-- an edit at that cell touches it, and it alone
+pub notes_here : {T : Type 0} (old new : Cut T) (name : List ℕ) (place index key offset : ℕ) → IsSound (piece_at old.pieces) old.strands old.made
+    → index_of (forest old).branches name ≡ Some index → StandsAt (piece_at old.pieces) (keys_in old.strands index) place (key, offset)
+    → KeepsNotesOff old new (λ k. k ≡ key) → KeepsNotesOff old new (HoldsCellAt old name place)
+notes_here old new name place index key offset sound found stands notes =
+    let here = holds_cell old name place index key offset found stands in
+    notes_but old new key (HoldsCellAt old name place) (HoldsCellAt old name place) notes (λ k h. one_holder old name place k key sound h here) here
 
 -- a note is set
 module _ {T : Type 0} (t : Inside T) (key : ℕ) (v w : Segment T) (held : IsHeld t) (there : item_at t.segments key ≡ Some v) (same : w.slots ≡ v.slots) where

@@ -1,10 +1,14 @@
 -- The segment that holds the cell at a place, or the one right before it.
-use Rattle.std.proofs.Common.{◌≡◌, ℕ, zero, suc, ◌+◌, ◌-◌, ◌<◌, List, [], ◌∷◌, ◌++◌, length, take, drop, get_or, slice_get, Option, Some, None, IsSome, refl, sym, ap, subst, ◌∙◌, true≢false, arith, append-nil}
-use Rattle.std.specs.Option.{IfSome}
+use Rattle.std.proofs.Common.{◌≡◌, ℕ, zero, suc, ◌+◌, ◌-◌, ◌<◌, true, List, [], ◌∷◌, ◌++◌, length, take, drop, get_or, slice_get, Option, Some, None, IsSome, refl, sym, ap, subst, ◌∙◌, true≢false, arith, append-nil}
+use Rattle.std.specs.Option.{IfSome, option_map}
+use Rattle.std.proofs.lemmas.Option.{slice_get_within}
 use Rattle.std.proofs.lemmas.List.{length-append, take-append-drop}
-use Rattle.schedule_trie.specs.Forest.{index_of, slots_in}
-use Rattle.schedule_trie.specs.Cut.{Cut, Piece, piece_at, slots_of, line, forest, keys_in, StandsAt, IsSegment, IsEnd, HoldsCellBefore, IsParted}
-use Rattle.schedule_trie.proofs.Lines.{slots_in_on, line-drop, slice_get_left, slice_get_right, has-get_or}
+use Rattle.schedule_trie.specs.declared.slot.Slot.{Slot}
+use Rattle.schedule_trie.specs.Forest.{cell_at, cell_by, cell_of, index_of, slots_in}
+use Rattle.schedule_trie.specs.Cut.{Cut, Piece, piece_at, slots_of, line, forest, keys_in, has, has_cell, Once, StandsAt, IsSegment, IsWhole, IsEnd, HoldsCellAt, HoldsCellBefore, IsParted}
+use Rattle.schedule_trie.proofs.Changes.{has_cell_get}
+use Rattle.schedule_trie.proofs.Lines.{in_line, slots_in_on, line-drop, slice_get_left, slice_get_right, has-get_or}
+use Rattle.schedule_trie.proofs.Once.{has_cases, has-tail, Once-from_linked}
 use Rattle.schedule_trie.proofs.Pushes.{line-append}
 use Rattle.schedule_trie.proofs.StepSet.{holds_cell}
 use Rattle.schedule_trie.proofs.Whole.{has-last}
@@ -76,3 +80,68 @@ module _ {T : Type 0} (c : Cut T) (name : List ℕ) (index : ℕ) (found : index
             (subst (λ l. StandsAt at l (length (line at end.front) + (length (slots_of (at key)) - 1)) (key, length (slots_of (at key)) - 1)) (sym end.last)
             (stands_last at end.front key (length (slots_of (at key)) - 1) (omega arith)));
       }
+
+-- a cell that is read is one of a list
+some_cell : (o : Option Slot) (x : ℕ) → option_map cell_of o ≡ Some x → (s : Slot) × (o ≡ Some s) × (s.cell ≡ x)
+some_cell None x e = absurd (cc)
+some_cell (Some s) x e = (s, refl, cc)
+
+-- keys of a path's front aren't after it
+once_parts : (k : ℕ) (front back : List ℕ) → Once (front ++ back) → has k front ≡ true → has k back ≡ true → ⊥
+once_parts k [] back once h g = true≢false (sym h)
+once_parts k (f ∷ front) back once h g =
+    has_cases k f front ⊥ h
+    (λ e. true≢false (sym (has-after f front back (subst (λ z. has z back ≡ true) e g)) ∙ once.0))
+    (λ r. once_parts k front back once.1 r g)
+  where
+    has-after : (j : ℕ) (front back : List ℕ) → has j back ≡ true → has j (front ++ back) ≡ true
+    has-after j [] back h = h
+    has-after j (f ∷ front) back h = has-tail j f (front ++ back) (has-after j front back h)
+
+module _ {T : Type 0} (c : Cut T) (name : List ℕ) (index place : ℕ) (found : index_of (forest c).branches name ≡ Some index) where
+  -- the cell at a place is in the branch's line
+  read_at : (x : ℕ) → cell_at (forest c) name place ≡ Some x → (s : Slot) × (slice_get (line (piece_at c.pieces) (keys_in c.strands index)) place ≡ Some s) × (s.cell ≡ x)
+  read_at x e = some_cell (slice_get (line (piece_at c.pieces) (keys_in c.strands index)) place) x
+      (ap (λ l. option_map cell_of (slice_get l place)) (sym (slots_in_on (piece_at c.pieces) c.strands index)) ∙ ap (λ o. cell_by o (forest c) place) (sym found) ∙ e)
+
+  -- there is no cell at the branch's length
+  pub none_at_end : length (slots_in (forest c).branches index) ≡ place → (k : ℕ) → HoldsCellAt c name place k → ⊥
+  none_at_end all k h =
+      let p = read_at h.cell h.there in
+      let less : place < length (line (piece_at c.pieces) (keys_in c.strands index)) = slice_get_within (line (piece_at c.pieces) (keys_in c.strands index)) place p.0 p.1 in
+      let long : length (line (piece_at c.pieces) (keys_in c.strands index)) ≡ place = ap length (sym (slots_in_on (piece_at c.pieces) c.strands index)) ∙ all in
+      omega arith
+
+-- no segment is parted where one ends
+module _ {T : Type 0} (c : Cut T) (name : List ℕ) (index place count : ℕ) (whole : IsWhole c) (found : index_of (forest c).branches name ≡ Some index)
+    (long : length (line (piece_at c.pieces) (take count (keys_in c.strands index))) ≡ place) where
+  abbrev front : List ℕ
+  front = take count (keys_in c.strands index)
+
+  abbrev back : List ℕ
+  back = drop count (keys_in c.strands index)
+
+  parts : line (piece_at c.pieces) (keys_in c.strands index) ≡ line (piece_at c.pieces) front ++ line (piece_at c.pieces) back
+  parts = ap (line (piece_at c.pieces)) (sym (take-append-drop count (keys_in c.strands index))) ∙ line-append (piece_at c.pieces) front back
+
+  -- a segment that has a cell of a line is in it
+  in_keys : (keys : List ℕ) (x k offset : ℕ) (s : Slot) → slice_get (line (piece_at c.pieces) keys) offset ≡ Some s → s.cell ≡ x
+      → has_cell x (slots_of (piece_at c.pieces k)) ≡ true → has k keys ≡ true
+  in_keys keys x k offset s e same h =
+      let p = in_line (piece_at c.pieces) x keys (subst (λ y. has_cell y (line (piece_at c.pieces) keys) ≡ true) same (has_cell_get (line (piece_at c.pieces) keys) offset s e)) in
+      subst (λ j. has j keys ≡ true) (whole.sound.apart p.0 k x p.2 h) p.1
+
+  pub none_parted : (k : ℕ) → IsParted c name place k → ⊥
+  none_parted k h =
+      let upper = read_at c name index h.above.before found h.above.holds.cell h.above.holds.there in
+      let lower = read_at c name index place found h.below.cell h.below.there in
+      let next = h.above.next in
+      let in_front = in_keys front h.above.holds.cell k h.above.before upper.0
+      (sym (slice_get_left (line (piece_at c.pieces) front) (line (piece_at c.pieces) back) h.above.before (omega (arith, long, next)))
+      ∙ ap (λ l. slice_get l h.above.before) (sym parts) ∙ upper.1) upper.2 h.above.holds.held in
+      let in_back = in_keys back h.below.cell k 0 lower.0
+      (sym (slice_get_right (line (piece_at c.pieces) front) (line (piece_at c.pieces) back) place 0 (omega (arith, long)))
+      ∙ ap (λ l. slice_get l place) (sym parts) ∙ lower.1) lower.2 h.below.held in
+      once_parts k front back
+      (subst Once (sym (take-append-drop count (keys_in c.strands index))) (Once-from_linked whole.sound.shares.above (keys_in c.strands index) (whole.sound.shares.linked index)))
+      in_front in_back

@@ -181,10 +181,19 @@ pub record KeepsNotes {T : Type 0} (old new : Cut T) : Type 0 where
   pub cleared : (k : ℕ) → touched ≡ Some k → note_of (piece_at new.pieces k) ≡ None
   pub fresh : (k : ℕ) → piece_at old.pieces k ≡ None → note_of (piece_at new.pieces k) ≡ None
 
--- and the one that it touches is one of these
-pub record KeepsNotesBut {T : Type 0} (old new : Cut T) (May : ℕ → Type 0) : Type 0 where
+-- and it touches each segment that it must, and none but those that it may
+pub record KeepsNotesBut {T : Type 0} (old new : Cut T) (Must May : ℕ → Type 0) : Type 0 where
   pub notes : KeepsNotes old new
+  pub each : (k : ℕ) → Must k → notes.touched ≡ Some k
   pub only : (k : ℕ) → notes.touched ≡ Some k → May k
+
+-- the one that it touches is the one of which this holds
+abbrev pub KeepsNotesOff : {T : Type 0} → Cut T → Cut T → (ℕ → Type 0) → Type 0
+KeepsNotesOff old new Is = KeepsNotesBut old new Is Is
+
+-- no segment has to be touched
+abbrev pub Nowhere : ℕ → Type 0
+Nowhere k = ⊥
 
 -- a segment holds the cell at a place of the branch of a name
 pub record HoldsCellAt {T : Type 0} (c : Cut T) (name : List ℕ) (place key : ℕ) : Type 0 where
@@ -217,7 +226,7 @@ pub record IsStepSet {T : Type 0} (old new : Cut T) (key offset : ℕ) (step : S
       → (forest new).branches ≡ everywhere (replaced s.cell step) (forest old).branches
   pub made : new.made ≡ old.made
   pub limits : new.limits ≡ old.limits
-  pub notes : KeepsNotesBut old new (λ k. k ≡ key)
+  pub notes : KeepsNotesOff old new (λ k. k ≡ key)
   pub cut : IsCut new
 
 -- a cell of a segment goes: it goes from each branch
@@ -226,7 +235,7 @@ pub record IsRemoved {T : Type 0} (old new : Cut T) (key offset : ℕ) : Type 0 
       → (forest new).branches ≡ everywhere (without s.cell) (forest old).branches
   pub made : new.made ≡ old.made
   pub limits : new.limits ≡ old.limits
-  pub notes : KeepsNotesBut old new (λ k. k ≡ key)
+  pub notes : KeepsNotesOff old new (λ k. k ≡ key)
   pub cut : IsCut new
 
 -- no branch but that at an index has a segment
@@ -256,7 +265,7 @@ pub record IsPushed {T : Type 0} (old new : Cut T) (index : ℕ) (step : Step) :
   pub made : new.made ≡ old.made + 1
   pub count : length new.strands ≡ length old.strands
   pub limits : new.limits ≡ old.limits
-  pub notes : KeepsNotesBut old new (IsChangedEnd old new index)
+  pub notes : KeepsNotesBut old new Nowhere (IsChangedEnd old new index)
   pub cut : IsCut new
 
 -- steps are put last in the branch at an index, as new cells
@@ -274,7 +283,7 @@ pub record IsPutBefore {T : Type 0} (old new : Cut T) (key offset : ℕ) (step :
       → (forest new).branches ≡ everywhere (put_before s.cell (slot old.made step)) (forest old).branches
   pub made : new.made ≡ old.made + 1
   pub limits : new.limits ≡ old.limits
-  pub notes : KeepsNotesBut old new (λ k. k ≡ key)
+  pub notes : KeepsNotesOff old new (λ k. k ≡ key)
   pub changed : HasChanged old new key
   pub cut : IsCut new
 
@@ -282,7 +291,7 @@ pub record IsPutBefore {T : Type 0} (old new : Cut T) (key offset : ℕ) (step :
 pub record IsInserted {T : Type 0} (old new : Cut T) (index place : ℕ) (step : Step) : Type 0 where
   pub forest_is : forest new ≡ inserted (forest old) index place step
   pub limits : new.limits ≡ old.limits
-  pub notes : (name : List ℕ) → index_of (forest old).branches name ≡ Some index → KeepsNotesBut old new (CanGrowAt old name place)
+  pub notes : (name : List ℕ) → index_of (forest old).branches name ≡ Some index → KeepsNotesBut old new (HoldsCellAt old name place) (CanGrowAt old name place)
   pub unchanged : KeepsUnchanged old new
   pub cut : IsCut new
 

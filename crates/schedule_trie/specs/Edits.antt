@@ -4,7 +4,7 @@ use Rattle.frames.specs.declared.types.Step.{Step}
 use Rattle.schedule_trie.specs.declared.refusal.Refusal.{Refusal}
 use Rattle.schedule_trie.specs.declared.limits.Limits.{Limits}
 use Rattle.schedule_trie.specs.Forest.{Forest, insert, remove_cell, replace_step, fork, detach, drop_branch, IsRefused}
-use Rattle.schedule_trie.specs.Cut.{Cut, forest, IsCut, KeepsNotesBut, KeepsUnchanged, KeepsAllNotes, HoldsCellAt, CanGrowAt, IsParted}
+use Rattle.schedule_trie.specs.Cut.{Cut, forest, IsCut, KeepsNotesBut, KeepsNotesOff, KeepsUnchanged, KeepsAllNotes, HoldsCellAt, CanGrowAt, IsParted}
 
 -- an edit of the branch of a name: a new cell at a place; the cell there taken out, or given another step; a new branch, of
 -- another name, of the cells before a place; cells of its own for the branch; or the branch dropped
@@ -25,12 +25,13 @@ edited limits f (Fork name place new) = fork limits f name place new
 edited limits f (Detach name) = detach limits f name
 edited limits f (Drop name) = drop_branch f name
 
--- an edit touches at most one segment that was there, one that its place tells; an insert none whose cells stay
+-- an edit touches at most one segment that was there: that of the cell at its place, or the one that a fork cuts; an insert at
+-- the branch's length may touch the last one, and none whose cells stay
 abbrev pub KeepsNotesBy : {T : Type 0} → Edit → Cut T → Cut T → Type 0
-KeepsNotesBy (Insert name place step) old new = KeepsNotesBut old new (CanGrowAt old name place) × KeepsUnchanged old new
-KeepsNotesBy (Remove name place) old new = KeepsNotesBut old new (HoldsCellAt old name place)
-KeepsNotesBy (Replace name place step) old new = KeepsNotesBut old new (HoldsCellAt old name place)
-KeepsNotesBy (Fork name place made) old new = KeepsNotesBut old new (IsParted old name place)
+KeepsNotesBy (Insert name place step) old new = KeepsNotesBut old new (HoldsCellAt old name place) (CanGrowAt old name place) × KeepsUnchanged old new
+KeepsNotesBy (Remove name place) old new = KeepsNotesOff old new (HoldsCellAt old name place)
+KeepsNotesBy (Replace name place step) old new = KeepsNotesOff old new (HoldsCellAt old name place)
+KeepsNotesBy (Fork name place made) old new = KeepsNotesOff old new (IsParted old name place)
 KeepsNotesBy (Detach name) old new = KeepsAllNotes old new
 KeepsNotesBy (Drop name) old new = KeepsAllNotes old new
 

@@ -4,7 +4,6 @@
 //! with a common cell have the same cells up to it.
 #![tactic(auto)]
 
-pub mod laws;
 pub mod limb;
 pub mod limits;
 mod mark;

@@ -326,6 +326,13 @@ impl<T: Drop> Trie<T> {
         self.branches.get_index_of(branch)
     }
 
+    /// The key of the last segment of the branch at an index; none if there is no such branch, or it has no cell.
+    pub fn last_at(&self, index: usize) -> Option<SegKey>
+        ensures { result ≡ last_of (keys_in self.now.strands index) }
+    {
+        self.segments.last(index)
+    }
+
     /// The keys of the segments of the branch at an index, in order; none where there is no such branch.
     pub fn keys_at(&self, alloc: Global, index: usize) -> Result<Vec<SegKey>, AllocError>
         ensures keys { IfOk result (λ keys. keys.items ≡ keys_in self.now.strands index) }

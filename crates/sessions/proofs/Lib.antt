@@ -6,10 +6,12 @@ pub mod Searches
 pub mod Runs
 pub mod NextHits
 pub mod Looks
+pub mod Towers
 pub mod Rows
 pub mod Standing
 pub mod Unmoved
 pub mod EditAnswers
 pub mod Loads
+pub mod Openings
 pub mod Kept
 pub mod BreakAnswers

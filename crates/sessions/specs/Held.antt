@@ -1,6 +1,7 @@
 -- What a book keeps.
 use Rattle.std.specs.Prelude.{ℕ, ◌≡◌, ◌≤◌, ◌⊎◌, false, List, Option, Some, None, Result, Ok, Err, length}
 use Rattle.frames.specs.Behaviour.{Behaviour}
+use Rattle.frames.specs.Configuration.{initial_configuration}
 use Rattle.schedule_trie.specs.declared.limits.Limits.{Limits}
 use Rattle.schedule_trie.specs.declared.refusal.Refusal.{Refusal}
 use Rattle.schedule_trie.specs.declared.refusal.Refusal.TheVariants.{Memory}
@@ -67,6 +68,11 @@ pub record Held (R P : Type 0) : Type 0 where
 -- the world that a book opened at, before its first command
 abbrev pub opening_of : {R P : Type 0} → (R → Behaviour P) → Held R P → World P
 opening_of is h = opening (is h.first.start.register) h.first.value h.now.limits (forest h.first.cut)
+
+-- its chart begins from the initial configuration that the opening's register and value give
+abbrev pub BeginsAtOpening : {R P : Type 0} → (R → Behaviour P) → Held R P → Type 0
+BeginsAtOpening is h =
+    h.now.chart.start ≡ initial_configuration (opening_of is h).tower h.now.chart.start.register (opening_of is h).value
 
 -- the world of a chart within these limits before the first command
 abbrev pub opening_over : {R P : Type 0} → (R → Behaviour P) → Charted R P → Limits → World P

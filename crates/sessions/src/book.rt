@@ -5,16 +5,16 @@ ghost use Rattle.std.specs.Arc.{arc_value};
 ghost use Rattle.frames.specs.Recorded.{AllFit};
 ghost use Rattle.schedule_trie.specs.Forest.{IsRefused, index_of, opened};
 ghost use Rattle.schedule_trie.specs.Forest as forests;
-ghost use Rattle.schedule_trie.specs.Cut.{AreLimits, forest, if_lacks};
+ghost use Rattle.schedule_trie.specs.Cut.{AreLimits, IsCut, forest, if_lacks};
 ghost use Rattle.cutoff.specs.Plans.{IsPlan};
 ghost use Rattle.cutoff.specs.Installs.{Installs};
 ghost use Rattle.sessions.specs.World.{opening};
-ghost use Rattle.sessions.specs.Logs.{IsLegal};
+ghost use Rattle.views.specs.Strays.{IsRegularOrAtomic, ShowsNoStray};
+ghost use Rattle.sessions.specs.Logs.{IsLegal, world_after};
 ghost use Rattle.sessions.specs.Logs as spec;
 ghost use Rattle.sessions.specs.Looks.{looked, shown_in};
-ghost use Rattle.sessions.specs.Held.{Acts, IsHeld, TellsMemoryLast, Wants, opening_of, opening_over, world_of};
+ghost use Rattle.sessions.specs.Held.{Acts, BeginsAtOpening, IsHeld, TellsMemoryLast, Wants, opening_of, opening_over, world_of};
 
-mod chains;
 mod limbs;
 
 use crate::command::Command;
@@ -133,18 +133,22 @@ impl<R: Register> Book<R> {
         reply
     }
 
-    /// Looks at the branches, or at a session. What it answers stands for the page as it now is.
+    /// Looks at the branches, or at a session, as the logged commands have left them, whatever was planned and installed between. What
+    /// it answers stands for the page as it now is; on a regular or an atomic register it shows no stray read.
     ///
     /// # Errors
     ///
     /// NoSession for the cursor of a session that hasn't joined; NoBranch; NoPlace where the branch is shorter; Memory. World and log
     /// stay in any case.
     pub fn look(&mut self, alloc: Global, query: Query) -> Result<Slip<R>, Refusal>
-        ensures page { IfOk result
-            (λ slip. Some slip ≡ shown_in (world_of R.is self.old.now) query) }
-        ensures found { let w = world_of R.is self.old.now in
+        ensures page { let w = world_after (opening_of R.is self.old) self.old.log in
+            IfOk result (λ slip. Some slip.page ≡ shown_in w query) }
+        ensures found { let w = world_after (opening_of R.is self.old) self.old.log in
             OnOk result (looked w query ≡ Ok w.forest) }
-        ensures err { IfErr result (IsRefused (looked (world_of R.is self.old.now) query)) }
+        ensures err { let w = world_after (opening_of R.is self.old) self.old.log in
+            IfErr result (IsRefused (looked w query)) }
+        ensures never_stray { IsRegularOrAtomic (opening_of R.is self.old).tower
+            → IfOk result (λ slip. ShowsNoStray slip.page) }
         ensures world { world_of R.is self.new.now ≡ world_of R.is self.old.now }
         ensures opening { opening_of R.is self.new ≡ opening_of R.is self.old }
         ensures log { self.new.log ≡ self.old.log }
@@ -191,12 +195,14 @@ impl<R: Register> Book<R> {
         self.log.len() as u32
     }
 
-    /// What a book keeps by its type: its log is legal, and its world is the one after it. It does nothing: callers learn this by
-    /// its contract.
+    /// What a book keeps by its type: its log is legal, and its world is the one after it. Its chart is cut into segments, and
+    /// begins from the initial configuration that its opening gives. It does nothing: callers learn this by its contract.
     pub fn held(&self)
-        ensures { IsHeld R.is self.now }
+        ensures log { IsHeld R.is self.now }
+        ensures cut { IsCut self.now.now.chart.cut }
+        ensures begins { BeginsAtOpening R.is self.now }
     {
-        let _log = &self.log;
+        self.stage.chart().held();
     }
 
     /// How many edits were accepted.

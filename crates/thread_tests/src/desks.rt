@@ -9,12 +9,14 @@ ghost use Rattle.desk.specs.Chairs.{IsAt};
 
 mod crossings;
 mod fills;
+mod forests;
 mod growths;
 mod guarded;
 mod limbs;
 mod measured;
 mod news;
 mod openings;
+mod rounds;
 mod rows;
 mod side_by_side;
 mod threads;

@@ -10,3 +10,4 @@ pub mod BenchAgain
 pub mod BenchAnswers
 pub mod LimbNames
 pub mod TowerNames
+mod Examples

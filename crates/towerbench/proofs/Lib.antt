@@ -4,3 +4,4 @@ pub mod Shares
 pub mod Replies
 pub mod Grounds
 pub mod Benches
+mod Examples

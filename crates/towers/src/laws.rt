@@ -2,10 +2,13 @@
 
 ghost use Rattle.frames.specs.Regularity.{NeverStray};
 ghost use Rattle.frames.specs.Regularity.{IsAtomic, IsRegular, IsSafe};
+ghost use Rattle.unary_number.specs.Scans.{AlwaysFinds};
+ghost use Rattle.views.specs.Strays.{NeverShowsStray};
 
 use crate::{CopiesTower, RegularTower, StampedTower, UnaryTower};
 use frames::laws::{never_stray, safe};
 use frames::register::Behaves;
+use views::laws::never_shows_stray;
 
 /// Copies of a safe bit are safe.
 pub fn copies(register: &CopiesTower)
@@ -24,10 +27,13 @@ pub fn regular(register: &RegularTower)
     regular_bit::laws::regular(register);
 }
 
-/// A unary number over regular bits is regular, and so never shows a stray read.
+/// A unary number over regular bits is regular, and so never shows a stray read; no scan reads its last bit as 0.
 pub fn unary(register: &UnaryTower)
     ensures regular { IsRegular (⟦<UnaryTower as Behaves>⟧.is register.now) }
     ensures never_stray { NeverStray (⟦<UnaryTower as Behaves>⟧.is register.now) }
+    ensures found { let layers = register.now.layers in
+        AlwaysFinds layers.layer.values layers.layer.processes
+        (⟦<RegularTower as Behaves>⟧.is layers.below) }
 {
     regular(&register.layers.below);
     unary_number::laws::regular(&register.layers);
@@ -41,4 +47,18 @@ pub fn stamped(register: &StampedTower)
     unary(&register.below);
     stamped::laws::atomic(register);
     never_stray(register);
+}
+
+/// No page of a regular, unary or stamped tower ever shows a stray read.
+pub fn pages_show_no_stray(bit: &RegularTower, number: &UnaryTower, register: &StampedTower)
+    ensures regular { NeverShowsStray (⟦<RegularTower as Behaves>⟧.is bit.now) }
+    ensures unary { NeverShowsStray (⟦<UnaryTower as Behaves>⟧.is number.now) }
+    ensures stamped { NeverShowsStray (⟦<StampedTower as Behaves>⟧.is register.now) }
+{
+    regular(bit);
+    never_shows_stray(bit);
+    unary(number);
+    never_shows_stray(number);
+    stamped(register);
+    never_shows_stray(register);
 }

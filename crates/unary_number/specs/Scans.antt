@@ -1,12 +1,81 @@
--- What no scan does.
-use Rattle.std.specs.Prelude.{ℕ}
-use Rattle.frames.specs.declared.types.Layer.{Layer}
-use Rattle.frames.specs.declared.types.Outcome.TheVariants.{Spent}
+-- What no scan does: of the operations on bits that end in a step of the number, none is a look at the last bit that gives 0.
+use Rattle.std.specs.Prelude.{◌≡◌, ◌≢◌, ℕ, ◌<◌, ◌+◌, ◌==◌, ⊤, Bool, true, false, List, [], ◌∷◌, Option, Some, None}
+use Rattle.std.specs.List.{All}
+use Rattle.safe_bit.specs.Memory.{Memory, word_at, with_word}
+use Rattle.frames.specs.declared.types.Op.{Op}
+use Rattle.frames.specs.declared.types.Op.TheVariants as op
+use Rattle.frames.specs.declared.types.Step.{Step}
+use Rattle.frames.specs.declared.types.Step.TheVariants as step
+use Rattle.frames.specs.declared.types.Outcome.{Outcome}
+use Rattle.frames.specs.declared.types.Outcome.TheVariants.{Value, Written, Spent}
+use Rattle.frames.specs.declared.types.Next.{Next}
+use Rattle.frames.specs.declared.types.Next.TheVariants.{Pending, Done}
+use Rattle.frames.specs.declared.running.Running.{Running}
 use Rattle.frames.specs.Behaviour.{Behaviour}
-use Rattle.frames.specs.Regularity.{IsRegular}
-use Rattle.layers.specs.Nested.{layered}
-use Rattle.unary_number.specs.Program.{unary_table_with}
+use Rattle.frames.specs.Configuration.{fits_step, running_at, is_stopped}
+use Rattle.frames.specs.Fitting.{process_of}
+use Rattle.frames.specs.Recorded.{Alone, AllFit, shown}
+use Rattle.layers.specs.declared.nested.Nested.{Nested}
+use Rattle.layers.specs.Nested.{Program, Ends, Asks, Reads, Sets, Table, own_words, asked, pushed, layered}
+use Rattle.unary_number.specs.declared.task.UnaryTask.{UnaryTask}
+use Rattle.unary_number.specs.declared.task.UnaryTask.TheVariants.{Setting, Clearing, Looking}
+use Rattle.unary_number.specs.Program.{unary_table}
 
--- no scan reads its last bit as 0: were each that does refused, as any layer, the register would refuse no operation still
+-- an operation of a part, by its task, and how it ended
+pub record Ended (Task : Type 0) : Type 0 where
+  pub task : Task
+  pub outcome : Outcome
+
+-- the operations of parts that end from a part's on: none where it still stands, and none after it where it is spent
+abbrev pub ended_behind : {Task P : Type 0} → (Outcome → Memory → List (Ended Task)) → Task → Next P → Memory → List (Ended Task)
+ended_behind later task (Pending p) m = []
+ended_behind later task (Done (Spent layer)) m = record { task = task; outcome = Spent layer } ∷ []
+ended_behind later task (Done Written) m = record { task = task; outcome = Written } ∷ later Written m
+ended_behind later task (Done (Value v)) m = record { task = task; outcome = Value v } ∷ later (Value v) m
+
+module _ {Task P : Type 0} (t : Table Task) (b : Behaviour P) where
+  -- those that end as a program runs to its next bit action or its end
+  abbrev pub ended_by : Program Task → Memory → List (Ended Task)
+  ended_by (Ends o) m = []
+  ended_by (Asks task k) m = ended_behind (λ o n. ended_by (k o) n) task (asked b (t.asks task) m).next (asked b (t.asks task) m).memory
+  ended_by (Reads i k) m = ended_by (k (word_at (own_words t b.size + i) m)) m
+  ended_by (Sets i x k) m = ended_by k (with_word (own_words t b.size + i) x m)
+
+  -- those that end as a process invokes an operation, and as it makes its next bit action
+  abbrev pub ended_invoking : ℕ → Op → Option (Running (Nested Task P)) → Memory → List (Ended Task)
+  ended_invoking who o None m = ended_by (t.program who o) m
+  ended_invoking who o (Some r) m = []
+
+  abbrev pub ended_going : Bool → Option (Running (Nested Task P)) → Memory → List (Ended Task)
+  ended_going choice None m = []
+  ended_going choice (Some r) m =
+      let moved = pushed b (t.asks r.point.task).part r.point.below choice m in
+      ended_behind (λ o n. ended_by (t.rest r.point.task o) n) r.point.task moved.next moved.memory
+
+  -- those that end in a step of a process that hasn't stopped, and of one that may have
+  abbrev pub ended_acting : Step → Option (Running (Nested Task P)) → Memory → List (Ended Task)
+  ended_acting (step.Write p v) running m = ended_invoking p (op.Write v) running m
+  ended_acting (step.Read p) running m = ended_invoking p op.Read running m
+  ended_acting (step.Go p c) running m = ended_going (c == 1) running m
+  ended_acting (step.Stop p) running m = []
+
+  abbrev pub ended_unless : Bool → Step → Option (Running (Nested Task P)) → Memory → List (Ended Task)
+  ended_unless true s running m = []
+  ended_unless false s running m = ended_acting s running m
+
+  -- those that end in a step from a configuration of the layer
+  abbrev pub ended_in : Alone (Nested Task P) → Step → List (Ended Task)
+  ended_in c s = ended_unless (is_stopped (process_of s) c) s (running_at (process_of s) c) c.memory
+
+-- a look at the last of so many bits doesn't give 0
+abbrev pub FindsOne : ℕ → UnaryTask → Outcome → Type 0
+FindsOne values (Looking who i left) outcome = i + 1 ≡ values → outcome ≢ Value 0
+FindsOne values (Setting x) outcome = ⊤
+FindsOne values (Clearing x i) outcome = ⊤
+
+-- no scan reads its last bit as 0: from every initial value, after every list of fitting steps, none does so in a further step that fits
 abbrev pub AlwaysFinds : {P : Type 0} → ℕ → ℕ → Behaviour P → Type 0
-AlwaysFinds values processes b = (layer : Layer) → IsRegular (layered (unary_table_with (Spent layer) values processes) b)
+AlwaysFinds values processes b =
+    let t = unary_table values processes in
+    (value : ℕ) (steps : List Step) (s : Step) → value < values → AllFit (layered t b) steps → fits_step (layered t b) s ≡ true
+    → All (λ e. FindsOne values e.task e.outcome) (ended_in t b (shown (layered t b) value steps) s)

@@ -1,6 +1,6 @@
 -- The law's words, by what is known as a read returns, say what Lamport's say.
-use Rattle.std.proofs.Common.{◌≡◌, ◌≢◌, ℕ, ◌<◌, true, false, ◌||◌, List, [], ◌∷◌, ◌++◌, length, drop, Option, Some, None, ◌⊎◌, inl, inr, refl, sym, ap, subst, ◌∙◌, true≢false, eq-eqb}
-use Rattle.std.specs.Prelude.{◌==◌, ◌↔◌}
+use Rattle.std.proofs.Common.{◌≡◌, ◌≢◌, ℕ, ◌<◌, Bool, true, false, ◌||◌, List, [], ◌∷◌, ◌++◌, length, drop, Option, Some, None, ◌⊎◌, inl, inr, refl, sym, ap, subst, ◌∙◌, true≢false, eq-eqb}
+use Rattle.std.specs.Prelude.{◌==◌, ◌↔◌, if◌then◌else◌}
 use Rattle.std.specs.List.{list_any}
 use Rattle.frames.specs.declared.types.Op.TheVariants as op
 use Rattle.frames.specs.declared.types.Event.{Event}
@@ -12,30 +12,37 @@ use Rattle.frames.specs.Behaviour.{Behaviour}
 use Rattle.frames.specs.OneWriter.{HasOneWriter}
 use Rattle.frames.specs.Recorded.{AllFit, recorded}
 use Rattle.frames.specs.declared.types.Step.{Step}
-use Rattle.frames.specs.Verdicts.{Known, initially, invoked_now, after, reading, is_value, judged}
+use Rattle.frames.specs.Verdicts.{Known, is_refused, counts, accepted, initially, invoked_now, reading, is_value, judged}
 use Rattle.frames.specs.Regularity.{in_progress, overlapped, OnReturn, EachRead, FreshAlone, NotStray, AlwaysReads, IsSafe, IsRegular}
-use Rattle.views.specs.VerdictWords.{InProgress, IsHistory, ReturnedRead, MatchVerdict, RecordsHistories}
+use Rattle.views.specs.VerdictWords.{InProgress, IsHistory, ReturnedRead, during, afterwards, MatchVerdict, RecordsHistories}
 use Rattle.views.specs.LawWords.{Overlaps, FreshIfAlone, FreshOrOverlapping, AlwaysInWords, IsSafeInWords, IsRegularInWords}
-use Rattle.views.proofs.VerdictKnown.{known, reading_of_progress}
+use Rattle.views.proofs.VerdictKnown.{history-left, noting, known, reading_of_progress}
 use Rattle.views.proofs.VerdictOverlaps.{crossing_of_words, words_of_crossing}
-use Rattle.views.proofs.VerdictWords.{history-left, verdict_words, test_of_crossing, crossing_of_test}
-
--- what comes before a read's return, and what is known then
-abbrev before : {history : List (ℕ × Event)} → ReturnedRead history → List (ℕ × Event)
-before r = r.earlier ++ (r.invoked, Invoke r.process op.Read) ∷ r.since
-
-abbrev then_known : {history : List (ℕ × Event)} → ℕ → ReturnedRead history → Known
-then_known initial r = known (initially initial) (before r)
+use Rattle.views.proofs.VerdictWords.{then_known, read_of, verdict_words, test_of_crossing, crossing_of_test}
 
 module _ (Says : Known → ℕ → ℕ → Type 0) where
-  at_return : (k : Known) (xs : List (ℕ × Event)) (i p v : ℕ) (ys : List (ℕ × Event)) → EachRead Says k (xs ++ (i, Got p v) ∷ ys) → Says (known k xs) p v
+  -- an event that counts, or doesn't, before others
+  each_behind : (counted : Bool) (k : Known) (x : ℕ × Event) (xs : List (ℕ × Event)) → EachRead Says k (if counted then x ∷ xs else xs) → EachRead Says (noting counted x.1 k) xs
+  each_behind true k x xs h = h.1
+  each_behind false k x xs h = h
+
+  each_with : (counted : Bool) (k : Known) (x : ℕ × Event) (xs : List (ℕ × Event)) → OnReturn Says k x.1 → EachRead Says (noting counted x.1 k) xs → EachRead Says k (if counted then x ∷ xs else xs)
+  each_with true k x xs h t = (h, t)
+  each_with false k x xs h t = t
+
+  at_return : (k : Known) (xs : List (ℕ × Event)) (i p v : ℕ) (ys : List (ℕ × Event)) → EachRead Says k (accepted (xs ++ (i, Got p v) ∷ ys)) → Says (known k xs ((i, Got p v) ∷ ys)) p v
   at_return k [] i p v ys h = h.0
-  at_return k (x ∷ xs) i p v ys h = at_return (after k x.1) xs i p v ys h.1
+  at_return k (x ∷ xs) i p v ys h =
+      let counted = counts x.1 (is_refused (xs ++ (i, Got p v) ∷ ys)) in
+      at_return (noting counted x.1 k) xs i p v ys (each_behind counted k x (accepted (xs ++ (i, Got p v) ∷ ys)) h)
 
   at_each_return : (k : Known) (history : List (ℕ × Event))
-      → ((xs : List (ℕ × Event)) (i p v : ℕ) (ys : List (ℕ × Event)) → history ≡ xs ++ (i, Got p v) ∷ ys → Says (known k xs) p v) → EachRead Says k history
+      → ((xs : List (ℕ × Event)) (i p v : ℕ) (ys : List (ℕ × Event)) → history ≡ xs ++ (i, Got p v) ∷ ys → Says (known k xs ((i, Got p v) ∷ ys)) p v) → EachRead Says k (accepted history)
   at_each_return k [] f = tt
-  at_each_return k ((i, e) ∷ es) f = (by e refl, at_each_return (after k e) es (λ xs j p v ys s. f ((i, e) ∷ xs) j p v ys (ap (λ l. (i, e) ∷ l) s)))
+  at_each_return k ((i, e) ∷ es) f =
+      each_with (counts e (is_refused es)) k (i, e) (accepted es) (by e refl)
+      (at_each_return (noting (counts e (is_refused es)) e k) es (λ xs j p v ys s.
+      subst (λ l. Says (known (noting (counts e (is_refused l)) e k) xs ((j, Got p v) ∷ ys)) p v) (sym s) (f ((i, e) ∷ xs) j p v ys (ap (λ l. (i, e) ∷ l) s))))
     where
       by : (event : Event) → e ≡ event → OnReturn Says k event
       by (Got p v) same = f [] i p v es (ap (λ x. (i, x) ∷ es) same)
@@ -48,27 +55,17 @@ module _ (Says : Known → ℕ → ℕ → Type 0) where
 
 -- what is said of each return, and what is said in words, where they are the same of each read
 module _ (initial : ℕ) (history : List (ℕ × Event)) (h : IsHistory history) (Says : Known → ℕ → ℕ → Type 0) (Words : ReturnedRead history → Type 0) where
-  words_of_each : ((r : ReturnedRead history) → Says (then_known initial r) r.process r.value → Words r) → EachRead Says (initially initial) history → (r : ReturnedRead history) → Words r
+  words_of_each : ((r : ReturnedRead history) → Says (then_known initial r) r.process r.value → Words r) → EachRead Says (initially initial) (accepted history) → (r : ReturnedRead history) → Words r
   words_of_each f each r =
-      f r (at_return Says (initially initial) (before r) r.returned r.process r.value r.later (subst (EachRead Says (initially initial)) r.split each))
+      f r (at_return Says (initially initial) (r.earlier ++ during r) r.returned r.process r.value r.later (subst (λ l. EachRead Says (initially initial) (accepted l)) r.split each))
 
-  each_of_words : ((r : ReturnedRead history) → Words r → Says (then_known initial r) r.process r.value) → ((r : ReturnedRead history) → Words r) → EachRead Says (initially initial) history
+  each_of_words : ((r : ReturnedRead history) → Words r → Says (then_known initial r) r.process r.value) → ((r : ReturnedRead history) → Words r) → EachRead Says (initially initial) (accepted history)
   each_of_words f words = at_each_return Says (initially initial) history (λ xs i p v ys s. at xs i p v ys s (h.follows xs i (Got p v) ys s))
     where
-      at : (xs : List (ℕ × Event)) (i p v : ℕ) (ys : List (ℕ × Event)) → history ≡ xs ++ (i, Got p v) ∷ ys → InProgress p op.Read xs → Says (known (initially initial) xs) p v
+      at : (xs : List (ℕ × Event)) (i p v : ℕ) (ys : List (ℕ × Event)) → history ≡ xs ++ (i, Got p v) ∷ ys → InProgress p op.Read xs → Says (known (initially initial) xs ((i, Got p v) ∷ ys)) p v
       at xs i p v ys s w =
-          let r : ReturnedRead history = record {
-            process = p;
-            value = v;
-            earlier = w.earlier;
-            invoked = w.step;
-            since = w.since;
-            returned = i;
-            later = ys;
-            split = s ∙ ap (λ l. l ++ (i, Got p v) ∷ ys) w.split;
-            quiet = w.quiet;
-          } in
-          subst (λ l. Says (known (initially initial) l) p v) (sym w.split) (f r (words r))
+          let r = read_of history xs i p v ys s w in
+          subst (λ l. Says (known (initially initial) l ((i, Got p v) ∷ ys)) p v) (sym w.split) (f r (words r))
 
 -- a verdict, and what is fresh and what overlaps
 seen_unless_stray : (verdict : Verdict) (A B : Type 0) → MatchVerdict verdict A B → verdict ≢ Stray → A ⊎ B
@@ -104,30 +101,33 @@ none_if_none [] (Some u) n = absurd (n u (eq-eqb u u refl))
 none_if_none (x ∷ xs) o n = absurd (n x (ap (λ b. (b || list_any (λ u. u == x) xs) || is_value x o) (eq-eqb x x refl)))
 
 module _ (initial : ℕ) (history : List (ℕ × Event)) (h : IsHistory history) (r : ReturnedRead history) where
-  abbrev during : List (ℕ × Event)
-  during = (r.invoked, Invoke r.process op.Read) ∷ r.since
-
   abbrev all : Known
-  all = known (initially initial) (r.earlier ++ during)
+  all = then_known initial r
 
-  whole : IsHistory (r.earlier ++ during)
-  whole = history-left (r.earlier ++ during) ((r.returned, Got r.process r.value) ∷ r.later) (subst IsHistory r.split h)
+  abbrev upto : Known
+  upto = known (initially initial) r.earlier (during r ++ afterwards r)
 
-  invoked : reading r.process all ≡ invoked_now r.process (known (initially initial) r.earlier)
-  invoked = reading_of_progress r.process (initially initial) r.earlier r.since r.invoked r.quiet
+  full : IsHistory ((r.earlier ++ during r) ++ afterwards r)
+  full = subst IsHistory r.split h
+
+  whole : IsHistory (r.earlier ++ during r)
+  whole = history-left (r.earlier ++ during r) (afterwards r) full
+
+  invoked : reading r.process all ≡ invoked_now r.process upto
+  invoked = reading_of_progress r.process (initially initial) r.earlier r.since (afterwards r) r.invoked r.quiet
 
   -- it overlaps no write where no value overlaps it
   alone_in_words : overlapped r.process all ≡ [] → (v : ℕ) → ¬ Overlaps v r
   alone_in_words e v w =
-      let none : drop (length (known (initially initial) r.earlier).returned) all.returned ++ in_progress all.writing ≡ [] =
+      let none : drop (length upto.returned) all.returned ++ in_progress all.writing ≡ [] =
       subst (λ (x : Reading). drop x.since all.returned ++ in_progress all.writing ≡ []) invoked e in
-      let test = test_of_crossing initial v r.earlier during whole.roles (crossing_of_words v r.earlier during whole w) in
+      let test = test_of_crossing initial v r.earlier (during r) (afterwards r) whole (crossing_of_words v r.earlier (during r) (afterwards r) full w) in
       absurd (true≢false (sym test ∙ none_among _ all.writing none v))
 
   alone_by_words : ((v : ℕ) → ¬ Overlaps v r) → overlapped r.process all ≡ []
   alone_by_words n =
       subst (λ (x : Reading). drop x.since all.returned ++ in_progress all.writing ≡ []) (sym invoked)
-      (none_if_none _ all.writing (λ v test. n v (words_of_crossing v r.earlier during (crossing_of_test initial v r.earlier during whole.roles test))))
+      (none_if_none _ all.writing (λ v test. n v (words_of_crossing v r.earlier (during r) (afterwards r) full.roles (crossing_of_test initial v r.earlier (during r) (afterwards r) whole test))))
 
   safe_words : FreshAlone all r.process r.value → FreshIfAlone initial r
   safe_words says alone = fresh_if_so (judged all r.process r.value) _ _ (verdict_words initial history h r) (says (alone_by_words alone))
@@ -157,7 +157,7 @@ module _ {P : Type 0} (b : Behaviour P) (records : HasOneWriter b → RecordsHis
         → AlwaysInWords b Words → AlwaysReads b Says
     always_by_words from h = record { one_writer = h.one_writer; refuses_none = h.refuses_none; each_read = each }
       where
-        each : (value : ℕ) (steps : List Step) → value < b.values → AllFit b steps → EachRead Says (initially value) (recorded b value steps)
+        each : (value : ℕ) (steps : List Step) → value < b.values → AllFit b steps → EachRead Says (initially value) (accepted (recorded b value steps))
         each value steps within fit =
             let history = records h.one_writer value steps within fit in
             each_of_words value (recorded b value steps) history Says (Words (recorded b value steps) value) (from value (recorded b value steps) history) (h.each_read value steps within fit)

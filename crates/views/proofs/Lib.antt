@@ -13,3 +13,5 @@ pub mod VerdictOverlaps
 pub mod VerdictHistories
 pub mod Strays
 pub mod LawWords
+pub mod AtomicWords
+mod Examples

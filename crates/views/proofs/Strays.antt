@@ -1,5 +1,5 @@
 -- Where no read of a register is ever stray, no page shows a stray one.
-use Rattle.std.proofs.Common.{◌≡◌, ◌≢◌, ℕ, ◌<◌, Bool, true, false, List, [], ◌∷◌, Option, Some, None, Result, Ok, Err, refl, sym, ap, subst, take}
+use Rattle.std.proofs.Common.{◌≡◌, ◌≢◌, ℕ, ◌<◌, Bool, true, false, List, [], ◌∷◌, Option, Some, None, Result, Ok, Err, refl, sym, ap, subst, take, inl, inr}
 use Rattle.std.specs.Prelude.{if◌then◌else◌, IfSome, IfOk}
 use Rattle.std.specs.List.{All}
 use Rattle.std.specs.Option.{unwrap_or}
@@ -13,20 +13,23 @@ use Rattle.frames.specs.declared.verdict.Verdict.TheVariants.{Stray}
 use Rattle.frames.specs.Behaviour.{Behaviour}
 use Rattle.frames.specs.Configuration.{Configuration, fits_step}
 use Rattle.frames.specs.Recorded.{AllFit, recorded}
-use Rattle.frames.specs.Verdicts.{Known, initially, after, told, verdicts_from, verdicts}
+use Rattle.frames.specs.Verdicts.{Known, accepted, initially, after, told, verdicts_from, verdicts}
 use Rattle.frames.specs.Regularity.{OnReturn, EachRead, NotStray}
 use Rattle.frames.specs.Regularity.{NeverStray}
+use Rattle.frames.proofs.NeverStray.{regular_never_stray, atomic_never_stray}
 use Rattle.schedule_trie.specs.Forest.{Forest, index_of, path_by}
 use Rattle.cutoff.specs.Fitting.{RunPart}
 use Rattle.cutoff.specs.Held.{StepsFit}
 use Rattle.views.specs.declared.query.PlaceKind.{PlaceKind}
 use Rattle.views.specs.declared.query.PlaceKind.TheVariants as kind
+use Rattle.views.specs.declared.query.Query.TheVariants as query
 use Rattle.views.specs.declared.page.Page.{Page}
 use Rattle.views.specs.declared.page.Page.TheVariants as page
 use Rattle.views.specs.Spots.{IsSpotOf}
 use Rattle.views.specs.RunPages.{run_page}
 use Rattle.views.specs.Looks.{steps_in, place_page, judged_from}
-use Rattle.views.specs.Strays.{OnVerdicts, AreOf, Judges, JudgesSome, ShowsNoStray, JudgesFrom}
+use Rattle.views.specs.Slips.{Slipped}
+use Rattle.views.specs.Strays.{OnVerdicts, AreOf, Judges, JudgesIts, ShowsNoStray, IsRegularOrAtomic, NeverShowsStray, JudgesFrom}
 use Rattle.views.proofs.Slips.{slip_told}
 
 NoneStray : List ReadVerdict → Type 0
@@ -66,28 +69,34 @@ on_verdicts f (page.Steps p) h = tt
 
 never_there : {P : Type 0} (b : Behaviour P) → NeverStray b → (reads : List ReadVerdict) → AreOf b reads → NoneStray reads
 never_there b never reads of =
-    subst NoneStray (sym of.judged) (none_stray (initially of.value) (recorded b of.value of.steps) (never of.value of.steps of.within of.fit))
+    subst NoneStray (sym of.judged) (none_stray (initially of.value) (accepted (recorded b of.value of.steps)) (never of.value of.steps of.within of.fit))
 
 shows_no_stray : {P : Type 0} (b : Behaviour P) → NeverStray b → (p : Page) → Judges b p → ShowsNoStray p
 unfolding NoneStray
 shows_no_stray b never = on_verdicts (never_there b never)
 
-some_shows_no_stray : {R P : Type 0} (is : R → Behaviour P) → ((register : R) → NeverStray (is register)) → (p : Page) → JudgesSome is p → ShowsNoStray p
+-- a regular or atomic register never shows a stray read
+never_stray : {P : Type 0} (b : Behaviour P) → IsRegularOrAtomic b → NeverStray b
+never_stray b (inl regular) = regular_never_stray b regular
+never_stray b (inr atomic) = atomic_never_stray b atomic
+
+its_shows_no_stray : {R P : Type 0} (is : R → Behaviour P) (judged : Option R) → IfSome judged (λ register. IsRegularOrAtomic (is register)) → (p : Page) → JudgesIts is judged p → ShowsNoStray p
 unfolding NoneStray
-some_shows_no_stray is never = on_verdicts (λ reads of. never_there (is of.0) (never of.0) reads of.1)
+its_shows_no_stray is None lawful = on_verdicts (λ reads none. absurd none)
+its_shows_no_stray is (Some register) lawful = on_verdicts (never_there (is register) (never_stray (is register) lawful))
 
 -- the same of an answer
-pub ok_shows_no_stray : {P E : Type 0} (b : Behaviour P) → NeverStray b → (r : Result Page E) → IfOk r (Judges b) → IfOk r ShowsNoStray
-ok_shows_no_stray b never (Ok p) h = shows_no_stray b never p h
-ok_shows_no_stray b never (Err e) h = tt
+pub ok_its_shows_no_stray : {R P E : Type 0} (is : R → Behaviour P) (judged : Option R) → IfSome judged (λ register. IsRegularOrAtomic (is register)) → (r : Result Page E) → IfOk r (JudgesIts is judged) → IfOk r ShowsNoStray
+ok_its_shows_no_stray is judged lawful (Ok p) h = its_shows_no_stray is judged lawful p h
+ok_its_shows_no_stray is judged lawful (Err e) h = tt
 
-pub ok_some_shows_no_stray : {R P E : Type 0} (is : R → Behaviour P) → ((register : R) → NeverStray (is register)) → (r : Result Page E) → IfOk r (JudgesSome is) → IfOk r ShowsNoStray
-ok_some_shows_no_stray is never (Ok p) h = some_shows_no_stray is never p h
-ok_some_shows_no_stray is never (Err e) h = tt
+pub ok_shows_no_stray : {R P E : Type 0} (b : Behaviour P) → IsRegularOrAtomic b → (r : Result (Slipped R) E) → IfOk r (λ slip. Judges b slip.page) → IfOk r (λ slip. ShowsNoStray slip.page)
+ok_shows_no_stray b lawful (Ok slip) h = shows_no_stray b (never_stray b lawful) slip.page h
+ok_shows_no_stray b lawful (Err e) h = tt
 
--- what judges the history of a register judges that of some
-pub judges_some : {R P : Type 0} (is : R → Behaviour P) (register : R) (p : Page) → Judges (is register) p → JudgesSome is p
-judges_some is register = on_verdicts (λ reads of. (register, of))
+-- what judges the history of a register judges that of the one that is named, where that is it
+pub judges_its : {R P : Type 0} (is : R → Behaviour P) (register : R) (judged : Option R) → judged ≡ Some register → (p : Page) → Judges (is register) p → JudgesIts is judged p
+judges_its is register judged named p h = subst (λ o. JudgesIts is o p) (sym named) h
 
 -- the page of a place judges what the register records on the branch's first steps
 pub place_judges : {P : Type 0} (b : Behaviour P) (value : ℕ) (what : PlaceKind) (branch : List ℕ) (place : ℕ) (steps : List Step) → value < b.values → AllFit b steps → JudgesFrom value what
@@ -133,3 +142,17 @@ judged_from_it b value = by (b.suits 1 (op.Write 0))
     by : (t : Bool) → JudgesFrom value (kind.Verdict (if t then None else Some value))
     by true = tt
     by false = refl
+
+-- no look at a branch of a regular or atomic register shows a stray read
+pub never_shows_stray : {P : Type 0} (b : Behaviour P) → IsRegularOrAtomic b → NeverShowsStray b
+never_shows_stray b lawful value f (query.State branch place) within fits = tt
+never_shows_stray b lawful value f (query.Process branch place process) within fits = tt
+never_shows_stray b lawful value f (query.Bits branch place) within fits = tt
+never_shows_stray b lawful value f (query.Pending branch place) within fits = tt
+never_shows_stray b lawful value f (query.History branch place) within fits = tt
+never_shows_stray b lawful value f (query.Steps branch) within fits = tt
+never_shows_stray b lawful value f query.Branches within fits = tt
+never_shows_stray b lawful value f (query.Cursor who) within fits = tt
+never_shows_stray b lawful value f (query.Verdict branch place) within fits =
+    shows_no_stray b (never_stray b lawful) (place_page b value (kind.Verdict (judged_from b value)) branch place (steps_in f branch))
+    (place_judges b value (kind.Verdict (judged_from b value)) branch place (steps_in f branch) within (fit_in b f branch fits) (judged_from_it b value))

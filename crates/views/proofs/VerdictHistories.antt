@@ -32,13 +32,9 @@ use Rattle.frames.specs.Recorded.{at_index, indexed}
 use Rattle.frames.specs.Recorded.{AllFit}
 use Rattle.frames.specs.Recorded.{first_configuration, recorded}
 use Rattle.views.specs.VerdictWords.{is_turn, IsQuiet, InProgress, has_role, Follows, IsHistory, RecordsHistories, RecordsJudged}
-use Rattle.views.proofs.VerdictKnown.{}
+use Rattle.views.proofs.VerdictKnown.{no_event, with_event, progress_still}
 use Rattle.views.proofs.VerdictOverlaps.{parted_at, goes_on}
 use Rattle.views.proofs.VerdictWords.{judged_in_words}
-
--- one more event
-abbrev with_event : List (ℕ × Event) → ℕ → Event → List (ℕ × Event)
-with_event before i e = before ++ (i, e) ∷ []
 
 quiet-left : (p : ℕ) (xs ys : List (ℕ × Event)) → IsQuiet p (xs ++ ys) → IsQuiet p xs
 quiet-left p xs ys q = (or_parts (list_any (λ e. is_turn p e.1) xs) (list_any (λ e. is_turn p e.1) ys) (sym (list_any-append (λ e. is_turn p e.1) xs ys) ∙ q)).0
@@ -46,20 +42,11 @@ quiet-left p xs ys q = (or_parts (list_any (λ e. is_turn p e.1) xs) (list_any (
 quiet-right : (p : ℕ) (xs ys : List (ℕ × Event)) → IsQuiet p (xs ++ ys) → IsQuiet p ys
 quiet-right p xs ys q = (or_parts (list_any (λ e. is_turn p e.1) xs) (list_any (λ e. is_turn p e.1) ys) (sym (list_any-append (λ e. is_turn p e.1) xs ys) ∙ q)).1
 
-quiet_with : (p : ℕ) (xs : List (ℕ × Event)) (i : ℕ) (e : Event) → IsQuiet p xs → is_turn p e ≡ false → IsQuiet p (with_event xs i e)
-quiet_with p xs i e q t =
-    list_any-append (λ x. is_turn p x.1) xs ((i, e) ∷ []) ∙ ap (λ b. b || (is_turn p e || false)) q ∙ ap (λ b. b || false) t
-
 -- a list of one that is parted
 only_one : (s since : List (ℕ × Event)) (x y : ℕ × Event) → x ∷ [] ≡ s ++ y ∷ since → (s ≡ []) × (x ≡ y)
 only_one [] since x y h = (refl, cc h)
 only_one (z ∷ []) since x y h = cc h
 only_one (z ∷ w ∷ s) since x y h = cc h
-
--- no events have none among them
-no_event : (xs : List (ℕ × Event)) (x : ℕ × Event) (ys : List (ℕ × Event)) → ¬ ([] ≡ xs ++ x ∷ ys)
-no_event [] x ys h = cc h
-no_event (z ∷ xs) x ys h = cc h
 
 no_history : IsHistory []
 no_history = record { roles = refl; follows = λ earlier i e later s. absurd (no_event earlier (i, e) later s) }
@@ -102,13 +89,7 @@ pends_still p None before i e t h = λ o w. elim (progress_before p o before i e
   | inl same ↦ true≢false (sym (ap (is_turn p) same ∙ eq-eqb p p refl) ∙ t)
   | inr old ↦ h o old.1
 ]
-pends_still p (Some o) before i e t h = record {
-  earlier = h.earlier;
-  step = h.step;
-  since = with_event h.since i e;
-  split = ap (λ xs. xs ++ (i, e) ∷ []) h.split ∙ append_assoc h.earlier ((h.step, Invoke p o) ∷ h.since) ((i, e) ∷ []);
-  quiet = quiet_with p h.since i e h.quiet t;
-}
+pends_still p (Some o) before i e t h = progress_still p o before i e t h
 
 -- an invocation, and an end
 pends_invoked : (p : ℕ) (o : Op) (before : List (ℕ × Event)) (i : ℕ) → Pends p (with_event before i (Invoke p o)) (Some o)

@@ -1,26 +1,29 @@
--- A write that overlaps a read is in progress as the read returns, or has returned since the read was invoked.
+-- A write that overlaps a read is in progress as the read returns and isn't refused later, or has returned since the read was invoked.
 use Rattle.std.proofs.Common.{◌≡◌, ℕ, Bool, true, false, ◌||◌, List, [], ◌∷◌, ◌++◌, ◌⊎◌, inl, inr, refl, sym, ap, subst, ◌∙◌, true≢false, append_assoc}
 use Rattle.std.specs.Prelude.{◌==◌}
 use Rattle.std.specs.List.{list_any, list_all}
 use Rattle.std.proofs.lemmas.Bool.{eqb-true, or_parts, and_parts, not-true}
 use Rattle.std.proofs.lemmas.List.{append_cancel_left}
+use Rattle.std.proofs.lemmas.List.Folds.{list_any-append}
 use Rattle.frames.specs.declared.types.Op.TheVariants as op
 use Rattle.frames.specs.declared.types.Layer.{Layer}
 use Rattle.frames.specs.declared.types.Event.{Event}
 use Rattle.frames.specs.declared.types.Event.TheVariants.{Invoke, Got, Wrote, Refused, Void, Stop, Chosen}
+use Rattle.frames.specs.Verdicts.{refused_by, is_refused}
 use Rattle.views.specs.VerdictWords.{is_turn, IsQuiet, InProgress, has_role, Follows, IsHistory, EndsBy, IsOverlapping}
-use Rattle.views.proofs.VerdictKnown.{HaveRoles, roles-right}
+use Rattle.views.proofs.VerdictKnown.{HaveRoles, roles-left, roles-right, history-left, quiet_refused}
 
--- a write of this value returns in later events
-pub record ReturnsIn (v : ℕ) (earlier later : List (ℕ × Event)) : Type 0 where
+-- a write of this value returns in the second events
+pub record ReturnsIn (v : ℕ) (earlier during : List (ℕ × Event)) : Type 0 where
   pub before : List (ℕ × Event)
   pub step : ℕ
   pub since : List (ℕ × Event)
-  pub split : later ≡ before ++ (step, Wrote 0) ∷ since
+  pub split : during ≡ before ++ (step, Wrote 0) ∷ since
   pub write : InProgress 0 (op.Write v) (earlier ++ before)
 
-abbrev pub Crosses : ℕ → List (ℕ × Event) → List (ℕ × Event) → Type 0
-Crosses v earlier later = InProgress 0 (op.Write v) (earlier ++ later) ⊎ ReturnsIn v earlier later
+-- or is in progress after them, and isn't refused later
+abbrev pub Crosses : ℕ → List (ℕ × Event) → List (ℕ × Event) → List (ℕ × Event) → Type 0
+Crosses v earlier during later = (InProgress 0 (op.Write v) (earlier ++ during) × (is_refused later ≡ false)) ⊎ ReturnsIn v earlier during
 
 -- quiet events have no turn
 quiet_at : (p : ℕ) (before later : List (ℕ × Event)) (i : ℕ) (e : Event) → IsQuiet p (before ++ (i, e) ∷ later) → is_turn p e ≡ false
@@ -100,24 +103,108 @@ return_of_turn v before (Void p reason) w f t r n = absurd (true≢false (sym t)
 return_of_turn v before (Stop p) w f t r n = absurd (true≢false (sym t))
 return_of_turn v before (Chosen p bit u) w f t r n = absurd (true≢false (sym t))
 
-pub crossing_of_words : (v : ℕ) (earlier later : List (ℕ × Event)) → IsHistory (earlier ++ later) → IsOverlapping v earlier later → Crosses v earlier later
-crossing_of_words v earlier later h o =
-    elim (first_turn 0 o.since) [
-      | inl quiet ↦ inl (record { earlier = o.before; step = o.step; since = o.since; split = o.split; quiet = quiet })
+-- a write in progress that is refused ends by its refusal
+RefusedIn : List (ℕ × Event) → Type 0
+RefusedIn events = (layer : Layer) × EndsBy 0 (Refused 0 layer) events
+
+refusal_behind : (e : ℕ × Event) (es : List (ℕ × Event)) → is_turn 0 e.1 ≡ false → RefusedIn es → RefusedIn (e ∷ es)
+unfolding RefusedIn
+refusal_behind e es t x = (
+  x.0,
+  record {
+    before = e ∷ x.1.before;
+    step = x.1.step;
+    later = x.1.later;
+    split = ap (λ l. e ∷ l) x.1.split;
+    quiet = ap (λ b. b || list_any (λ y. is_turn 0 y.1) x.1.before) t ∙ x.1.quiet;
+  },
+)
+
+refusal_now : (b : Bool) (i p : ℕ) (layer : Layer) (es : List (ℕ × Event)) → (p == 0) ≡ b → (b || is_refused es) ≡ true → (is_refused es ≡ true → RefusedIn es) → RefusedIn ((i, Refused p layer) ∷ es)
+unfolding RefusedIn
+refusal_now true i p layer es e h later = (layer, record { before = []; step = i; later = es; split = ap (λ q. (i, Refused q layer) ∷ es) (eqb-true p 0 e); quiet = refl })
+refusal_now false i p layer es e h later = refusal_behind (i, Refused p layer) es e (later h)
+
+refusal_head : (i : ℕ) (e : Event) (es : List (ℕ × Event)) → has_role e ≡ true → refused_by e (is_refused es) ≡ true → (is_refused es ≡ true → RefusedIn es) → RefusedIn ((i, e) ∷ es)
+refusal_head i (Refused p layer) es r h later = refusal_now (p == 0) i p layer es refl h later
+refusal_head i (Wrote p) es r h later = absurd (true≢false (sym h))
+refusal_head i (Invoke p (op.Write v)) es r h later = absurd (true≢false (sym h))
+refusal_head i (Invoke p op.Read) es r h later = refusal_behind (i, Invoke p op.Read) es (not-true (p == 0) r) (later h)
+refusal_head i (Got p v) es r h later = refusal_behind (i, Got p v) es (not-true (p == 0) r) (later h)
+refusal_head i (Void p reason) es r h later = refusal_behind (i, Void p reason) es refl (later h)
+refusal_head i (Stop p) es r h later = refusal_behind (i, Stop p) es refl (later h)
+refusal_head i (Chosen p bit v) es r h later = refusal_behind (i, Chosen p bit v) es refl (later h)
+
+refusal_of : (es : List (ℕ × Event)) → HaveRoles es → is_refused es ≡ true → RefusedIn es
+refusal_of [] r h = absurd (true≢false (sym h))
+refusal_of (e ∷ es) r h =
+    let roles = and_parts (has_role e.1) (list_all (λ x. has_role x.1) es) r in
+    refusal_head e.0 e.1 es roles.0 h (refusal_of es roles.1)
+
+-- and one that ends by its refusal is refused
+refused_by_end : (layer : Layer) (es : List (ℕ × Event)) → HaveRoles es → EndsBy 0 (Refused 0 layer) es → is_refused es ≡ true
+refused_by_end layer es r e =
+    let x : ℕ × Event = (e.step, Refused 0 layer) in
+    ap is_refused e.split ∙ quiet_refused e.before (x ∷ e.later) e.quiet (roles-left e.before (x ∷ e.later) (subst HaveRoles e.split r))
+
+-- where no refusal ends it, it isn't refused
+pub not_refused : (since later : List (ℕ × Event)) → IsQuiet 0 since → HaveRoles later → ((layer : Layer) → ¬ EndsBy 0 (Refused 0 layer) (since ++ later)) → is_refused later ≡ false
+unfolding RefusedIn
+not_refused since later quiet roles none = by (is_refused later) refl
+  where
+    by : (b : Bool) → is_refused later ≡ b → is_refused later ≡ false
+    by false e = e
+    by true e =
+        let end = refusal_of later roles e in
+        let x : ℕ × Event = (end.1.step, Refused 0 end.0) in
+        absurd (none end.0 (record {
+          before = since ++ end.1.before;
+          step = end.1.step;
+          later = end.1.later;
+          split = ap (λ es. since ++ es) end.1.split ∙ sym (append_assoc since end.1.before (x ∷ end.1.later));
+          quiet = list_any-append (λ y. is_turn 0 y.1) since end.1.before ∙ ap (λ b. b || list_any (λ y. is_turn 0 y.1) end.1.before) quiet ∙ end.1.quiet;
+        }))
+
+-- a write that isn't refused is in progress after these events, or returns in them
+pub write_ends : (v : ℕ) (xs later before : List (ℕ × Event)) (step : ℕ) (since : List (ℕ × Event)) → IsHistory (xs ++ later) → xs ≡ before ++ (step, Invoke 0 (op.Write v)) ∷ since
+    → ((layer : Layer) → ¬ EndsBy 0 (Refused 0 layer) (since ++ later)) → (IsQuiet 0 since × (is_refused later ≡ false)) ⊎ EndsBy 0 (Wrote 0) since
+write_ends v xs later before step since whole split unrefused =
+    let h : IsHistory xs = history-left xs later whole in
+    let x : ℕ × Event = (step, Invoke 0 (op.Write v)) in
+    elim (first_turn 0 since) [
+      | inl quiet ↦ inl (quiet, not_refused since later quiet (roles-right xs later whole.roles) unrefused)
       | inr f ↦
-          let x : ℕ × Event = (o.step, Invoke 0 (op.Write v)) in
-          let upto = o.before ++ x ∷ f.before in
-          let write : InProgress 0 (op.Write v) upto = record { earlier = o.before; step = o.step; since = f.before; split = refl; quiet = f.quiet } in
-          let cut : earlier ++ later ≡ upto ++ (f.step, f.event) ∷ f.since =
-          o.split ∙ ap (λ es. o.before ++ x ∷ es) f.split ∙ sym (append_assoc o.before (x ∷ f.before) ((f.step, f.event) ∷ f.since)) in
+          let upto = before ++ x ∷ f.before in
+          let write : InProgress 0 (op.Write v) upto = record { earlier = before; step = step; since = f.before; split = refl; quiet = f.quiet } in
+          let cut : xs ≡ upto ++ (f.step, f.event) ∷ f.since =
+          split ∙ ap (λ es. before ++ x ∷ es) f.split ∙ sym (append_assoc before (x ∷ f.before) ((f.step, f.event) ∷ f.since)) in
           let role = and_parts (has_role f.event) (list_all (λ e. has_role e.1) f.since) (roles-right upto ((f.step, f.event) ∷ f.since) (subst HaveRoles cut h.roles)) in
-          let kept : (layer : Layer) → ¬ (f.event ≡ Refused 0 layer) = λ layer e. o.unrefused layer
-          (record { before = f.before; step = f.step; later = f.since; split = f.split ∙ ap (λ y. f.before ++ (f.step, y) ∷ f.since) e; quiet = f.quiet }) in
+          let kept : (layer : Layer) → ¬ (f.event ≡ Refused 0 layer) = λ layer e. unrefused layer
+          (record {
+            before = f.before;
+            step = f.step;
+            later = f.since ++ later;
+            split = ap (λ es. es ++ later) (f.split ∙ ap (λ y. f.before ++ (f.step, y) ∷ f.since) e) ∙ append_assoc f.before ((f.step, Refused 0 layer) ∷ f.since) later;
+            quiet = f.quiet;
+          }) in
           let returns : f.event ≡ Wrote 0 = return_of_turn v upto f.event write (h.follows upto f.step f.event f.since cut) f.turn role.0 kept in
-          elim (parted_at earlier later upto f.since (f.step, Wrote 0) (cut ∙ ap (λ y. upto ++ (f.step, y) ∷ f.since) returns)) [
-            | inl s ↦ inr (record { before = s.0; step = f.step; since = f.since; split = s.2; write = subst (InProgress 0 (op.Write v)) s.1 write })
-            | inr s ↦ absurd (o.unreturned (f.before ++ (f.step, Wrote 0) ∷ s.0) (s.1 ∙ append_assoc o.before (x ∷ f.before) ((f.step, Wrote 0) ∷ s.0))
-                (record { before = f.before; step = f.step; later = s.0; split = refl; quiet = f.quiet }))
+          inr (record { before = f.before; step = f.step; later = f.since; split = f.split ∙ ap (λ y. f.before ++ (f.step, y) ∷ f.since) returns; quiet = f.quiet })
+    ]
+
+pub crossing_of_words : (v : ℕ) (earlier during later : List (ℕ × Event)) → IsHistory ((earlier ++ during) ++ later) → IsOverlapping v earlier during later → Crosses v earlier during later
+crossing_of_words v earlier during later whole o =
+    let x : ℕ × Event = (o.step, Invoke 0 (op.Write v)) in
+    elim (write_ends v (earlier ++ during) later o.before o.step o.since whole o.split o.unrefused) [
+      | inl w ↦ inl (record { earlier = o.before; step = o.step; since = o.since; split = o.split; quiet = w.0 }, w.1)
+      | inr e ↦
+          let upto = o.before ++ x ∷ e.before in
+          let write : InProgress 0 (op.Write v) upto = record { earlier = o.before; step = o.step; since = e.before; split = refl; quiet = e.quiet } in
+          let cut : earlier ++ during ≡ upto ++ (e.step, Wrote 0) ∷ e.later =
+          o.split ∙ ap (λ es. o.before ++ x ∷ es) e.split ∙ sym (append_assoc o.before (x ∷ e.before) ((e.step, Wrote 0) ∷ e.later)) in
+          elim (parted_at earlier during upto e.later (e.step, Wrote 0) cut) [
+            | inl s ↦ inr (record { before = s.0; step = e.step; since = e.later; split = s.2; write = subst (InProgress 0 (op.Write v)) s.1 write })
+            | inr s ↦ absurd (o.unreturned (e.before ++ (e.step, Wrote 0) ∷ s.0) (s.1 ∙ append_assoc o.before (x ∷ e.before) ((e.step, Wrote 0) ∷ s.0))
+                (record { before = e.before; step = e.step; later = s.0; split = refl; quiet = e.quiet }))
           ]
     ]
 
@@ -135,16 +222,38 @@ no_return since rest later q s e =
     s ∙ ap (λ es. es ++ later) e.split ∙ append_assoc e.before ((e.step, Wrote 0) ∷ e.later) later in
     true≢false (quiet_at 0 e.before (e.later ++ later) e.step (Wrote 0) (subst (IsQuiet 0) split q))
 
-pub words_of_crossing : (v : ℕ) (earlier later : List (ℕ × Event)) → Crosses v earlier later → IsOverlapping v earlier later
-words_of_crossing v earlier later (inl w) = record {
-  before = w.earlier;
-  step = w.step;
-  since = w.since;
-  split = w.split;
-  unreturned = λ rest s. no_return w.since rest later w.quiet (goes_on w.earlier w.since rest earlier later (w.step, Invoke 0 (op.Write v)) w.split s);
-  unrefused = λ layer e. true≢false (quiet_at 0 e.before e.later e.step (Refused 0 layer) (subst (IsQuiet 0) e.split w.quiet));
-}
-words_of_crossing v earlier later (inr r) =
+-- nor is it refused later, where it is in progress after these events and they say so, or returns in them
+pub still_unrefused : (since later : List (ℕ × Event)) → IsQuiet 0 since → HaveRoles (since ++ later) → is_refused later ≡ false → (layer : Layer) → ¬ EndsBy 0 (Refused 0 layer) (since ++ later)
+still_unrefused since later quiet roles kept = λ layer e.
+    true≢false (sym (refused_by_end layer (since ++ later) roles e) ∙ quiet_refused since later quiet (roles-left since later roles) ∙ kept)
+
+pub returned_unrefused : (since rest later : List (ℕ × Event)) (step : ℕ) → IsQuiet 0 since → (layer : Layer) → ¬ EndsBy 0 (Refused 0 layer) ((since ++ (step, Wrote 0) ∷ rest) ++ later)
+returned_unrefused since rest later step quiet = λ layer e.
+    let split : since ++ (step, Wrote 0) ∷ (rest ++ later) ≡ e.before ++ (e.step, Refused 0 layer) ∷ e.later =
+    sym (append_assoc since ((step, Wrote 0) ∷ rest) later) ∙ e.split in
+    let same : Wrote 0 ≡ Refused 0 layer =
+    ap (λ (y : ℕ × Event). y.1) (same_turn 0 since e.before (rest ++ later) e.later (step, Wrote 0) (e.step, Refused 0 layer) split quiet e.quiet refl refl) in
+    cc same
+
+-- the roles of what comes since an event
+pub roles_since : (xs later before since : List (ℕ × Event)) (x : ℕ × Event) → HaveRoles (xs ++ later) → xs ≡ before ++ x ∷ since → HaveRoles (since ++ later)
+roles_since xs later before since x roles split =
+    let all = roles-right before (x ∷ (since ++ later)) (subst HaveRoles (ap (λ es. es ++ later) split ∙ append_assoc before (x ∷ since) later) roles) in
+    (and_parts (has_role x.1) (list_all (λ e. has_role e.1) (since ++ later)) all).1
+
+pub words_of_crossing : (v : ℕ) (earlier during later : List (ℕ × Event)) → HaveRoles ((earlier ++ during) ++ later) → Crosses v earlier during later → IsOverlapping v earlier during later
+words_of_crossing v earlier during later roles (inl p) =
+    let w = p.0 in
+    let x : ℕ × Event = (w.step, Invoke 0 (op.Write v)) in
+    record {
+      before = w.earlier;
+      step = w.step;
+      since = w.since;
+      split = w.split;
+      unreturned = λ rest s. no_return w.since rest during w.quiet (goes_on w.earlier w.since rest earlier during x w.split s);
+      unrefused = still_unrefused w.since later w.quiet (roles_since (earlier ++ during) later w.earlier w.since x roles w.split) p.1;
+    }
+words_of_crossing v earlier during later roles (inr r) =
     let w = r.write in
     let x : ℕ × Event = (w.step, Invoke 0 (op.Write v)) in
     record {
@@ -157,8 +266,5 @@ words_of_crossing v earlier later (inr r) =
           ∙ ap (λ es. es ++ (r.step, Wrote 0) ∷ r.since) w.split
           ∙ append_assoc w.earlier (x ∷ w.since) ((r.step, Wrote 0) ∷ r.since);
       unreturned = λ rest s. no_return w.since rest r.before w.quiet (goes_on w.earlier w.since rest earlier r.before x w.split s);
-      unrefused = λ layer e.
-          let same : Wrote 0 ≡ Refused 0 layer =
-          ap (λ (y : ℕ × Event). y.1) (same_turn 0 w.since e.before r.since e.later (r.step, Wrote 0) (e.step, Refused 0 layer) e.split w.quiet e.quiet refl refl) in
-          cc same;
+      unrefused = returned_unrefused w.since r.since later r.step w.quiet;
     }

@@ -1,18 +1,20 @@
--- Safe and regular registers in Lamport's words: what they say of each read that returned.
-use Rattle.std.specs.Prelude.{ℕ, ◌<◌, List, ◌∷◌, ◌⊎◌}
+-- Safe, regular and atomic registers in Lamport's words: what they say of each read that returned.
+use Rattle.std.specs.Prelude.{◌≡◌, ℕ, ◌+◌, ◌<◌, ◌≤◌, List, ◌∷◌, ◌++◌, ◌⊎◌, length}
+use Rattle.std.specs.List.{filter}
 use Rattle.frames.specs.declared.types.Op.TheVariants as op
+use Rattle.frames.specs.declared.types.Layer.{Layer}
 use Rattle.frames.specs.declared.types.Event.{Event}
-use Rattle.frames.specs.declared.types.Event.TheVariants.{Invoke}
+use Rattle.frames.specs.declared.types.Event.TheVariants.{Invoke, Refused}
 use Rattle.frames.specs.declared.types.Step.{Step}
 use Rattle.frames.specs.Behaviour.{Behaviour}
 use Rattle.frames.specs.OneWriter.{HasOneWriter}
 use Rattle.frames.specs.Recorded.{AllFit, recorded}
 use Rattle.frames.specs.Regularity.{NoneRefused}
-use Rattle.views.specs.VerdictWords.{ReturnedRead, IsFresh, IsOverlapping}
+use Rattle.views.specs.VerdictWords.{ReturnedRead, during, afterwards, is_written, returned_reads, IsFresh, EndsBy, IsOverlapping}
 
 -- a write of this value overlaps a read
 abbrev pub Overlaps : {history : List (ℕ × Event)} → ℕ → ReturnedRead history → Type 0
-Overlaps v r = IsOverlapping v r.earlier ((r.invoked, Invoke r.process op.Read) ∷ r.since)
+Overlaps v r = IsOverlapping v r.earlier (during r) (afterwards r)
 
 -- a read that no write overlaps gives the last value; each read gives that, or one of a write that overlaps it
 abbrev pub FreshIfAlone : {history : List (ℕ × Event)} → ℕ → ReturnedRead history → Type 0
@@ -34,3 +36,36 @@ IsSafeInWords b = AlwaysInWords b (λ history initial r. FreshIfAlone initial r)
 
 abbrev pub IsRegularInWords : {P : Type 0} → Behaviour P → Type 0
 IsRegularInWords b = AlwaysInWords b (λ history initial r. FreshOrOverlapping initial r)
+
+-- how many writes return in these events
+abbrev pub returned_writes : List (ℕ × Event) → ℕ
+returned_writes events = length (filter (λ e. is_written e.1) events)
+
+-- the write with a number has this value: it is invoked in these events, when all writes with lesser numbers have returned, and isn't
+-- refused in them or later
+pub record IsWrite (n v : ℕ) (events later : List (ℕ × Event)) : Type 0 where
+  pub before : List (ℕ × Event)
+  pub step : ℕ
+  pub since : List (ℕ × Event)
+  pub split : events ≡ before ++ (step, Invoke 0 (op.Write v)) ∷ since
+  pub unrefused : (layer : Layer) → ¬ EndsBy 0 (Refused 0 layer) (since ++ later)
+  pub number : n ≡ returned_writes before + 1
+
+-- a number can be a read's: no write with a greater number returned before the read, and the write with this number has the read's
+-- value and is invoked before the read's end, or the number is 0 and the initial value is the read's
+pub record NumbersRead {history : List (ℕ × Event)} (initial n : ℕ) (r : ReturnedRead history) : Type 0 where
+  pub low : returned_writes r.earlier ≤ n
+  pub write : ((n ≡ 0) × (r.value ≡ initial)) ⊎ IsWrite n r.value (r.earlier ++ during r) (afterwards r)
+
+-- returned reads can be given numbers that never fall, each by how many reads returned before it
+pub record AreNumbered (initial : ℕ) (history : List (ℕ × Event)) : Type 0 where
+  pub number : ℕ → ℕ
+  pub rises : (i j : ℕ) → i ≤ j → number i ≤ number j
+  pub each : (r : ReturnedRead history) → NumbersRead initial (number (returned_reads (r.earlier ++ during r))) r
+
+-- a register with one writer and one reader that is atomic, in Lamport's words: so it is on every list of fitting steps, from every
+-- initial value
+pub record IsAtomicInWords {P : Type 0} (b : Behaviour P) : Type 0 where
+  pub one_writer : HasOneWriter b
+  pub one_reader : b.processes ≡ 2
+  pub numbered : (value : ℕ) (steps : List Step) → value < b.values → AllFit b steps → AreNumbered value (recorded b value steps)

@@ -1,16 +1,21 @@
 -- Whose history a page of verdicts judges, and pages that show no stray read.
-use Rattle.std.specs.Prelude.{◌≡◌, ◌≢◌, ℕ, ◌<◌, ⊤, List, IfSome}
+use Rattle.std.specs.Prelude.{◌≡◌, ◌≢◌, ℕ, ◌<◌, ◌⊎◌, ⊤, List, Option, IfSome, MatchOption}
 use Rattle.std.specs.List.{All}
 use Rattle.frames.specs.declared.types.Step.{Step}
 use Rattle.frames.specs.declared.verdict.ReadVerdict.{ReadVerdict}
 use Rattle.frames.specs.declared.verdict.Verdict.TheVariants.{Stray}
 use Rattle.frames.specs.Behaviour.{Behaviour}
 use Rattle.frames.specs.Recorded.{AllFit, recorded}
+use Rattle.frames.specs.Regularity.{IsAtomic, IsRegular}
 use Rattle.frames.specs.Verdicts.{verdicts}
+use Rattle.schedule_trie.specs.Forest.{Forest}
+use Rattle.cutoff.specs.Held.{StepsFit}
 use Rattle.views.specs.declared.query.PlaceKind.{PlaceKind}
 use Rattle.views.specs.declared.query.PlaceKind.TheVariants as kind
+use Rattle.views.specs.declared.query.Query.{Query}
 use Rattle.views.specs.declared.page.Page.{Page}
 use Rattle.views.specs.declared.page.Page.TheVariants.{State, Process, Bits, Pending, History, Verdict, Branches, Cursor, Steps}
+use Rattle.views.specs.Looks.{page_of}
 
 -- what is said of the verdicts that a page shows, where it shows verdicts
 abbrev pub OnVerdicts : (List ReadVerdict → Type 0) → Page → Type 0
@@ -32,16 +37,24 @@ pub record AreOf {P : Type 0} (b : Behaviour P) (reads : List ReadVerdict) : Typ
   pub fit : AllFit b steps
   pub judged : reads ≡ verdicts value (recorded b value steps)
 
--- a page judges the history of a register, and of some register of a type
+-- a page judges the history of a register, and of the one that is named
 abbrev pub Judges : {P : Type 0} → Behaviour P → Page → Type 0
 Judges b page = OnVerdicts (AreOf b) page
 
-abbrev pub JudgesSome : {R P : Type 0} → (R → Behaviour P) → Page → Type 0
-JudgesSome {R} is page = OnVerdicts (λ reads. (register : R) × AreOf (is register) reads) page
+abbrev pub JudgesIts : {R P : Type 0} → (R → Behaviour P) → Option R → Page → Type 0
+JudgesIts is judged page = OnVerdicts (λ reads. MatchOption judged ⊥ (λ register. AreOf (is register) reads)) page
 
 -- no read that a page shows is stray
 abbrev pub ShowsNoStray : Page → Type 0
 ShowsNoStray page = OnVerdicts (λ reads. All (λ read. read.verdict ≢ Stray) reads) page
+
+-- a register is regular, or atomic
+abbrev pub IsRegularOrAtomic : {P : Type 0} → Behaviour P → Type 0
+IsRegularOrAtomic b = IsRegular b ⊎ IsAtomic b
+
+-- no look at a branch of a register ever shows a stray read, whatever the initial value, and the branches of steps that fit
+abbrev pub NeverShowsStray : {P : Type 0} → Behaviour P → Type 0
+NeverShowsStray b = (value : ℕ) (f : Forest) (query : Query) → value < b.values → StepsFit b f → IfSome (page_of b value f query) ShowsNoStray
 
 -- verdicts on a place are judged from this value, where they are judged
 abbrev pub JudgesFrom : ℕ → PlaceKind → Type 0

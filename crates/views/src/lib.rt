@@ -5,6 +5,7 @@
 #![tactic(auto)]
 
 pub mod breakpoint;
+pub mod laws;
 pub mod lens;
 pub mod listed;
 pub mod page;

@@ -1,6 +1,6 @@
 //! Slips: what a look found, from which its page is made later.
 
-ghost use Rattle.std.specs.Prelude.{◌≡◌, ◌<◌, List, Some, true, false, Ok, IfOk, OnOk, IfErr};
+ghost use Rattle.std.specs.Prelude.{◌≡◌, ◌<◌, List, Some, None, true, false, Ok, IfOk, OnOk, IfErr, IfSome};
 ghost use Rattle.schedule_trie.specs.Forest.{IsRefused};
 ghost use Rattle.schedule_trie.specs.Cut.{forest};
 ghost use Rattle.cutoff.specs.Fitting.{RunPart};
@@ -12,8 +12,7 @@ ghost use Rattle.views.specs.RunPages as pages;
 ghost use Rattle.views.specs.RunPages.{Shows};
 ghost use Rattle.views.specs.Slips.{IsReady};
 ghost use Rattle.frames.specs.Recorded.{AllFit};
-ghost use Rattle.frames.specs.Regularity.{NeverStray};
-ghost use Rattle.views.specs.Strays.{Judges, JudgesSome, JudgesFrom, ShowsNoStray};
+ghost use Rattle.views.specs.Strays.{IsRegularOrAtomic, Judges, JudgesIts, JudgesFrom, ShowsNoStray};
 
 use crate::lens::Lens;
 use crate::listed::Listed;
@@ -30,29 +29,30 @@ use schedule_trie::name::Name;
 use schedule_trie::refusal::Refusal;
 use std::alloc::{AllocError, Global};
 use std::marker::Model;
+use std::snapshot::Snapshot;
 use std::sync::Arc;
 
 mod content;
 
 use content::{Content, Found, PlaceSlip};
 
-/// What a look found. It stands for the page that is made of it, whatever happens to the branches meanwhile; a page of verdicts
-/// judges what a register of its type records.
+/// What a look found. It stands for the page that is made of it, whatever happens to the branches meanwhile. Proofs remember the
+/// register that was looked at: a page of verdicts judges what it records.
 #[derive(Drop)]
 pub struct Slip<R: Register> {
     content: Content<R>,
+    judged: Snapshot<Option<R>>,
 }
 
 impl<R: Register> Model for Slip<R> {
-    ghost use Rattle.views.specs.declared.page.Page.{Page};
-    ghost use Rattle.views.specs.Slips.{content_page};
-    ghost use Rattle.views.specs.Strays.{JudgesSome};
+    ghost use Rattle.views.specs.Slips.{Slipped, content_page};
+    ghost use Rattle.views.specs.Strays.{JudgesIts};
 
-    ghost Value = { Page };
+    ghost Value = { Slipped R };
 
-    ghost view = { λ s. content_page s.content };
+    ghost view = { λ s. record { page = content_page s.content; judged = s.judged.value } };
 
-    ghost invariant = { λ s. JudgesSome R.is (content_page s.content) };
+    ghost invariant = { λ s. JudgesIts R.is s.judged.value (content_page s.content) };
 }
 
 impl<R: Register> Slip<R> {
@@ -64,14 +64,15 @@ impl<R: Register> Slip<R> {
     /// stored.
     pub fn at(alloc: Global, chart: &mut Chart<R>, query: Query) -> Result<Slip<R>, Refusal>
         requires { spec.is_at_branch query ≡ true }
-        ensures page { IfOk result (λ slip. Some slip ≡ shown_by R.is chart.old query) }
+        ensures page { IfOk result (λ slip. Some slip.page ≡ shown_by R.is chart.old query) }
         ensures found { OnOk result (looked query (forest chart.old.cut)
             ≡ Ok (forest chart.old.cut)) }
         ensures err { IfErr result (IsRefused (looked query (forest chart.old.cut))) }
         ensures kept { IsKept chart.old chart.new }
-        ensures judges { IfOk result (Judges (R.is chart.old.start.register)) }
-        ensures never_stray { NeverStray (R.is chart.old.start.register)
-            → IfOk result ShowsNoStray }
+        ensures judged { IfOk result (λ slip. slip.judged ≡ Some chart.old.start.register) }
+        ensures judges { IfOk result (λ slip. Judges (R.is chart.old.start.register) slip.page) }
+        ensures never_stray { IsRegularOrAtomic (R.is chart.old.start.register)
+            → IfOk result (λ slip. ShowsNoStray slip.page) }
     {
         match query {
             Query::State { branch, place } => {
@@ -103,7 +104,8 @@ impl<R: Register> Slip<R> {
     /// The slip of a page of the branches, or of a session. It takes no memory.
     pub fn of(page: Page) -> Slip<R>
         requires { IsReady page }
-        ensures { result ≡ page }
+        ensures page { result.page ≡ page }
+        ensures judged { result.judged ≡ None }
     {
         let content = match page {
             Page::Branches(page) => Content::Branches(page),
@@ -116,14 +118,16 @@ impl<R: Register> Slip<R> {
             | Page::Verdict(_)
             | Page::Steps(_) => unreachable!(),
         };
-        Slip { content }
+        let judged = Snapshot::of(&None);
+        Slip { content, judged }
     }
 
-    /// Its page, which doesn't depend on what the lens holds.
+    /// Its page, which doesn't depend on what the lens holds. Where the register that was looked at is regular or atomic, it shows no
+    /// stray read.
     pub fn page(&self, alloc: Global, lens: &mut Lens<R>) -> Result<Page, AllocError>
-        ensures page { IfOk result (λ page. page ≡ self.now) }
-        ensures judges { IfOk result (JudgesSome R.is) }
-        ensures never_stray { ((register : R) → NeverStray (R.is register))
+        ensures page { IfOk result (λ page. page ≡ self.now.page) }
+        ensures judges { IfOk result (JudgesIts R.is self.now.judged) }
+        ensures never_stray { IfSome self.now.judged (λ register. IsRegularOrAtomic (R.is register))
             → IfOk result ShowsNoStray }
     {
         match &self.content {
@@ -147,6 +151,14 @@ fn judged_from<R: Register>(chart: &Chart<R>) -> Option<u32>
     }
 }
 
+/// What proofs remember of the register that is looked at.
+fn judged_by<R: Register>(chart: &Chart<R>) -> Snapshot<Option<R>>
+    ensures { result.value ≡ Some chart.now.start.register }
+{
+    let register = chart.initial().register();
+    Snapshot::of(&Some(register))
+}
+
 /// Looks at a place of a branch.
 fn place_slip<R: Register>(
     alloc: Global,
@@ -156,17 +168,19 @@ fn place_slip<R: Register>(
     place: u32,
 ) -> Result<Slip<R>, Refusal>
     requires { JudgesFrom chart.old.value kind }
-    ensures page { IfOk result (λ slip. slip ≡ page_in R.is chart.old kind branch place) }
+    ensures page { IfOk result (λ slip. slip.page ≡ page_in R.is chart.old kind branch place) }
     ensures found { OnOk result (look (forest chart.old.cut) branch place
         ≡ Ok (forest chart.old.cut)) }
     ensures err { IfErr result (IsRefused (look (forest chart.old.cut) branch place)) }
     ensures kept { IsKept chart.old chart.new }
-    ensures judges { IfOk result (Judges (R.is chart.old.start.register)) }
+    ensures judged { IfOk result (λ slip. slip.judged ≡ Some chart.old.start.register) }
+    ensures judges { IfOk result (λ slip. Judges (R.is chart.old.start.register) slip.page) }
 {
+    let judged = judged_by(chart);
     let (len, found) = settled(alloc, chart, kind, &branch, place)?;
     let head = Head { branch, place, len };
     let content = Content::Place(PlaceSlip { kind, head, found });
-    Ok(Slip { content })
+    Ok(Slip { content, judged })
 }
 
 /// Settles a place of a branch: the branch's length, and what a page of this kind shows of the place.
@@ -228,12 +242,14 @@ fn steps_slip<R: Register>(
     chart: &Chart<R>,
     branch: Name,
 ) -> Result<Slip<R>, Refusal>
-    ensures page { IfOk result (λ slip. slip ≡ steps_page (forest chart.now.cut) branch) }
+    ensures page { IfOk result (λ slip. slip.page ≡ steps_page (forest chart.now.cut) branch) }
     ensures found { OnOk result (look (forest chart.now.cut) branch 0 ≡ Ok (forest chart.now.cut)) }
     ensures err { IfErr result (IsRefused (look (forest chart.now.cut) branch 0)) }
-    ensures judges { IfOk result (Judges (R.is chart.now.start.register)) }
+    ensures judged { IfOk result (λ slip. slip.judged ≡ Some chart.now.start.register) }
+    ensures judges { IfOk result (λ slip. Judges (R.is chart.now.start.register) slip.page) }
 {
+    let judged = judged_by(chart);
     let steps = Listed::new(chart.path(alloc, &branch)?);
     let content = Content::Steps(StepsPage { branch, steps });
-    Ok(Slip { content })
+    Ok(Slip { content, judged })
 }

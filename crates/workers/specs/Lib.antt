@@ -3,4 +3,3 @@ pub mod Hands
 pub mod Slots
 pub mod Owner
 pub mod Segments
-pub mod Chains

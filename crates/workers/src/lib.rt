@@ -1,7 +1,6 @@
 //! Jobs run by a crew: the caller and its thieves share one deque of the jobs' numbers. Those of a chart's plan are such jobs.
 #![tactic(auto)]
 
-pub mod chain;
 mod crew;
 pub mod gate;
 mod hand;

@@ -1,8 +1,7 @@
 //! The jobs of a chart's plan are jobs of a crew.
 
-use crate::chain::run_shared;
 use crate::job;
-use checkpoints::run::Run;
+use checkpoints::run::{Run, run_segment};
 use cutoff::plan::Job;
 use frames::register::Register;
 use schedule_trie::trie::SegKey;
@@ -26,6 +25,7 @@ impl<R: Register> job::Job for Job<R> {
     }
 
     fn run(&self, alloc: Global) -> Result<Arc<Run<R>>, AllocError> {
-        run_shared(alloc, self.entry(), self.steps())
+        let run = run_segment(alloc, self.entry(), self.steps())?;
+        Ok(Arc::new(alloc, run)?)
     }
 }

@@ -1,10 +1,11 @@
 //! Pages through a lens, place by place: each is that of a new lens, and hardly a step is made for
 //! it.
 
-ghost use Rattle.std.specs.Prelude.{◌<◌};
+ghost use Rattle.std.specs.Prelude.{◌≡◌, ◌<◌, true};
+ghost use Rattle.views.specs.Looks.{is_at_branch};
 
 use super::counting::Counting;
-use super::rows::{limits, writes};
+use super::rows::{Kind, limits, step_of, writes};
 use crate::given::{name, none_wrong};
 use cutoff::chart::Chart;
 use schedule_trie::name::Name;
@@ -182,4 +183,101 @@ fn first_foreign_place(rt: &impl Abort, alloc: Global) -> Result<Option<usize>, 
 #[test]
 fn charts_by_turns(rt: HostRuntime) {
     none_wrong(&rt, first_foreign_place(&rt, rt.alloc()));
+}
+
+/// How many kinds of page a place has.
+const KINDS: u32 = 6;
+
+/// A query of a page of a place, by the number of its kind.
+fn query_of(kind: u32, branch: Name, place: u32) -> Query
+    ensures { is_at_branch result ≡ true }
+{
+    match kind {
+        0 => Query::State { branch, place },
+        1 => Query::Process {
+            branch,
+            place,
+            process: 0,
+        },
+        2 => Query::Bits { branch, place },
+        3 => Query::Pending { branch, place },
+        4 => Query::History { branch, place },
+        _ => Query::Verdict { branch, place },
+    }
+}
+
+impl<'a> Counted<'a> {
+    /// Whether each kind of page of a place is that of a new lens.
+    fn are_all_own(&mut self, lens: &mut Lens<Counting<'a>>, place: u32) -> Result<bool, Refusal> {
+        for kind in 0..KINDS {
+            let query = query_of(kind, self.main, place);
+            let text = self.text(lens, query)?;
+            let mut new = Lens::new(self.alloc)?;
+            if text != self.text(&mut new, query)? {
+                return Ok(false);
+            }
+        }
+        Ok(true)
+    }
+
+    /// The text of a page.
+    fn text(&mut self, lens: &mut Lens<Counting<'a>>, query: Query) -> Result<Vec<u8>, Refusal>
+        requires { is_at_branch query ≡ true }
+    {
+        let slip = Slip::at(self.alloc, &mut self.chart, query)?;
+        Ok(text_of(self.alloc, &slip, lens)?)
+    }
+}
+
+/// The first of 40 places, up and then down through one lens, where a page of some kind isn't that of a new lens.
+fn first_wrong_of_all_kinds(rt: &impl Abort, alloc: Global) -> Result<Option<usize>, Refusal> {
+    let calls = Cell::new(0);
+    let mut chart = Counted::new(rt, alloc, &calls, 0)?;
+    let mut lens = Lens::new(alloc).expect(rt, "memory");
+    for passed in 0..80u32 {
+        let place = if passed < 40 { passed } else { 79 - passed };
+        if !chart.are_all_own(&mut lens, place)? {
+            return Ok(Some(passed as usize));
+        }
+    }
+    Ok(None)
+}
+
+#[test]
+fn forty_places_of_each_kind(rt: HostRuntime) {
+    none_wrong(&rt, first_wrong_of_all_kinds(&rt, rt.alloc()));
+}
+
+/// The page at the end of row `thousand-steps`.
+const LAST_STATE: &[u8] =
+    b"0: state main 1000 of 1000\n  p0 write 0 next ws 0\n  p1 idle\n  bits 1\n  words -\n";
+
+/// Which page of the last place is another one: before a choice is replaced, or after it, through the lens used
+/// before and through a new one.
+fn first_wrong_after_an_edit(rt: &impl Abort, alloc: Global) -> Result<Option<usize>, Refusal> {
+    let calls = Cell::new(0);
+    let mut chart = Counted::new(rt, alloc, &calls, 0)?;
+    let mut lens = Lens::new(alloc).expect(rt, "memory");
+    let mut new = Lens::new(alloc).expect(rt, "memory");
+    let main = chart.main;
+    let query = Query::State {
+        branch: main,
+        place: 1000,
+    };
+    if chart.text(&mut lens, query)?.as_slice() != LAST_STATE {
+        return Ok(Some(0));
+    }
+    chart.chart.replace(&main, 10, step_of(Kind::Go1))?;
+    if chart.text(&mut lens, query)?.as_slice() != LAST_STATE {
+        return Ok(Some(1));
+    }
+    if chart.text(&mut new, query)?.as_slice() != LAST_STATE {
+        return Ok(Some(2));
+    }
+    Ok(None)
+}
+
+#[test]
+fn thousand_steps_through_a_used_lens(rt: HostRuntime) {
+    none_wrong(&rt, first_wrong_after_an_edit(&rt, rt.alloc()));
 }

@@ -4,7 +4,9 @@ ghost use Rattle.std.specs.Prelude.{◌≡◌, ◌<◌, length, IfOk, IfErr, Ok}
 ghost use Rattle.frames.specs.Configuration.{initial_configuration};
 ghost use Rattle.schedule_trie.specs.Forest.{IsRefused};
 ghost use Rattle.schedule_trie.specs.Cut.{AreLimits, IsBlank, IsCut, forest};
-ghost use Rattle.schedule_trie.specs.Limbs.{FitLimits, IsLawful, limbs, loaded};
+ghost use Rattle.schedule_trie.specs.Limbs as spec;
+ghost use Rattle.schedule_trie.specs.Limbs.{FitLimits, IsLawful, forest_of, limbs, loaded};
+ghost use Rattle.schedule_trie.specs.Renumbering.{IsRenumbered};
 ghost use Rattle.cutoff.specs.Held.{LimbsFit};
 
 use super::Chart;
@@ -17,7 +19,7 @@ use std::alloc::{AllocError, Global};
 
 impl<R: Register> Chart<R> {
     /// A chart of the forest that grows from limbs, of which there is one, from the register's initial configuration at a value.
-    /// Nothing is stored.
+    /// Its limbs are these again, and nothing is stored.
     ///
     /// # Errors
     ///
@@ -35,6 +37,7 @@ impl<R: Register> Chart<R> {
         requires some { 0 < length limbs.now }
         requires fits { LimbsFit (R.is register) limbs.now }
         ensures forest { IfOk result (λ c. loaded limits limbs.now ≡ Ok (forest c.cut)) }
+        ensures again { IfOk result (λ c. spec.limbs (forest c.cut) ≡ limbs.now) }
         ensures limits { IfOk result (λ c. c.cut.limits ≡ limits) }
         ensures start { let initial = initial_configuration (R.is register) register value in
             IfOk result (λ c. c.start ≡ initial) }
@@ -47,13 +50,16 @@ impl<R: Register> Chart<R> {
         Ok(Chart::over(alloc, trie, register, value)?)
     }
 
-    /// The limbs of its forest, in order of making. A chart can be loaded from them.
+    /// The limbs of its forest, in order of making. A chart can be loaded from them: its forest is this one, but for the numbers
+    /// of its cells.
     ///
     /// # Errors
     ///
     /// Where there is no memory for them.
     pub fn limbs(&self, alloc: Global) -> Result<Vec<Limb>, AllocError>
         ensures limbs { IfOk result (λ r. r.items ≡ limbs (forest self.now.cut)) }
+        ensures kept { let f = forest self.now.cut in
+            IfOk result (λ r. IsRenumbered f (forest_of r.items)) }
         ensures lawful { IfOk result (λ r. IsLawful r.items) }
         ensures some { IfOk result (λ r. 0 < length r.items) }
         ensures near { IfOk result (λ r. FitLimits self.now.cut.limits r.items) }

@@ -44,12 +44,10 @@ pub(super) fn reserve_path<X>(
     ensures few { OnOk result
         (length tips.old.items + 1 + (slab_len nodes.old + count) < 2 ^ 64) }
 {
-    // So that what stands on a key can be counted. No memory holds as many.
-    if tips.len() >= usize::MAX - nodes.len() {
-        return Err(AllocError);
-    }
-    if count >= usize::MAX - nodes.len() - tips.len() {
-        return Err(AllocError);
+    // What stands on a key has to be countable. More tips than that are refused, since no memory holds them.
+    if count >= (usize::MAX - nodes.len()).saturating_sub(tips.len()) {
+        tips.reserve(usize::MAX)?;
+        unreachable!();
     }
     nodes.reserve(count)?;
     tips.reserve(1)

@@ -55,9 +55,10 @@ fn reserve_tip(tips: &mut Vec<Above>, nodes: usize) -> Result<(), AllocError>
     ensures room { OnOk result (length tips.new.items < vec_capacity tips.new) }
     ensures few { OnOk result (length tips.old.items + nodes + 1 < 2 ^ 64) }
 {
-    // So that what stands on a key can be counted. No memory holds as many.
+    // What stands on a key has to be countable. More tips than that are refused, since no memory holds them.
     if tips.len() >= usize::MAX - nodes {
-        return Err(AllocError);
+        tips.reserve(usize::MAX)?;
+        unreachable!();
     }
     tips.reserve(1)
 }

@@ -30,13 +30,16 @@ impl<X: Drop> Lineage<X> {
 
 /// Makes room for one more node.
 pub(super) fn reserve_node<X>(nodes: &mut Slab<Node<X>>, tips: usize) -> Result<(), AllocError>
+    requires { tips < 2 ^ 63 }
     ensures slots { nodes.new.slots ≡ nodes.old.slots }
     ensures room { OnOk result (HasRoomFor nodes.new 1) }
     ensures few { OnOk result (tips + slab_len nodes.old + 1 < 2 ^ 64) }
 {
-    // So that what stands on a key can be counted. No memory holds as many.
+    // What stands on a key has to be countable. More nodes than that are refused, since no memory holds them.
     if nodes.len() >= usize::MAX - tips {
-        return Err(AllocError);
+        nodes.reserve(usize::MAX)?;
+        let _most = nodes.capacity();
+        unreachable!();
     }
     nodes.reserve(1)
 }

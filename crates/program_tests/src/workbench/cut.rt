@@ -1,4 +1,4 @@
-//! Streams that fail behind each byte of a script or of its answers, and what then has gone out.
+//! Streams that fail after each byte of a script or of its answers, and what then has gone out.
 
 use super::options;
 use conversation::fault::StreamFault;
@@ -34,28 +34,34 @@ const TALK: [(&str, &str); 7] = [
 /// More than the script's bytes, and than those of its answers.
 pub(super) const ALL: usize = 1 << 10;
 
-/// What a reader does behind its bytes, at each read.
+/// What a reader does after its bytes, at each read.
 #[derive(Clone, Copy)]
-enum Behind {
+enum After {
     Ends,
     Fails,
+    /// It gives bytes without a line's end.
+    NeverEnds,
 }
 
-/// Gives bytes, at most so many a read.
+/// The bytes that it gives then, over and over.
+const MORE: &[u8] = &[b'#'; 1 << 12];
+
+/// Gives bytes, at most `piece` a read.
 #[derive(Drop)]
 struct Cut<'a> {
     bytes: &'a [u8],
     piece: usize,
-    behind: Behind,
+    after: After,
 }
 
 impl Read for Cut<'_> {
     fn read(&mut self, buf: &mut [u8]) -> io::Result<usize> {
         if self.bytes.is_empty() {
-            return match self.behind {
-                Behind::Ends => Ok(0),
-                Behind::Fails => Err(io::Error::from(ErrorKind::Other)),
-            };
+            match self.after {
+                After::Ends => return Ok(0),
+                After::Fails => return Err(io::Error::from(ErrorKind::Other)),
+                After::NeverEnds => self.bytes = MORE,
+            }
         }
         let count = self.piece.min(self.bytes.len()).min(buf.len());
         buf[..count].copy_from_slice(&self.bytes[..count]);
@@ -64,7 +70,7 @@ impl Read for Cut<'_> {
     }
 }
 
-/// Takes at most so many bytes a write, and fails where there is no room left.
+/// Takes at most `piece` bytes a write, and fails when it has no room left.
 #[derive(Drop)]
 pub(super) struct Narrow {
     piece: usize,
@@ -73,7 +79,7 @@ pub(super) struct Narrow {
 }
 
 impl Narrow {
-    /// One that takes so many bytes in all.
+    /// One that takes at most `room` bytes in all.
     pub(super) fn new(alloc: Global, room: usize) -> Narrow {
         Narrow {
             piece: ALL,
@@ -99,17 +105,17 @@ impl Write for Narrow {
     }
 }
 
-/// How a reader and a writer go: bytes at most a read, what comes behind them, bytes at most a
+/// How a reader and a writer go: bytes at most a read, what follows them, bytes at most a
 /// write, and bytes that are taken in all.
 #[derive(Clone, Copy)]
 struct Way {
     read: usize,
-    behind: Behind,
+    after: After,
     write: usize,
     room: usize,
 }
 
-/// What a run over a script comes to, and what it has written.
+/// The fault of a run over a script, and what it has written.
 fn ended<H: Threads + Wait + Sync>(
     rt: &H,
     alloc: Global,
@@ -119,7 +125,7 @@ fn ended<H: Threads + Wait + Sync>(
     let mut reader = Cut {
         bytes: script,
         piece: way.read,
-        behind: way.behind,
+        after: way.after,
     };
     let mut writer = Narrow {
         piece: way.write,
@@ -139,7 +145,7 @@ fn script(alloc: Global) -> Result<Vec<u8>, AllocError> {
     Ok(script)
 }
 
-/// The answers to the lines that end within so many bytes of the script.
+/// The answers to the lines that end within the script's first bytes.
 fn answers_within(alloc: Global, count: usize) -> Result<Vec<u8>, AllocError> {
     let mut answers = Vec::new(alloc);
     let mut left = count;
@@ -153,49 +159,69 @@ fn answers_within(alloc: Global, count: usize) -> Result<Vec<u8>, AllocError> {
     Ok(answers)
 }
 
-/// A read that fails behind each byte of the script, which came by bytes, by pieces, or at once:
+/// A read that fails after each byte of the script, which came by bytes, by pieces, or at once:
 /// the whole lines are answered, and the line that is cut isn't.
 #[test]
-fn a_read_fails_behind_each_byte(rt: HostRuntime) -> Result<(), Fail> {
+fn a_read_fails_after_each_byte(rt: HostRuntime) -> Result<(), Fail> {
     let script = script(rt.alloc())?;
     for read in [1, 5, ALL] {
         let way = Way {
             read,
-            behind: Behind::Fails,
+            after: After::Fails,
             write: ALL,
             room: ALL,
         };
         for count in 0..=script.len() {
-            let (told, taken) = ended(&rt, rt.alloc(), &script[..count], way);
+            let (found, taken) = ended(&rt, rt.alloc(), &script[..count], way);
             let answers = answers_within(rt.alloc(), count)?;
-            assert_eq!(rt; told, Some(Fault::Stream(StreamFault::Read)), "{count}");
+            assert_eq!(rt; found, Some(Fault::Stream(StreamFault::Read)), "{count}");
             assert!(rt; taken == answers, "{count}");
         }
     }
     Ok(())
 }
 
-/// A writer that takes so many bytes a write, as many as there are, and one that fails behind each
-/// byte of the answers: a front of them was taken.
+/// A reader that never ends after each byte of the script: the script is too long, its whole lines
+/// are answered, and the line that is cut isn't.
 #[test]
-fn a_write_fails_behind_each_byte(rt: HostRuntime) -> Result<(), Fail> {
+fn a_reader_never_ends_after_each_byte(rt: HostRuntime) -> Result<(), Fail> {
+    let script = script(rt.alloc())?;
+    let way = Way {
+        read: MORE.len(),
+        after: After::NeverEnds,
+        write: ALL,
+        room: ALL,
+    };
+    for count in 0..=script.len() {
+        let (found, taken) = ended(&rt, rt.alloc(), &script[..count], way);
+        let answers = answers_within(rt.alloc(), count)?;
+        assert_eq!(rt; found, Some(Fault::Stream(StreamFault::TooLong)), "{count}");
+        assert!(rt; taken == answers, "{count}");
+    }
+    Ok(())
+}
+
+/// A writer that takes one byte a write, or all, and one that fails after each byte of the answers:
+/// a front of them was taken.
+#[test]
+fn a_write_fails_after_each_byte(rt: HostRuntime) -> Result<(), Fail> {
     let script = script(rt.alloc())?;
     let answers = answers_within(rt.alloc(), ALL)?;
     for (read, write) in [(1, 1), (ALL, 1), (1, ALL), (ALL, ALL)] {
         for room in 0..=answers.len() {
             let way = Way {
                 read,
-                behind: Behind::Ends,
+                after: After::Ends,
                 write,
                 room,
             };
-            let (told, taken) = ended(&rt, rt.alloc(), &script, way);
+            let (found, taken) = ended(&rt, rt.alloc(), &script, way);
             let fault = if room < answers.len() {
                 Some(Fault::Stream(StreamFault::Write))
             } else {
                 None
             };
-            assert_eq!(rt; told, fault, "{room}");
+            assert_eq!(rt; found, fault, "{room}");
             assert!(rt;
                 taken.len() == room && answers.starts_with(&taken),
                 "{room}"

@@ -1,9 +1,9 @@
-//! Row `bench-file` by `run_saving`: what its saver takes, also where that fails behind each byte.
+//! Row `bench-file` by `run_saving`: what its saver takes, also if that fails after each byte.
 
 ghost use Rattle.command_line.specs.Ranges.{AreLimits};
 
 use super::cut::{ALL, Narrow};
-use super::options;
+use super::{Sink, Way, options};
 use command_line::options::Options;
 use conversation::fault::StreamFault;
 use schedule_trie::refusal::Refusal;
@@ -23,7 +23,7 @@ const ANSWERS: &[u8] = b"0: edit 1\n0: branches 3 edits 1 made 5\n  main 2\n  a 
 const SAVED: &[u8] = b"bench 1\nsafe 0\nbranch main 0 0\nr 1\nw 0 1\n\
     branch a 0 1\nw 0 0\ng 1 0\nbranch b 1 3\ng 1 1\n";
 
-/// What a run over the file comes to with these limits, where its writer and its saver take so many bytes in all, and
+/// The fault of a run over the file with these limits, if its writer and its saver take at most these bytes, and
 /// what they then have.
 fn ended<H: AllocGlobal + Threads + Wait + Sync>(
     rt: &H,
@@ -47,28 +47,50 @@ fn ended<H: AllocGlobal + Threads + Wait + Sync>(
     (ran.err(), writer.taken, saver.taken)
 }
 
-/// A saver that fails behind each byte: a front of the file was saved, and the answers are whole.
+/// A saver that fails after each byte: a front of the file was saved, and the answers are whole.
 #[test]
-fn a_saver_fails_behind_each_byte(rt: HostRuntime) {
+fn a_saver_fails_after_each_byte(rt: HostRuntime) {
     for room in 0..=SAVED.len() {
-        let (told, answers, saved) = ended(&rt, options(), ALL, room);
+        let (found, answers, saved) = ended(&rt, options(), ALL, room);
         let fault = if room < SAVED.len() {
             Some(Fault::Save)
         } else {
             None
         };
-        assert_eq!(rt; told, fault, "{room}");
+        assert_eq!(rt; found, fault, "{room}");
         assert!(rt; answers.as_slice() == ANSWERS, "{room}");
         assert!(rt; saved.as_slice() == &SAVED[..room], "{room}");
     }
 }
 
-/// Behind a script that ended by a fault nothing is saved.
+/// A saver that takes no byte has failed: nothing is saved, and the answers are whole.
+#[test]
+fn a_saver_takes_no_byte(rt: HostRuntime) {
+    let mut reader = SCRIPT;
+    let mut writer = Narrow::new(rt.alloc(), ALL);
+    let mut saver = Sink {
+        way: Way::TakesNone,
+        taken: Vec::new(rt.alloc()),
+    };
+    let ran = run_saving(
+        &rt,
+        Some(FILE),
+        options(),
+        &mut reader,
+        &mut writer,
+        &mut saver,
+    );
+    assert_eq!(rt; ran.err(), Some(Fault::Save));
+    assert!(rt; writer.taken.as_slice() == ANSWERS);
+    assert!(rt; saver.taken.is_empty());
+}
+
+/// After a script that ended by a fault nothing is saved.
 #[test]
 fn a_write_fails_before_the_save(rt: HostRuntime) {
     for room in 0..ANSWERS.len() {
-        let (told, answers, saved) = ended(&rt, options(), room, ALL);
-        assert_eq!(rt; told, Some(Fault::Stream(StreamFault::Write)), "{room}");
+        let (found, answers, saved) = ended(&rt, options(), room, ALL);
+        assert_eq!(rt; found, Some(Fault::Stream(StreamFault::Write)), "{room}");
         assert!(rt; answers.as_slice() == &ANSWERS[..room], "{room}");
         assert!(rt; saved.is_empty(), "{room}");
     }
@@ -82,8 +104,8 @@ fn check_refused<H: Abort + AllocGlobal + Threads + Wait + Sync>(
 )
     requires { AreLimits options }
 {
-    let (told, answers, saved) = ended(rt, options, ALL, ALL);
-    assert_eq!(rt; told, Some(Fault::Refused(refusal)));
+    let (found, answers, saved) = ended(rt, options, ALL, ALL);
+    assert_eq!(rt; found, Some(Fault::Refused(refusal)));
     assert!(rt; answers.is_empty() && saved.is_empty());
 }
 

@@ -208,3 +208,17 @@ fn over_stamped_registers(rt: HostRuntime) {
     };
     matrices(&rt, parts);
 }
+
+/// The number and the text of each refusal.
+#[test]
+fn numbers_and_texts(rt: HostRuntime) -> Result<(), Fail> {
+    for (error, number, text) in [
+        (LayerError::BadSize, 1, "1 BadSize"),
+        (LayerError::TooManyBits, 2, "2 TooManyBits"),
+    ] {
+        assert_eq!(rt; error.number(), number);
+        let said = format!(in rt.alloc(); "{error}")?;
+        assert_eq!(rt; said.as_str(), text);
+    }
+    Ok(())
+}

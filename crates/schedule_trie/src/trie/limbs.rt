@@ -3,7 +3,8 @@
 ghost use Rattle.std.specs.Prelude.{◌≡◌, ◌<◌, ◌≤◌, ◌+◌, ◌^◌, ℕ, length, map, take, Some, true, IsSome, IfOk, OnOk, slice_get};
 ghost use Rattle.schedule_trie.specs.Forest.{name_in, step_of};
 ghost use Rattle.schedule_trie.specs.Cut.{forest, has, keys_in, line, piece_at, IsWhole, Once};
-ghost use Rattle.schedule_trie.specs.Limbs.{FitLimits, IsLawful, limb_of, limbs};
+ghost use Rattle.schedule_trie.specs.Limbs.{FitLimits, IsLawful, forest_of, limb_of, limbs};
+ghost use Rattle.schedule_trie.specs.Renumbering.{IsRenumbered};
 ghost use Rattle.schedule_trie.specs.Marks.{HasPlaces, IsOwnPart, AreMarked, MarksFirst};
 
 use super::Trie;
@@ -14,13 +15,15 @@ use crate::segment::SegKey;
 use std::alloc::{AllocError, Global};
 
 impl<T: Drop> Trie<T> {
-    /// The limbs of its forest, in order of making.
+    /// The limbs of its forest, in order of making. The forest that grows from them is this one, but for the numbers of its
+    /// cells: it has the same names and steps, and one cell at the same places.
     ///
     /// # Errors
     ///
     /// Where there is no memory for them.
     pub fn limbs(&self, alloc: Global) -> Result<Vec<Limb>, AllocError>
         ensures limbs { IfOk result (λ r. r.items ≡ limbs (forest self.now)) }
+        ensures kept { IfOk result (λ r. IsRenumbered (forest self.now) (forest_of r.items)) }
         ensures lawful { IfOk result (λ r. IsLawful r.items) }
         ensures some { IfOk result (λ r. 0 < length r.items) }
         ensures near { IfOk result (λ r. FitLimits self.now.limits r.items) }

@@ -3,6 +3,7 @@
 ghost use Rattle.std.specs.Prelude.{◌≡◌, ◌<◌, ◌≤◌, length, Ok, OnOk, IfOk, IfErr};
 ghost use Rattle.schedule_trie.specs.Forest.{IsRefused};
 ghost use Rattle.schedule_trie.specs.Cut.{AreLimits, forest, IsBlank, IsCut};
+ghost use Rattle.schedule_trie.specs.Limbs as spec;
 ghost use Rattle.schedule_trie.specs.Limbs.{IsLawful, cells_of, forest_of, loaded};
 ghost use Rattle.schedule_trie.specs.Loads.{CanGrow, IsGrown};
 
@@ -13,7 +14,7 @@ use crate::refusal::Refusal;
 use std::alloc::{AllocError, Global};
 
 impl<T: Drop> Trie<T> {
-    /// A trie of the forest that grows from limbs, of which there is one.
+    /// A trie of the forest that grows from limbs, of which there is one: its limbs are these again.
     ///
     /// # Errors
     ///
@@ -23,6 +24,9 @@ impl<T: Drop> Trie<T> {
         requires lawful { IsLawful limbs.now }
         requires some { 0 < length limbs.now }
         ensures ok { IfOk result (λ t. loaded limits limbs.now ≡ Ok (forest t)) }
+        ensures again { IfOk result (λ t. spec.limbs (forest t) ≡ limbs.now) }
+        ensures made { IfOk result (λ t. t.made ≡ cells_of limbs.now) }
+        ensures count { IfOk result (λ t. length (forest t).branches ≡ length limbs.now) }
         ensures limits { IfOk result (λ t. t.limits ≡ limits) }
         ensures cut { IfOk result IsCut }
         ensures blank { IfOk result IsBlank }

@@ -5,6 +5,7 @@ ghost use Rattle.schedule_trie.specs.Forest.{IsRefused};
 ghost use Rattle.schedule_trie.specs.Cut.{forest};
 ghost use Rattle.views.specs.Looks.{is_at_branch};
 ghost use Rattle.views.specs.page.Branches.{branches_page};
+ghost use Rattle.views.specs.Strays.{IsRegularOrAtomic, ShowsNoStray};
 ghost use Rattle.views.specs.declared.page.Page.TheVariants as page;
 ghost use Rattle.sessions.specs.Cursors.{cursor_at};
 ghost use Rattle.sessions.specs.BreakLists.{breaks_at};
@@ -32,11 +33,13 @@ impl<R: Register> Stage<R> {
     /// see is as before in any case.
     pub(crate) fn look(&mut self, alloc: Global, query: Query) -> Result<Slip<R>, Refusal>
         ensures page { IfOk result
-            (λ slip. Some slip ≡ spec.shown_in (world_of R.is self.old) query) }
+            (λ slip. Some slip.page ≡ spec.shown_in (world_of R.is self.old) query) }
         ensures found { let w = world_of R.is self.old in
             OnOk result (spec.looked w query ≡ Ok w.forest) }
         ensures err { IfErr result (IsRefused (spec.looked (world_of R.is self.old) query)) }
         ensures world { world_of R.is self.new ≡ world_of R.is self.old }
+        ensures never_stray { IsRegularOrAtomic (R.is self.old.chart.start.register)
+            → IfOk result (λ slip. ShowsNoStray slip.page) }
     {
         match query {
             Query::Branches => self.look_at_branches(alloc),
@@ -55,11 +58,13 @@ impl<R: Register> Stage<R> {
     fn look_at_branch(&mut self, alloc: Global, query: Query) -> Result<Slip<R>, Refusal>
         requires { is_at_branch query ≡ true }
         ensures page { IfOk result
-            (λ slip. Some slip ≡ spec.shown_in (world_of R.is self.old) query) }
+            (λ slip. Some slip.page ≡ spec.shown_in (world_of R.is self.old) query) }
         ensures found { let w = world_of R.is self.old in
             OnOk result (spec.looked w query ≡ Ok w.forest) }
         ensures err { IfErr result (IsRefused (spec.looked (world_of R.is self.old) query)) }
         ensures world { world_of R.is self.new ≡ world_of R.is self.old }
+        ensures never_stray { IsRegularOrAtomic (R.is self.old.chart.start.register)
+            → IfOk result (λ slip. ShowsNoStray slip.page) }
     {
         Slip::at(alloc, &mut self.chart, query)
     }
@@ -67,8 +72,9 @@ impl<R: Register> Stage<R> {
     /// Looks at all branches.
     fn look_at_branches(&self, alloc: Global) -> Result<Slip<R>, Refusal>
         ensures page { IfOk result
-            (λ slip. slip
+            (λ slip. slip.page
             ≡ page.Branches (branches_page self.now.edits (forest self.now.chart.cut))) }
+        ensures no_stray { IfOk result (λ slip. ShowsNoStray slip.page) }
         ensures err { IfErr result (λ e. e ≡ Refusal.Memory) }
     {
         let page = BranchesPage::new(alloc, self.edits, &self.chart)?;
@@ -78,8 +84,9 @@ impl<R: Register> Stage<R> {
     /// Looks at where a session stands, and at its breaks.
     fn look_at_cursor(&self, alloc: Global, who: u32) -> Result<Slip<R>, Refusal>
         ensures page { IfOk result
-            (λ slip. Some slip ≡ spec.cursor_page (cursor_at self.now.cursors who)
+            (λ slip. Some slip.page ≡ spec.cursor_page (cursor_at self.now.cursors who)
             (breaks_at self.now.breaks who)) }
+        ensures no_stray { IfOk result (λ slip. ShowsNoStray slip.page) }
         ensures found { let w = world_of R.is self.now in
             OnOk result (spec.looked w (Query.Cursor who) ≡ Ok w.forest) }
         ensures err { IfErr result

@@ -157,9 +157,9 @@ fn is_crossed_once(report: Report, least: u64) -> bool {
         && report.memory == 0
 }
 
-/// Of a chain whose first run came late nothing more is offered: the next plan's runs are all installed.
+/// A run that comes late is planned again: the runs of the later rounds are all installed.
 #[test]
-fn crossing_a_chain(rt: HostRuntime) -> Result<(), Fail> {
+fn crossing_a_long_branch(rt: HostRuntime) -> Result<(), Fail> {
     let (desk, first) = thousand(rt.alloc(), 1024)?;
     let (mut first, second) = halves(&desk, first);
     let report = filled_beside(&rt, rt.alloc(), &desk, &mut first, second)?;

@@ -42,8 +42,8 @@ impl<R: Threads + Wait + Sync> Room<'_, R> {
     }
 }
 
-/// A report of so many runs, all of which were installed.
-fn all_installed(count: u64) -> Report {
+/// A report of this many runs, all of which were installed.
+pub(super) fn all_installed(count: u64) -> Report {
     Report {
         planned: count,
         installed: count,
@@ -53,7 +53,7 @@ fn all_installed(count: u64) -> Report {
     }
 }
 
-/// A segment has 128 cells at most, and each round fills one of the only branch, though a plan gives those behind it too.
+/// A segment has 128 cells at most, and each round fills one of the only branch.
 #[test]
 fn thousand_steps(rt: HostRuntime) -> Result<(), Fail> {
     let (main, zed) = (name(&rt, b"main"), name(&rt, b"zed"));

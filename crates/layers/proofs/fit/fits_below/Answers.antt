@@ -13,6 +13,9 @@ returns-clause-fit g c =
     let all_cells : c.from-parts.result * c.from.result ≡ t.parts * size.cell = λ i. parts i * cell i in
     let all_words : c.from-parts.result * c.from-2.result ≡ t.parts * size.word = λ i. parts i * word i in
     record {
+      some_values = omega (arith, c.shape-shape.ensures.values);
+      some_processes = omega (arith, c.shape-shape.ensures.processes);
+      few_processes = omega (arith, c.shape-shape.ensures.processes);
       same_values = sym c.values.ensures ∙ c.if-values-shape.false ∙ c.shape-shape.ensures.inner_values;
       same_processes = sym c.processes.ensures ∙ c.if-processes-shape.false ∙ c.shape-shape.ensures.inner_processes;
       room = omega (arith, c.depth.ensures, c.if-depth-ge-STACK_FRAMES.false);

@@ -3,7 +3,7 @@ use Rattle.schedule_trie.specs.Cut.{forest}
 use Rattle.views.specs.Looks.{steps_in}
 use Rattle.views.specs.Strays.{Judges}
 use Rattle.views.proofs.Slips.{slip_told}
-use Rattle.views.proofs.Strays.{slip_judges, judges_some}
+use Rattle.views.proofs.Strays.{judges_its, slip_judges}
 use Rattle.views.proofs.slip.place_slip.Goals as goal
 
 pub returns-clause-page : goal.returns-clause-page
@@ -23,7 +23,7 @@ returns-clause-judges g c =
 pub invariant_of-result : goal.invariant_of-result
 invariant_of-result g c =
     let s = c.in_ok-len.ensures.spot in
-    judges_some g.R.Behaves.is c.args.chart.now.start.register _
+    judges_its g.R.Behaves.is c.args.chart.now.start.register c.judged_by-judged.result.value c.judged_by-judged.ensures _
     (subst (Judges (g.R.Behaves.is c.args.chart.now.start.register)) (sym (s.2.page _))
     (slip_judges g.R.Behaves.is c.args.chart.now.start c.args.chart.now.value (steps_in (forest c.args.chart.now.cut) c.args.branch) c.args.place c.in_ok-len.len
     s.0 s.1 c.in_ok-len.ensures.within c.in_ok-len.ensures.fit c.args.kind c.args.branch c.requires))

@@ -1,5 +1,6 @@
 use Rattle.views.proofs.VerdictHistories.{records_histories}
 use Rattle.views.proofs.LawWords.{safe_words_alike, regular_words_alike}
+use Rattle.views.proofs.AtomicWords.{atomic_words_alike}
 use Rattle.views.proofs.verdict.law_in_words.Goals as goal
 
 pub returns-clause-safe : goal.returns-clause-safe
@@ -11,3 +12,8 @@ pub returns-clause-regular : goal.returns-clause-regular
 returns-clause-regular g c =
     let r = c.args.register.now in
     regular_words_alike (g.R.Behaves.is r) (λ one. records_histories (g.R.Behaves.is r) one (g.R.Register.Holds r) (g.R.Register.Reaches r) (g.met.R.Register.lawful r))
+
+pub returns-clause-atomic : goal.returns-clause-atomic
+returns-clause-atomic g c =
+    let r = c.args.register.now in
+    atomic_words_alike (g.R.Behaves.is r) (λ one. records_histories (g.R.Behaves.is r) one (g.R.Register.Holds r) (g.R.Register.Reaches r) (g.met.R.Register.lawful r))

@@ -2,7 +2,7 @@ use Rattle.std.proofs.Common.{◌≡◌, Ok, IsOk, inr, refl, sym, subst}
 use Rattle.schedule_trie.specs.Forest.{IsRefused}
 use Rattle.schedule_trie.specs.Cut.{forest, IsCut, IsBlank}
 use Rattle.cutoff.proofs.LimbFits.{loaded_fits}
-use Rattle.schedule_trie.specs.Limbs.{loaded}
+use Rattle.schedule_trie.specs.Limbs.{limbs, loaded}
 use Rattle.cutoff.proofs.Kept.{passed_up}
 use Rattle.cutoff.proofs.chart.Chart.load.Goals as goal
 
@@ -29,3 +29,6 @@ returns-in_err-over-clause-err g c =
 
 pub returns-clause-forest : goal.returns-clause-forest
 returns-clause-forest g c = subst (λ t. loaded c.args.limits c.args.limbs.now ≡ Ok (forest t)) (sym c.in_ok-over.ensures.cut) c.in_ok-trie.ensures.ok
+
+pub returns-clause-again : goal.returns-clause-again
+returns-clause-again g c = subst (λ t. limbs (forest t) ≡ c.args.limbs.now) (sym c.in_ok-over.ensures.cut) c.in_ok-trie.ensures.again

@@ -1,17 +1,18 @@
-use Rattle.std.proofs.Common.{subst}
-use Rattle.sessions.specs.Held.{world_of}
-use Rattle.desk.specs.Works.{Offers}
+use Rattle.std.proofs.Common.{refl}
 use Rattle.desk.proofs.Works.{reads_so, taken}
 use Rattle.desk.proofs.install.InstallWorkJournal.work.Goals as goal
 
-pub returns-clause-kept : goal.returns-clause-kept
-returns-clause-kept g c =
-    let E = g.R.PartialEq.eq in
+pub returns-in_err-run-clause-kept : goal.returns-in_err-run-clause-kept
+returns-in_err-run-clause-kept g c =
     let is = g.R.Behaves.is in
     let first = c.journal.inside.first.value in
     let old = c.deref_mut-book.result.now in
+    reads_so is first old old (taken is first c.deref_mut-book.ensures.value c.journal.invariant c.journal.view_is) refl c.held.ensures.log (λ n w. Unit {0}) refl refl tt
+
+pub returns-clause-kept : goal.returns-clause-kept
+returns-clause-kept g c =
+    let is = g.R.Behaves.is in
+    let first = c.journal.inside.first.value in
     let told = c.offer-answer.ensures in
-    let work = c.args.self.now in
-    reads_so is first old c.offer-answer.new.book (taken is first c.deref_mut-book.ensures.value c.journal.invariant c.journal.view_is) told.opening c.held.ensures
-    (λ n w. Offers E is work.key work.run w c.offer-answer.result) told.world told.log
-    (subst (λ run. Offers E is work.key run (world_of is old.now) c.offer-answer.result) c.take.ensures.value told.answer)
+    reads_so is first c.deref_mut-book.result.now c.offer-answer.new.book (taken is first c.deref_mut-book.ensures.value c.journal.invariant c.journal.view_is) told.opening c.held-2.ensures.log
+    (λ n w. Unit {0}) told.world told.log tt

@@ -43,3 +43,10 @@ returns-clause-item g c = rw (← c.self.view_is) (divided g c).added
 
 pub returns-clause-paths : goal.returns-clause-paths
 returns-clause-paths g c = rw (← c.self.view_is) (divided g c).paths
+
+pub reserve_node-requires : goal.reserve_node-requires
+reserve_node-requires g c =
+    let a = c.self.inside in
+    let few = a.tips.ok.1 in
+    let small = a.tips.small in
+    omega (arith, few, small, c.len.ensures)

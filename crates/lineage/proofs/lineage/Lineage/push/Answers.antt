@@ -40,3 +40,10 @@ invariant_of-self g c = subst (λ s. IsSound s c.self.inside.tips.items) (sym c.
 
 pub returns-clause-item : goal.returns-clause-item
 returns-clause-item g c = rw (← c.self.view_is) (pushed g c).added
+
+pub reserve_node-requires : goal.reserve_node-requires
+reserve_node-requires g c =
+    let a = c.self.inside in
+    let few = a.tips.ok.1 in
+    let small = a.tips.small in
+    omega (arith, few, small, c.len.ensures)

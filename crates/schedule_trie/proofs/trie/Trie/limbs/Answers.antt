@@ -2,8 +2,10 @@ use Rattle.std.proofs.Common.{◌≡◌, ◌≤◌, ℕ, map, ◌<◌, ◌++◌,
 use Rattle.std.proofs.lemmas.List.{length-map}
 use Rattle.schedule_trie.specs.Cut.{forest}
 use Rattle.schedule_trie.specs.Forest.{Forest, name_of}
-use Rattle.schedule_trie.specs.Limbs.{FitLimits, IsLawful, limbs}
+use Rattle.schedule_trie.specs.Limbs.{FitLimits, IsLawful, forest_of, limbs}
+use Rattle.schedule_trie.specs.Renumbering.{IsRenumbered}
 use Rattle.schedule_trie.proofs.LimbCounts.{taken_whole}
+use Rattle.schedule_trie.proofs.LimbsKept.{limbs_kept}
 use Rattle.schedule_trie.proofs.LimbsLawful.{limbs_lawful}
 use Rattle.schedule_trie.proofs.LimbsNear.{limbs_near}
 use Rattle.schedule_trie.proofs.LimbsSaved.{length-limbs, taken_next}
@@ -37,6 +39,11 @@ loop-index-preserved g c = record {
 pub returns-clause-limbs : goal.returns-clause-limbs
 returns-clause-limbs g c =
     c.loop-index.invariant.told ∙ taken_whole c.loop-index.index (limbs (forest c.args.self.now)) (past_all (forest c.args.self.now) c.branches-index-end.ensures.count c.loop-index-test.false)
+
+pub returns-clause-kept : goal.returns-clause-kept
+returns-clause-kept g c =
+    let told = c.loop-index.invariant.told ∙ taken_whole c.loop-index.index (limbs (forest c.args.self.now)) (past_all (forest c.args.self.now) c.branches-index-end.ensures.count c.loop-index-test.false) in
+    subst (λ l. IsRenumbered (forest c.args.self.now) (forest_of l)) (sym told) (limbs_kept (forest c.args.self.now) c.held.ensures.forest)
 
 pub returns-clause-lawful : goal.returns-clause-lawful
 returns-clause-lawful g c =

@@ -36,7 +36,7 @@ returns-clause-ok g c =
       forest = remove_ok now c.remove_slot.new.self c.args.branch.now c.args.place c.in-Some.index c.in-Some-find_cell.key c.in-Some-find_cell.offset
           found c.in-Some-find_cell.ensures.found c.remove_slot.ensures;
       notes = notes_here now c.remove_slot.new.self c.args.branch.now c.args.place c.in-Some.index c.in-Some-find_cell.key c.in-Some-find_cell.offset
-          found c.in-Some-find_cell.ensures.found c.remove_slot.ensures.notes;
+          (subst IsWhole (sym c.learn_len-len.ensures.same) c.learn_len-len.ensures.whole).sound found c.in-Some-find_cell.ensures.found c.remove_slot.ensures.notes;
       cut = c.remove_slot.ensures.cut;
       limits = c.remove_slot.ensures.limits;
     }))

@@ -1,6 +1,6 @@
 use Rattle.std.proofs.Common.{◌≡◌, Some, sym, subst}
 use Rattle.schedule_trie.specs.Forest.{index_of}
-use Rattle.schedule_trie.specs.Cut.{forest}
+use Rattle.schedule_trie.specs.Cut.{forest, IsWhole}
 use Rattle.schedule_trie.specs.Edits.{Replace, IsEdited}
 use Rattle.schedule_trie.proofs.StepSet.{replace_ok, notes_here}
 use Rattle.schedule_trie.proofs.trie.Trie.replace.Goals as goal
@@ -14,7 +14,7 @@ returns-clause-ok g c =
       forest = replace_ok now c.set_step.new.self c.args.branch.now c.args.place c.in-Some.index c.in-Some-find_cell.key c.in-Some-find_cell.offset
           found c.in-Some-find_cell.ensures.found c.args.step c.set_step.ensures;
       notes = notes_here now c.set_step.new.self c.args.branch.now c.args.place c.in-Some.index c.in-Some-find_cell.key c.in-Some-find_cell.offset
-          found c.in-Some-find_cell.ensures.found c.set_step.ensures.notes;
+          (subst IsWhole (sym c.learn_len.ensures.same) c.learn_len.ensures.whole).sound found c.in-Some-find_cell.ensures.found c.set_step.ensures.notes;
       cut = c.set_step.ensures.cut;
       limits = c.set_step.ensures.limits;
     })

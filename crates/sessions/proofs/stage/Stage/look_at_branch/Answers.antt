@@ -10,7 +10,7 @@ pub returns-clause-page : goal.returns-clause-page
 returns-clause-page g c =
     let i = c.self.inside in
     let held : Staged g.row.R.Denot g.row.R-Pending.Denot = record { chart = i.chart; limits = i.limits; cursors = i.cursors; breaks = i.breaks.items; edits = i.edits; logged = i.logged } in
-    rw (← c.self.view_is) (subst (λ p. IfOk c.at.result (λ slip. Some slip ≡ p)) (shown_at (world_of g.R.Behaves.is held) c.args.query c.requires) c.at.ensures.page)
+    rw (← c.self.view_is) (subst (λ p. IfOk c.at.result (λ slip. Some slip.page ≡ p)) (shown_at (world_of g.R.Behaves.is held) c.args.query c.requires) c.at.ensures.page)
 
 pub returns-clause-err : goal.returns-clause-err
 returns-clause-err g c =

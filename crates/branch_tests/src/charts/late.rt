@@ -1,0 +1,94 @@
+//! Row `late-run`: what a branch shows directly before and after a run that comes too late, and a run
+//! that fits.
+
+use super::rows::{Kind, limits, step_of};
+use crate::given::{name, none_wrong};
+use checkpoints::run::{Run, run_segment};
+use cutoff::chart::Chart;
+use cutoff::install::Installation;
+use frames::safe::Safe;
+use schedule_trie::name::Name;
+use schedule_trie::refusal::Refusal;
+use schedule_trie::trie::SegKey;
+use std::alloc::Global;
+use std::process::Abort;
+use std::sync::Arc;
+use views::lens::Lens;
+use views::page::page_text;
+use views::query::Query;
+use views::slip::Slip;
+
+/// The state of `b` at 2.
+const STATE: &[u8] =
+    b"0: state b 2 of 2\n  p0 write 0 next ws 0\n  p1 read next rs 0\n  bits 0\n  words -\n";
+
+/// A job's key, and its run.
+type Made = (SegKey, Arc<Run<Safe>>);
+
+/// The run of the one job that a branch's plan has; none where there are others.
+fn made_for(alloc: Global, chart: &Chart<Safe>, branch: &Name) -> Result<Option<Made>, Refusal> {
+    let jobs = chart.plan(alloc, branch)?;
+    let [job] = jobs.as_slice() else {
+        return Ok(None);
+    };
+    let run = run_segment(alloc, job.entry(), job.steps())?;
+    let Ok(run) = Arc::new(alloc, run) else {
+        return Err(Refusal::Memory);
+    };
+    Ok(Some((job.key(), run)))
+}
+
+/// Whether `b` shows this state at 2.
+fn is_shown(alloc: Global, chart: &mut Chart<Safe>, branch: Name) -> Result<bool, Refusal> {
+    let slip = Slip::at(alloc, chart, Query::State { branch, place: 2 })?;
+    let mut lens = Lens::new(alloc)?;
+    let page = slip.page(alloc, &mut lens)?;
+    Ok(page_text(alloc, 0, &page)?.as_slice() == STATE)
+}
+
+/// The run of `a`, which is then dropped; `b` takes its place, with another step.
+fn old_run(
+    rt: &impl Abort,
+    alloc: Global,
+    chart: &mut Chart<Safe>,
+) -> Result<Option<Made>, Refusal> {
+    let (main, a, b) = (name(rt, b"main"), name(rt, b"a"), name(rt, b"b"));
+    chart.fork(alloc, &main, 1, a)?;
+    chart.insert(alloc, &a, 1, step_of(Kind::Write1))?;
+    chart.settle(alloc, &main, 1)?;
+    let old = made_for(alloc, chart, &a)?;
+    chart.drop_branch(&a)?;
+    chart.fork(alloc, &main, 1, b)?;
+    chart.insert(alloc, &b, 1, step_of(Kind::Write0))?;
+    Ok(old)
+}
+
+/// Which part of the row goes wrong.
+fn first_wrong(rt: &impl Abort, alloc: Global) -> Result<Option<usize>, Refusal> {
+    let mut chart = Chart::new(alloc, Safe, 0, limits(), &[step_of(Kind::Read)])?;
+    let b = name(rt, b"b");
+    let Some((old_key, old)) = old_run(rt, alloc, &mut chart)? else {
+        return Ok(Some(0));
+    };
+    let Some((key, fitting)) = made_for(alloc, &chart, &b)? else {
+        return Ok(Some(1));
+    };
+    if !is_shown(alloc, &mut chart, b)? {
+        return Ok(Some(2));
+    }
+    if chart.install(old_key, old) == Installation::Installed {
+        return Ok(Some(3));
+    }
+    if !is_shown(alloc, &mut chart, b)? {
+        return Ok(Some(4));
+    }
+    if chart.install(key, fitting) != Installation::Installed {
+        return Ok(Some(5));
+    }
+    Ok(None)
+}
+
+#[test]
+fn state_around_a_late_run(rt: HostRuntime) {
+    none_wrong(&rt, first_wrong(&rt, rt.alloc()));
+}

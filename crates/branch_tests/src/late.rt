@@ -1,0 +1,143 @@
+//! Reads that return the value of a write which is refused later: that write counts for nothing.
+//! A unary number over stamped registers, one for each of its bits, refuses a write when a stamp is
+//! spent halfway through it.
+
+use crate::given::{GO, READ, name};
+use frames::register::Register;
+use frames::types::Step;
+use regular_bit::RegularBitRules;
+use schedule_trie::limits::Limits;
+use schedule_trie::refusal::Refusal;
+use sessions::book::Book;
+use sessions::command::Command;
+use sessions::reply::Reply;
+use std::alloc::{AllocError, Global};
+use std::process::Abort;
+use std::test::Fail;
+use towers::stamped;
+use unary_number::UnaryRules;
+use views::lens::Lens;
+use views::page::page_text;
+use views::query::Query;
+use views::slip::Slip;
+
+const LIMITS: Limits = Limits {
+    cells: 256,
+    branches: 1,
+    log: 256,
+};
+
+/// The writer's next bit action, with choice 0.
+const GO_0: Step = Step::Go { p: 0, c: 0 };
+
+const WRITE_0: Step = Step::Write { p: 0, v: 0 };
+
+const WRITE_1: Step = Step::Write { p: 0, v: 1 };
+
+const WRITE_2: Step = Step::Write { p: 0, v: 2 };
+
+/// Bit 0 is read as 0, and then a write of 0 sets it, with its only stamp. A write of 1 sets bit 1,
+/// which is read; it is refused when bit 0 is to be cleared.
+const BEFORE_CLEARING: [(Step, u32); 8] = [
+    (READ, 1),
+    (GO, 2),
+    (WRITE_0, 1),
+    (GO_0, 4),
+    (WRITE_1, 1),
+    (GO_0, 3),
+    (GO, 8),
+    (GO_0, 1),
+];
+
+/// Writes of 0 and 1 spend both stamps of bit 0. A write of 2 sets bit 2 and clears bit 1, both of
+/// which are read; it is refused when bit 0 is to be cleared.
+const AFTER_TWO_WRITES: [(Step, u32); 10] = [
+    (WRITE_0, 1),
+    (GO_0, 60),
+    (WRITE_1, 1),
+    (GO_0, 60),
+    (READ, 1),
+    (GO, 10),
+    (WRITE_2, 1),
+    (GO_0, 7),
+    (GO, 18),
+    (GO_0, 1),
+];
+
+/// Each step so many times in a row.
+fn in_a_row(alloc: Global, runs: &[(Step, u32)]) -> Result<Vec<Step>, AllocError> {
+    let mut steps = Vec::new(alloc);
+    for (step, count) in runs {
+        for _ in 0..*count {
+            steps.push(*step)?;
+        }
+    }
+    Ok(steps)
+}
+
+/// What a slip's page says.
+fn text_of<R: Register>(alloc: Global, slip: &Slip<R>) -> Result<Vec<u8>, AllocError> {
+    let mut lens = Lens::new(alloc)?;
+    let page = slip.page(alloc, &mut lens)?;
+    page_text(alloc, 0, &page)
+}
+
+/// The page of verdicts after all steps of a book's one branch.
+fn verdicts<R: Register>(
+    rt: &impl Abort,
+    alloc: Global,
+    register: R,
+    value: u32,
+    steps: &[Step],
+) -> Result<Vec<u8>, Refusal> {
+    assert!(rt; value < register.values());
+    let mut book = Book::new(alloc, register, value, LIMITS, &[])?;
+    let branch = name(rt, b"main");
+    let mut place: u32 = 0;
+    for step in steps {
+        let step = *step;
+        let insert = Command::Insert {
+            branch,
+            place,
+            step,
+        };
+        let reply = book.act(alloc, 0, 0, None, &insert);
+        assert!(rt; matches!(reply, Reply::Edited(_)));
+        place = place.wrapping_add(1);
+    }
+    let slip = book.look(alloc, Query::Verdict { branch, place })?;
+    text_of(alloc, &slip).or(Err(Refusal::Memory))
+}
+
+/// Stops unless the verdicts on such steps, from a value, are these.
+fn judges<R: Register>(
+    rt: &impl Abort,
+    alloc: Global,
+    register: R,
+    value: u32,
+    runs: &[(Step, u32)],
+    wanted: &[u8],
+) -> Result<(), Refusal> {
+    let Ok(steps) = in_a_row(alloc, runs) else {
+        return Err(Refusal::Memory);
+    };
+    let text = verdicts(rt, alloc, register, value, &steps)?;
+    assert_eq!(rt; text.as_slice(), wanted);
+    Ok(())
+}
+
+#[test]
+fn refused_before_clearing(rt: HostRuntime) -> Result<(), Fail> {
+    let register = UnaryRules::new(RegularBitRules::new(stamped(2, 1))?, 3)?;
+    let wanted = b"0: verdict main 21 of 21\n  19 p1 1 stray\n";
+    judges(&rt, rt.alloc(), register, 2, &BEFORE_CLEARING, wanted)?;
+    Ok(())
+}
+
+#[test]
+fn refused_after_two_writes(rt: HostRuntime) -> Result<(), Fail> {
+    let register = UnaryRules::new(stamped(2, 2), 3)?;
+    let wanted = b"0: verdict main 160 of 160\n  158 p1 2 stray\n";
+    judges(&rt, rt.alloc(), register, 1, &AFTER_TWO_WRITES, wanted)?;
+    Ok(())
+}

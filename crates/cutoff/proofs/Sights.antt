@@ -1,0 +1,332 @@
+-- What a plan sees of segments, one after the other down a branch.
+use Rattle.std.proofs.Common.{◌≡◌, ◌⊎◌, ℕ, zero, suc, ◌+◌, ◌<◌, arith, drop, Bool, true, false, cond, ◌||◌, nat_eq, List, [], ◌∷◌, ◌++◌, length, map, reverse, get_or, Option, Some, None, inl, inr, refl, sym, ap, subst, ◌∙◌, append_assoc, append-nil, true≢false}
+use Rattle.std.specs.Cmp.{IsEquivalence, IsPartialEquivalence}
+use Rattle.std.proofs.lemmas.Bool.{ne_eqb}
+use Rattle.std.proofs.Math.Seq.{drop-cons}
+use Rattle.std.proofs.lemmas.List.{map-append, reverse-append}
+use Rattle.frames.specs.Behaviour.{Behaviour}
+use Rattle.frames.specs.Configuration.{Configuration, replayed, fits_step}
+use Rattle.frames.specs.Equality.{SameConfiguration}
+use Rattle.frames.specs.Recorded.{AllFit}
+use Rattle.schedule_trie.specs.Forest.{step_of}
+use Rattle.schedule_trie.specs.Cut.{Cut, piece_at, slots_of, line, keys_in, has, Once, IsCut}
+use Rattle.schedule_trie.specs.Climbs.{last_of, keys_up_to, keys_to, IsReached}
+use Rattle.schedule_trie.proofs.Climbs.{IsLast, IsStepUp, last_some, once_before, step_up, up_to-here}
+use Rattle.schedule_trie.proofs.Once.{has_cases, has-append, has-head, has-tail}
+use Rattle.schedule_trie.proofs.Partings.{has-in, parting}
+use Rattle.cutoff.specs.declared.sight.Sight.{Sight}
+use Rattle.cutoff.specs.declared.sight.Sight.TheVariants.{Unseen, Fit, Unfit}
+use Rattle.cutoff.specs.Fitting.{StoredRun, Fits, steps_at}
+use Rattle.cutoff.specs.Plans.{ComesDown, Descends, Planned, job_of, key_of, with_job}
+use Rattle.cutoff.specs.Prefixes.{HasTrueRun, IsMarked, RunsTo, come_to}
+use Rattle.cutoff.specs.Sights.{AddsMissed, AreSeen, ComesAbove, IsAbove, IsCome, IsKnownAt, IsSeen, IsSight, IsUnseenPart, LooksBelow, sight_at, sight_of}
+use Rattle.cutoff.proofs.Climbs.{path_once}
+use Rattle.cutoff.proofs.Edits.{all_left, all_right}
+use Rattle.cutoff.proofs.Fits.{fits_alike, same_symm}
+use Rattle.cutoff.proofs.Prefixes.{down_same, runs_come, up_new}
+use Rattle.cutoff.proofs.Rests.{last_or, last_or-last}
+use Rattle.cutoff.proofs.Walks.{by_key}
+
+-- what was seen, where room is made for more
+pub unseen_more : (seen : List Sight) (k : ℕ) → sight_at (seen ++ Unseen ∷ []) k ≡ sight_at seen k
+unseen_more [] zero = refl
+unseen_more [] (suc k) = refl
+unseen_more (s ∷ seen) zero = refl
+unseen_more (s ∷ seen) (suc k) = unseen_more seen k
+
+-- a climb has come to a key, and these are below it, the last first
+pub record IsClimbing (seen : List Sight) (keys : List ℕ) (at : Option ℕ) (own : List ℕ) : Type 0 where
+  pub reached : IsReached keys at
+  pub is : keys ≡ keys_to keys at ++ reverse own
+  pub lacks : (k : ℕ) → has k (reverse own) ≡ true → sight_at seen k ≡ Unseen
+
+module _ (seen : List Sight) (keys : List ℕ) where
+  pub climbing_first : (last : Option ℕ) → IsLast keys last → IsClimbing seen keys last []
+  climbing_first last l = record {
+    reached = l.reached;
+    is = sym l.all ∙ sym (append-nil (keys_to keys last));
+    lacks = λ k h. absurd (true≢false (sym h));
+  }
+
+  pub climbing_up : (at : Option ℕ) (key : ℕ) (above : Option ℕ) (own more : List ℕ) → at ≡ Some key → more ≡ own ++ key ∷ [] → IsClimbing seen keys at own
+      → IsStepUp keys key above → sight_at seen key ≡ Unseen → IsClimbing seen keys above more
+  climbing_up at key above own more e pushed c up none =
+      let turned : reverse more ≡ key ∷ reverse own = ap reverse pushed ∙ reverse-append own (key ∷ []) in
+      record {
+        reached = up.reached;
+        is = c.is ∙ ap (λ o. keys_to keys o ++ reverse own) e ∙ ap (λ l. l ++ reverse own) up.is
+            ∙ append_assoc (keys_to keys above) (key ∷ []) (reverse own) ∙ ap (λ l. keys_to keys above ++ l) (sym turned);
+        lacks = λ k h. has_cases k key (reverse own) (sight_at seen k ≡ Unseen) (subst (λ l. has k l ≡ true) turned h)
+            (λ same. ap (sight_at seen) same ∙ none) (λ rest. c.lacks k rest);
+      }
+
+  pub unseen_part : (mark : Option ℕ) (at : Option ℕ) (own all : List ℕ) (fits : Bool) → IsClimbing seen keys at own → IsKnownAt mark seen at fits → all ≡ reverse own
+      → IsUnseenPart mark seen keys fits all
+  unseen_part mark at own all fits c known turned =
+      subst (IsUnseenPart mark seen keys fits) (sym turned) (record { above = at; reached = c.reached; path = c.is; lacks = c.lacks; known = known })
+
+-- the last of the keys down to one
+last_pushed : (front : List ℕ) (key : ℕ) → last_of (front ++ key ∷ []) ≡ Some key
+last_pushed [] key = refl
+last_pushed (f ∷ front) key =
+    let p = last_some (front ++ key ∷ []) f f in
+    p.1.1.0 ∙ sym (last_or-last None p.1.0 p.0) ∙ ap (last_or None) (sym p.1.1.1) ∙ last_or-last None (f ∷ front) key
+
+last_reached : (keys : List ℕ) (at : Option ℕ) → IsReached keys at → last_of (keys_to keys at) ≡ at
+last_reached keys None h = refl
+last_reached keys (Some key) h = let p = parting keys key h in ap last_of p.to ∙ last_pushed p.front key
+
+or_later : (a b : Bool) → b ≡ true → a || b ≡ true
+or_later true b h = refl
+or_later false b h = h
+
+or_first : (a b : Bool) → a ≡ true → a || b ≡ true
+or_first true b h = refl
+or_first false b h = absurd (true≢false (sym h))
+
+-- the steps of a segment of a branch fit
+pub segment_fits : {R P : Type 0} (b : Behaviour P) (cut : Cut (StoredRun R P)) (keys : List ℕ) (k : ℕ) → has k keys ≡ true → AllFit b (map step_of (line (piece_at cut.pieces) keys))
+    → AllFit b (steps_at cut k)
+segment_fits b cut [] k h fit = absurd (true≢false (sym h))
+segment_fits b cut (j ∷ js) k h fit =
+    let both = subst (AllFit b) (map-append step_of (slots_of (piece_at cut.pieces j)) (line (piece_at cut.pieces) js)) fit in
+    has_cases k j js (AllFit b (steps_at cut k)) h
+    (λ e. subst (λ i. AllFit b (steps_at cut i)) (sym e) (all_left (λ s. fits_step b s ≡ true) (steps_at cut j) (map step_of (line (piece_at cut.pieces) js)) both))
+    (λ r. segment_fits b cut js k r (all_right (λ s. fits_step b s ≡ true) (steps_at cut j) (map step_of (line (piece_at cut.pieces) js)) both))
+
+-- walks down that end, and what they miss
+module _ {R P : Type 0} (E : R → R → Bool) (b : Behaviour P) (cut : Cut (StoredRun R P)) where
+  descends_more : (c end : Configuration R P) (keys more : List ℕ) (m : ℕ) → Descends E b cut c keys (Some m) end → Descends E b cut c (keys ++ more) (Some m) end
+  descends_more c end [] more m d = absurd (let e : ◌≡◌ {A = Option ℕ} (Some m) None = d.0 in cc)
+  descends_more c end (k ∷ ks) more m (inl d) = inl (d.0, descends_more (replayed b c (steps_at cut k)) end ks more m d.1)
+  descends_more c end (k ∷ ks) more m (inr d) = inr d
+
+  comes_descends : (c end : Configuration R P) (keys : List ℕ) → ComesDown E b cut c keys end → Descends E b cut c keys None end
+  comes_descends c end [] d = (refl, d)
+  comes_descends c end (k ∷ ks) d = inl (d.0, comes_descends (replayed b c (steps_at cut k)) end ks d.1)
+
+  comes_missing : (per : IsPartialEquivalence E) (c end : Configuration R P) (keys : List ℕ) (k : ℕ) → ComesDown E b cut c keys end → (Fits E cut end k → ⊥)
+      → Descends E b cut c (keys ++ k ∷ []) (Some k) end
+  comes_missing per c end [] k d misses = inr ((λ f. misses (fits_alike E per cut c end k (same_symm E per end c d) f)), refl, d)
+  comes_missing per c end (j ∷ ks) k d misses = inl (d.0, comes_missing per (replayed b c (steps_at cut j)) end ks k d.1 misses)
+
+-- jobs with one more, of a key
+module _ {R P : Type 0} (cut : Cut (StoredRun R P)) (k : ℕ) (end : Configuration R P) where
+  abbrev pub job : Planned R P
+  job = record { key = k; entry = end; steps = steps_at cut k }
+
+  pub job_is : (made : Planned R P) → Some made ≡ job_of cut (Some k) end → made ≡ job
+  job_is made same = cc
+
+  job_again : (jobs : List (Planned R P)) → has k (map key_of jobs) ≡ true → jobs ≡ with_job jobs (job_of cut (Some k) end)
+  job_again jobs there = sym (ap (λ t. cond t jobs (jobs ++ job ∷ [])) there)
+
+  job_new : (jobs : List (Planned R P)) → has k (map key_of jobs) ≡ false → with_job jobs (job_of cut (Some k) end) ≡ jobs ++ job ∷ []
+  job_new jobs other = ap (λ t. cond t jobs (jobs ++ job ∷ [])) other
+
+  keys_more : (jobs : List (Planned R P)) (j : ℕ) → has j (map key_of (jobs ++ job ∷ [])) ≡ has j (map key_of jobs) || has j (k ∷ [])
+  keys_more jobs j = ap (has j) (map-append key_of jobs (job ∷ [])) ∙ has-append j (map key_of jobs) (k ∷ [])
+
+-- nothing was seen yet
+pub none_seen : {R P : Type 0} (E : R → R → Bool) (is : R → Behaviour P) (cut : Cut (StoredRun R P)) (start : Configuration R P) (seen : List Sight) (jobs : List (Planned R P)) → seen ≡ [] → jobs ≡ []
+    → AreSeen E is cut start seen jobs
+none_seen E is cut start seen jobs no_sights no_jobs k =
+    subst (λ l. IsSight E is cut start jobs k (sight_at l k)) (sym no_sights) (subst (λ l. has k (map key_of l) ≡ false) (sym no_jobs) refl)
+
+-- what jobs a visit of a key leaves
+abbrev pub Grows : {R P : Type 0} → Cut (StoredRun R P) → ℕ → List (Planned R P) → List (Planned R P) → Type 0
+Grows {R} {P} cut key old new = (new ≡ old) ⊎ ((end : Configuration R P) × (new ≡ old ++ record { key = key; entry = end; steps = steps_at cut key } ∷ []))
+
+grows_has : {R P : Type 0} (cut : Cut (StoredRun R P)) (key : ℕ) (old new : List (Planned R P)) → Grows cut key old new → (m : ℕ) → has m (map key_of old) ≡ true → has m (map key_of new) ≡ true
+grows_has cut key old new (inl same) m h = ap (λ l. has m (map key_of l)) same ∙ h
+grows_has cut key old new (inr more) m h =
+    ap (λ l. has m (map key_of l)) more.1 ∙ keys_more cut key more.0 old m ∙ or_first (has m (map key_of old)) (has m (key ∷ [])) h
+
+grows_lacks : {R P : Type 0} (cut : Cut (StoredRun R P)) (key : ℕ) (old new : List (Planned R P)) → Grows cut key old new → (m : ℕ) → (m ≡ key → ⊥) → has m (map key_of old) ≡ false
+    → has m (map key_of new) ≡ false
+grows_lacks cut key old new (inl same) m other h = ap (λ l. has m (map key_of l)) same ∙ h
+grows_lacks cut key old new (inr more) m other h =
+    ap (λ l. has m (map key_of l)) more.1 ∙ keys_more cut key more.0 old m ∙ ap (λ t. t || (nat_eq m key || false)) h ∙ ap (λ t. t || false) (ne_eqb m key other)
+
+module _ {R P : Type 0} (E : R → R → Bool) (per : IsPartialEquivalence E) (is : R → Behaviour P) (alike : (x y : R) → E x y ≡ true → is x ≡ is y)
+    (cut : Cut (StoredRun R P)) (start : Configuration R P) where
+  abbrev b : Behaviour P
+  b = is start.register
+
+  come_seen : (old jobs : List (Planned R P)) (last : Option ℕ) (fits : Bool) → IsCome E is cut start old jobs last fits → IsSeen E is cut start jobs last fits
+  come_seen old jobs last true c = c.0
+  come_seen old jobs last false c = λ i h. let p = c i h in (p.0, p.1, p.2, p.3)
+
+  -- one key further down
+  module _ (whole : IsCut cut) (key : ℕ) (above : Option ℕ) (each : IsAbove cut key above) where
+    step : (i : ℕ) → has key (keys_in cut.strands i) ≡ true → IsStepUp (keys_in cut.strands i) key above
+    step i h = step_up (keys_in cut.strands i) key above (path_once cut whole i) h (λ front back e. each i front back e)
+
+    pub come_unfit : (old jobs : List (Planned R P)) → IsCome E is cut start old jobs above false → IsCome E is cut start old jobs (Some key) false
+    come_unfit old jobs c = λ i h.
+        let keys = keys_in cut.strands i in
+        let s = step i h in
+        let p = c i s.reached in
+        (p.0, p.1, subst (λ l. Descends E b cut start l (Some p.0) p.1) (sym s.is) (descends_more E b cut start p.1 (keys_to keys above) (key ∷ []) p.0 p.2), p.3, p.4)
+
+    pub come_fit : (old jobs new : List (Planned R P)) → IsCome E is cut start old jobs above true → HasTrueRun E is cut (come_to cut start above) key → new ≡ jobs
+        → IsCome E is cut start old new (Some key) true
+    come_fit old jobs new c run same = (
+      λ i h.
+          let keys = keys_in cut.strands i in
+          let s = step i h in
+          up_new E per is alike cut key run.stored run.noted run.true_run run.fits.steps start keys above s
+          (down_same E per is alike cut b start (keys_to keys above) run.stored.run.entry (come_to cut start above) run.fits.entry (c.0 i s.reached)),
+      same ∙ c.1,
+    )
+
+    pub come_missed : (old jobs new : List (Planned R P)) → IsCome E is cut start old jobs above true → has key (map key_of jobs) ≡ false → (Fits E cut (come_to cut start above) key → ⊥)
+        → new ≡ jobs ++ record { key = key; entry = come_to cut start above; steps = steps_at cut key } ∷ [] → IsCome E is cut start old new (Some key) false
+    come_missed old jobs new c other misses added = λ i h.
+        let keys = keys_in cut.strands i in
+        let s = step i h in
+        let end = come_to cut start above in
+        let down = runs_come E per is alike cut b start (keys_to keys above) end (c.0 i s.reached) in
+        let lacks : has key (map key_of old) ≡ false = ap (λ l. has key (map key_of l)) (sym c.1) ∙ other in (
+          key,
+          end,
+          subst (λ l. Descends E b cut start l (Some key) end) (sym s.is) (comes_missing E b cut per start end (keys_to keys above) key down misses),
+          ap (λ l. has key (map key_of l)) added ∙ keys_more cut key end jobs key ∙ or_later (has key (map key_of jobs)) (has key (key ∷ [])) (has-head key []),
+          added ∙ ap (λ l. l ++ job cut key end ∷ []) c.1 ∙ sym (job_new cut key end old lacks),
+        )
+
+  -- what was seen stays so, and the key that was visited is seen
+  pub see_on : (seen after : List Sight) (jobs new : List (Planned R P)) (key : ℕ) (fits : Bool) → AreSeen E is cut start seen jobs → sight_at after key ≡ sight_of fits
+      → ((k : ℕ) → (k ≡ key → ⊥) → sight_at after k ≡ sight_at seen k) → IsSeen E is cut start new (Some key) fits → Grows cut key jobs new → AreSeen E is cut start after new
+  see_on seen after jobs new key fits were at others now grows = λ k. by_key k key (IsSight E is cut start new k (sight_at after k))
+      (λ e. subst (λ j. IsSight E is cut start new j (sight_at after j)) (sym e) (subst (IsSight E is cut start new key) (sym at) (by fits now)))
+      (λ ne. subst (IsSight E is cut start new k) (sym (others k ne)) (still k ne (sight_at seen k) (were k)))
+    where
+      by : (f : Bool) → IsSeen E is cut start new (Some key) f → IsSight E is cut start new key (sight_of f)
+      by true h = h
+      by false h = h
+
+      still : (k : ℕ) → (k ≡ key → ⊥) → (s : Sight) → IsSight E is cut start jobs k s → IsSight E is cut start new k s
+      still k ne Unseen h = grows_lacks cut key jobs new grows k ne h
+      still k ne Fit h = h
+      still k ne Unfit h = λ i r. let p = h i r in (p.0, p.1, p.2, grows_has cut key jobs new grows p.0 p.3)
+
+  -- a visit of a key below one down to which runs don't fit
+  module _ (whole : IsCut cut) (key : ℕ) (above : Option ℕ) (each : IsAbove cut key above) (jobs : List (Planned R P)) where
+    pub visit_unfit : (old : List (Planned R P)) → ComesAbove E is cut start old jobs key false → IsCome E is cut start old jobs (Some key) false
+    visit_unfit old c = come_unfit whole key above each old jobs (c above each)
+
+    pub seen_unfit : (seen after : List Sight) → AreSeen E is cut start seen jobs → sight_at after key ≡ Unfit → ((k : ℕ) → (k ≡ key → ⊥) → sight_at after k ≡ sight_at seen k)
+        → (old : List (Planned R P)) × ComesAbove E is cut start old jobs key false → AreSeen E is cut start after jobs
+    seen_unfit seen after were at others c =
+        see_on seen after jobs jobs key false were at others (come_seen c.0 jobs (Some key) false (visit_unfit c.0 c.1)) (inl refl)
+
+    module _ (fits : Bool) (new : List (Planned R P)) (looks : LooksBelow E is cut (come_to cut start above) key fits jobs new) (lacks : has key (map key_of jobs) ≡ false) where
+      pub visit_below : (old : List (Planned R P)) → ComesAbove E is cut start old jobs key true → IsCome E is cut start old new (Some key) fits
+      visit_below old c = by fits looks
+        where
+          by : (f : Bool) → LooksBelow E is cut (come_to cut start above) key f jobs new → IsCome E is cut start old new (Some key) f
+          by true l = come_fit whole key above each old jobs new (c above each) l.0 l.1
+          by false l = come_missed whole key above each old jobs new (c above each) lacks l.0 l.1
+
+      grows : Grows cut key jobs new
+      grows = by fits looks
+        where
+          by : (f : Bool) → LooksBelow E is cut (come_to cut start above) key f jobs new → Grows cut key jobs new
+          by true l = inl l.1
+          by false l = inr (come_to cut start above, l.1)
+
+      pub seen_below : (seen after : List Sight) → AreSeen E is cut start seen jobs → sight_at after key ≡ sight_of fits → ((k : ℕ) → (k ≡ key → ⊥) → sight_at after k ≡ sight_at seen k)
+          → (old : List (Planned R P)) × ComesAbove E is cut start old jobs key true → AreSeen E is cut start after new
+      seen_below seen after were at others c =
+          see_on seen after jobs new key fits were at others (come_seen c.0 new (Some key) fits (visit_below c.0 c.1)) grows
+
+  -- what is known of a key that was seen, or marked
+  known_come : (mark : Option ℕ) (seen : List Sight) (jobs : List (Planned R P)) (last : Option ℕ) (fits : Bool) → IsEquivalence E → IsMarked E is cut start mark
+      → AreSeen E is cut start seen jobs → IsKnownAt mark seen last fits → IsCome E is cut start jobs jobs last fits
+  known_come mark seen jobs None fits equal marked seen_so known =
+      subst (IsCome E is cut start jobs jobs None) (sym known) ((λ i h. record { register = equal.refl start.register; memory = refl; running = refl; stopped = refl }), refl)
+  known_come mark seen jobs (Some k) fits equal marked seen_so (inl known) =
+      subst (IsCome E is cut start jobs jobs (Some k)) (sym known.1) (subst (IsMarked E is cut start) known.0 marked, refl)
+  known_come mark seen jobs (Some k) fits equal marked seen_so (inr known) = by fits (subst (IsSight E is cut start jobs k) known (seen_so k))
+    where
+      by : (f : Bool) → IsSight E is cut start jobs k (sight_of f) → IsCome E is cut start jobs jobs (Some k) f
+      by true h = (h, refl)
+      by false h = λ i r. let p = h i r in (p.0, p.1, p.2, p.3, job_again cut p.0 p.1 jobs p.3)
+
+-- a walk down a branch has come to a key, if one is named, with these keys still to go, which weren't seen
+pub record IsPlanning {R P : Type 0} (E : R → R → Bool) (is : R → Behaviour P) (cut : Cut (StoredRun R P)) (start : Configuration R P) (old jobs : List (Planned R P)) (seen : List Sight)
+    (i : ℕ) (left : List ℕ) (fits : Bool) : Type 0 where
+  pub above : Option ℕ
+  pub reached : IsReached (keys_in cut.strands i) above
+  pub path : keys_in cut.strands i ≡ keys_to (keys_in cut.strands i) above ++ left
+  pub lacks : (k : ℕ) → has k left ≡ true → sight_at seen k ≡ Unseen
+  pub seen_so : AreSeen E is cut start seen jobs
+  pub come : IsCome E is cut start old jobs above fits
+
+module _ {R P : Type 0} (E : R → R → Bool) (per : IsPartialEquivalence E) (is : R → Behaviour P) (alike : (x y : R) → E x y ≡ true → is x ≡ is y)
+    (cut : Cut (StoredRun R P)) (start : Configuration R P) (old : List (Planned R P)) (i : ℕ) where
+  pub planning_starts : (mark : Option ℕ) (seen : List Sight) (left : List ℕ) (fits : Bool) → IsEquivalence E → IsMarked E is cut start mark → AreSeen E is cut start seen old
+      → IsUnseenPart mark seen (keys_in cut.strands i) fits left → IsPlanning E is cut start old old seen i left fits
+  planning_starts mark seen left fits equal marked seen_so part = record {
+    above = part.above;
+    reached = part.reached;
+    path = part.path;
+    lacks = part.lacks;
+    seen_so = seen_so;
+    come = known_come E per is alike cut start mark seen old part.above fits equal marked seen_so part.known;
+  }
+
+  pub planning_next : (jobs : List (Planned R P)) (seen : List Sight) (keys : List ℕ) (index : ℕ) (fits : Bool) → index < length keys → IsPlanning E is cut start old jobs seen i (drop index keys) fits
+      → IsPlanning E is cut start old jobs seen i (get_or keys index 0 ∷ drop (index + 1) keys) fits
+  planning_next jobs seen keys index fits less p =
+      let step : suc index ≡ index + 1 = omega arith in
+      subst (λ l. IsPlanning E is cut start old jobs seen i l fits) (drop-cons keys index 0 less ∙ ap (λ n. get_or keys index 0 ∷ drop n keys) step) p
+
+  module _ (jobs : List (Planned R P)) (seen : List Sight) (key : ℕ) (rest : List ℕ) (fits : Bool) (p : IsPlanning E is cut start old jobs seen i (key ∷ rest) fits) where
+    abbrev keys : List ℕ
+    keys = keys_in cut.strands i
+
+    pub next_there : has key keys ≡ true
+    next_there = ap (has key) p.path ∙ has-in key (keys_to keys p.above) rest
+
+    pub next_comes : ComesAbove E is cut start old jobs key fits
+    next_comes = λ above each.
+        let same : above ≡ p.above = each i (keys_to keys p.above) rest p.path ∙ last_reached keys p.above p.reached in
+        subst (λ o. IsCome E is cut start old jobs o fits) (sym same) p.come
+
+    pub planning_on : IsCut cut → (new : List (Planned R P)) (after : List Sight) (found : Bool) → AreSeen E is cut start after new
+        → ((k : ℕ) → (k ≡ key → ⊥) → sight_at after k ≡ sight_at seen k) → IsCome E is cut start old new (Some key) found → IsPlanning E is cut start old new after i rest found
+    planning_on whole new after found seen_so others come =
+        let front = keys_to keys p.above in
+        let once : Once (front ++ key ∷ rest) = subst Once p.path (path_once cut whole i) in
+        let up : keys_up_to key keys ≡ front ++ key ∷ [] = ap (keys_up_to key) p.path ∙ up_to-here key front rest (once_before front key rest once) in
+        record {
+          above = Some key;
+          reached = next_there;
+          path = p.path ∙ sym (append_assoc front (key ∷ []) rest) ∙ ap (λ l. l ++ rest) (sym up);
+          lacks = λ k h. others k (λ same. true≢false (sym (subst (λ j. has j rest ≡ true) same h) ∙ lacks_rest front once)) ∙ p.lacks k (has-tail k key rest h);
+          seen_so = seen_so;
+          come = come;
+        }
+      where
+        lacks_rest : (front : List ℕ) → Once (front ++ key ∷ rest) → has key rest ≡ false
+        lacks_rest [] once = once.0
+        lacks_rest (f ∷ front) once = lacks_rest front once.1
+
+  pub planning_ends : (jobs : List (Planned R P)) (seen : List Sight) (left : List ℕ) (fits : Bool) → left ≡ [] → IsPlanning E is cut start old jobs seen i left fits
+      → (missed : Option ℕ) × (end : Configuration R P) × Descends E (is start.register) cut start (keys_in cut.strands i) missed end × (jobs ≡ with_job old (job_of cut missed end))
+  planning_ends jobs seen left fits none p = by fits p.come
+    where
+      all : keys_to (keys_in cut.strands i) p.above ≡ keys_in cut.strands i
+      all = sym (p.path ∙ ap (λ l. keys_to (keys_in cut.strands i) p.above ++ l) none ∙ append-nil (keys_to (keys_in cut.strands i) p.above))
+
+      by : (f : Bool) → IsCome E is cut start old jobs p.above f
+          → (missed : Option ℕ) × (end : Configuration R P) × Descends E (is start.register) cut start (keys_in cut.strands i) missed end × (jobs ≡ with_job old (job_of cut missed end))
+      by true c =
+          let end = come_to cut start p.above in
+          let down = runs_come E per is alike cut (is start.register) start (keys_to (keys_in cut.strands i) p.above) end (c.0 i p.reached) in
+          (None, end, subst (λ l. Descends E (is start.register) cut start l None end) all (comes_descends E (is start.register) cut start end (keys_to (keys_in cut.strands i) p.above) down), c.1)
+      by false c =
+          let m = c i p.reached in
+          (Some m.0, m.1, subst (λ l. Descends E (is start.register) cut start l (Some m.0) m.1) all m.2, m.4)

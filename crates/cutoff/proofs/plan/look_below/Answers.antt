@@ -1,0 +1,30 @@
+use Rattle.std.proofs.Common.{◌≡◌, ◌++◌, ◌∷◌, [], Some, refl, sym, ap, subst, ◌∙◌}
+use Rattle.frames.specs.Recorded.{AllFit}
+use Rattle.cutoff.specs.Fitting.{Fits, RunFits, steps_at}
+use Rattle.cutoff.proofs.Sights.{job, job_is}
+use Rattle.cutoff.proofs.plan.look_below.Goals as goal
+
+pub job_at-requires : goal.job_at-requires
+job_at-requires g c =
+    let home = g.met.R.Register.alike c.exit_named-number.result.0.now.register c.args.start.now.register c.exit_named-number.ensures.own in
+    subst (λ b. AllFit b (steps_at c.args.trie.now c.args.key)) (sym home) c.requires.fits
+
+pub returns-in-Some : goal.returns-in-Some
+returns-in-Some g c =
+    let s = c.in-Some.stored.now in (
+      record {
+        stored = s;
+        noted = c.in-Some.ensures.0;
+        true_run = c.exit-exit.ensures.kept;
+        fits = subst (λ d. RunFits g.R.PartialEq.eq d (steps_at c.args.trie.now c.args.key) s.run) c.exit_named-number.ensures.exit c.in-Some.ensures.1;
+      },
+      refl,
+    )
+
+pub returns : goal.returns
+returns g c =
+    let at = c.exit_named-number.ensures.exit in (
+      λ f. c.in_default.ensures (subst (λ d. Fits g.R.PartialEq.eq c.args.trie.now d c.args.key) (sym at) f),
+      c.in_ok-push.ensures.items
+          ∙ ap (λ j. c.args.jobs.now.items ++ j ∷ []) (job_is c.args.trie.now c.args.key c.exit_named-number.result.0.now c.in_ok-job.job c.in_ok-job.ensures ∙ ap (job c.args.trie.now c.args.key) at),
+    )

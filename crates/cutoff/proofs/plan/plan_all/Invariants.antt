@@ -1,0 +1,15 @@
+use Rattle.std.proofs.Common.{List, [], ◌∷◌, drop, map}
+use Rattle.schedule_trie.specs.Cut.{keys_in}
+use Rattle.cutoff.specs.Plans.{Planned, Plans, keys_of}
+use Rattle.cutoff.specs.Sights.{AreSeen}
+use Rattle.cutoff.proofs.plan.plan_all.Given as goal
+
+abbrev pub invariant-loop-other : goal.invariant-loop-other
+invariant-loop-other g l =
+    let E = g.R.PartialEq.eq in
+    let b = g.R.Behaves.is l.start.register in
+    record {
+      jobs : (all : List (Planned g.row.R.Denot g.row.R-Pending.Denot)) → Plans E b l.trie l.start l.planning.jobs.items (map keys_of (drop l.other l.trie.strands)) all
+          → Plans E b l.trie l.start [] (keys_in l.trie.strands l.fn.index ∷ map keys_of l.trie.strands) all;
+      seen : AreSeen E g.R.Behaves.is l.trie l.start l.planning.seen.items l.planning.jobs.items;
+    }

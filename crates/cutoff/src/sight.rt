@@ -1,0 +1,62 @@
+//! What a plan has seen of segments.
+
+ghost use Rattle.std.specs.Prelude.{◌≡◌, ◌⊎◌, ℕ, Some, true, OnOk, MatchOption};
+ghost use Rattle.cutoff.specs.Sights as spec;
+
+use crate::prefix::is_marked;
+use schedule_trie::trie::SegKey;
+use std::alloc::AllocError;
+
+/// Whether stored runs fit down to a segment, if a plan has seen it.
+#[derive(Clone, Copy, Debug, PartialEq, Eq)]
+pub(crate) enum Sight {
+    Unseen,
+    Fit,
+    Unfit,
+}
+
+/// What a plan has seen by this.
+fn sight_of(fits: bool) -> Sight
+    ensures { result ≡ spec.sight_of fits }
+{
+    if fits { Sight::Fit } else { Sight::Unfit }
+}
+
+/// What a plan has seen of the segment of a key.
+fn sight_at(seen: &[Sight], key: SegKey) -> Sight
+    ensures { result ≡ spec.sight_at seen.now key }
+{
+    if key < seen.len() {
+        seen[key]
+    } else {
+        Sight::Unseen
+    }
+}
+
+/// Whether stored runs fit down to a segment, if that is known: by the mark, or since a plan has seen it.
+pub(crate) fn known(mark: Option<SegKey>, seen: &[Sight], key: SegKey) -> Option<bool>
+    ensures { MatchOption result (spec.sight_at seen.now key ≡ spec.unseen)
+        (λ fits. spec.IsKnownAt mark seen.now (Some key) fits) }
+{
+    if is_marked(mark, key) {
+        return Some(true);
+    }
+    match sight_at(seen, key) {
+        Sight::Unseen => None,
+        Sight::Fit => Some(true),
+        Sight::Unfit => Some(false),
+    }
+}
+
+/// Keeps whether stored runs fit down to a segment.
+pub(crate) fn see(seen: &mut Vec<Sight>, key: SegKey, fits: bool) -> Result<(), AllocError>
+    ensures here { OnOk result (spec.sight_at seen.new.items key ≡ spec.sight_of fits) }
+    ensures others { OnOk result ((k : ℕ) → (k ≡ key → ⊥)
+        → spec.sight_at seen.new.items k ≡ spec.sight_at seen.old.items k) }
+{
+    while seen.len() <= key {
+        seen.push(Sight::Unseen)?;
+    }
+    seen[key] = sight_of(fits);
+    Ok(())
+}

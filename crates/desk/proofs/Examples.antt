@@ -1,0 +1,145 @@
+-- Worked examples of the definitions by which something is there: one that holds, and a near miss.
+use Rattle.std.specs.Prelude.{⊤}
+use Rattle.std.proofs.Common.{◌≡◌, ◌++◌, true, false, List, [], ◌∷◌, None, Err, length, codes, replicate, ap, refl, sym, ◌∙◌, subst, inr, arith}
+use Rattle.frames.specs.declared.safe.SafePoint.{SafePoint}
+use Rattle.frames.specs.Behaviour.{Behaviour}
+use Rattle.frames.specs.SafeBit.{safe_behaviour}
+use Rattle.frames.specs.Configuration.{initial_configuration}
+use Rattle.schedule_trie.specs.declared.limits.Limits.{Limits}
+use Rattle.schedule_trie.specs.declared.refusal.Refusal.TheVariants.{Memory, LogFull, NoBranch}
+use Rattle.schedule_trie.specs.Cut.{Cut, strand}
+use Rattle.cutoff.specs.Fitting.{StoredRun}
+use Rattle.cutoff.specs.Held.{Charted}
+use Rattle.turn.specs.declared.view.View.{View}
+use Rattle.sessions.specs.declared.command.Command.TheVariants as command
+use Rattle.sessions.specs.declared.reply.Reply.TheVariants.{Joined, No}
+use Rattle.sessions.specs.declared.log.Entry.{Entry}
+use Rattle.sessions.specs.Held.{Held, Staged, opening_of}
+use Rattle.sessions.specs.Logs.{entry, world_after}
+use Rattle.desk.specs.declared.item.Item.{Item}
+use Rattle.desk.specs.declared.report.Report.{Report}
+use Rattle.desk.specs.Works.{NeedsBranch}
+use Rattle.desk.specs.Items.{items}
+use Rattle.desk.specs.Chairs.{Finds, Stays, Received, Reads, Filled}
+
+-- each register is a safe bit
+abbrev is : ⊤ → Behaviour SafePoint
+is register = safe_behaviour
+
+abbrev limits : Limits
+limits = record { cells = 9; branches = 9; log = 9 }
+
+-- the one branch `main`, of no steps
+abbrev cut : Cut (StoredRun ⊤ SafePoint)
+cut = record { strands = strand (codes "main") [] ∷ []; pieces = []; made = 0; limits = limits }
+
+abbrev chart : Charted ⊤ SafePoint
+chart = record { cut = cut; start = initial_configuration safe_behaviour tt 0; value = 0 }
+
+abbrev stage : Staged ⊤ SafePoint
+stage = record {
+  chart = chart;
+  limits = limits;
+  cursors = replicate 16 None;
+  breaks = replicate 16 [];
+  edits = 0;
+  logged = 0;
+}
+
+abbrev first : Held ⊤ SafePoint
+first = record { first = chart; now = stage; log = []; room = 0 }
+
+-- a chair with every share that has seen these calls
+abbrev having : List Entry → View (Item ⊤ SafePoint)
+having calls = record {
+  shares = replicate 16 true;
+  calls = [];
+  seen = items first calls;
+  told = 0;
+  holds = false;
+  met = ([], []);
+}
+
+abbrev join : Entry
+join = entry 0 3 None command.Join Joined
+
+nothing : (front back : List Entry) (e : Entry) → [] ≡ front ++ e ∷ back → ⊥
+nothing [] back e is = cc
+nothing (x ∷ front) back e is = cc
+
+found_nothing : Finds (having []) []
+found_nothing = record { begins = ([], refl); whole = λ all. refl; told = omega arith }
+
+-- a join found no memory: it is not logged, and the history is as it was
+Received-holds : Received is first 3 None command.Join (having []) (having []) (record { at = 0; reply = No Memory })
+Received-holds = record {
+  found = [];
+  finds = found_nothing;
+  legal = tt;
+  sees = refl;
+  owns = refl;
+  replies = inr refl;
+  at = refl;
+  full = λ is. absurd (memory_full is);
+  room = λ is. omega arith;
+  shares = refl;
+  told = refl;
+}
+  where
+    memory_full : No Memory ≡ No LogFull → ⊥
+    memory_full e = cc
+
+-- a join is replied to as done, and no call is in the history
+Received-fails : Received is first 3 None command.Join (having []) (having []) (record { at = 0; reply = Joined }) → ⊥
+Received-fails h = nothing h.found [] _ h.sees
+
+-- a reading tells the length of the history that it found, which has no call
+Reads-holds : Reads is first (λ n world. n ≡ 0) (having []) (having [])
+Reads-holds = record {
+  found = [];
+  finds = found_nothing;
+  legal = tt;
+  answers = refl;
+  sees = refl;
+  calls = refl;
+  shares = refl;
+  told = refl;
+}
+
+-- the history that was found has one call, and the length told is 0
+Reads-fails : Reads is first (λ n world. n ≡ 0) (having []) (having (join ∷ [])) → ⊥
+Reads-fails h = let one : 1 ≡ length h.found = ap length h.sees in omega (arith, one, h.answers)
+
+stays : Stays (having []) (having [])
+stays = record { begins = ([], refl); whole = λ all. refl; calls = refl; shares = refl; told = refl }
+
+-- a fill finds no branch `a`
+Filled-holds : Filled is first (codes "a") (having []) (having []) (Err NoBranch)
+Filled-holds = (
+  having [],
+  record {
+    found = [];
+    finds = found_nothing;
+    legal = tt;
+    answers = refl;
+    sees = refl;
+    calls = refl;
+    shares = refl;
+    told = refl;
+  },
+  stays,
+)
+
+-- it finds no branch `main`, which is there
+Filled-fails : Filled is first (codes "main") (having []) (having []) (Err NoBranch) → ⊥
+Filled-fails h = there (subst (λ found. NeedsBranch {A = Report} (codes "main") (world_after (opening_of is first) found) (Err NoBranch)) found h.1.answers)
+  where
+    empty : (front back : List Entry) → front ++ back ≡ [] → front ≡ []
+    empty [] back e = refl
+    empty (x ∷ front) back e = cc
+
+    found : h.1.found ≡ []
+    found = sym h.1.sees ∙ empty _ _ h.2.begins.1
+
+    there : Memory ≡ NoBranch → ⊥
+    there e = cc

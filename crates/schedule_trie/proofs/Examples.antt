@@ -1,0 +1,198 @@
+-- Worked examples of the definitions by which something is there: one that holds, and a near miss.
+use Rattle.std.proofs.Common.{ℕ, zero, suc, ◌≡◌, ◌+◌, ◌<◌, ◌≤◌, ◌⊎◌, Bool, true, false, ◌||◌, true≢false, nat_eq, List, [], ◌∷◌, ◌++◌, Option, Some, None, IsSome, IfSome, unwrap_or, length, codes, slice_index_or, ap, refl, sym, ◌∙◌, subst, inl, ⊎_elim, arith}
+use Rattle.std.proofs.lemmas.Bool.{eqb-true}
+use Rattle.frames.specs.declared.types.Step.{Step}
+use Rattle.frames.specs.declared.types.Step.TheVariants.{Write, Read}
+use Rattle.schedule_trie.specs.Forest.{slot, step_of}
+use Rattle.schedule_trie.specs.Cut.{Cut, Piece, Strand, strand, piece, piece_at, slots_of, note_of, line, has, has_cell, keys_in, Linked, SharesAbove, IsSegment, IsSound, LiesIn, IsCut, AreGone, KeepsNotes, HoldsCellAt, HoldsCellBefore, KeepsAllNotes}
+
+abbrev cut : List Strand → List (Option (Piece ℕ)) → Cut ℕ
+cut strands pieces = record { strands = strands; pieces = pieces; made = 2; limits = record { cells = 9; branches = 9; log = 9 } }
+
+-- a segment of one cell
+abbrev cell : ℕ → Step → Option ℕ → Option (Piece ℕ)
+cell number step note = Some (piece (slot number step ∷ []) note)
+
+abbrev main : List ℕ → Strand
+main keys = strand (codes "main") keys
+
+-- `main` alone, of one segment, at which 7 is noted
+abbrev noted : Cut ℕ
+noted = cut (main (0 ∷ []) ∷ []) (cell 0 (Read 1) (Some 7) ∷ [])
+
+-- the same with another step, at which nothing is noted, or 7 still is
+abbrev edited : Option ℕ → Cut ℕ
+edited note = cut (main (0 ∷ []) ∷ []) (cell 0 (Write 0 1) note ∷ [])
+
+-- `main` of two segments of a cell each, and of the first alone, so that the other is in no branch
+abbrev two_segments : List (Option (Piece ℕ))
+two_segments = cell 0 (Read 1) None ∷ cell 1 (Read 1) None ∷ []
+
+abbrev whole : Cut ℕ
+whole = cut (main (0 ∷ 1 ∷ []) ∷ []) two_segments
+
+abbrev with_lost_segment : Cut ℕ
+with_lost_segment = cut (main (0 ∷ []) ∷ []) two_segments
+
+some_none : {A : Type 0} (x : A) → Some x ≡ None → ⊥
+some_none x e = cc
+
+other_step : Write 0 1 ≡ Read 1 → ⊥
+other_step e = cc
+
+not_zero : (k : ℕ) → has (suc k) (0 ∷ []) ≡ true → ⊥
+not_zero k h = by (nat_eq (suc k) 0) refl
+  where
+    by : (b : Bool) → nat_eq (suc k) 0 ≡ b → ⊥
+    by true e = let none : suc k ≡ 0 = eqb-true (suc k) 0 e in omega (arith, none)
+    by false e = true≢false (sym h ∙ ap (λ b. b || false) e)
+
+-- branches of the segments 0, 1 and 0, 2
+SharesAbove-holds : SharesAbove (main (0 ∷ 1 ∷ []) ∷ strand (codes "a") (0 ∷ 2 ∷ []) ∷ [])
+SharesAbove-holds = record { above = above; linked = linked }
+  where
+    above : ℕ → Option ℕ
+    above zero = None
+    above (suc k) = Some 0
+
+    linked : (i : ℕ) → Linked above None (keys_in (main (0 ∷ 1 ∷ []) ∷ strand (codes "a") (0 ∷ 2 ∷ []) ∷ []) i)
+    linked zero = (refl, (refl, tt))
+    linked (suc zero) = (refl, (refl, tt))
+    linked (suc (suc i)) = tt
+
+-- branches of the segments 0, 1 and 1, 0, which share a segment and not what is above it
+SharesAbove-fails : SharesAbove (main (0 ∷ 1 ∷ []) ∷ strand (codes "a") (1 ∷ 0 ∷ []) ∷ []) → ⊥
+SharesAbove-fails h = some_none 1 (sym (h.linked 1).1.0 ∙ (h.linked 0).0)
+
+abbrev one_strand : List Strand
+one_strand = main (0 ∷ []) ∷ []
+
+one_held : (i k : ℕ) → has k (keys_in one_strand i) ≡ true → IsSome (piece_at noted.pieces k)
+one_held zero zero h = refl
+one_held zero (suc k) h = absurd (not_zero k h)
+one_held (suc i) k h = absurd (true≢false (sym h))
+
+one_live : (k : ℕ) → IsSome (piece_at noted.pieces k) → (i : ℕ) × (has k (keys_in one_strand i) ≡ true)
+one_live zero h = (0, refl)
+one_live (suc k) h = absurd (true≢false (sym h))
+
+one_shares : SharesAbove one_strand
+one_shares = record { above = λ k. None; linked = linked }
+  where
+    linked : (i : ℕ) → Linked (λ k. None) None (keys_in one_strand i)
+    linked zero = (refl, tt)
+    linked (suc i) = tt
+
+-- a segment that is in no branch
+lost : (i : ℕ) → has 1 (keys_in one_strand i) ≡ true → ⊥
+lost zero e = true≢false (sym e)
+lost (suc i) e = true≢false (sym e)
+
+-- one segment of one cell, in the one branch
+IsSound-holds : IsSound (piece_at noted.pieces) one_strand 2
+IsSound-holds = record { held = one_held; segments = segments; apart = apart; live = one_live; shares = one_shares }
+  where
+    given : (x : ℕ) → has_cell x (slot 0 (Read 1) ∷ []) ≡ true → x < 2
+    given zero h = omega arith
+    given (suc x) h = absurd (not_zero x h)
+
+    segments : (k : ℕ) → IfSome (piece_at noted.pieces k) (IsSegment 2)
+    segments zero = record { some = omega arith; few = omega arith; once = (refl, tt); given = given }
+    segments (suc k) = tt
+
+    apart : (j k x : ℕ) → has_cell x (slots_of (piece_at noted.pieces j)) ≡ true → has_cell x (slots_of (piece_at noted.pieces k)) ≡ true → j ≡ k
+    apart zero zero x h g = refl
+    apart zero (suc k) x h g = absurd (true≢false (sym g))
+    apart (suc j) k x h g = absurd (true≢false (sym h))
+
+-- the second segment is in no branch
+IsSound-fails : IsSound (piece_at two_segments) one_strand 2 → ⊥
+IsSound-fails h = lost (h.live 1 refl).0 (h.live 1 refl).1
+
+-- one segment of one cell, in the one branch
+IsCut-holds : IsCut noted
+IsCut-holds = record { held = one_held; sizes = sizes; live = one_live; shares = one_shares }
+  where
+    sizes : (k : ℕ) → IfSome (piece_at noted.pieces k) (λ p. (0 < length p.slots) × (length p.slots ≤ 128))
+    sizes zero = (omega arith, omega arith)
+    sizes (suc k) = tt
+
+-- the second segment is in no branch
+IsCut-fails : IsCut with_lost_segment → ⊥
+IsCut-fails h = lost (h.live 1 refl).0 (h.live 1 refl).1
+
+-- the first cell of the second segment lies at place 1
+LiesIn-holds : LiesIn (piece_at two_segments) (0 ∷ 1 ∷ []) 1 (1, 0)
+LiesIn-holds = record { front = 0 ∷ []; back = []; is = refl; first = refl; before = refl; within = omega arith }
+
+-- and not at place 0
+LiesIn-fails : LiesIn (piece_at two_segments) (0 ∷ 1 ∷ []) 0 (1, 0) → ⊥
+LiesIn-fails h = by h.front h.back h.is h.before
+  where
+    by : (front back : List ℕ) → 0 ∷ 1 ∷ [] ≡ front ++ 1 ∷ back → length (line (piece_at two_segments) front) + 0 ≡ 0 → ⊥
+    by [] back e before = let same : 0 ≡ 1 = ap (λ keys. slice_index_or keys 0 5) e in omega (arith, same)
+    by (k ∷ front) back e before =
+        let first : k ≡ 0 = sym (ap (λ keys. slice_index_or keys 0 5) e) in
+        let none : length (line (piece_at two_segments) (0 ∷ front)) + 0 ≡ 0 =
+        subst (λ k. length (line (piece_at two_segments) (k ∷ front)) + 0 ≡ 0) first before in
+        omega (arith, none)
+
+-- the second segment holds the cell at place 1 of `main`
+HoldsCellAt-holds : HoldsCellAt whole (codes "main") 1 1
+HoldsCellAt-holds = record { cell = 1; there = refl; held = refl }
+
+-- and the first doesn't
+HoldsCellAt-fails : HoldsCellAt whole (codes "main") 1 0 → ⊥
+HoldsCellAt-fails h =
+    let number : 1 ≡ h.cell = ap (λ o. unwrap_or o 0) h.there in
+    true≢false (sym (ap (λ x. has_cell x (slot 0 (Read 1) ∷ [])) number ∙ h.held))
+
+-- the second segment holds the cell before place 2 of `main`
+HoldsCellBefore-holds : HoldsCellBefore whole (codes "main") 2 1
+HoldsCellBefore-holds = record { before = 1; next = refl; holds = HoldsCellAt-holds }
+
+-- no cell is before place 0
+HoldsCellBefore-fails : HoldsCellBefore whole (codes "main") 0 0 → ⊥
+HoldsCellBefore-fails h = omega (arith, h.next)
+
+-- the one segment has another step, and nothing is noted at it any more
+KeepsNotes-holds : KeepsNotes noted (edited None)
+KeepsNotes-holds = record { touched = Some 0; kept = kept; cleared = cleared; fresh = fresh }
+  where
+    kept : (k : ℕ) → (Some 0 ≡ Some k → ⊥) → IsSome (piece_at noted.pieces k)
+        → (piece_at (edited None).pieces k ≡ piece_at noted.pieces k) ⊎ ((piece_at (edited None).pieces k ≡ None) × AreGone (edited None) (slots_of (piece_at noted.pieces k)))
+    kept zero other some = absurd (other refl)
+    kept (suc k) other some = absurd (true≢false (sym some))
+
+    cleared : (k : ℕ) → Some 0 ≡ Some k → note_of (piece_at (edited None).pieces k) ≡ None
+    cleared zero h = refl
+    cleared (suc k) h = refl
+
+    fresh : (k : ℕ) → piece_at noted.pieces k ≡ None → note_of (piece_at (edited None).pieces k) ≡ None
+    fresh zero h = refl
+    fresh (suc k) h = refl
+
+-- a segment whose step is another one neither stays nor is gone
+neither : (seven : Option ℕ) → (piece_at (edited seven).pieces 0 ≡ piece_at noted.pieces 0)
+    ⊎ ((piece_at (edited seven).pieces 0 ≡ None) × AreGone (edited seven) (slots_of (piece_at noted.pieces 0))) → ⊥
+neither seven h = ⊎_elim (λ stays. other_step (ap step_at stays)) (λ gone. some_none _ gone.0) h
+  where
+    step_at : Option (Piece ℕ) → Step
+    step_at None = Read 7
+    step_at (Some p) = step_of (slice_index_or p.slots 0 (slot 0 (Read 7)))
+
+-- the one segment has another step, and still its note
+KeepsNotes-fails : KeepsNotes noted (edited (Some 7)) → ⊥
+KeepsNotes-fails h = neither (Some 7) (h.kept 0 (λ touched. some_none 7 (h.cleared 0 touched)) refl)
+
+-- nothing is changed
+KeepsAllNotes-holds : KeepsAllNotes noted noted
+KeepsAllNotes-holds = (record { touched = None; kept = λ k other some. inl refl; cleared = λ k none. absurd (some_none k (sym none)); fresh = fresh }, refl)
+  where
+    fresh : (k : ℕ) → piece_at noted.pieces k ≡ None → note_of (piece_at noted.pieces k) ≡ None
+    fresh zero h = absurd (some_none _ h)
+    fresh (suc k) h = refl
+
+-- the one segment has another step
+KeepsAllNotes-fails : KeepsAllNotes noted (edited None) → ⊥
+KeepsAllNotes-fails h = neither None (h.0.kept 0 (λ touched. some_none 0 (sym touched ∙ h.1)) refl)

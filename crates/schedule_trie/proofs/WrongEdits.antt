@@ -1,0 +1,102 @@
+-- What wrong bodies of edits leave: each clause that refuses one is false of an example.
+use Rattle.std.proofs.Common.{◌≡◌, ℕ, true, List, [], ◌∷◌, length, Option, Some, None, inl, inr, refl, sym, ap, subst, ◌∙◌, true≢false, arith}
+use Rattle.std.specs.Prelude.{codes}
+use Rattle.frames.specs.declared.types.Step.{Step}
+use Rattle.frames.specs.declared.types.Step.TheVariants.{Read, Write, Go}
+use Rattle.schedule_trie.specs.declared.slot.Slot.{Slot}
+use Rattle.schedule_trie.specs.declared.limits.Limits.{Limits}
+use Rattle.schedule_trie.specs.Forest.{slot, slots_in}
+use Rattle.schedule_trie.specs.Cut.{Cut, Piece, Strand, strand, piece, note_of, slots_of, has_cell, HoldsCellAt, IsInserted, IsOwnEnd}
+use Rattle.schedule_trie.specs.Edits.{Insert, Replace, IsEdited}
+
+abbrev main : List ℕ
+main = codes "main"
+
+abbrev a : List ℕ
+a = codes "a"
+
+abbrev read : Step
+read = Read 1
+
+abbrev go : Step
+go = Go 1 0
+
+abbrev cut : List Strand → List (Option (Piece ℕ)) → ℕ → Cut ℕ
+cut strands pieces made = record { strands = strands; pieces = pieces; made = made; limits = record { cells = 64; branches = 64; log = 64 } }
+
+-- `main` is one cell, in a segment with the note 7
+abbrev one : Cut ℕ
+one = cut (strand main (0 ∷ []) ∷ []) (Some (piece (slot 0 read ∷ []) (Some 7)) ∷ []) 1
+
+-- same-step-keeps-the-note
+pub same_step : IsEdited one one (Replace main 0 read) → ⊥
+same_step e =
+    let held : HoldsCellAt one main 0 0 = record { cell = 0; there = refl; held = refl } in
+    let none : ◌≡◌ {A = Option ℕ} (Some 7) None = e.notes.notes.cleared 0 (e.notes.each 0 held) in
+    cc
+
+-- `main` is two segments of a cell each, with these notes; the first cell has this step
+abbrev two : Step → Option ℕ → Option ℕ → Cut ℕ
+two step first second =
+    cut (strand main (0 ∷ 1 ∷ []) ∷ []) (Some (piece (slot 0 step ∷ []) first) ∷ Some (piece (slot 1 read ∷ []) second) ∷ []) 2
+
+-- throw-all-away-every-run: the second segment isn't touched, and has no note
+pub thrown_away : IsEdited (two read (Some 7) (Some 8)) (two go None None) (Replace main 0 go) → ⊥
+thrown_away e = elim (e.notes.notes.kept 1 untouched refl) [
+  | inl same ↦ let notes : ◌≡◌ {A = Option ℕ} None (Some 8) = ap note_of same in cc
+  | inr gone ↦ let none = gone.0 in cc
+]
+  where
+    untouched : e.notes.notes.touched ≡ Some 1 → ⊥
+    untouched t =
+        let held = e.notes.only 1 t in
+        let there : Some 0 ≡ Some held.cell = held.there in
+        let cell : 0 ≡ held.cell = cc in
+        true≢false (sym (subst (λ x. has_cell x (slot 1 read ∷ []) ≡ true) (sym cell) held.held))
+
+-- `main` is four cells in two segments
+abbrev four : Cut ℕ
+four = cut (strand main (0 ∷ 1 ∷ []) ∷ [])
+    (Some (piece (slot 0 read ∷ slot 1 read ∷ []) None) ∷ Some (piece (slot 2 read ∷ slot 3 read ∷ []) None) ∷ []) 4
+
+-- each cell is in a segment of its own, and a fifth one
+abbrev five : Cut ℕ
+five = cut (strand main (2 ∷ 0 ∷ 3 ∷ 1 ∷ 4 ∷ []) ∷ [])
+    (Some (piece (slot 1 read ∷ []) None) ∷ Some (piece (slot 3 read ∷ []) None) ∷ Some (piece (slot 0 read ∷ []) None)
+    ∷ Some (piece (slot 2 read ∷ []) None) ∷ Some (piece (slot 4 go ∷ []) None) ∷ []) 5
+
+-- throw-all-away-cuts-anew: both segments have other cells, and one at most is touched
+pub cut_anew : IsEdited four five (Insert main 4 go) → ⊥
+cut_anew e = first (λ t. second (λ u. let same : ◌≡◌ {A = Option ℕ} (Some 0) (Some 1) = sym t ∙ u in let one : ◌≡◌ {A = ℕ} 0 1 = cc in omega (arith, one)))
+  where
+    first : (e.notes.0.notes.touched ≡ Some 0 → ⊥) → ⊥
+    first ne = elim (e.notes.0.notes.kept 0 ne refl) [
+      | inl same ↦ let long : ◌≡◌ {A = ℕ} 1 2 = ap (λ o. length (slots_of o)) same in omega (arith, long)
+      | inr gone ↦ let none = gone.0 in cc
+    ]
+
+    second : (e.notes.0.notes.touched ≡ Some 1 → ⊥) → ⊥
+    second ne = elim (e.notes.0.notes.kept 1 ne refl) [
+      | inl same ↦ let long : ◌≡◌ {A = ℕ} 1 2 = ap (λ o. length (slots_of o)) same in omega (arith, long)
+      | inr gone ↦ let none = gone.0 in cc
+    ]
+
+abbrev three : List Slot
+three = slot 0 read ∷ slot 1 go ∷ slot 2 go ∷ []
+
+-- `main` and `a` share their three cells
+abbrev shared : Cut ℕ
+shared = cut (strand main (0 ∷ []) ∷ strand a (0 ∷ []) ∷ []) (Some (piece three None) ∷ []) 3
+
+-- leaking-insert: the end of `main` is that of `a` too
+pub leaking : IsOwnEnd shared 0 0 → ⊥
+leaking e = true≢false (e.own 1 (λ h. omega arith))
+
+-- `main` has a new cell before its second one, and `a` keeps its three
+abbrev private : Cut ℕ
+private = cut (strand main (1 ∷ []) ∷ strand a (0 ∷ []) ∷ [])
+    (Some (piece three None) ∷ Some (piece (slot 0 read ∷ slot 3 (Write 0 1) ∷ slot 1 go ∷ slot 2 go ∷ []) None) ∷ []) 4
+
+-- private-insert: `a` has to have the new cell too
+pub privately : IsInserted shared private 0 1 (Write 0 1) → ⊥
+privately e = let long : ◌≡◌ {A = ℕ} 3 4 = ap (λ f. length (slots_in f.branches 1)) e.forest_is in omega (arith, long)

@@ -1,0 +1,46 @@
+-- What a log leaves of its opening: the register and the initial value.
+use Rattle.std.proofs.Common.{◌≡◌, ℕ, List, [], ◌∷◌, Option, Some, None, refl, ap, ◌∙◌}
+use Rattle.frames.specs.Behaviour.{Behaviour}
+use Rattle.frames.specs.Configuration.{initial_configuration}
+use Rattle.schedule_trie.specs.declared.refusal.Refusal.{Refusal}
+use Rattle.schedule_trie.specs.declared.refusal.Refusal.TheVariants.{LogFull}
+use Rattle.schedule_trie.specs.Edits.{Edit}
+use Rattle.sessions.specs.declared.command.Command.{Command}
+use Rattle.sessions.specs.declared.log.Entry.{Entry}
+use Rattle.sessions.specs.Edits.{edit_of}
+use Rattle.sessions.specs.World.{World}
+use Rattle.sessions.specs.Acts.{answered, first_refusal, left_by, refusals, refused}
+use Rattle.sessions.specs.Logs.{acted_by, world_after}
+use Rattle.sessions.specs.Held.{BeginsAtOpening, Held, IsHeld, opening_of}
+
+module _ {P : Type 0} where
+  abbrev SameTower : World P → World P → Type 0
+  SameTower v w = (v.tower ≡ w.tower) × (v.value ≡ w.value)
+
+  refused_same : (r : Refusal) (w : World P) → SameTower (refused r w) w
+  refused_same LogFull w = (refl, refl)
+  refused_same r w = (refl, refl)
+
+  left_same : (edit : Option Edit) (who : ℕ) (c : Command) (w : World P) → SameTower (left_by edit who c w) w
+  left_same (Some edit) who c w = (refl, refl)
+  left_same None who c w = (refl, refl)
+
+  answered_same : (o : Option Refusal) (who : ℕ) (c : Command) (w : World P) → SameTower (answered o who c w).world w
+  answered_same None who c w = left_same (edit_of c) who c w
+  answered_same (Some r) who c w = refused_same r w
+
+  after_same : (log : List Entry) (w : World P) → SameTower (world_after w log) w
+  after_same [] w = (refl, refl)
+  after_same (e ∷ log) w =
+      let more = after_same log (acted_by e w).world in
+      let here = answered_same (first_refusal (refusals e.who e.if_at e.command w)) e.who e.command w in
+      (more.0 ∙ here.0, more.1 ∙ here.1)
+
+-- a chart that begins from an initial configuration begins from the opening's
+pub begins_so : {R P : Type 0} (is : R → Behaviour P) (h : Held R P) → IsHeld is h
+    → h.now.chart.start ≡ initial_configuration (is h.now.chart.start.register) h.now.chart.start.register h.now.chart.value → BeginsAtOpening is h
+begins_so is h held begins =
+    let same = after_same h.log (opening_of is h) in
+    let tower : is h.now.chart.start.register ≡ (opening_of is h).tower = ap (λ w. w.tower) held.after ∙ same.0 in
+    let value : h.now.chart.value ≡ (opening_of is h).value = ap (λ w. w.value) held.after ∙ same.1 in
+    begins ∙ λ i. initial_configuration (tower i) h.now.chart.start.register (value i)

@@ -1,0 +1,140 @@
+//! Rounds of a fill of two branches that share a segment, and what its gate is offered.
+
+ghost use Rattle.std.specs.Prelude.{◌≤◌};
+ghost use Rattle.frames.specs.SafeBit.{safe_behaviour};
+ghost use Rattle.schedule_trie.specs.Cut.{AreLimits};
+ghost use Rattle.desk.specs.Chairs.{IsAt};
+
+use super::fills::all_installed;
+use super::openings::written;
+use super::{READ, Room, name};
+use desk::{Chair, Desk, Report};
+use frames::safe::Safe;
+use schedule_trie::limits::Limits;
+use schedule_trie::refusal::Refusal;
+use sessions::command::Command;
+use sessions::reply::Reply;
+use std::alloc::Global;
+use std::process::Abort;
+use std::sync::Wait;
+use std::sync::atomic::{AtomicU64, Ordering};
+use std::test::Fail;
+use std::thread::Threads;
+use workers::gate::Gate;
+
+/// A gate that counts the offers, and those of the first job of a plan.
+#[derive(Drop)]
+pub(super) struct Offers {
+    all: AtomicU64,
+    rounds: AtomicU64,
+}
+
+impl Offers {
+    pub(super) fn new() -> Offers {
+        Offers {
+            all: AtomicU64::new(0),
+            rounds: AtomicU64::new(0),
+        }
+    }
+
+    /// How many offers there were, and in how many rounds.
+    pub(super) fn counted(&self) -> (u64, u64) {
+        let all = self.all.load(Ordering::SeqCst);
+        (all, self.rounds.load(Ordering::SeqCst))
+    }
+}
+
+impl<W: Wait> Gate<W> for Offers {
+    fn offer(&self, _rt: &W, index: usize) {
+        self.all.fetch_add(1, Ordering::SeqCst);
+        if index == 0 {
+            self.rounds.fetch_add(1, Ordering::SeqCst);
+        }
+    }
+}
+
+/// The cells of a full segment.
+const FULL: u32 = 128;
+
+/// Limits for two branches of 41 full segments, of which they share one, and a call for each step of the second.
+fn two_long() -> Limits
+    ensures { AreLimits result }
+{
+    Limits {
+        cells: 16_384,
+        branches: 2,
+        log: 8_192,
+    }
+}
+
+impl<R: Abort + Threads + Wait + Sync> Room<'_, R> {
+    /// Forks `a` behind the first segment of `main`, and gives it 40 segments of its own. The answer is whether each edit was accepted.
+    fn grow_a(&self, chair: &mut Chair<Safe>) -> bool
+        requires { IsAt (λ _. safe_behaviour) self.now.desk.now chair.old }
+        ensures { IsAt (λ _. safe_behaviour) self.now.desk.now chair.new }
+    {
+        let branch = name(self.rt, b"a");
+        let fork = Command::Fork {
+            branch: name(self.rt, b"main"),
+            place: FULL,
+            name: branch,
+        };
+        let mut all = matches!(self.bring(chair, (0, None, &fork)).reply, Reply::Edited(_));
+        for place in FULL..41 * FULL {
+            let insert = Command::Insert {
+                branch,
+                place,
+                step: READ,
+            };
+            all &= matches!(
+                self.bring(chair, (0, None, &insert)).reply,
+                Reply::Edited(_)
+            );
+        }
+        all
+    }
+
+    /// Fills `main` with a gate; what the call promises of histories is forgotten.
+    pub(super) fn filled_with<G: Gate<R> + Sync>(
+        &self,
+        chair: &mut Chair<Safe>,
+        thieves: u32,
+        offers: &G,
+    ) -> Result<Report, Refusal>
+        requires at { IsAt (λ _. safe_behaviour) self.now.desk.now chair.old }
+        requires thieves { thieves ≤ 4 }
+        ensures { IsAt (λ _. safe_behaviour) self.now.desk.now chair.new }
+    {
+        let branch = name(self.rt, b"main");
+        self.desk
+            .fill_with(self.rt, self.alloc, chair, &branch, thieves, offers)
+    }
+}
+
+/// A desk whose branches `main` and `a` share one segment of 41, filled by this many thieves: whether all 81 runs were installed, and what the
+/// gate was offered.
+fn filled_by<R: Abort + Threads + Wait + Sync>(
+    rt: &R,
+    alloc: Global,
+    thieves: u32,
+) -> Result<(bool, (u64, u64)), Refusal>
+    requires { thieves ≤ 4 }
+{
+    let (desk, mut chair): (Desk<Safe>, Chair<Safe>) = written(alloc, 41 * FULL, two_long())?;
+    let room = Room::new(rt, alloc, &desk);
+    let grown = room.grow_a(&mut chair);
+    let offers = Offers::new();
+    let report = room.filled_with(&mut chair, thieves, &offers)?;
+    Ok((grown && report == all_installed(81), offers.counted()))
+}
+
+/// The two branches share a segment, and each has 40 of its own: the first round has one job, and each later one has two.
+#[test]
+fn forty_one_rounds(rt: HostRuntime) -> Result<(), Fail> {
+    for thieves in [0, 1, 4] {
+        let (installed, offered) = filled_by(&rt, rt.alloc(), thieves)?;
+        assert!(rt; installed);
+        assert_eq!(rt; offered, (81, 41));
+    }
+    Ok(())
+}

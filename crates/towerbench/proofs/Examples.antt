@@ -1,0 +1,156 @@
+-- Worked examples of the definitions by which something is there: one that holds, and a near miss.
+use Rattle.std.proofs.Common.{ℕ, ◌≡◌, true, false, true≢false, List, [], ◌∷◌, Option, Some, None, Ok, Err, slice_index_or, ap, refl, sym, ◌∙◌, arith}
+use Rattle.std.specs.Fmt.{digits}
+use Rattle.clap.specs.Faults.{walk_fault, defaults_fault}
+use Rattle.schedule_trie.specs.declared.limits.Limits.{Limits}
+use Rattle.tower_file.specs.declared.tower.TowerSpec.TheVariants.{Safe}
+use Rattle.tower_file.specs.declared.version.Version.TheVariants.{One}
+use Rattle.tower_file.specs.declared.fault.FileFault.{FileFault}
+use Rattle.tower_file.specs.Files.{File, file_of}
+use Rattle.tower_file.specs.Spelling.{spelling}
+use Rattle.tower_file.specs.Benches.{Bench}
+use Rattle.tower_file.specs.BenchSpelling.{bench_spelling}
+use Rattle.tower_file.proofs.Again.{reading_again}
+use Rattle.command_line.specs.CommandLine.{Says, default_options}
+use Rattle.command_line.specs.Ranges.{AreLimits, limits_of}
+use Rattle.towerbench.specs.declared.fault.Fault.TheVariants as fault
+use Rattle.towerbench.specs.declared.fault.ProgramFault.TheVariants.{Memory}
+use Rattle.towerbench.specs.declared.ending.Ending.{Ending}
+use Rattle.towerbench.specs.declared.ending.Ending.TheVariants.{Done, Refused, Faulted}
+use Rattle.towerbench.specs.Opening.{one_branch, IsDone, Ran, AreSound, FailsOpen, RanLeaving, RanSaving, SavesInto}
+use Rattle.towerbench.specs.Endings.{WorksOut, RunsBy, IsPrinted, EndsBy, status_of}
+
+-- a safe bit at 0 with one branch of no steps, as where no file is named
+abbrev bench : Bench
+bench = one_branch (Safe 0) []
+
+abbrev limits : Limits
+limits = limits_of default_options
+
+-- no bytes, and one byte
+abbrev empty : Option (List ℕ)
+empty = Some []
+
+abbrev one_byte : Option (List ℕ)
+one_byte = Some (33 ∷ [])
+
+some_left : ◌≡◌ {A = List ℕ} (33 ∷ []) [] → ⊥
+some_left e = cc
+
+-- an empty script has no answers
+abbrev done : IsDone limits bench empty empty empty empty
+done = record { room = refl; answered = record { script = []; marks = λ number. false; read = refl; ended = refl; short = omega arith; wrote = refl } }
+
+leaving : RanLeaving None limits (bench_spelling bench) empty empty empty empty
+leaving = record {
+  bench = bench;
+  left = bench;
+  opens = refl;
+  leaves = record { done = done; tower = refl; branches = refl };
+  spells = record { lawful = refl; spelled = refl };
+}
+
+-- an empty script was answered
+Ran-holds : Ran None limits empty empty empty empty
+Ran-holds = (bench, (refl, done))
+
+-- a byte of the script is not read
+Ran-fails : Ran None limits one_byte one_byte empty empty → ⊥
+Ran-fails h = some_left h.1.1.answered.ended
+
+-- a tower file of no steps
+AreSound-holds : AreSound false (spelling (file_of One (Safe 0) []))
+AreSound-holds = (file_of One (Safe 0) [], record { lawful = refl; spelled = refl })
+
+-- a tower file of a safe bit at 2
+AreSound-fails : AreSound false (spelling (file_of One (Safe 2) [])) → ⊥
+unfolding digits
+AreSound-fails h = no_file _ h.0 (reading_again _ h.0 h.1)
+  where
+    no_file : (e : FileFault) (f : File) → Err e ≡ Ok f → ⊥
+    no_file e f is = cc
+
+-- there was no memory to tell of the branches that a run left
+FailsOpen-holds : FailsOpen true None limits empty empty empty empty fault.Memory
+FailsOpen-holds = (bench, (refl, (refl, done)))
+
+-- nothing is to be told
+FailsOpen-fails : FailsOpen false None limits empty empty empty empty fault.Memory → ⊥
+FailsOpen-fails h = true≢false (sym h.1.1.0)
+
+-- an empty script leaves the branches as they were opened
+RanLeaving-holds : RanLeaving None limits (bench_spelling bench) empty empty empty empty
+RanLeaving-holds = leaving
+
+-- a byte of the script is not read
+RanLeaving-fails : RanLeaving None limits (bench_spelling bench) one_byte one_byte empty empty → ⊥
+RanLeaving-fails h = some_left h.leaves.done.answered.ended
+
+-- these branches are saved
+RanSaving-holds : RanSaving None limits empty empty empty empty empty (Some (bench_spelling bench))
+RanSaving-holds = (bench_spelling bench, leaving, refl)
+
+-- nothing is saved of a run that ended well
+RanSaving-fails : RanSaving None limits empty empty empty empty empty empty → ⊥
+RanSaving-fails h = no_bench h.0 h.1.left (h.1.spells.spelled) h.2
+  where
+    no_bench : (bytes : List ℕ) (left : Bench) → bytes ≡ bench_spelling left → [] ≡ bytes → ⊥
+    no_bench bytes left spelled none = let e : 7 ≡ 98 = ap (λ bytes. slice_index_or bytes 0 7) (none ∙ spelled) in omega (arith, e)
+
+-- a write to what they are saved to failed at once
+SavesInto-holds : SavesInto None limits empty empty empty empty empty empty fault.Save
+SavesInto-holds = (bench_spelling bench, leaving, ([], (bench_spelling bench, refl), refl))
+
+-- a byte of the script was not read before
+SavesInto-fails : SavesInto None limits one_byte one_byte empty empty empty empty fault.Save → ⊥
+SavesInto-fails h = some_left h.1.leaves.done.answered.ended
+
+-- no file is named, and an empty script was answered
+WorksOut-holds : WorksOut false limits false empty empty empty empty Done
+WorksOut-holds = (None, refl, (bench, (refl, done)))
+
+-- a byte of the script is not read
+WorksOut-fails : WorksOut false limits false one_byte one_byte empty empty Done → ⊥
+WorksOut-fails h = some_left h.2.1.1.answered.ended
+
+-- there are no words, and an empty script was answered
+RunsBy-holds : RunsBy [] empty empty empty empty Done
+unfolding walk_fault defaults_fault
+RunsBy-holds = (None, (default_options, (None, (says, (None, refl, (bench, (refl, done)))))))
+  where
+    in_ranges : AreLimits default_options
+    in_ranges = record {
+      few_workers = omega arith;
+      some_cells = omega arith;
+      few_cells = omega arith;
+      some_branches = omega arith;
+      few_branches = omega arith;
+    }
+
+    says : Says [] None default_options None
+    says = record { taken = refl; file_is = refl; options_are = refl; save_is = refl; limits = in_ranges }
+
+-- a byte of the script is not read
+RunsBy-fails : RunsBy [] one_byte one_byte empty empty Done → ⊥
+RunsBy-fails h = some_left h.1.1.1.1.2.1.1.answered.ended
+
+-- the byte 2 was written behind 1
+IsPrinted-holds : IsPrinted (Some (1 ∷ [])) (Some (1 ∷ 2 ∷ [])) Done
+IsPrinted-holds = (2 ∷ [], refl)
+
+-- the byte 2 came in the place of 1
+IsPrinted-fails : IsPrinted (Some (1 ∷ [])) (Some (2 ∷ [])) Done → ⊥
+IsPrinted-fails h = let e : 2 ≡ 1 = ap (λ bytes. slice_index_or bytes 0 7) h.1 in omega (arith, e)
+
+-- there was no memory to read the words: status 1
+tool-holds : (ending : Ending) × EndsBy [] empty empty empty empty ending × (1 ≡ status_of ending)
+tool-holds = (Faulted Memory, (refl, refl), refl)
+
+-- no end has the status 3
+tool-fails : (ending : Ending) × EndsBy [] empty empty empty empty ending × (3 ≡ status_of ending) → ⊥
+tool-fails h = by h.0 h.2
+  where
+    by : (ending : Ending) → 3 ≡ status_of ending → ⊥
+    by Done e = omega (arith, e)
+    by (Refused text) e = omega (arith, e)
+    by (Faulted e) is = omega (arith, is)

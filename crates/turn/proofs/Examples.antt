@@ -1,0 +1,80 @@
+-- Worked examples of the definitions by which something is there: one that holds, and a near miss.
+use Rattle.std.proofs.Common.{ℕ, ◌≡◌, Bool, true, false, true≢false, List, [], ◌∷◌, ◌++◌, replicate, slice_index_or, ap, refl, sym, ◌∙◌, inr, ⊎_elim, arith}
+use Rattle.turn.specs.declared.view.View.{View}
+use Rattle.turn.specs.Entries.{AtMostOne}
+use Rattle.turn.specs.Histories.{StartsWith, joined, told_of, IsJoined, Holding}
+
+-- an entry is the number of the chair that made it
+abbrev by : ℕ → ℕ
+by e = e
+
+abbrev first : List ℕ → ℕ
+first list = slice_index_or list 0 5
+
+abbrev share_0 : List Bool
+share_0 = true ∷ replicate 15 false
+
+abbrev share_1 : List Bool
+share_1 = false ∷ true ∷ replicate 14 false
+
+-- a view that has seen a list, with these calls
+abbrev having : List Bool → List ℕ → List ℕ → View ℕ
+having shares calls seen = record { shares = shares; calls = calls; seen = seen; told = 0; holds = false; met = ([], []) }
+
+-- one entry of chair 3
+AtMostOne-holds : AtMostOne by 3 (3 ∷ [])
+AtMostOne-holds = inr (3, refl, refl)
+
+-- one entry of chair 4
+AtMostOne-fails : AtMostOne by 3 (4 ∷ []) → ⊥
+AtMostOne-fails h =
+    ⊎_elim
+    (λ none. let e : 4 ≡ 5 = ap first none in omega (arith, e))
+    (λ one. let e : 4 ≡ one.0 = ap first one.1 in omega (arith, e, one.2))
+    h
+
+-- 1, 2 begins with 1
+StartsWith-holds : StartsWith {E = ℕ} (1 ∷ 2 ∷ []) (1 ∷ [])
+StartsWith-holds = (2 ∷ [], refl)
+
+-- and not with 2
+StartsWith-fails : StartsWith {E = ℕ} (1 ∷ 2 ∷ []) (2 ∷ []) → ⊥
+StartsWith-fails h = let e : 2 ≡ 1 = ap first h.1 in omega (arith, e)
+
+-- of two chairs that have seen 0 and 0, 1 one is made that has seen 0, 1 and was told of the length 3
+IsJoined-holds : IsJoined (having share_0 (0 ∷ []) (0 ∷ [])) (having share_1 (1 ∷ []) (0 ∷ 1 ∷ []))
+    (told_of (joined (having share_0 (0 ∷ []) (0 ∷ [])) (having share_1 (1 ∷ []) (0 ∷ 1 ∷ []))) 3)
+IsJoined-holds = (3, refl, omega arith, omega arith, (1 ∷ [], refl), ([], refl))
+
+-- they have seen 0 and 1, 1, which no list begins with
+IsJoined-fails : IsJoined (having share_0 (0 ∷ []) (0 ∷ [])) (having share_1 (1 ∷ 1 ∷ []) (1 ∷ 1 ∷ []))
+    (told_of (joined (having share_0 (0 ∷ []) (0 ∷ [])) (having share_1 (1 ∷ 1 ∷ []) (1 ∷ 1 ∷ []))) 3) → ⊥
+IsJoined-fails h = let e : 0 ≡ 1 = ap first h.4.1 in omega (arith, e)
+
+-- the list that a chair of share 0 found as 0, 2 is one entry longer afterwards
+abbrev GrowsByOne : List ℕ → List ℕ → Type 0
+GrowsByOne before after = after ≡ before ++ 0 ∷ []
+
+-- the chair of share 0 had seen 0, found 0, 2, and added an entry of its own
+Holding-holds : Holding by GrowsByOne (having share_0 (0 ∷ []) (0 ∷ [])) (having share_0 (0 ∷ 0 ∷ []) (0 ∷ 2 ∷ 0 ∷ []))
+Holding-holds = (0 ∷ 2 ∷ [], 0 ∷ [], (2 ∷ [], refl), omega arith, inr (0, refl, refl), refl, refl, λ all. absurd (true≢false (sym (all 1 (omega arith)))))
+
+-- it added an entry of share 1
+Holding-fails : Holding by GrowsByOne (having share_0 [] []) (having share_0 (1 ∷ []) (1 ∷ [])) → ⊥
+Holding-fails h =
+    let added : 1 ∷ [] ≡ h.1 = ap (λ v. v.calls) h.5 in AtMostOne-share_1 h.1 added h.4
+  where
+    AtMostOne-share_1 : (added : List ℕ) → 1 ∷ [] ≡ added → AtMostOne by 0 added → ⊥
+    AtMostOne-share_1 added is h =
+        ⊎_elim
+        (λ none. let e : 1 ≡ 5 = ap first (is ∙ none) in omega (arith, e))
+        (λ one. let e : 1 ≡ one.0 = ap first (is ∙ one.1) in omega (arith, e, one.2))
+        h
+
+-- a work added one entry of chair 3 to the list
+work-holds : (added : List ℕ) × (1 ∷ 3 ∷ [] ≡ (1 ∷ []) ++ added) × AtMostOne by 3 added
+work-holds = (3 ∷ [], refl, inr (3, refl, refl))
+
+-- a work changed an entry that was there
+work-fails : (added : List ℕ) × (2 ∷ 3 ∷ [] ≡ (1 ∷ []) ++ added) × AtMostOne by 3 added → ⊥
+work-fails h = let e : 2 ≡ 1 = ap first h.1 in omega (arith, e)

@@ -1,0 +1,237 @@
+-- Of the operations on bits that end in a step, none is a look at the last bit that gives 0: such a scan would be refused, were the answer
+-- of a scan that finds none a refusal; and up to the first such scan the number does what it would do then.
+use Rattle.std.proofs.Common.{◌≡◌, ◌≢◌, ℕ, zero, suc, ◌+◌, ◌-◌, ◌<◌, ◌≤◌, ◌==◌, Bool, true, false, List, [], ◌∷◌, ◌++◌, Option, Some, None, refl, sym, ap, subst, arith, append_assoc}
+use Rattle.std.specs.Prelude.{⊤, ◌||◌, if◌then◌else◌, MatchOption}
+use Rattle.std.specs.List.{AllByRecursion, list_any}
+use Rattle.std.proofs.lemmas.Bool.{eqb-true, eqb-false}
+use Rattle.std.proofs.lemmas.List.Elements.{All-nil, All-cons, All-append, All-head, All-tail, All-from_recursion}
+use Rattle.safe_bit.specs.Memory.{Memory}
+use Rattle.frames.specs.declared.types.Op.{Op}
+use Rattle.frames.specs.declared.types.Op.TheVariants as op
+use Rattle.frames.specs.declared.types.Event.{Event}
+use Rattle.frames.specs.declared.types.Event.TheVariants.{Invoke}
+use Rattle.frames.specs.declared.types.Layer.{Layer}
+use Rattle.frames.specs.declared.types.Step.{Step}
+use Rattle.frames.specs.declared.types.Step.TheVariants as step
+use Rattle.frames.specs.declared.types.StepEvents.{StepEvents}
+use Rattle.frames.specs.declared.types.Outcome.{Outcome}
+use Rattle.frames.specs.declared.types.Outcome.TheVariants.{Value, Written, Spent}
+use Rattle.frames.specs.declared.types.Next.{Next}
+use Rattle.frames.specs.declared.types.Next.TheVariants.{Pending, Done}
+use Rattle.frames.specs.declared.running.Running.{Running}
+use Rattle.frames.specs.Behaviour.{Behaviour, Begun, Moved, IsLawful}
+use Rattle.frames.specs.Configuration.{Configuration, in_order, return_of, chosen_of, acted, Acted, acting_unless, acted_on, events_of, stepped, replayed, history, put_acted, mark, running_at, is_stopped, fits_step}
+use Rattle.frames.specs.Fitting.{process_of}
+use Rattle.frames.specs.Flat.{IsReached}
+use Rattle.frames.specs.Parked.{IsConfiguration}
+use Rattle.frames.specs.Recorded.{Alone, AllFit, at_index, indexed, first_configuration}
+use Rattle.frames.specs.Regularity.{is_refusal, IsRegular}
+use Rattle.frames.specs.laws.Steps.{step_keeps}
+use Rattle.frames.proofs.Pending.{first_well}
+use Rattle.layers.specs.declared.nested.Nested.{Nested}
+use Rattle.layers.specs.Nested.{Program, Ends, Asks, Reads, Sets, Table, asked, pushed, behind_part, advance, resume, layered}
+use Rattle.layers.specs.Sound.{IsSoundTable, FitsBelow, LayerHolds, LayerReaches}
+use Rattle.layers.specs.laws.Layered.{layer_lawful}
+use Rattle.layers.specs.laws.Over.{LayerOver, over}
+use Rattle.unary_number.specs.declared.task.UnaryTask.{UnaryTask}
+use Rattle.unary_number.specs.declared.task.UnaryTask.TheVariants.{Setting, Clearing, Looking}
+use Rattle.unary_number.specs.Program.{unary_table_with, unary_table, unary_program, unary_rest, unary_asks, clears_below, looks_above, behind_look, UnaryStands}
+use Rattle.unary_number.specs.Scans.{Ended, ended_behind, ended_by, ended_unless, ended_in, FindsOne, AlwaysFinds}
+use Rattle.unary_number.proofs.Kept.{unary_over_regular}
+
+-- an operation isn't refused
+abbrev Goes : {N : Type 0} → Next N → Type 0
+Goes (Pending p) = ⊤
+Goes (Done (Value v)) = ⊤
+Goes (Done Written) = ⊤
+Goes (Done (Spent layer)) = ⊥
+
+-- an event that may be missing is no refusal, and neither of a step's is one
+abbrev IsQuiet : Option Event → Type 0
+IsQuiet e = MatchOption e ⊤ (λ e. is_refusal e ≡ false)
+
+abbrev AreQuiet : StepEvents → Type 0
+AreQuiet e = IsQuiet e.first × IsQuiet e.second
+
+true_isnt : {A : Type 0} → true ≡ false → A
+true_isnt e = absurd (cc)
+
+both_false : (a b : Bool) → (a || b) ≡ false → (a ≡ false) × (b ≡ false)
+both_false true b h = true_isnt h
+both_false false b h = (refl, h)
+
+end_goes : {N : Type 0} (who : ℕ) (next : Next N) → IsQuiet (return_of who next) → Goes next
+end_goes who (Pending p) h = tt
+end_goes who (Done (Value v)) h = tt
+end_goes who (Done Written) h = tt
+end_goes who (Done (Spent layer)) h = true_isnt h
+
+step_goes : {N : Type 0} (who : ℕ) (event : Option Event) (next : Next N) → AreQuiet (in_order event (return_of who next)) → Goes next
+step_goes who None next h = end_goes who next h.0
+step_goes who (Some e) next h = end_goes who next h.1
+
+-- no refusal among the events of a list's first step, and none among those of the others
+quiet_first : (index : ℕ) (e : Option Event) (later : List (ℕ × Event)) → list_any (λ e. is_refusal e.1) (at_index index e ++ later) ≡ false
+    → IsQuiet e × (list_any (λ e. is_refusal e.1) later ≡ false)
+quiet_first index None later h = (tt, h)
+quiet_first index (Some e) later h = both_false (is_refusal e) (list_any (λ e. is_refusal e.1) later) h
+
+quiet_step : (index : ℕ) (e : StepEvents) (later : List StepEvents) → list_any (λ e. is_refusal e.1) (indexed index (e ∷ later)) ≡ false
+    → AreQuiet e × (list_any (λ e. is_refusal e.1) (indexed (index + 1) later) ≡ false)
+quiet_step index e later h =
+    let events = subst (λ l. list_any (λ e. is_refusal e.1) l ≡ false) (append_assoc (at_index index e.first) (at_index index e.second) (indexed (index + 1) later)) h in
+    let one = quiet_first index e.first (at_index index e.second ++ indexed (index + 1) later) events in
+    let two = quiet_first index e.second (indexed (index + 1) later) one.1 in
+    ((one.0, two.0), two.1)
+
+module _ {P : Type 0} (b : Behaviour P) (values processes : ℕ) (layer : Layer) (some : 1 ≤ values) where
+  -- the number, and the one that refuses a scan that finds none
+  abbrev t : Table UnaryTask
+  t = unary_table values processes
+
+  abbrev r : Table UnaryTask
+  r = unary_table_with (Spent layer) values processes
+
+  abbrev top : Outcome
+  top = Value (values - 1)
+
+  abbrev AllFind : List (Ended UnaryTask) → Type 0
+  AllFind ends = AllByRecursion (λ e. FindsOne values e.task e.outcome) ends
+
+  -- two programs do the same, the first as the number's and the second as the other's, and no look of the first at the last bit gives 0
+  abbrev Alike : Program UnaryTask → Program UnaryTask → Memory → Type 0
+  Alike k l m = (advance t b k m ≡ advance r b l m) × AllFind (ended_by t b k m)
+
+  abbrev AlikeBehind : UnaryTask → (Outcome → Program UnaryTask) → (Outcome → Program UnaryTask) → Next P → Memory → Type 0
+  AlikeBehind task k l next m =
+      (behind_part (λ o n. advance t b (k o) n) task next m ≡ behind_part (λ o n. advance r b (l o) n) task next m)
+      × AllFind (ended_behind (λ o n. ended_by t b (k o) n) task next m)
+
+  -- behind a write of a bit
+  behind_write : (task : UnaryTask) (k : Program UnaryTask) (next : Next P) (m : Memory) → ((o : Outcome) → FindsOne values task o) → ((n : Memory) → Alike k k n) → AlikeBehind task (λ o. k) (λ o. k) next m
+  behind_write task k (Pending p) m says same = (refl, tt)
+  behind_write task k (Done (Spent l)) m says same = (refl, (says (Spent l), tt))
+  behind_write task k (Done Written) m says same = ((same m).0, (says Written, (same m).1))
+  behind_write task k (Done (Value v)) m says same = ((same m).0, (says (Value v), (same m).1))
+
+  clears : (x i : ℕ) (m : Memory) → Alike (clears_below x i) (clears_below x i) m
+  clears x zero m = (refl, tt)
+  clears x (suc i) m =
+      behind_write (Clearing x i) (clears_below x i) (asked b (unary_asks (Clearing x i)) m).next (asked b (unary_asks (Clearing x i)) m).memory (λ o. tt) (λ n. clears x i n)
+
+  one_isnt : {A : Type 0} (v : ℕ) → (v == 1) ≡ true → Value v ≡ Value 0 → A
+  one_isnt v one e = absurd (let is : v ≡ 1 = eqb-true v 1 one in let no : v ≡ 0 = cc in omega (arith, is, no))
+
+  -- behind a look, where what follows one that finds 0 does the same; behind one at the last bit nothing follows but the refusal
+  behind_look_at : (who i left : ℕ) (next : Next P) (m : Memory) → i + left + 1 ≡ values
+      → ((n : Memory) → Goes (advance r b (looks_above (Spent layer) who i left) n).next → Alike (looks_above top who i left) (looks_above (Spent layer) who i left) n)
+      → Goes (behind_part (λ o n. advance r b (behind_look i (looks_above (Spent layer) who i left) o) n) (Looking who i left) next m).next
+      → AlikeBehind (Looking who i left) (behind_look i (looks_above top who i left)) (behind_look i (looks_above (Spent layer) who i left)) next m
+  behind_look_at who i left (Pending p) m all same goes = (refl, tt)
+  behind_look_at who i left (Done (Spent l)) m all same goes = absurd goes
+  behind_look_at who i left (Done Written) m all same goes = (refl, ((λ last e. (let n : ⊥ = cc in n)), tt))
+  behind_look_at who i left (Done (Value v)) m all same goes = by (v == 1) refl goes
+    where
+      by : (found : Bool) → (v == 1) ≡ found → Goes (advance r b (if found then Ends (Value i) else looks_above (Spent layer) who i left) m).next
+          → (advance t b (if found then Ends (Value i) else looks_above top who i left) m ≡ advance r b (if found then Ends (Value i) else looks_above (Spent layer) who i left) m)
+          × ((i + 1 ≡ values → Value v ≢ Value 0) × AllFind (ended_by t b (if found then Ends (Value i) else looks_above top who i left) m))
+      by true one goes = (refl, ((λ last e. one_isnt v one e), tt))
+      by false other goes =
+          let on = same m goes in
+          (on.0, ((λ last e. none_left left all last goes), on.1))
+        where
+          none_left : (left : ℕ) → i + left + 1 ≡ values → i + 1 ≡ values → Goes (advance r b (looks_above (Spent layer) who i left) m).next → ⊥
+          none_left zero all last goes = goes
+          none_left (suc n) all last goes = omega (arith, all, last)
+
+  looks : (left who i : ℕ) (m : Memory) → i + left + 1 ≡ values → Goes (advance r b (looks_above (Spent layer) who i left) m).next
+      → Alike (looks_above top who i left) (looks_above (Spent layer) who i left) m
+  looks zero who i m all goes = absurd goes
+  looks (suc left) who i m all goes =
+      behind_look_at who (suc i) left (asked b (unary_asks (Looking who (suc i) left)) m).next (asked b (unary_asks (Looking who (suc i) left)) m).memory (omega (arith, all)) (λ n. looks left who (suc i) n (omega (arith, all))) goes
+
+  -- as an operation begins, and as it goes on
+  begins : (who : ℕ) (o : Op) (m : Memory) → Goes (advance r b (unary_program (Spent layer) values who o) m).next
+      → Alike (unary_program top values who o) (unary_program (Spent layer) values who o) m
+  begins who (op.Write x) m goes = behind_write (Setting x) (clears_below x x) (asked b (unary_asks (Setting x)) m).next (asked b (unary_asks (Setting x)) m).memory (λ o. tt) (λ n. clears x x n)
+  begins who op.Read m goes =
+      behind_look_at who 0 (values - 1) (asked b (unary_asks (Looking who 0 (values - 1))) m).next (asked b (unary_asks (Looking who 0 (values - 1))) m).memory (omega (arith, some))
+      (λ n. looks (values - 1) who 0 n (omega (arith, some))) goes
+
+  goes_on : (who : ℕ) (o : Op) (task : UnaryTask) (next : Next P) (m : Memory) → UnaryStands values processes who o task → Goes (behind_part (λ o n. advance r b (unary_rest (Spent layer) task o) n) task next m).next
+      → AlikeBehind task (unary_rest top task) (unary_rest (Spent layer) task) next m
+  goes_on who (op.Write w) (Setting x) next m stands goes = behind_write (Setting x) (clears_below x x) next m (λ o. tt) (λ n. clears x x n)
+  goes_on who (op.Write w) (Clearing x i) next m stands goes = behind_write (Clearing x i) (clears_below x i) next m (λ o. tt) (λ n. clears x i n)
+  goes_on who op.Read (Looking q i left) next m stands goes = behind_look_at q i left next m stands.3 (λ n. looks left q i n stands.3) goes
+  goes_on who (op.Write w) (Looking q i left) next m stands goes = absurd stands
+  goes_on who op.Read (Setting x) next m stands goes = absurd stands
+  goes_on who op.Read (Clearing x i) next m stands goes = absurd stands
+
+  abbrev N : Type 0
+  N = Nested UnaryTask P
+
+  abbrev L : Behaviour N
+  L = layered t b
+
+  abbrev R : Behaviour N
+  R = layered r b
+
+  module _ (Reaches : ℕ → Op → P → Type 0) where
+    abbrev StandsAt : ℕ → Option (Running N) → Type 0
+    StandsAt p running = IsReached (LayerReaches r (UnaryStands values processes) Reaches) p running
+
+    -- in a step
+    abbrev AlikeIn : Bool → Step → Option (Running N) → Memory → Type 0
+    AlikeIn halted s running m = (acting_unless halted L s running m ≡ acting_unless halted R s running m) × AllFind (ended_unless t b halted s running m)
+
+    acts : (s : Step) (halted : Bool) (running : Option (Running N)) (m : Memory) → StandsAt (process_of s) running → AreQuiet (acting_unless halted R s running m).events → AlikeIn halted s running m
+    acts s true running m stands quiet = (refl, tt)
+    acts (step.Stop p) false running m stands quiet = (refl, tt)
+    acts (step.Write p v) false (Some x) m stands quiet = (refl, tt)
+    acts (step.Read p) false (Some x) m stands quiet = (refl, tt)
+    acts (step.Go p c) false None m stands quiet = (refl, tt)
+    acts (step.Write p v) false None m stands quiet =
+        let o : Op = op.Write v in
+        let same = begins p o m (step_goes p (Some (Invoke p o)) (advance r b (unary_program (Spent layer) values p o) m).next quiet) in
+        (ap (λ (x : Begun N). acted p o (Some (Invoke p o)) x.next x.memory) same.0, same.1)
+    acts (step.Read p) false None m stands quiet =
+        let same = begins p op.Read m (step_goes p (Some (Invoke p op.Read)) (advance r b (unary_program (Spent layer) values p op.Read) m).next quiet) in
+        (ap (λ (x : Begun N). acted p op.Read (Some (Invoke p op.Read)) x.next x.memory) same.0, same.1)
+    acts (step.Go p c) false (Some x) m stands quiet =
+        let moved : Moved P = pushed b (unary_asks x.point.task).part x.point.below (c == 1) m in
+        let same = goes_on p x.op x.point.task moved.next moved.memory stands.stands (step_goes p (chosen_of p moved.chosen) (resume r b x.point (c == 1) m).next quiet) in
+        (ap (λ (y : Begun N). acted p x.op (chosen_of p moved.chosen) y.next y.memory) same.0, same.1)
+
+    module _ (Holds : Memory → Type 0) (left : UnaryTask → ℕ) (lawful : IsLawful b Holds Reaches) (sound : IsSoundTable r (UnaryStands values processes) left) (fit : FitsBelow r b) where
+      abbrev Well : Alone N → Type 0
+      Well c = IsConfiguration R (LayerHolds r b Holds) (LayerReaches r (UnaryStands values processes) Reaches) c
+
+      steps_alike : (c : Alone N) (s : Step) → Well c → AreQuiet (events_of R c s) → (stepped L c s ≡ stepped R c s) × AllFind (ended_in t b c s)
+      steps_alike c s well quiet =
+          let same = acts s (is_stopped (process_of s) c) (running_at (process_of s) c) c.memory (well.reached (process_of s)) quiet in
+          (ap (λ (a : Acted N). put_acted (process_of s) a (mark s c)) same.0, same.1)
+
+      -- after steps that the other refuses nothing of, the number is where that is
+      runs_alike : (steps : List Step) (s : Step) (index : ℕ) (c : Alone N) → Well c → AllFit R steps → list_any (λ e. is_refusal e.1) (indexed index (history R c (steps ++ s ∷ []))) ≡ false
+          → AllFind (ended_in t b (replayed L c steps) s)
+      runs_alike [] s index c well fits none = (steps_alike c s well (quiet_step index (events_of R c s) [] none).0).1
+      runs_alike (x ∷ steps) s index c well fits none =
+          let quiet = quiet_step index (events_of R c x) (history R (stepped R c x) (steps ++ s ∷ [])) none in
+          let here : fits_step R x ≡ true = All-head (λ s. fits_step R s ≡ true) x steps fits in
+          let on = runs_alike steps s (index + 1) (stepped R c x)
+          (step_keeps R (LayerHolds r b Holds) (LayerReaches r (UnaryStands values processes) Reaches) (layer_lawful (over lawful sound fit)) c x well here)
+          (All-tail (λ s. fits_step R s ≡ true) x steps fits) quiet.1 in
+          subst (λ (d : Alone N). AllFind (ended_in t b (replayed L d steps) s)) (sym (steps_alike c x well quiet.0).0) on
+
+-- over a regular bit the number never reads its last bit as 0 in a scan
+pub always_finds : {P : Type 0} (b : Behaviour P) (Holds : Memory → Type 0) (Reaches : ℕ → Op → P → Type 0) (layer : Layer) (values processes : ℕ) (left : UnaryTask → ℕ) → 2 ≤ values → IsLawful b Holds Reaches
+    → IsSoundTable (unary_table_with (Spent layer) values processes) (UnaryStands values processes) left → FitsBelow (unary_table_with (Spent layer) values processes) b → IsRegular b
+    → AlwaysFinds values processes b
+always_finds b Holds Reaches layer values processes left two lawful sound fit below value steps s within fits here =
+    let refusing = layered (unary_table_with (Spent layer) values processes) b in
+    let regular : IsRegular refusing = unary_over_regular b Holds Reaches (Spent layer) values processes left two lawful sound fit below in
+    let all : AllFit refusing (steps ++ s ∷ []) = All-append (λ x. fits_step refusing x ≡ true) steps (s ∷ []) fits (All-cons (λ x. fits_step refusing x ≡ true) s [] here (All-nil (λ x. fits_step refusing x ≡ true))) in
+    All-from_recursion (λ e. FindsOne values e.task e.outcome) (ended_in (unary_table values processes) b (replayed (layered (unary_table values processes) b) (first_configuration refusing value) steps) s)
+    (runs_alike b values processes layer (omega (arith, two)) Reaches Holds left lawful sound fit steps s 0 (first_configuration refusing value)
+    (first_well refusing (LayerHolds (unary_table_with (Spent layer) values processes) b Holds) (LayerReaches (unary_table_with (Spent layer) values processes) (UnaryStands values processes) Reaches)
+    (layer_lawful (over lawful sound fit)) value within) fits (regular.refuses_none value (steps ++ s ∷ []) within all))
