@@ -1,0 +1,160 @@
+// What can be done next: for each process its buttons, the breaks, the sessions, and what can be done with a step.
+// `does` are the gestures; each button says which step it adds to the script.
+import { flipped } from "./document.js";
+import { between } from "./pages.js";
+import { reasonOf } from "./reading.js";
+import { comparison, pickedRead } from "./picture.js";
+import { element, here, isSaying, now, one, putIfChanged, runHere, say } from "./state.js";
+
+export const FEW_VALUES = 8;
+const STEP_PATTERN = "w [0-9] [0-9]+|r [0-9]|g [0-9] [01]|x [0-9]";
+const ACTIONS = { ws: "starts to write bit", we: "ends its write of bit", rs: "starts to read bit", re: "ends its read of bit" };
+// a button; its key finds it again when all is made again, so that it keeps the focus
+const button = (key, words, onclick, given = {}) => element("button", { "data-key": key, onclick, ...given }, words);
+const number = (label, value, max, given = {}) =>
+  element("input", { type: "number", min: 0, max, value, "aria-label": label, ...given });
+function form(given, done, ...parts) {
+  const onsubmit = (event) => { event.preventDefault(); done(); };
+  return element("form", { ...given, onsubmit }, ...parts);
+}
+// each process at the cursor: what it does there, and whether the read that it ends next is hit
+export function processesHere() {
+  const { name, place } = here(), [state, bits] = ["state", "bits"].map((kind) => now.model.page(kind, name, place));
+  const isHit = ({ action, bit }) => action === "re" && Boolean(bits?.cells[bit]?.endsWith("h"));
+  return (state ? state.processes : []).map((it) => ({ ...it, isHit: isHit(it) }));
+}
+function doing({ kind, value, isStopped, action, bit, isHit }) {
+  const words = kind === "write" ? `write ${value}` : kind;
+  if (isStopped) return kind === "idle" ? "stopped" : `${words}, stopped in the middle`;
+  return action ? `${words}: ${ACTIONS[action]} ${bit}${isHit ? ", hit by a write" : ""}` : words;
+}
+function writeButtons(p, step, does) {
+  const { shape: { values } } = now.model, isAwaited = now.view.awaiting === "w" && now.view.process === p;
+  const few = between(0, Math.min(values, FEW_VALUES)), look = { class: isAwaited && "await" };
+  if (few.length === values) return few.map((value) => step(`write ${value}`, `w ${p} ${value}`, look));
+  const label = `value that p${p} writes, 0 to ${values - 1}`, write = () => does.put(p, `w ${p} ${Number(input.value)}`);
+  const onkeydown = (event) => { if (event.key === "Enter") write(); };
+  const input = number(label, 1, values - 1, { "data-key": `p${p} value`, onkeydown });
+  return [input, button(`p${p} w`, "write", write)];
+}
+function row(it, does) {
+  const p = it.number, { shape } = now.model, isActive = now.view.process === p;
+  const step = (words, command, given) => button(`p${p} ${command}`, words, () => does.put(p, command),
+    { title: `the step ${command}`, "data-action": command, ...given });
+  const look = { "aria-pressed": String(isActive), title: `keys go to p${p} (${p})` };
+  const buttons = [button(`p${p} process`, `p${p}`, () => does.choose(p), look), element("span", { class: "does" }, doing(it))];
+  if (!it.isStopped) {
+    if (it.kind === "idle" && shape.writes(p)) buttons.push(...writeButtons(p, step, does));
+    if (it.kind === "idle" && shape.reads(p)) buttons.push(step("read", `r ${p}`));
+    const give = (choice) => step(`give ${choice}`, `g ${p} ${choice}`, { class: "give" });
+    if (it.isHit) buttons.push(give(0), give(1));
+    else if (it.action) buttons.push(step("step", `g ${p} 0`), button(`p${p} end`, "run to its end", () => does.end(p),
+      { title: "steps to the end of the operation, or up to its first choice (e)" }));
+    // (at the far end, so that it never lies where another button was a moment ago)
+    buttons.push(step("stop", `x ${p}`, { title: "it stops for good, in the middle of what it does (x)", class: "stop-it" }));
+  }
+  return element("div", { class: `actor${isActive ? " active" : ""}${it.isHit ? " hit" : ""}`, "data-process": p }, buttons);
+}
+function breakAdder(processes, does) {
+  const kinds = ["chosen", "void", "refused", ...processes.map((it) => `returns ${it.number}`), "bit"];
+  const options = [["", "+ break\u2026"], ...kinds.map((it) => [it, it === "bit" ? "bit \u2026 is \u2026" : it])];
+  const add = element("select", { "aria-label": "set a break", "data-key": "break" },
+    options.map(([value, words]) => element("option", { value }, words)));
+  const inputs = [number("bit", 0, now.model.shape.cells - 1), number("value", 1, 1)];
+  const set = () => does.edit(`break bit ${inputs.map((it) => Number(it.value)).join(" ")}`);
+  const bit = form({ hidden: "" }, set, "bit ", inputs[0], " is ", inputs[1], " ", element("button", {}, "set"));
+  add.onchange = () => {
+    if (add.value === "bit") bit.hidden = !(add.hidden = true);
+    else does.edit(`break ${add.value}`);
+  };
+  return [add, bit];
+}
+function breakButtons(processes, does) {
+  const { breaks } = here(), disabled = breaks.length ? null : "";
+  return [button("back", "\u25c0 break", () => does.edit("back"), { title: "back to the last break (b)", disabled }),
+    button("seek", "break \u25b6", () => does.edit("seek"), { title: "on to the next break (n)", disabled }),
+    ...breaks.map((it) => button(`clear ${it}`, `${it} \u00d7`, () => does.edit(`clear ${it}`), { title: "clear it" })),
+    ...breakAdder(processes, does)];
+}
+function putSessions(does) {
+  const { model: { cursors }, who } = now;
+  const words = (it, index) => `session ${index}${it && index !== who ? `: ${it.name} ${it.place}` : ""}`;
+  putIfChanged(one("#session"), JSON.stringify([who, cursors.map((it) => it && [it.name, it.place])]), () =>
+    cursors.map((it, index) => element("option", { value: index }, words(it, index))));
+  one("#session").value = String(who);
+  one("#leave").hidden = !here().isJoined || cursors.filter(Boolean).length < 2;
+  one("#leave").onclick = () => does.edit("leave");
+}
+// what the cursor's place asks for, or else what a picked read or the step before it did
+function sayWhatIs(hit, does) {
+  const { place, branch } = here(), run = runHere(), events = run.eventsAt(place - 1), picked = pickedRead();
+  const compared = comparison();
+  if (compared && !picked) return say(compared, "why");
+  const asked = hit.map((it) => `A write overlaps p${it.number}'s read of bit ${it.bit}. Give 0 or 1?`);
+  if (hit.length && !picked) return say(asked.join(" "), "asks");
+  const read = picked || run.operations.find((it) => it.kind === "read" && it.ended === place - 1);
+  const isChosen = events.some((it) => it.includes(" chosen ")), other = isChosen && flipped(branch.step(place - 1)).at(-1);
+  const more = other ? [" ", button("other", `Try ${other} on a branch`, () => does.tryOther(place - 1))] : [];
+  const gave = read?.ending === "returned" ? ` returned ${read.value}` : "";
+  const reason = read && reasonOf(picked ? now.readings.get(now.view.picked.name).run : run, read);
+  return say(read ? `p${read.process}'s read${gave}. ${reason}` : isChosen ? events.join("; ") : "", "why", ...more);
+}
+function nextWords() {
+  const { place, branch } = here();
+  if (place >= branch.length) return place ? "at the end" : "no steps yet: choose what a process does";
+  const others = now.model.sharers(branch, place).map((it) => it.name);
+  return `steps go in before ${branch.step(place)}${others.length ? `, on ${others.join(", ")} too` : ""}`;
+}
+export function putDeck(does) {
+  const { view, model, document: { lastGesture, undone } } = now, { name, place, branch } = here(), found = processesHere();
+  const held = document.activeElement?.dataset?.key;
+  if (!found.some((it) => it.number === view.process)) view.process = found[0]?.number || 0;
+  one("#at").textContent = `${name}, place ${place} of ${branch.length}`;
+  Object.assign(one("#place"), { max: branch.length, value: place });
+  one("#next").textContent = nextWords();
+  if (!isSaying("message", "refusal", "awaits")) sayWhatIs(found.filter((it) => it.isHit), does);
+  // (a number that is being typed stays)
+  const typed = [...one("#processes").querySelectorAll("input")].map((it) => [it.dataset.key, it.value]);
+  one("#processes").replaceChildren(...found.map((it) => row(it, does)));
+  for (const [key, value] of typed) (one(`[data-key="${key}"]`) || {}).value = value;
+  one("#breaks").replaceChildren(...breakButtons(found, does));
+  putSessions(does);
+  one("#tower-line").textContent = model.tower;
+  one("#undo").disabled = !lastGesture;
+  one("#redo").disabled = !undone.length;
+  const instead = [`[data-key="${held}"]:enabled`, `[data-key="${held?.split(" ")[0]} process"]`, "#scroll"];
+  if (held) instead.map(one).find(Boolean).focus({ preventScroll: true });
+}
+function menu(index, does) {
+  const { branch } = here(), step = branch.step(index), events = runHere().eventsAt(index);
+  const isChoice = step.startsWith("g"), isChosen = events.some((it) => it.includes(" chosen "));
+  const others = now.model.sharers(branch, index).map((it) => it.name), said = (words) => element("small", {}, words);
+  const input = element("input", { value: step, "aria-label": "another step", pattern: STEP_PATTERN });
+  const done = (gesture) => () => { closeMenu(); gesture(); };
+  const choose = (key, words, gesture) => button(key, words, done(gesture), { "data-step-action": key });
+  const replace = done(() => does.replace(index, input.value));
+  return [element("b", {}, `Step ${index} of ${branch.name}: ${step}`), element("pre", {}, events.join("\n")),
+    isChoice && !isChosen ? said("No hit read ends here, so its choice has no effect.") : "",
+    others.length ? said(`Shared with ${others.join(", ")}: a change here changes them too.`) : "",
+    ...(isChoice ? [choose("try", `Try the other choice, ${flipped(step)}, on a branch`, () => does.tryOther(index)),
+      choose("flip", `Flip the choice: ${flipped(step)}`, () => does.replace(index, flipped(step)))] : []),
+    form({ "data-form": "replace" }, replace, input, element("button", {}, "Replace")),
+    choose("remove", "Remove it", () => does.remove(index)), choose("before", "Insert before it", () => does.before(index)),
+    choose("fork", "Fork before it\u2026", () => does.fork(index))];
+}
+const MENU_SIZE = { width: 350, height: 360 };
+export function closeMenu() {
+  if (one("#menu").hidden) return;
+  one("#menu").hidden = true;
+  one("#scroll").focus({ preventScroll: true });
+}
+export function openMenu(index, does) {
+  const target = one("#menu"), chip = one(`.panel.focus .chip[data-step="${index}"]`);
+  if (index >= here().branch.length) return;
+  target.replaceChildren(...menu(index, does));
+  const at = (chip || one("#line")).getBoundingClientRect();
+  target.style.left = `${Math.max(8, Math.min(at.left, innerWidth - MENU_SIZE.width))}px`;
+  target.style.top = `${Math.max(8, Math.min(at.bottom + 6, innerHeight - MENU_SIZE.height))}px`;
+  target.hidden = false;
+  target.querySelector("button").focus();
+}

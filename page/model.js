@@ -1,0 +1,97 @@
+// What the program says of a document: its answer to each line, the branches, the cursors, and pages as they are wanted.
+import { placeOf } from "./document.js";
+import { LOOK, answersIn, between, cursorIn, firstDifference, forestIn, pageIn, pairedAnswers, sharedCells } from "./pages.js";
+import { faultInWords, refusalOf } from "./refusals.js";
+import { shapeOf } from "./towers.js";
+
+export const SESSIONS = between(0, 16);
+// at most this many lines of pages of bits are kept
+const MOST_KEPT = 2000000;
+// a file with more steps than the program takes by default is run with a higher limit
+const ROOM = 65536, MORE_ROOM = ["--cells", "16777216"];
+async function answered(ask, tower, script) {
+  const isBig = tower.length > ROOM && tower.split("\n").length - 3 > ROOM;
+  const made = await ask(tower, script, isBig ? { words: MORE_ROOM } : {});
+  if (made.fault) throw new Error(made.fault);
+  if (made.status !== 0) throw new Error(faultInWords(made.errors, made.status));
+  return made;
+}
+const linesOf = (lines) => lines.map((line) => `${line}\n`).join("");
+export class Model {
+  // The answers to a document; a fault of the file, or of the whole run, is thrown. What `before` has of it stays.
+  static async of(document, ask, before) {
+    const asked = [...document.lines, ...SESSIONS.map((who) => `${who} cursor`)];
+    const made = await answered(ask, document.tower, linesOf(asked));
+    const isSame = before && before.bench === made.bench;
+    const model = new Model(document, ask, made.bench, isSame ? before : forestIn(made.bench), isSame ? before.pages : new Map());
+    model.understand(pairedAnswers(asked, answersIn(made.output)));
+    if (before && !isSame) model.keep(before);
+    return model;
+  }
+  constructor(document, ask, bench, { tower, branches }, pages) {
+    Object.assign(this, { document, ask, bench, tower, branches, pages, shape: shapeOf(tower), notes: [] });
+    this.byName = new Map(branches.map((it) => [it.name, it]));
+  }
+  understand(found) {
+    const { document } = this, many = document.lines.length;
+    this.answers = found.slice(0, many);
+    this.cursors = SESSIONS.map((who) => this.cursorOf(found[many + who]));
+    const refused = this.answers.map((it, index) => ({ line: index + 1, words: it && refusalOf(it.first, document.lines[index]) }));
+    this.refusals = refused.filter((it) => it.words);
+  }
+  cursorOf(found) {
+    const cursor = found && cursorIn(found), branch = cursor && this.branch(cursor.name);
+    return branch && cursor.place <= branch.length ? cursor : null;
+  }
+  branch(name) { return this.byName.get(name); }
+  // where a session is: at the place that the last line is about, at its cursor, or at the end of the first branch
+  placeOf(who) {
+    const { lines } = this.document, cursor = this.cursors[who], [first] = this.branches;
+    const line = placeOf(lines.findLast((it) => it && it[0] !== "#")), isRefused = this.refusals.at(-1)?.line === lines.length;
+    const branch = line && line.who === who && !isRefused && this.branch(line.name), atEnd = { name: first.name, place: first.length };
+    const at = branch ? { name: branch.name, place: Math.min(line.place, branch.length) } : cursor || atEnd;
+    return { ...at, branch: this.branch(at.name), breaks: cursor ? cursor.breaks : [], isJoined: Boolean(cursor),
+      isAtCursor: Boolean(cursor) && cursor.name === at.name && cursor.place === at.place };
+  }
+  sharers(branch, index) { return this.branches.filter((it) => it !== branch && sharedCells(it, branch) > index); }
+  // how many of a branch's first steps other branches hold too
+  sharedSteps(branch) { return Math.max(0, ...this.branches.map((it) => (it === branch ? 0 : sharedCells(it, branch)))); }
+  // a page depends on the steps up to its place alone, so those of equal steps stay
+  keep(before) {
+    if (before.tower !== this.tower) return;
+    const equal = new Map(before.branches.map((old) => [old.name, this.equalSteps(old)]));
+    for (const [key, page] of before.pages) {
+      const [, name, place] = key.split(" ");
+      if (Number(place) <= equal.get(name)) this.pages.set(key, page);
+    }
+  }
+  equalSteps(old) { return this.branch(old.name) ? firstDifference(old, this.branch(old.name), 0) : -1; }
+  // (what branches share has one page)
+  key(kind, name, place) { return `${kind} ${this.branch(name).owner(place).name} ${place}`; }
+  page(kind, name, place) { return this.pages.get(this.key(kind, name, place)); }
+  // gets those of these pages that aren't there yet; each is a kind, a branch's name and a place
+  async look(looks) {
+    const keys = new Set(looks.map((it) => this.key(...it))), wanted = [...keys].filter((it) => !this.pages.has(it));
+    if (this.pages.size * this.shape.cells > MOST_KEPT)
+      for (const key of this.pages.keys()) if (!keys.has(key)) this.pages.delete(key);
+    if (!wanted.length) return;
+    const made = await answered(this.ask, this.bench, linesOf(wanted.map((it) => `${LOOK} ${it}`)));
+    const found = answersIn(made.output);
+    wanted.forEach((look, index) => {
+      const { first, lines } = found[index] || { first: "nothing", lines: [] };
+      if (first.startsWith(`${LOOK}: ${look} of `)) this.pages.set(look, pageIn(look.split(" ")[0], lines));
+      else this.notes.push(`To the look ${look} the program answered ${first.slice(0, 60)}`);
+    });
+  }
+}
+// How many of these steps a process needs to the end of its operation, or to a choice; null if neither comes.
+export async function stepsToEnd({ ask, bench }, commands, at, process, many) {
+  // (an edit takes a session that can join)
+  const lines = [...commands.map((it) => `0 ${it}`), `${LOOK} history ${at.name} ${at.place + many}`];
+  const found = answersIn((await answered(ask, bench, linesOf(lines))).output).at(-1);
+  for (const { step, process: who, words } of pageIn("history", found ? found.lines : []).events) {
+    if (step < at.place || who !== process) continue;
+    return step - at.place + (words.startsWith("chosen") ? 0 : 1);
+  }
+  return null;
+}

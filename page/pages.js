@@ -1,0 +1,110 @@
+// What the program's answers say, as data. Nothing is worked out that no page says; a line that isn't known is noted.
+
+// the session that asks for pages: none that can join
+export const LOOK = 999999999;
+const NUMBER = "(?:0|[1-9][0-9]{0,8})";
+const whole = (pattern) => new RegExp(`^(?:${pattern})$`);
+const PROCESS = whole(`p([0-9]) (idle|read|write (${NUMBER}))(?: (stopped)| next (ws|we|rs|re) (${NUMBER}))?`);
+const EVENT = whole(`(${NUMBER}) p([0-9]) (invoke read|invoke write ${NUMBER}|return ${NUMBER}|return written|stop|` +
+  `void (?:busy|idle|stopped)|chosen bit ${NUMBER} value [01]|refused spent (?:stamped|matrix))`);
+const CELL = whole(`(${NUMBER}) ([01]) ([01-]) ([rh-])`);
+const WORDS = whole(`words (?:-|${NUMBER}(?: ${NUMBER})*)`);
+const BITS = whole("bits [01]+");
+const VERDICT = whole(`(${NUMBER} p[0-9] ${NUMBER}) (fresh|overlap|stray)`);
+const UNDEFINED = "undefined for matrix";
+const STEP = whole(`w [0-9] ${NUMBER}|r [0-9]|g [0-9] [01]|x [0-9]`);
+const BRANCH = whole(`branch ([a-z][a-z0-9]{0,15}) (${NUMBER}) (${NUMBER})`);
+const CURSOR = whole(`${NUMBER}: cursor (\\S+) (${NUMBER}) breaks ${NUMBER}`);
+export const between = (from, to) => [...Array(Math.max(0, to - from)).keys()].map((it) => it + from);
+// each answer, its first line and the others; a last line that is cut off isn't one
+export function answersIn(output) {
+  const found = [];
+  for (const line of output.split("\n").slice(0, -1))
+    if (line.startsWith("  ") && found.length) found.at(-1).lines.push(line.slice(2));
+    else found.push({ first: line, lines: [] });
+  return found;
+}
+// the answer to each line of a script, or null for one that has none
+export function pairedAnswers(lines, found) {
+  let many = 0;
+  return lines.map((line) => (line === "" || line.startsWith("#") ? null : found[many++] || null));
+}
+export function cursorIn({ first, lines }) {
+  const match = CURSOR.exec(first);
+  return match && { name: match[1], place: Number(match[2]), breaks: lines };
+}
+// A branch: the first cells of its parent, which both share, and then cells of its own.
+class Branch {
+  constructor(name, parent, shared, index) { Object.assign(this, { name, parent, shared, index, own: [] }); }
+  get length() { return this.shared + this.own.length; }
+  step(index) { return index < this.shared ? this.parent.step(index) : this.own[index - this.shared]; }
+  get steps() { return [...(this.parent ? this.parent.steps.slice(0, this.shared) : []), ...this.own]; }
+  // the branch that had the first cells, up to a place, before all others
+  owner(place) { return this.shared && place <= this.shared ? this.parent.owner(place) : this; }
+}
+// the tower and the branches of a bench file, with what they share
+export function forestIn(bench) {
+  const [, tower = "", ...lines] = bench.split("\n").slice(0, -1), branches = [];
+  for (const line of lines) {
+    const match = line.startsWith("b") && BRANCH.exec(line);
+    if (match) {
+      const parent = Number(match[3]) ? branches[match[2]] : null, shared = Number(match[3]);
+      if (shared > (parent ? parent.length : 0)) throw new Error(`A branch shares steps that aren't there: ${line.slice(0, 60)}`);
+      branches.push(new Branch(match[1], parent, shared, branches.length));
+    } else if (STEP.test(line) && branches.length) branches.at(-1).own.push(line);
+    else throw new Error(`The saved branches have a line that isn't known: ${line.slice(0, 60)}`);
+  }
+  if (!branches.length) throw new Error("The program saved no branches.");
+  return { tower, branches };
+}
+// how many cells two branches share: the later one begins with cells of its parent, and shares no others
+export function sharedCells(a, b) {
+  if (a === b) return a.length;
+  const [earlier, later] = a.index < b.index ? [a, b] : [b, a];
+  return later.shared && Math.min(later.shared, sharedCells(later.parent, earlier));
+}
+// the first step in which two branches differ; the first `at` are known to be equal
+export function firstDifference(a, b, at = sharedCells(a, b)) {
+  while (at < a.length && at < b.length && a.step(at) === b.step(at)) at++;
+  return at;
+}
+function processIn(line) {
+  const match = PROCESS.exec(line);
+  if (!match) return null;
+  const [, number, doing, value, stopped, action, bit] = match, kind = doing.split(" ")[0];
+  return { number: Number(number), kind, doing, value, isStopped: Boolean(stopped), action, bit: bit && Number(bit) };
+}
+// (equal texts are the same text, so that comparing them takes no time)
+const CELLS = new Map();
+const oneText = (words) => CELLS.get(words) || CELLS.set(words, words).get(words);
+// what each kind of page is at first, and how it takes a line, if it knows it
+const PAGES = {
+  state: [() => ({ processes: [], words: "" }), (page, line) => {
+    const found = processIn(line);
+    if (found) page.processes.push(found);
+    else if (WORDS.test(line)) page.words = line;
+    return found || WORDS.test(line) || BITS.test(line);
+  }],
+  // `cells` has for each bit its value, what is being written and whether it is read, as `0 1 h`
+  bits: [() => ({ cells: [] }), (page, line) => {
+    const space = line.indexOf(" "), isNext = Number(line.slice(0, space)) === page.cells.length && CELL.test(line);
+    if (isNext) page.cells.push(oneText(line.slice(space + 1)));
+    return isNext || WORDS.test(line);
+  }],
+  history: [() => ({ events: [] }), (page, line) => {
+    const match = EVENT.exec(line);
+    if (match) page.events.push({ step: Number(match[1]), process: Number(match[2]), words: match[3], line });
+    return match || line === "none";
+  }],
+  verdict: [() => ({ verdicts: new Map(), isUndefined: false }), (page, line) => {
+    const match = VERDICT.exec(line);
+    if (match) page.verdicts.set(match[1], match[2]);
+    page.isUndefined ||= line === UNDEFINED;
+    return match || line === "none" || line === UNDEFINED;
+  }],
+  pending: [() => ({}), () => true],
+};
+export function pageIn(kind, lines) {
+  const [first, take] = PAGES[kind], page = first();
+  return Object.assign(page, { lines, unknown: lines.filter((it) => !take(page, it)) });
+}

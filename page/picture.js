@@ -1,0 +1,211 @@
+// The picture in the page: which branches and columns are in sight, the pages that these take, and what is drawn.
+import { between, firstDifference, sharedCells } from "./pages.js";
+import { Drawing, FEW_CELLS, LABEL, MARGIN } from "./drawing.js";
+import { Reading, overlappedWrites } from "./reading.js";
+import { aboutBranch, hatch, looksOf } from "./still.js";
+import { all, element, here, mounted, now, one, putIfChanged, putParts } from "./state.js";
+
+const COLUMNS = [104, 76, 52, 44], AROUND = 20, MOST_LINES = 200000, SIGHT = 300, MOST_TREE = 12, TREE_ROW = 27;
+const scroll = one("#scroll"), heights = new Map();
+one("#patterns").append(mounted(hatch()));
+// the branches that are drawn one below the other, as the page's choice has them
+export function shown() {
+  const { model, view } = now, [kind, ...names] = view.show.split(" ");
+  const found = names.map((it) => model.branch(it));
+  if (kind !== "all" && found.every(Boolean) && names.includes(here().name)) return found;
+  view.show = "all";
+  return model.branches;
+}
+const isComparing = () => now.view.show.startsWith("compare ");
+const longest = (branches) => Math.max(...branches.map((it) => it.length), 1);
+// the columns that are drawn: those in sight and some around them; if the page follows it, the cursor comes in sight
+function findRange(branches, many, isFollowing) {
+  const room = Math.max(300, scroll.clientWidth - LABEL), { model, range } = now;
+  const fitting = COLUMNS.find((it) => longest(branches) * it + MARGIN <= room), column = fitting || COLUMNS.at(-1);
+  const x = here().place * column, centred = Math.max(0, x - room / 2);
+  let left = fitting ? 0 : range.column === column ? scroll.scrollLeft : centred;
+  if (isFollowing && (x < left + column || x > left + room - column)) left = centred;
+  const most = Math.max(20, MOST_LINES / model.shape.cells / many), middle = (left + room / 2) / column;
+  const half = Math.min(room / 2 / column + AROUND, most / 2);
+  const [from, to] = [middle - half, middle + half].map((it) => Math.round(it / 10) * 10);
+  return { from: Math.max(0, from), to: Math.max(10, to), column, left };
+}
+// how high a branch's panel is, or about how high it will be
+function heightOf(branch) {
+  const { cells, processes } = now.model.shape;
+  return heights.get(branch.name) || 90 + processes * 84 + 30 * Math.min(cells, FEW_CELLS);
+}
+const isInSight = (top, bottom) => bottom > scroll.scrollTop - SIGHT && top < scroll.scrollTop + scroll.clientHeight + SIGHT;
+// those whose panels are in sight, and that of the cursor
+function panelsInSight(drawn) {
+  let top = one("#panels").offsetTop;
+  return drawn.filter((it) => {
+    const from = top;
+    top += heightOf(it);
+    return it.name === here().name || isInSight(from, top);
+  });
+}
+function branchesOfTree() {
+  const { branches } = now.model, { open: isOpen, dataset } = one("#tree-fold");
+  // (of many branches the tree is folded at first)
+  if (branches.length < 2 || (branches.length > MOST_TREE && !(isOpen && dataset.many))) return [];
+  return branches.filter((it) => isInSight(it.index * TREE_ROW, (it.index + 1) * TREE_ROW));
+}
+const cut = ({ from, to }, branch) => [from, to].map((it) => Math.min(it, branch.length));
+export async function look(isFollowing) {
+  const { model } = now, panels = panelsInSight(shown()), { name, place } = here(), tree = branchesOfTree();
+  const range = findRange(shown(), panels.length, isFollowing), looks = panels.flatMap((it) => looksOf(it, ...cut(range, it)));
+  for (const it of tree) looks.push(...["history", "verdict"].map((kind) => [kind, it.name, cut(range, it)[1]]));
+  for (const kind of ["state", "pending", "bits"]) looks.push([kind, name, place], [kind, name, Math.max(0, place - 1)]);
+  await model.look(looks);
+  const before = now.readings, page = (it) => (kind, at) => model.page(kind, it.name, at);
+  const isSame = (was, it, from, to) => was && was.branch === it && was.from === from && was.to === to;
+  const read = (it, from, to) => {
+    const was = before.get(it.name);
+    now.readings.set(it.name, isSame(was, it, from, to) ? was : new Reading(it, from, to, page(it)));
+  };
+  now.readings = new Map();
+  for (const it of tree) read(it, cut(range, it)[1], cut(range, it)[1]);
+  for (const it of panels) read(it, ...cut(range, it));
+  now.range = range;
+  now.inSight = new Set(panels);
+}
+export function isMissing() {
+  const { from, to, column } = now.range, left = scroll.scrollLeft / column;
+  const isBeyond = left < from || (left + (scroll.clientWidth - LABEL) / column > to && to < longest(now.model.branches));
+  if (isBeyond || panelsInSight(shown()).some((it) => !now.inSight.has(it))) return true;
+  return branchesOfTree().some((it) => !now.readings.has(it.name));
+}
+function stripNode({ kind, label, drawn, height }, { x, width, whole }) {
+  const svg = (given, shapes) => mounted({ name: "svg", attributes: { height, ...given }, children: shapes });
+  const picture = svg({ width, viewBox: `${x} 0 ${width} ${height}`, class: "drawn" }, drawn);
+  picture.style.marginLeft = `${x}px`;
+  const made = element("div", { class: `strip ${kind}` }, element("span", { class: "label" }, svg({ width: LABEL }, label)), picture);
+  made.style.width = `${whole}px`;
+  return made;
+}
+const stripPart = (key, strip, frame) => ({ key, held: JSON.stringify([strip, frame]), make: () => stripNode(strip, frame) });
+// a register's bits, or the words, which are drawn once they are unfolded
+function foldPart(branch, { name, fold, rows }, frame) {
+  const key = `${branch.name} ${name}`, isOpen = now.view.open.has(key);
+  if (!rows.drawn.length) return [];
+  if (!fold) return [stripPart(name || "bits", rows, frame)];
+  const make = () => element("details", { "data-open": key, open: isOpen && "" }, element("summary", {}, stripNode(fold, frame)),
+    isOpen && stripNode(rows, frame));
+  return [{ key: `fold ${name}`, held: JSON.stringify([fold, frame, isOpen && rows]), make }];
+}
+function headPart(branch) {
+  const { model, view } = now, { branches } = model, isAlone = view.show === `only ${branch.name}`;
+  const shares = model.sharedSteps(branch) > 0, isMany = branches.length > 1;
+  const doing = [["fork", "fork\u2026", "a new branch of the steps before the cursor (f)", true],
+    ["detach", "detach", "give it steps of its own, which no other branch holds (d)", shares],
+    ["compare", isComparing() ? "stop comparing" : "compare", "with the cursor's branch, or its own parent (m)", isMany],
+    ["alone", isAlone ? "show all" : "alone", "show this branch alone", isMany && !isComparing()],
+    ["own", "own steps \u25b8", "go to the first step that it doesn't share with its parent (j)", branch.shared],
+    ["drop", "drop", "drop the branch", isMany]].filter(([, , , is]) => is);
+  const make = () => element("h2", {}, element("span", { class: "select", "data-select": branch.name }, branch.name), " ",
+    element("small", {}, aboutBranch(branch)), doing.map(([name, words, title]) =>
+      element("button", { "data-do": name, "data-key": `${name} ${branch.name}`, title }, words)));
+  return { key: "head", held: JSON.stringify([branch.name, aboutBranch(branch), doing]), make };
+}
+function putPanel(section, branch, drawing, frame, { asked, groups, above, differing }) {
+  const reading = now.readings.get(branch.name), { model, who } = now, parts = [headPart(branch)];
+  const cursors = model.cursors.map((it, at) => ({ ...it, who: at })).filter((it) => it.name === branch.name && it.who !== who);
+  section.style.minHeight = now.inSight.has(branch) ? "" : `${heightOf(branch)}px`;
+  // (what is made of the same things is left as it is)
+  const kept = [parts[0].held, frame, asked, above, differing, cursors, [...now.view.open], [...groups]];
+  const made = [reading, JSON.stringify(kept), now.inSight.has(branch)];
+  if (section.made && made.every((it, index) => it === section.made[index])) return;
+  section.made = made;
+  if (now.inSight.has(branch)) {
+    parts.push(stripPart("chips", drawing.chips(reading, { shared: model.sharedSteps(branch), differing }), frame));
+    if (cursors.length) parts.push(stripPart("flags", drawing.flags(cursors), frame));
+    parts.push(stripPart("lanes", drawing.lanes(reading, { asked, shared: above }), frame));
+    const rows = [...drawing.bits(reading, groups, above), drawing.words(reading, above)];
+    parts.push(...rows.flatMap((it) => foldPart(branch, it, frame)));
+  }
+  putParts(section, parts);
+}
+function differenceOf(branch, drawn) {
+  const other = isComparing() && drawn.find((it) => it !== branch), [from, to] = cut(now.range, branch);
+  return other ? between(from, to).filter((it) => it >= other.length || other.step(it) !== branch.step(it)) : [];
+}
+// `asked` are the processes at the cursor whose read is hit
+export function putPicture(asked) {
+  const { model, range, readings } = now, drawn = shown(), { name, place } = here(), panels = one("#panels");
+  const drawing = new Drawing(range, model.shape), x = drawing.left(range.from);
+  const whole = longest(model.branches) * range.column + MARGIN, width = Math.min(whole, drawing.left(range.to) + MARGIN) - x;
+  const frame = { x, width, whole: whole + LABEL }, inSight = drawn.filter((it) => now.inSight.has(it));
+  const groups = drawing.groups(inSight.map((it) => readings.get(it.name)));
+  one("#inner").style.width = `${frame.whole}px`;
+  scroll.style.setProperty("--room", `${scroll.clientWidth}px`);
+  Object.assign(one("#inner").dataset, { from: range.from, to: range.to });
+  putParts(one("#ruler"), [stripPart("ruler", drawing.ruler(longest(model.branches)), frame)]);
+  putTree(drawing, frame);
+  while (panels.children.length > drawn.length) panels.lastChild.remove();
+  drawn.forEach((it, index) => {
+    const section = panels.children[index] || panels.appendChild(element("section", { class: "panel" }));
+    section.dataset.branch = it.name;
+    section.classList.toggle("focus", it.name === name);
+    const above = isComparing() ? 0 : Math.max(0, ...drawn.slice(0, index).map((other) => sharedCells(other, it)));
+    putPanel(section, it, drawing, frame, { groups, above, asked: it.name === name && place === it.length ? asked : [],
+      differing: differenceOf(it, drawn) });
+  });
+  // (measured once all are drawn, so that the page is laid out once)
+  for (const it of inSight) heights.set(it.name, panels.children[drawn.indexOf(it)].offsetHeight);
+  one("#line").style.left = `${LABEL + place * range.column}px`;
+  for (const it of all(".chip.next")) it.classList.remove("next");
+  one(`.panel.focus .chip[data-step="${place}"]`)?.classList.add("next");
+  putChoices();
+  light();
+  scroll.scrollLeft = range.left;
+}
+// brings the panel of the cursor in sight, if it is another one than before
+export function followFocus() {
+  const { name } = here();
+  if (now.followed !== name) one(".panel.focus").scrollIntoView({ block: "nearest", inline: "nearest" });
+  now.followed = name;
+}
+function putTree(drawing, frame) {
+  const { model: { branches }, readings } = now, isMany = branches.length > MOST_TREE, fold = one("#tree-fold");
+  fold.hidden = branches.length < 2;
+  fold.querySelector("summary").hidden = !isMany;
+  fold.querySelector("summary span").textContent = `${branches.length} branches`;
+  if (!isMany) fold.open = true;
+  else if (!fold.dataset.many) fold.open = false;
+  fold.dataset.many = isMany ? "yes" : "";
+  if (fold.open && !fold.hidden) putParts(one("#tree"), [stripPart("tree", drawing.tree(branches, readings), frame)]);
+}
+function putChoices() {
+  const { view: { show }, model: { branches } } = now, choices = [["all", "all branches"]];
+  for (const { name } of branches) choices.push([`only ${name}`, `${name} alone`]);
+  if (isComparing()) choices.push([show, show.replace("compare ", "").replace(" ", " and ")]);
+  putIfChanged(one("#show"), JSON.stringify(choices), () => choices.map(([value, words]) => element("option", { value }, words)));
+  one("#show").value = show;
+}
+export function comparison() {
+  if (!isComparing()) return "";
+  const [a, b] = shown(), shared = sharedCells(a, b), at = firstDifference(a, b);
+  const first = shared ? `${a.name} and ${b.name} share their first ${shared} steps` : `${a.name} and ${b.name} share no step`;
+  const of = (it) => (at < it.length ? it.step(at) : "none");
+  if (at >= a.length && at >= b.length) return `${first}, and all their steps are equal.`;
+  return `${first}; the first that differs is step ${at}: ${of(a)} on ${a.name}, ${of(b)} on ${b.name}.`;
+}
+export function pickedRead() {
+  const { picked } = now.view, reading = picked && now.readings.get(picked.name);
+  return reading ? reading.operationAt(picked.begun) : undefined;
+}
+export function light() {
+  for (const it of all(".lit, .dim, .picked, .lifted")) it.classList.remove("lit", "dim", "picked", "lifted");
+  const read = pickedRead(), section = read && all(".panel").find((it) => it.dataset.branch === now.view.picked.name);
+  const lanes = section && section.querySelector(".lanes");
+  one("#zone").hidden = !lanes;
+  if (!lanes) return;
+  section.classList.add("lifted");
+  const { run, to } = now.readings.get(now.view.picked.name), { column } = now.range;
+  const overlapped = new Set(overlappedWrites(run, read).map((it) => String(it.begun)));
+  section.querySelector(`.operation[data-at="${read.begun}"]`)?.classList.add("picked");
+  for (const it of section.querySelectorAll(".operation.write")) it.classList.add(overlapped.has(it.dataset.at) ? "lit" : "dim");
+  Object.assign(one("#zone").style, { left: `${LABEL + read.begun * column}px`, top: `${lanes.offsetTop}px`,
+    width: `${((read.ended ?? to - 1) + 1 - read.begun) * column}px`, height: `${lanes.offsetHeight}px` });
+}

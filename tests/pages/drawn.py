@@ -1,0 +1,158 @@
+"""What the page draws of each branch, held to what a second reader has from the program's pages, place by place."""
+import random
+import re
+
+import cases
+from pages.live import holds, same
+from pages.reader import NO_TOWER, Reader, bit_actions, overlapped
+
+MARKS = """(() => { const panel = document.querySelector(".panel.focus"), all = (name) => [...panel.querySelectorAll(name)];
+  const steps = all(".chip").map((it) => Number(it.dataset.step));
+  return { from: Math.min(...steps), to: Math.max(...steps) + 1, chips: all(".chip text").map((it) => it.textContent),
+    bars: all(".operation").map((it) => it.dataset.at + " " + it.querySelector("title").textContent.split(",")[0]),
+    ticks: all(".tick").map((it) => it.dataset.action), chosen: all(".mark.chosen").length, void: all(".mark.void").length,
+    stop: all(".mark.stop").length, refused: all(".mark.refused").length,
+    verdicts: all(".operation [data-verdict]").map((it) => it.dataset.verdict).filter(Boolean) }; })()"""
+ROWS = """(() => { const panel = document.querySelector(".panel.focus"), rows = {};
+  const at = (it, name) => Number(it.getAttribute(name)), along = (it, d) => it.classList.contains("hit")
+    ? Number(d[1]) + (it.getAttribute("d").split("l").length - 1) * Number(it.getAttribute("d").match(/l([0-9.]+)/)[1])
+    : Number(it.getAttribute("d").split("H")[1]);
+  for (const row of panel.querySelectorAll(".strip.rows [data-row^='bit ']"))
+    rows[row.dataset.row.slice(4)] = {
+      boxes: [...row.querySelectorAll("rect")].map((it) => [it.getAttribute("class"), at(it, "x"), at(it, "x") + at(it, "width")]),
+      reads: [...row.querySelectorAll(".hit, .read-line")].map((it) => {
+        const d = it.getAttribute("d").match(/M([0-9.]+) ([0-9.]+)/);
+        return [it.getAttribute("class"), Number(d[1]), along(it, d)]; }) };
+  return [Number(panel.querySelector(".chip rect").getAttribute("width")) + 3, rows]; })()"""
+KINDS = ("chosen", "void", "stop", "refused")
+SEED = 5
+MOVES = 40
+TOWERS = ("safe 1", "copies 2 0", "regular 3 1", "unary 3 1 2", "stamped 2 2", "matrix 2 2 0 1")
+# what a person may click on; how often each is clicked
+CLICKABLE = """[...document.querySelectorAll("#processes button:enabled, #breaks > button:enabled, .panel h2 button, .chip, " +
+  "#undo:enabled, #redo:enabled, .operation.read, [data-do=left], [data-do=right], #said button")].map((it, index) => {
+  it.dataset.walk = index; return it.dataset.key || it.dataset.do || it.id || it.getAttribute("class"); })"""
+WEIGHTS = ((r"p\d x", 0.2), (r"p\d [wrg]|p\d end", 10), ("chip", 0.15), ("", 1))
+CLICKED = """(() => { const it = document.querySelector('[data-walk="%d"]');
+  for (const each of document.querySelectorAll("[data-walk]")) delete each.dataset.walk;
+  it.dispatchEvent(new MouseEvent("click", { bubbles: true, clientX: 400 })); })()"""
+
+
+def compare_rows(page, found, name, first, last):
+    """Compares what each row of a bit shows at each place with the page of bits there."""
+    column, rows = page.value(ROWS)
+    for place in range(first, last + 1):
+        lines = dict(line.split(" ", 1) for line in found[f"bits {name} {place}"])
+        for bit, row in rows.items():
+            value, written, read = lines[bit].split(" ")
+            x = place * column
+            boxes = [kind for kind, left, right in row["boxes"] if left <= x <= right]
+            reads = [kind for kind, left, right in row["reads"] if left - 0.1 <= x <= right + 0.1]
+            same(boxes, ["written" if written != "-" else {"0": "zero", "1": "one"}[value]], f"bit {bit} at {name} {place}")
+            same(reads, {"-": [], "r": ["read-line"], "h": ["hit"]}[read], f"read of bit {bit} at {name} {place}")
+
+
+def compare(page, reader, name):
+    """Compares the marks of the panel where the cursor is with the pages; returns how many steps were drawn."""
+    (found, length), marks = reader.branch(name), page.value(MARKS)
+    head = page.text(".panel.focus h2")
+    holds(head.startswith(f"{name} {length} step"), f"the head of {name}, which has {length} steps, is {head}")
+    if not marks["chips"]:
+        return 0
+    first, last = marks["from"], marks["to"]
+    history = [(int(line.split()[0]), line) for line in found[f"history {name} {length}"] if line != "none"]
+    bars = [re.sub(r"^(\d+) (p\d) invoke ", r"\1 \2 ", line) for at, line in history if " invoke " in line and at < last]
+    verdicts = [line.split()[-1] for line in found[f"verdict {name} {length}"] if re.match(r"\d", line)
+                and first <= int(line.split()[0]) < last]
+    same(marks["chips"], [line.split(" ", 1)[1] for line in found[f"steps {name} {length}"]][first:last], name)
+    holds(set(marks["bars"]) <= set(bars) and (first or len(marks["bars"]) == len(bars)), f"{name}: {marks['bars']} for {bars}")
+    same(sorted(marks["ticks"]), bit_actions(found, name, first, last), name)
+    compare_rows(page, found, name, first, last)
+    for kind in KINDS:
+        same(marks[kind], sum(line.split()[2] == kind for at, line in history if first <= at < last), f"{name}, {kind}")
+    same(sorted(marks["verdicts"]), sorted(verdicts), name)
+    return last - first
+
+
+def lit_writes(page, reader, name):
+    """Clicks on each read that returned, and compares the writes that light up and the first word of the sentence."""
+    found, length = reader.branch(name)
+    verdicts = {line.split()[0]: line.split()[-1] for line in found[f"verdict {name} {length}"]}
+    ends = {}
+    for begun, writes in overlapped(found[f"history {name} {length}"]).items():
+        if not page.count(f'.panel.focus .operation.read[data-at="{begun}"]'):
+            continue
+        page.value(f"""document.querySelector('.panel.focus .operation.read[data-at="{begun}"]')
+          .dispatchEvent(new MouseEvent("click", {{ bubbles: true }}))""")
+        page.wait()
+        lit = page.value("[...document.querySelectorAll('.panel.focus .operation.lit')].map((it) => Number(it.dataset.at))")
+        drawn = page.value("[...document.querySelectorAll('.panel.focus .operation')].map((it) => Number(it.dataset.at))")
+        same(sorted(lit), sorted(it for it in writes if it in drawn), f"{name}, the read of step {begun}")
+        ends[begun] = page.said()
+        holds("doesn't show why" not in ends[begun], ends[begun])
+        holds(any(f"{it}:" in ends[begun].lower() for it in {*verdicts.values()}) or "no verdict" in ends[begun], ends[begun])
+        page.key("Escape")
+    return len(ends)
+
+
+def all_documents(names):
+    """Returns the tower and the script of each example and lesson."""
+    found = []
+    for it in names:
+        if it.startswith(("examples/", "lessons/")):
+            tower = next((f"{it}.{kind}" for kind in ("tower", "bench") if cases.path_of(it, kind, "")), None)
+            found.append((it, cases.read(tower).decode() if tower else NO_TOWER, cases.read(f"{it}.script").decode()))
+    return found
+
+
+def documents(page, program, names):
+    """Opens each example and lesson, and compares each branch alone with the program's pages."""
+    drawn = reads = 0
+    for title, tower, script in all_documents(names):
+        page.open(tower, script)
+        reader = Reader(program, tower, script)
+        same(page.value("[...document.querySelectorAll('#show option')].map((it) => it.value)")[1:len(reader.lengths) + 1],
+             [f"only {it}" for it in reader.lengths], title)
+        for name in reader.lengths:
+            page.fill("#show", f"only {name}" if len(reader.lengths) > 1 else "all")
+            drawn += compare(page, reader, name)
+            reads += lit_writes(page, reader, name)
+    holds(drawn > 300 and reads > 30, f"only {drawn} steps and {reads} reads were drawn")
+
+
+def name_branch(page):
+    """Takes the name that the dialog offers, once it is open."""
+    page.until("document.querySelector('#name-dialog').open")
+    page.fork(page.value("document.querySelector('#name').value"))
+
+
+def walk(page, chance):
+    """Clicks on something that is there."""
+    keys = page.value(CLICKABLE)
+    weights = [next(weight for pattern, weight in WEIGHTS if re.match(pattern, it)) for it in keys]
+    chosen = chance.choices(range(len(keys)), weights)[0]
+    page.value(CLICKED % chosen)
+    page.wait()
+    is_fork = keys[chosen].startswith("fork")
+    if keys[chosen] == "chip":
+        page.until("!document.querySelector('#menu').hidden")
+        actions = page.value("[...document.querySelectorAll('#menu button')].map((it) => it.dataset.stepAction || '')")
+        at = chance.randrange(len(actions))
+        page.value(f"document.querySelectorAll('#menu button')[{at}].click()")
+        is_fork = actions[at] == "fork"
+        page.wait()
+    if is_fork:
+        name_branch(page)
+
+
+def walks(page, program):
+    """Does what a person might, at random, on each tower; the marks stay those of the pages that the script gives."""
+    chance, drawn = random.Random(SEED), 0
+    for tower in TOWERS:
+        page.open(f"tower 2\n{tower}\n")
+        for index in range(MOVES):
+            walk(page, chance)
+            if index % 5 == 4:
+                name = page.place().split(",")[0]
+                drawn += compare(page, Reader(program, *page.document()), name)
+    holds(drawn > 200, f"only {drawn} steps were drawn")

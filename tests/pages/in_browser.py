@@ -1,0 +1,66 @@
+"""The page in a browser: each test has a browser of its own with a fresh profile, opens the file as a person would, and fails also if
+the console has a line."""
+import functools
+import inspect
+import os
+import tempfile
+import threading
+
+from pages import build, chromium, drawn, faults, firefox, gestures, lessons, sizes
+from pages.live import Page
+from trials import Test
+
+ALL = {
+    "gestures": ("first_screen", "lesson_by_clicks", "processes", "steps", "branches", "breaks", "keyboard", "files", "sessions", "typed",
+                 "tower_limits", "copies", "paper"),
+    "drawn": ("documents", "walks"),
+    "lessons": ("lessons", "exercises", "a_lesson_line_by_line", "policy"),
+    "faults": ("other_programs", "no_answer", "damaged_files", "damaged_answers"),
+    "sizes": ("long_schedules", "large_documents"),
+}
+# What needs no more than both drivers have.
+IN_FIREFOX = {
+    "gestures": ("first_screen", "lesson_by_clicks", "processes", "steps", "branches", "breaks", "sessions", "typed", "tower_limits",
+                 "copies"),
+    "drawn": ("documents",),
+    "lessons": ("lessons", "a_lesson_line_by_line"),
+}
+MODULES = {"gestures": gestures, "drawn": drawn, "lessons": lessons, "faults": faults, "sizes": sizes}
+
+
+class File:
+    """The page as one file, which is written when the first test asks for it."""
+
+    def __init__(self, folder):
+        self.path, self.turn = f"{folder}/towerbench.html", threading.Lock()
+
+    def written(self):
+        with self.turn:
+            if not os.path.exists(self.path):
+                with open(self.path, "w", encoding="utf-8") as file:
+                    file.write(build.packed(build.made_module()))
+        return self.path
+
+
+def fault_of(driver, work, file, given):
+    """Returns what is wrong in one test; None: nothing."""
+    path, browser = file.written(), driver.Browser(driver.found())
+    try:
+        page = Page(browser, path)
+        work(page, **{name: given[name] for name in inspect.signature(work).parameters if name != "page"})
+        return f"the console has: {browser.complaints[0]}" if browser.complaints else None
+    finally:
+        browser.close()
+
+
+def tests_in(driver, chosen, label, file, given):
+    if not driver.found():
+        return [Test(f"{label}: it isn't here", None)]
+    works = [getattr(MODULES[module], name) for module, names in chosen.items() for name in names]
+    return [Test(f"{label}: {it.__name__.replace('_', ' ')}", functools.partial(fault_of, driver, it, file, given)) for it in works]
+
+
+def tests(names, program, scratch):
+    """Returns the tests. names: those of the cases; program: the native one."""
+    file, given = File(tempfile.mkdtemp(dir=scratch)), {"names": names, "program": program}
+    return tests_in(chromium, ALL, "Chromium", file, given) + tests_in(firefox, IN_FIREFOX, "Firefox", file, given)

@@ -1,0 +1,83 @@
+"""Lessons in the page, and the policy under which it runs."""
+import json
+
+import cases
+from pages.live import holds, same
+
+COMMENT, SOLUTION = "# ", "/your-own"
+VIOLATION = """new Promise((done) => {
+  addEventListener("securitypolicyviolation", (event) => done(event.effectiveDirective), { once: true });
+  setTimeout(() => done("nothing is refused"), 5000);
+  %s })"""
+REFUSED = {
+    "connect-src": "fetch('http://127.0.0.1:9/').catch(() => null)",
+    "img-src": "document.body.append(Object.assign(new Image(), { src: 'http://127.0.0.1:9/' }))",
+    "script-src-elem": "document.body.append(Object.assign(document.createElement('script'), { textContent: '1' }))",
+}
+
+
+def first_caption(lines):
+    found = []
+    for line in lines:
+        if not line.startswith("#"):
+            break
+        found.append(line[len(COMMENT):])
+    return " ".join(found)
+
+
+def lessons(page, names):
+    """Each lesson is in the menu, begins before its first line with its caption, and can be played to its end."""
+    found = [it for it in names if it.startswith("lessons/") and it.count("/") == 2 and not it.endswith(SOLUTION)]
+    for name in found:
+        script = cases.read(f"{name}.script").decode()
+        page.open()
+        page.do("chooseOpen")
+        page.click(f'#open-dialog [data-open="{name[len("lessons/"):]}"]')
+        page.until("!document.querySelector('#lesson').hidden", f"{name} isn't begun")
+        page.wait()
+        if script.startswith(COMMENT):
+            same(page.text("#caption"), first_caption(script.splitlines()), name)
+        page.do("lessonNext")
+        page.do("lessonEnd")
+        same(page.script().strip(), script.strip(), name)
+        holds(page.value("document.querySelector('#lesson-next').disabled"), f"{name} goes on after its end")
+    holds(len(found) >= 9, f"there are only {len(found)} lessons")
+
+
+def exercises(page, names):
+    """A lesson's own exercise opens as its tower with an empty script: its solution isn't in the page."""
+    for name in [it for it in names if it.endswith(SOLUTION)]:
+        tower = cases.read(f"{name}.tower").decode()
+        page.open()
+        page.do("chooseOpen")
+        page.click(f'#open-dialog [data-open="{name[len("lessons/"):]}"]')
+        page.until(f"document.querySelector('#file').value === {json.dumps(tower)}", f"{name} isn't opened")
+        page.wait()
+        same(page.script(), "", name)
+        holds(page.value("document.querySelector('#lesson').hidden"), f"{name} is played")
+
+
+def a_lesson_line_by_line(page):
+    """Lesson 1 is played line by line: each line is answered as its expected output has it."""
+    name = "lessons/01-safe-bit/safe"
+    lines = [it for it in cases.read(f"{name}.script").decode().splitlines() if it and not it.startswith("#")]
+    page.open()
+    page.do("chooseOpen")
+    page.click('#open-dialog [data-open="01-safe-bit/safe"]')
+    page.until("!document.querySelector('#lesson').hidden")
+    played = []
+    for _ in lines:
+        page.do("lessonNext")
+        played.append((page.text("#played code"), page.text("#played pre")))
+    same([line for line, _ in played], lines)
+    wanted = cases.read(f"{name}.expected").decode().splitlines()
+    same([line for _, answer in played for line in answer.split("\n")], [it.strip() for it in wanted])
+
+
+def policy(page):
+    """The page reaches no network and runs no code but its own."""
+    page.open()
+    for directive, attempt in REFUSED.items():
+        same(page.value(VIOLATION % attempt), directive)
+    # (the browser says so on its console too)
+    page.chrome.complaints.clear()
