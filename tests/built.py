@@ -1,7 +1,7 @@
 #!/usr/bin/env python3
 """The built tests of a crate, which serve only as long as no source is newer than they are.
 
-usage: tests/built.py NAME..   builds the tests of these crates where it has to (`rt test`), and
+usage: tests/built.py NAME..   builds the tests of these crates if it must (`rt test`), and
                                prints where they are
 
 Whether they are there and no source is newer is asked of tools/program, as it is of the program.
@@ -37,13 +37,13 @@ def lack_of(crate):
 
 
 def build(crate):
-    """Returns the path of a crate's tests, which are built where they have to be."""
+    """Returns the path of a crate's tests, which are built if they must be."""
     if not are_current(crate):
         begun = time.time_ns()
         words = ["rt", "test"]
         subprocess.run(words, cwd=f"{TOP}/crates/{crate}", stdout=subprocess.DEVNULL, check=True)
-        # (where the newer source is none of theirs `rt` leaves them as they are; and what is edited
-        # meanwhile is newer than they are)
+        # (if the newer source is none of theirs `rt` leaves them as they are; and sources edited
+        # meanwhile are newer than they are)
         os.utime(tests_of(crate), ns=(begun, begun))
     return tests_of(crate)
 

@@ -1,12 +1,12 @@
 """Cases: a script, what the program is started on, and what has to come out.
 
-Beside NAME.script and NAME.expected, what standard output says, there may be
+NAME.script and NAME.expected, what standard output says, may come with
 - NAME.tower    the tower file, which is the first word of the command line
 - NAME.bench    the same, a bench file
-- NAME.saved    what is saved, to a path that is then named by `--save`
+- NAME.saved    the saved file, whose path is then named by `--save`
 - NAME.words    further words, parted as a shell parts them
-- NAME.status   the exit status, where it isn't 0
-- NAME.errors   what standard error says, where it says something
+- NAME.status   the exit status, if it isn't 0
+- NAME.errors   what standard error says, if it says anything
 Each may be made: NAME.KIND.make is a line of shell, run in the case's folder, that writes it.
 All names are of the repository's top, which is the current folder.
 """
@@ -24,10 +24,10 @@ REFUSED_WORDS = 2
 MOST_SECONDS = 300
 BYTES_SHOWN = 100
 BYTES_SHOWN_BEFORE = 30
-# What stands at a path that is saved to before a run.
+# What a path that is saved to holds before a run.
 KEPT = b"as it was\n"
 
-# script: its path; words: those behind the program's name; output, errors and saved: bytes; saved: None: nothing is;
+# script: its path; words: those after the program's name; output, errors and saved: bytes; saved: None: nothing is;
 # save: the path that it is saved to
 Case = collections.namedtuple("Case", "script words output status errors saved save")
 Ran = collections.namedtuple("Ran", "output status errors")
@@ -54,7 +54,7 @@ def run(program, words, script, environment=None):
 
 
 def path_of(name, kind, scratch):
-    """Returns the path of a case's file, which is made where it has to be; None: it has none."""
+    """Returns the path of a case's file, which is made if it must be; None: it has none."""
     path = f"{name}.{kind}"
     if not os.path.exists(path + MADE):
         return path if os.path.exists(path) else None
@@ -100,8 +100,8 @@ def case_of(name, scratch):
 
 def ways(case):
     """Returns the words that a case is run with, before its own: numbers of workers, or none."""
-    is_told = any(it.startswith(WORDS_OF_ONE_RUN) for it in case.words)
-    if is_told or case.status == REFUSED_WORDS:
+    is_given = any(it.startswith(WORDS_OF_ONE_RUN) for it in case.words)
+    if is_given or case.status == REFUSED_WORDS:
         return [[]]
     return [["--workers", str(it)] for it in NUMBERS_OF_WORKERS]
 
@@ -135,13 +135,13 @@ def saved_by(case):
 
 
 def put_kept(path):
-    """Puts at a path what stands there before a run that saves to it, if it ends well."""
+    """Puts at a path what it holds before a run that saves to it, if it ends well."""
     with open(path, "wb") as file:
         file.write(KEPT)
 
 
 def fault_of_kept(path):
-    """Returns what is wrong at such a path behind a run that ended by a fault; None: nothing."""
+    """Returns what is wrong at such a path after a run that ended by a fault; None: nothing."""
     is_kept = os.path.exists(path) and read(path) == KEPT
     return None if is_kept else "the file is not as it was"
 
@@ -151,8 +151,8 @@ def difference(case, ran):
     texts = [("", case.output, ran.output), ("standard error, ", case.errors, ran.errors)]
     if case.save:
         texts.append(("saved, ", case.saved, saved_by(case) or b""))
-    told = [(where, first_difference(wanted, got)) for where, wanted, got in texts]
-    found = [where + it for where, it in told if it]
+    compared = [(where, first_difference(wanted, got)) for where, wanted, got in texts]
+    found = [where + it for where, it in compared if it]
     if ran.status != case.status:
         found.append(f"status: wanted {case.status}, got {ran.status}")
     return "; ".join(found) or None

@@ -3,9 +3,9 @@
 
 usage: tests/clauses.py [NAME..]   reads crates/NAME/src of these crates, or of all
 
-Each clause is a `requires` or `ensures` with what stands between its braces; of one that is too
-wide its widest line is told, with the file and the line. Parameters are counted without `self`.
-The last line sums up. Status 1 where anything is told.
+Each clause is a `requires` or `ensures` with the text between its braces; of one that is too
+wide its widest line is reported, with the file and the line. Parameters are counted without `self`.
+The last line sums up. Status 1 if anything is reported.
 """
 import glob
 import os
@@ -27,7 +27,7 @@ def code_of(text):
 
 
 def end_of(code, start):
-    """Returns the place behind the bracket that closes the one at `start`."""
+    """Returns the place after the bracket that closes the one at `start`."""
     closing = []
     for place in range(start, len(code)):
         if code[place] in PAIRS:
@@ -50,7 +50,7 @@ def wide_clauses(text, code):
             yield first - line + 1, columns
 
 
-def behind_generics(code, place):
+def after_generics(code, place):
     """Returns the place of the bracket that begins a function's parameters."""
     depth = 0
     while place < len(code) and (depth or code[place] != "("):
@@ -63,7 +63,7 @@ def behind_generics(code, place):
 
 
 def parameters_of(code, start):
-    """Returns how many parameters stand between the brackets at `start`, without `self`."""
+    """Returns how many parameters are between the brackets at `start`, without `self`."""
     parts, depth, part = [], 0, ""
     for place in range(start + 1, end_of(code, start) - 1):
         sign = code[place]
@@ -83,7 +83,7 @@ def parameters_of(code, start):
 def long_functions(code):
     """Yields the line, the name and the parameters of each function that has too many."""
     for found in FUNCTION.finditer(code):
-        count = parameters_of(code, behind_generics(code, found.end()))
+        count = parameters_of(code, after_generics(code, found.end()))
         if count > MOST_PARAMETERS:
             yield code.count("\n", 0, found.start()) + 1, found.group(1), count
 

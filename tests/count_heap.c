@@ -1,4 +1,4 @@
-/* Preloaded: counts the bytes that the program holds on the heap, and tells at each read of standard input how many there are
+/* Preloaded: counts the bytes that the program holds on the heap, and reports at each read of standard input how many there are
    and how many there were at most since the read before: `heap NOW PEAK`. */
 #define _GNU_SOURCE
 #include <dlfcn.h>

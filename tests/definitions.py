@@ -1,9 +1,9 @@
 """Names of definitions in the documents: each is defined where it is said to be.
 
-- `File.name` stands in File.antt right below the specs/ of a crate, and `folder.File.name` in a
+- `File.name` is in File.antt right below the specs/ of a crate, and `folder.File.name` in a
   folder there: of the crate that the section names in its heading, or else of any.
-- So does each name in the last column of docs/DEFINITIONS.md; one without a file stands in the file
-  named before it in its row, and one with a path behind it, in brackets, in that file of the crate.
+- So does each name in the last column of docs/DEFINITIONS.md; one without a file is in the file
+  named before it in its row, and one with a path after it, in brackets, in that file of the crate.
 All names are of the repository's top, which is the current folder.
 """
 import functools
@@ -13,10 +13,10 @@ import re
 
 PAGE = "docs/DEFINITIONS.md"
 HEADING = re.compile(r"#+ (.*)")
-# A name of a file and what it defines, also where nothing else tells that it is one.
+# A name of a file and what it defines, also if nothing else says that it is one.
 OF_A_FILE = re.compile(r"(?!Rattle\.)(?:[a-z]\w*\.)*[A-Z]\w*[a-z]\w*\.[A-Za-z_]\w*")
 NAME = re.compile(r"[A-Za-z_]\w*(?:\.[A-Za-z_]\w*)*")
-# A name between backticks, and a path behind it.
+# A name between backticks, and a path after it.
 NAMED = re.compile(r"`([^`]+)`(?: \(`([^`]+)`\))?")
 # What a file of specs/ defines for others, and which of that has fields.
 DEFINED = re.compile(r" *(?:abbrev |unfoldable )?pub (?:(?:record|data|mod) )?([^\W\d][\w'-]*)")
@@ -25,7 +25,7 @@ IN_SOURCES = r"\b(?:struct|enum|trait|type|fn|const) {}\b"
 
 
 def crate_of(line, before):
-    """Returns the crate that the section is about, behind a line; None: it names none."""
+    """Returns the crate that the section is about, after a line; None: it names none."""
     heading = HEADING.fullmatch(line)
     if not heading:
         return before
@@ -60,7 +60,7 @@ def fault_of_name(name, crate):
 
 
 def fault_of_source(name, path, crate):
-    """Returns what is wrong with a name that stands in a file of the crate, or None."""
+    """Returns what is wrong with a name in a file of the crate, or None."""
     path = f"crates/{crate}/{path}" if crate else path
     if not os.path.isfile(path):
         return f"{name}: there is no {path}"
@@ -70,7 +70,7 @@ def fault_of_source(name, path, crate):
 
 
 def fault_of_span(text, crate):
-    """Returns what is wrong with what stands between backticks, if it is a definition's name."""
+    """Returns what is wrong with the text between backticks, if it is a definition's name."""
     return fault_of_name(text, crate) if OF_A_FILE.fullmatch(text) else None
 
 

@@ -1,12 +1,12 @@
 """Documents: what they name is there, their commands print what they say, and their lines fit.
 
-A document is README.md, and each page of docs/, lessons/ and crates/NAME/README.md.
+A document is README.md, each page of docs/ and lessons/, and each README.md in page/ and crates/.
 - A fence is closed before the next one begins. One ```console is run from the repository's top:
   each line `$ COMMAND`, and below it what standard output then says.
 - A word between backticks that is a path is that of a file or a folder, or its end (`*` and NAME
-  stand for any name); one that is a name of code (with `_`, `::`, `()` or a capital inside) occurs
-  in the sources, and a definition's by its file stands there: tests/definitions.py.
-- docs/DECISIONS.md has a row for each page of docs/decisions/.
+  match any name); one that is a name of code (with `_`, `::`, `()` or a capital inside) occurs
+  in the sources, and a definition's by its file is defined there: tests/definitions.py; one with a
+  dash is the name of a wrong body, a row, an example or another file, or a word of some source.
 - No line is longer than 100 columns, but in tables, and on a lesson's page, which is a screen wide.
 All names are of the repository's top, which is the current folder.
 """
@@ -24,7 +24,7 @@ import definitions
 
 MOST_COLUMNS = 100
 SCREENS = re.compile(r"lessons/[^/]+/README\.md")
-SOURCES = (".rt", ".antt", ".py", ".c", ".txt", ".edit", ".html")
+SOURCES = (".rt", ".antt", ".py", ".c", ".txt", ".edit", ".html", ".js", ".mjs", ".css")
 SCRIPTS = ("towerbench", ".ci/*", "tools/*", "tests/*")
 FENCE = re.compile(r"^( *)```(.*)$")
 CONSOLE = "console"
@@ -35,19 +35,20 @@ PATH = re.compile(
 )
 NAME_OF_CODE = re.compile(r"[A-Za-z_][A-Za-z0-9_]*(?:(?:::|\.)[A-Za-z_][A-Za-z0-9_]*)*(?:\(\))?")
 WORD = re.compile(r"[A-Za-z_][A-Za-z0-9_]*")
+NAME_OF_A_FILE = re.compile(r"[a-z0-9]+(?:-[a-z0-9*]+)+")
+# What the prover calls things itself.
+OF_THE_PROVER = ("f-requires", "known-0", "unsupported-recursive-bound", "rattle-kit-13b", "rattle-kit-13f")
 LINK = re.compile(r"\]\(([^)#\s]+)(?:#[^)\s]*)?\)")
-# The page that has a row for each decision, and where these stand.
-LISTED, DECISIONS = "docs/DECISIONS.md", "docs/decisions/*/*.md"
-# What stands for any name in a path, and where paths of words begin that a reader makes himself.
+# What matches any name in a path, and how paths begin that a reader makes himself.
 ANY_NAME, MADE_BY_A_READER = ("NAME", "KIND"), ("/tmp/", "out/", "page.html")
 
-# number: that of the fence's line; kind: its first word, or ""; margin: what stands before it
+# number: that of the fence's line; kind: its first word, or ""; margin: the text before it
 Block = collections.namedtuple("Block", "number kind margin lines")
 
 
 def documents():
     found = ["README.md"]
-    for pattern in ("docs/**/*.md", "lessons/**/*.md", "crates/*/README.md"):
+    for pattern in ("docs/**/*.md", "lessons/**/*.md", "page/**/README.md", "crates/*/README.md"):
         found += sorted(glob.glob(pattern, recursive=True))
     return found
 
@@ -95,17 +96,33 @@ def is_there(path):
     return bool(fnmatch.filter(ends_of_paths(), wanted))
 
 
+@functools.lru_cache(None)
+def names_of_files():
+    """Returns the names of all files up to their first dot, and of all folders."""
+    return {part.split(".")[0] for it in files() for part in it.split("/")}
+
+
+@functools.lru_cache(None)
+def is_word_of_a_script(text):
+    """Returns whether a word with a dash occurs in a script or a tool."""
+    asked = [it for it in files() if any(fnmatch.fnmatch(it, pattern) for pattern in SCRIPTS)]
+    return any(text in cases.read(it).decode(errors="replace") for it in asked)
+
+
 def is_code(text):
     """Returns whether a word between backticks can only be a name of the code."""
     return bool(NAME_OF_CODE.fullmatch(text) and re.search(r"_|::|\(\)|[a-z][A-Z]", text))
 
 
 def fault_of_span(text, crate):
-    """Returns what is wrong with what stands between backticks, in a section about the crate."""
+    """Returns what is wrong with the text between backticks, in a section about the crate."""
     if text.startswith(MADE_BY_A_READER):
         return None
     if PATH.fullmatch(text):
         return None if is_there(text) else f"there is no {text}"
+    if NAME_OF_A_FILE.fullmatch(text) and text not in OF_THE_PROVER:
+        is_known = fnmatch.filter(names_of_files(), text) or is_word_of_a_script(text)
+        return None if is_known else f"nothing is called {text}"
     words = WORD.findall(text) if is_code(text) else []
     strange = [it for it in words if it not in words_of_sources()]
     if strange:
@@ -121,9 +138,9 @@ def console_faults(lines, at, document):
             commands.append([line[2:], []])
         elif commands:
             commands[-1][1].append(line)
-    for command, told in commands:
+    for command, wanted in commands:
         ran = cases.run("bash", ["-c", command], b"")
-        difference = cases.first_difference("".join(f"{it}\n" for it in told).encode(), ran.output)
+        difference = cases.first_difference("".join(f"{it}\n" for it in wanted).encode(), ran.output)
         if difference:
             faults.append(f"{document}:{at}: {command}: {difference}")
     return faults
@@ -154,7 +171,7 @@ def faults_of_text(line, document, crate):
     """Returns the faults of a line of the text, in a section about the crate."""
     found = [fault_of_span(it, crate) for it in SPAN.findall(line)]
     if document == definitions.PAGE and line.startswith("|"):
-        # (what is told of a span is told once)
+        # (a fault of a span is reported once)
         found += [it for it in definitions.faults_of_row(line, crate) if it not in found]
     links = [it for it in LINK.findall(line) if "://" not in it]
     folder = os.path.dirname(document)
@@ -162,18 +179,11 @@ def faults_of_text(line, document, crate):
     return [it for it in found if it] + lost
 
 
-def unlisted(lines):
-    """Returns what is wrong where a decision has no row, each with the number of the last line."""
-    linked = {os.path.join("docs", it) for line in lines for it in LINK.findall(line)}
-    return [(len(lines), f"{it} has no row") for it in glob.glob(DECISIONS) if it not in linked]
-
-
 def faults_of(document):
     """Returns all faults of a document, each with its line."""
     with open(document, encoding="utf-8") as file:
         lines = file.read().split("\n")
     text, blocks, found = parted(lines)
-    found += unlisted(lines) if document == LISTED else []
     for number, line in enumerate(lines, 1):
         is_wide = SCREENS.fullmatch(document) or line.lstrip().startswith("|")
         if len(line) > MOST_COLUMNS and not is_wide:

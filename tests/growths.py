@@ -1,15 +1,15 @@
 """Growths of memory, refused in turn: the first, the second, the third .. up to the last.
 
-One is refused in a run, or so many in a row, and what comes behind them is granted. What may come
-out of a script is
+One is refused in a run, or several in a row, and each one after them is granted. The result of a
+script may be
 - the ample answers (a fill does without what memory was refused for);
 - the ample answers, but of lines that are answered the refusal of memory, no more of them than
   growths were refused: the answers of the other lines are then those of a run of the script without
   these lines, which is run too;
 - a front of such answers, and the fault `towerbench: memory` with status 1;
 - nothing at all, and the fault of the file or of the opening, `40 Memory`, with status 1;
-- where the branches are saved, the whole answers, and the fault `towerbench: memory` with status 1.
-Nothing else. What is saved is what is saved with ample memory, unless a line was refused; where a
+- if the branches are saved, the whole answers, and the fault `towerbench: memory` with status 1.
+Nothing else. The saved file is the one with ample memory, unless a line was refused; if a
 run ends by a fault, the file is as it was. Rows through the calls of the desk and of the chart are
 tried by the built tests of their crates (tests/built.py), which say themselves what may be answered.
 """
@@ -22,7 +22,7 @@ import tempfile
 
 import cases
 
-# The rows that are tried, beside all examples: with so many workers where their words tell none.
+# The rows that are tried, and all examples: with these numbers of workers if their words give none.
 ROWS = (
     "thousand-steps-filled",
     "thousand-steps-by-workers",
@@ -38,12 +38,12 @@ ROWS = (
     "shared-insert",
 )
 NUMBERS_OF_WORKERS = (0, 4)
-# How many growths are refused in a row where it isn't one, and on which rows.
+# How many growths are refused in a row if it isn't one, and on which rows.
 MORE_IN_A_ROW = {
     2: ("bench-file", "detach-replace", "shared-insert"),
     6: ("bench-file", "breaks", "script-lines", "shared-insert", "thousand-steps-filled"),
 }
-# A crate whose tests are tried where no source is newer than they are, a test's name, and how many
+# A crate whose tests are tried if no source is newer than they are, a test's name, and how many
 # growths are refused in a row: some make a call again that was refused memory, more often than so.
 TESTS = (
     ("thread_tests", "desks::growths::two_chairs_wanting_memory", (1,)),
@@ -57,7 +57,9 @@ TESTS = (
     ("branch_tests", "charts::growths::last_run_of_thousand_steps_wanting_memory", (1, 2, 6)),
 )
 SOURCE = "tests/refuse_growth.c"
-# Past the last growth, so many runs in a row refuse none: threads may grow more or less often.
+# How many growths were refused, by trial: threads may grow more or less often, so those with workers aren't counted.
+REFUSED_BY_TRIAL = {}
+# Past the last growth, this many runs in a row refuse none: threads may grow more or less often.
 RUNS_PAST_THE_LAST = 8
 MOST_GROWTHS = 4096
 REFUSED = b": refused 40 Memory\n"
@@ -68,7 +70,7 @@ UNOPENED = re.compile(rb"^towerbench: (file line 0:|open refused) 40 Memory$", r
 Trial = collections.namedtuple("Trial", "name words in_a_row")
 
 
-class Odd(Exception):
+class Odd(cases.Spoilt):
     """Something came out that may not."""
 
 
@@ -90,17 +92,22 @@ def ways(name):
 
 
 def trials(names, of_rows):
-    """Returns what is tried of the named cases and of the rows, of_rows giving a row's name."""
+    """Returns the trials of the named cases and of the rows, of_rows giving a row's name."""
     wanted = [(it, 1) for it in [*map(of_rows, ROWS), *names]]
     wanted += [(of_rows(it), count) for count, rows in MORE_IN_A_ROW.items() for it in rows]
     return [Trial(name, words, count) for name, count in wanted for words in ways(name)]
 
 
-def each_refused(refuse, mark, in_a_row, work):
-    """Calls work on each number of a growth, as far as there are any, from which on so many are
-    refused, with the environment for that and a call that tells how many were.
+def remark():
+    """Returns how many growths were refused one by one, as tests/floors reads it."""
+    return f"growths refused: {sum(REFUSED_BY_TRIAL.values())}"
 
-    Work returns whether all came out as with ample memory.
+
+def each_refused(refuse, mark, in_a_row, work):
+    """Calls work on each number of a growth, as far as there are any, from which on `in_a_row` are
+    refused, with the environment for that and a call that returns how many were.
+
+    Work returns whether all came out as with ample memory. Returns how many growths were refused.
     """
     number = total = past = 0
 
@@ -113,24 +120,25 @@ def each_refused(refuse, mark, in_a_row, work):
             raise Odd("no end of the growths")
         if os.path.exists(mark):
             os.remove(mark)
-        told = {"LD_PRELOAD": refuse, "REFUSED_GROWTH": str(number), "REFUSED_MARK": mark}
-        told["REFUSED_COUNT"] = str(in_a_row)
-        is_ample = work(number, {**os.environ, **told}, refused)
+        given = {"LD_PRELOAD": refuse, "REFUSED_GROWTH": str(number), "REFUSED_MARK": mark}
+        given["REFUSED_COUNT"] = str(in_a_row)
+        is_ample = work(number, {**os.environ, **given}, refused)
         total += refused()
         past = past + 1 if is_ample and not refused() else 0
     if total == 0:
         raise Odd("no growth was refused")
+    return total
 
 
 class Answers:
-    """What the lines of a script are answered with ample memory, where some of them are left out."""
+    """What the lines of a script are answered with ample memory, if some of them are left out."""
 
     def __init__(self, run, script):
         """Run gives the output of a script."""
         self.run, self.lines, self.fronts = run, script.splitlines(keepends=True), {}
 
     def front(self, count, left_out):
-        """Returns the answers to the first so many lines."""
+        """Returns the answers to the first `count` lines."""
         key = count, frozenset(it for it in left_out if it < count)
         if key not in self.fronts:
             kept = [b"\n" if k in key[1] else it for k, it in enumerate(self.lines[:count])]
@@ -138,13 +146,13 @@ class Answers:
         return self.fronts[key]
 
     def rest(self, count, left_out):
-        """Returns the answers to the lines behind the first so many."""
+        """Returns the answers to the lines after the first `count`."""
         return self.front(len(self.lines), left_out)[len(self.front(count, left_out)) :]
 
     def fault(self, output, is_whole, most_refused):
         """Returns how an output, or the front of one, isn't as it may be; None: it is.
 
-        So many lines at most may be refused memory.
+        At most `most_refused` lines may be refused memory.
         """
         left_out, place = frozenset(), 0
         for k, line in enumerate(self.lines):
@@ -162,19 +170,19 @@ class Answers:
                 return f"line {k + 1} isn't answered so without lines {sorted(left_out)}"
         else:
             if output[place:]:
-                return "there is more behind the last answer"
+                return "there is more after the last answer"
         is_more = len(left_out) > most_refused
         return f"{len(left_out)} lines are refused by {most_refused} growths" if is_more else None
 
 
 def fault_of_run(ran, answers, refused):
-    """Returns how a run in which so many growths were refused isn't as it may be, or None."""
+    """Returns how a run in which `refused` growths were refused isn't as it may be, or None."""
     if ran.status == 0:
         return answers.fault(ran.output, True, refused)
     if ran.status != 1 or refused == 0:
         return "no such end"
     if MEMORY.search(ran.errors):
-        # (one growth more was refused where it ended)
+        # (one growth more was refused at its end)
         return answers.fault(ran.output, False, refused - 1)
     if ran.output or not UNOPENED.search(ran.errors):
         return "no such fault"
@@ -214,7 +222,9 @@ def fault_of_script(trial, program, refuse, scratch):
             raise Odd(f"from growth {number} on, {refused()} refused: {wrong}: {said(ran)}")
         return ran.status == 0 and ran.output == case.output
 
-    each_refused(refuse, f"{room}/mark", trial.in_a_row, work)
+    total = each_refused(refuse, f"{room}/mark", trial.in_a_row, work)
+    if trial.words == ["--workers", "0"]:
+        REFUSED_BY_TRIAL[said_of(trial)] = total
     return None
 
 

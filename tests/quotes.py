@@ -1,14 +1,17 @@
-"""What each page under lessons/ quotes of the scripts and the outputs beside it.
+"""What each page under lessons/ quotes of the scripts and the outputs next to it.
 
 A block that begins with ```transcript NAME has lines that are typed, and below each some lines of
-its answer.
+its answer; one that begins with ```timeline NAME is looked at by tests/timelines.py.
 - The lines typed in all blocks of a NAME are the commands of NAME.script, in order, and each script
   has its blocks.
-- The lines below one of them stand in that command's answer in NAME.expected, in order.
+- The lines below one of them are in that command's answer in NAME.expected, in order.
 - The page says how the program is started on NAME.tower, or on NAME.bench, also with `--save`.
 - A line of an answer that the page's text names, as `4 p1 return 0` does, is one of those quoted in
-  its blocks.
-- A lesson's page is at most a screen long, and lessons/README.md links to each lesson, in order.
+  its blocks. A command that it names, as `0 verdict main 6` does, is one of its scripts.
+- A lesson asks first: a question, a time line, and exercises, the last of them for a schedule of the
+  reader's own, whose solution is your-own.script. All this fits a screen. The answers, with all
+  transcripts, are folded away after it.
+- lessons/README.md links to each lesson, in order.
 That the outputs are the program's is seen by running the scripts.
 """
 import pathlib
@@ -24,6 +27,15 @@ FENCE = "```"
 NAMED = re.compile(
     r"`(\d+ p\d [^`]*|p\d [^`]*|\d+ [01] [01-] [rh-]|bits \d[^`]*|words [^`]*|\d+: [^`]*)`"
 )
+# a command where it is named in a text
+COMMANDS = (
+    "insert remove replace fork detach drop join leave go break clear seek back "
+    "state process pending bits history verdict steps branches cursor fill"
+)
+COMMAND = re.compile(rf"`(\d+ (?:{COMMANDS.replace(' ', '|')})\b[^`]*)`")
+EXERCISE = re.compile(r"^\d\. \*\*(.*?)[.?]\*\*", re.M)
+QUESTION, OF_YOUR_OWN, FEWEST_EXERCISES = "**Question.** ", "A schedule of your own", 3
+FOLD, END_OF_FOLD = "<details>\n<summary>Answers, and why</summary>\n", "\n</details>\n"
 LINK = re.compile(r"\]\((\d\d-[a-z-]+)/(?:README\.md)?\)")
 
 
@@ -66,13 +78,13 @@ def quotes_faults(page, name, lines):
     commands = [it for it in script.read_text(encoding="ascii").splitlines() if is_command(it)]
     typed = [it for it in lines if is_command(it)]
     if typed != commands:
-        yield f"{name}: what is typed isn't what {script.name} has"
+        yield f"{name}: the typed lines aren't those of {script.name}"
         return
     rest, command, answer = iter(answers(script.with_suffix(".expected"))), "", iter(())
     for line in lines:
         if is_command(line):
             command, answer = line, iter(next(rest, ()))
-        # (a quoted line is looked for behind the one before it)
+        # (a quoted line is looked for after the one before it)
         elif line not in answer:
             yield f"{name}: `{command}` doesn't answer this here: {line}"
 
@@ -82,25 +94,42 @@ def page_faults(page):
     transcripts = {it.stem: [] for it in page.parent.glob("*.script")}
     for mark, lines in blocks:
         kind, _, name = mark.partition(" ")
-        if kind != "transcript":
+        if kind == "transcript":
+            transcripts.setdefault(name, []).extend(lines)
+        elif kind != "timeline":
             yield f"a block is marked `{mark}`, and its lines aren't looked at"
-        transcripts.setdefault(name, []).extend(lines)
     for name, lines in sorted(transcripts.items()):
         file = re.escape(f"{page.parent.relative_to(TOP)}/{name}.")
         if not re.search(rf"`\./towerbench {file}(tower|bench)( --save [^`]*)?`", text):
             yield f"it doesn't say how to start {name}.tower or {name}.bench"
         yield from quotes_faults(page, name, lines)
-    quoted = {line.strip() for _, lines in blocks for line in lines if not is_command(line)}
+    shown = [line for lines in transcripts.values() for line in lines]
+    quoted = {line.strip() for line in shown if not is_command(line)}
     for named in NAMED.findall(text):
         if not any(it == named or it.startswith(named + " ") for it in quoted):
             yield f"no block has the line: {named}"
+    for command in COMMAND.findall(text):
+        if command not in shown:
+            yield f"no script has the command: {command}"
 
 
-def screen_faults(page):
-    lines = page.read_text(encoding="ascii").splitlines()
-    if len(lines) > SCREEN[0]:
-        yield f"{len(lines)} lines, more than {SCREEN[0]}"
-    for line in lines:
+def lesson_faults(page):
+    """Yields what is wrong with how a lesson asks before it answers."""
+    text = page.read_text(encoding="ascii")
+    asked, fold, answered = text.partition(FOLD)
+    if not fold or not answered.endswith(END_OF_FOLD):
+        yield "its answers aren't folded away at its end"
+    yield from (f"it lacks {it}" for it in (QUESTION, f"{FENCE}timeline ") if it not in asked)
+    if f"{FENCE}transcript " in asked:
+        yield "it answers before it has asked"
+    exercises = EXERCISE.findall(asked)
+    if len(exercises) < FEWEST_EXERCISES or exercises[-1] != OF_YOUR_OWN:
+        yield f"its exercises are {exercises}"
+    if not (page.parent / "your-own.script").exists():
+        yield "its own exercise has no solution"
+    if len(asked.splitlines()) > SCREEN[0]:
+        yield f"it asks in {len(asked.splitlines())} lines, more than {SCREEN[0]}"
+    for line in text.splitlines():
         if len(line) > SCREEN[1]:
             yield f"longer than {SCREEN[1]} characters: {line}"
 
@@ -124,5 +153,5 @@ def pages():
 def fault_of(path):
     """Returns what is wrong with a page, or nothing."""
     page = TOP / path
-    others = index_faults() if page == INDEX else screen_faults(page)
+    others = index_faults() if page == INDEX else lesson_faults(page)
     return "; ".join([*page_faults(page), *others])

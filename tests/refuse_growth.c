@@ -1,4 +1,4 @@
-/* Loaded before the C library: refuses growths of memory, of which REFUSED_GROWTH numbers the first and REFUSED_COUNT tells how many in a row.
+/* Loaded before the C library: refuses growths of memory, of which REFUSED_GROWTH numbers the first and REFUSED_COUNT says how many in a row.
    For each it writes a byte to the end of the file REFUSED_MARK. */
 #include <fcntl.h>
 #include <stddef.h>

@@ -1,11 +1,11 @@
-"""Branches that are saved behind a script, and loaded again.
+"""Branches that are saved after a script, and loaded again.
 
 Of each row, example and lesson that ends well:
 - the answers are the same with `--save`;
-- what is saved, loaded and saved again is the same, byte for byte;
-- the branches that are loaded show the pages that they showed behind the script: states, bits, pending
+- the saved file, loaded and saved again, is the same, byte for byte;
+- the branches that are loaded show the pages that they showed after the script: states, bits, pending
   operations, histories and verdicts, at their ends and halfway.
-Where a script ends by a fault, the file at the path is as it was.
+If a script ends by a fault, the file at the path is as it was.
 """
 import shutil
 import tempfile
@@ -13,13 +13,13 @@ import tempfile
 import cases
 
 LOOKS = ("state", "bits", "pending", "history", "verdict")
-# A script of so many bytes is too long.
+# A script of this many bytes is too long.
 SCRIPT_BYTES = 2**24
 SAVE = "--save"
 
 
 def options_of(words):
-    """Returns the words that stand behind a file's path."""
+    """Returns the words after a file's path."""
     return words[1:] if words and not words[0].startswith("-") else words
 
 
@@ -59,7 +59,7 @@ def fault_of_saving(case, words, program, room):
 
 
 def fault_of(name, program, scratch):
-    """Returns what is wrong with saving behind a case, or nothing."""
+    """Returns what is wrong with saving after a case, or nothing."""
     room = tempfile.mkdtemp(dir=scratch)
     case = cases.case_of(name, room)
     if case.status == cases.REFUSED_WORDS or {SAVE, "--help"} & set(case.words):

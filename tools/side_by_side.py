@@ -1,8 +1,8 @@
 """The crates of this repository, and work on them side by side.
 
-`rt` lets one run at a time into a crate and all that it stands on, so two crates over one library wait for each other.
+`rt` lets one run at a time into a crate and all below it, so two crates over one library wait for each other.
 Here each crate is worked on in a tree of its own, a scratch folder that has the crate's files and the libraries below it as
-they are built; what was made is then put back. Needs Python 3.8, as `rt` does.
+they are built; its products are then put back. Needs Python 3.8, as `rt` does.
 """
 import collections
 import fcntl
@@ -23,7 +23,7 @@ PARTS = ("src", "specs", "proofs")
 MEMORY_OF_A_CHECK = 2 * 10**9
 # It gains little from more than 4 processors.
 JOBS_OF_A_CHECK = 4
-# It also loads what its crate stands on: so many of the lines there take as long as one of its own.
+# It also loads the crates below: this many of their lines take as long as one of its own.
 LINES_LOADED_AS_ONE = 7
 # The last in the queue for a processor, as `nice` counts.
 NICEST = 19
@@ -51,13 +51,13 @@ def rows():
 
 
 def crates_of():
-    """Returns each crate of crates.txt, with the crates of the repository that it stands on."""
+    """Returns each crate of crates.txt, with the crates of the repository directly below it."""
     libraries = {name: row.partition(":")[2].replace(",", " ").split() for name, row in rows().items()}
     return {name: [it for it in below if it in libraries] for name, below in libraries.items()}
 
 
 def all_below(crates, name):
-    """Returns all that a crate stands on, each after what it stands on itself."""
+    """Returns all crates below one, each after those below itself."""
     found = []
     for it in crates[name]:
         found += [lower for lower in [*all_below(crates, it), it] if lower not in found]
@@ -136,7 +136,7 @@ class Tree:
             shutil.copytree(f"{TOP}/{path}", f"{self.top}/{path}", copy_function=copy)
 
     def put_back(self):
-        """Gives the crate what was made in out/."""
+        """Puts the products in out/ back into the crate."""
         shutil.rmtree(f"{self.home}/out", ignore_errors=True)
         shutil.move(f"{self.folder}/out", f"{self.home}/out")
 
@@ -211,7 +211,7 @@ def show_failure(log, name):
 
 
 def proofs(crates, names, prove_one=prove):
-    """Returns the tasks that prove these crates and all that they stand on, by their names."""
+    """Returns the tasks that prove these crates and all below them, by their names."""
     wanted = {it for name in names for it in [*all_below(crates, name), name]}
     return {
         name: Task(crates[name], lines_of_check(crates, name), JOBS_OF_A_CHECK, lambda jobs, niceness, it=name: prove_one(crates, it, jobs, niceness))
@@ -265,11 +265,11 @@ def chains(tasks):
     return found
 
 
-def run_side_by_side(tasks, tell):
-    """Runs the tasks, those with the longest chain behind them first, and returns whether all went well.
+def run_side_by_side(tasks, show):
+    """Runs the tasks, those with the longest chain after them first, and returns whether all went well.
 
-    The one that the longest chain waits for may use all processors. The others share them, and the shorter the chain behind one, the
-    further it stands behind where processors are short. Once one fails, the others are ended. `tell` is given those that are done and
+    The one that the longest chain waits for may use all processors. The others share them, and the shorter the chain after one, the
+    lower its priority if processors are short. Once one fails, the others are ended. `show` is given those that are done and
     those that run, each with its seconds, whenever that changes and once a minute."""
     all_processors, all_lanes, chain = processors(), lanes(), chains(tasks)
     left, running, done = sorted(tasks, key=lambda it: -chain[it]), {}, {}
@@ -287,7 +287,7 @@ def run_side_by_side(tasks, tell):
                     left.remove(key)
                     running[pool.submit(tasks[key].work, jobs, niceness)] = key, time.monotonic()
                 now = time.monotonic()
-                tell(done, {key: now - since for key, since in running.values()})
+                show(done, {key: now - since for key, since in running.values()})
                 for it in wait(running, SECONDS_BETWEEN_NEWS, FIRST_COMPLETED).done:
                     key, since = running.pop(it)
                     if it.result():
@@ -299,7 +299,7 @@ def run_side_by_side(tasks, tell):
             PROCESSES.end_all()
             raise
     if is_well:
-        tell(done, {})
+        show(done, {})
     return is_well
 
 

@@ -2,7 +2,7 @@
 
 `rt lib` builds a library with its checked proofs, and keeps the check's work for the next one. Who only wants the program needs
 neither: a library that is cut to its statements, as in `rt ci`, makes each proof over it cheaper. What is built so lies in
-crates/NAME/out/statements, beside what `rt` keeps, and serves until the crate or one below it changes.
+crates/NAME/out/statements, next to what `rt` keeps, and serves until the crate or one below it changes.
 """
 import functools
 import hashlib
@@ -21,7 +21,7 @@ def said_by_rt(word):
 
 @functools.lru_cache(None)
 def kit():
-    """Returns the folder of the Rattle kit, in which the page stands that `rt doc` names."""
+    """Returns the folder of the Rattle kit, of the page that `rt doc` names."""
     return os.path.dirname(said_by_rt("doc"))
 
 
@@ -52,18 +52,32 @@ def sum_of(crates, name):
     return found.hexdigest()
 
 
-def words_of(crates, name):
-    """Returns the words that give `rattle` a crate, the libraries that its row names, and where theirs are."""
+def words_of(crates, name, made=made_of):
+    """Returns the words that give `rattle` a crate, the libraries that its row names, and where theirs are; `made`: where each is built."""
     words = ["--crate-name", name, f"src/{'main' if side.is_program(name) else 'lib'}.rt"]
     named = side.rows()[name].partition(":")[2].replace(",", " ").split()
     for it in ["std", *[it for it in named if it not in crates]]:
         words += ["--extern", f"{it}={kit()}/rlibs/{it}.rlib"]
     for it in crates[name]:
-        words += ["--extern", f"{it}={made_of(it)}"]
-    for at in [f"{kit()}/rlibs", *[os.path.dirname(made_of(it)) for it in side.all_below(crates, name)]]:
+        words += ["--extern", f"{it}={made(it)}"]
+    for at in [f"{kit()}/rlibs", *[os.path.dirname(made(it)) for it in side.all_below(crates, name)]]:
         words += ["-L", f"dependency={at}"]
     words += ["--antt-project", f"{kit()}/rattle/logic/antt-project.json", "--logic-built", f"{kit()}/logic_built"]
     return [*words, "--links", f"{name}="]
+
+
+def toolchain():
+    return ["--toolchain", f"{kit()}/toolchain"]
+
+
+def c_libraries():
+    """Returns what a program is linked with."""
+    return [f"{kit()}/c/lib{it}_c.a" for it in ("os", "libc")]
+
+
+def linking(unlinked, linked):
+    """Returns the words that link a program from its object file."""
+    return [f"{kit()}/bin/rattle-link", "--target", TARGET, *toolchain(), "-o", linked, unlinked, *c_libraries()]
 
 
 def steps_of(crates, name, jobs):
@@ -71,20 +85,16 @@ def steps_of(crates, name, jobs):
     prover = [f"{kit()}/bin/rattle", "build", *words_of(crates, name), "--jobs", str(jobs)]
     if not side.is_program(name):
         return [[*prover, "--statements", "-o", made_of(name)]]
-    toolchain, unlinked = ["--toolchain", f"{kit()}/toolchain"], f"out/statements/{name}.o"
-    below = [f"{kit()}/c/lib{it}_c.a" for it in ("os", "libc")]
+    unlinked = f"out/statements/{name}.o"
     # (Rattle's own compiler is a minute sooner done than LLVM, and nothing is left to do meanwhile)
-    return [
-        [*prover, *toolchain, "--backend", "rattle", "-o", unlinked],
-        [f"{kit()}/bin/rattle-link", "--target", TARGET, *toolchain, "-o", made_of(name), unlinked, *below],
-    ]
+    return [[*prover, *toolchain(), "--backend", "rattle", "-o", unlinked], linking(unlinked, made_of(name))]
 
 
 def prove(crates, name, jobs, niceness):
     """Proves and builds one crate over those below it, and returns whether it is proved."""
     is_proved = is_current(crates, name) or build(crates, name, jobs, niceness)
     if is_proved and side.is_program(name):
-        # (it goes where `rt` builds it, at once and also where the one there is running)
+        # (it goes where `rt` builds it, at once and also if the one there is running)
         shutil.copy2(made_of(name), f"{made_of(name)}.new")
         os.replace(f"{made_of(name)}.new", f"{folder_of(name)}/out/{name}")
     return is_proved
@@ -104,7 +114,7 @@ def build(crates, name, jobs, niceness):
             if not side.PROCESSES.are_ended:
                 side.show_failure(log, name)
             return False
-    # (what was edited meanwhile may be in it or not)
+    # (edits made meanwhile may be in it or not)
     if sum_of(crates, name) == wanted:
         with open(f"{kept}/sum", "w", encoding="utf-8") as file:
             file.write(wanted)

@@ -12,7 +12,7 @@ import tower_reader
 from runs import SECONDS, Ended, ended, fault, good, program
 
 MOST_BYTES = 2**32
-# A run over a file that is too long takes so much memory at most: what a file may have, and 16 MB.
+# A run over a file that is too long takes at most this much memory: a file's limit, and 16 MB.
 MOST_MEMORY = MOST_BYTES + 2**24
 NOBODY = 65534
 
@@ -58,7 +58,7 @@ def versions(data):
 
 
 def next_digit(byte):
-    """Returns the digit behind one, 0 behind 9, and 1 for a byte that is none."""
+    """Returns the digit after one, 0 after 9, and 1 for a byte that is none."""
     return ord(str((int(chr(byte)) + 1) % 10)) if chr(byte) in "0123456789" else ord("1")
 
 
@@ -166,7 +166,7 @@ def same_in_memory(counts, name, path, want):
     got, memory = measured(path)
     counts.same(name, got, want)
     is_much = memory > MOST_MEMORY
-    counts.told(f"{name}: memory", f"{memory} bytes, more than {MOST_MEMORY}" if is_much else None)
+    counts.count(f"{name}: memory", f"{memory} bytes, more than {MOST_MEMORY}" if is_much else None)
     print(f"{counts.row}: {name}: at most {memory / 2**20:.1f} MB of memory", flush=True)
 
 
@@ -191,7 +191,7 @@ def long_files(counts, room):
     same_in_memory(counts, "a named pipe whose writer goes on", pipe, too_long)
     feeder.join(SECONDS)
     wrong = "it still writes" if feeder.is_alive() else None
-    counts.told("its writer is told that nobody reads", wrong)
+    counts.count("its writer learns that nobody reads", wrong)
     counts.end()
 
 
@@ -221,7 +221,7 @@ def fed(path, pieces):
 
 
 def pipes(counts, room):
-    """Named pipes that come to an end: at once, in the middle, by a byte a write."""
+    """Named pipes that end: at once, in the middle, by a byte a write."""
     counts.begin("files: named pipes that end")
     pipe = made_pipe(f"{room}/pipe")
     for row, data in ROWS.items():
@@ -291,7 +291,7 @@ def no_files(counts, room):
     counts.same("/dev/null", ended(["/dev/null"]), wanted(b""))
     got = ended([b"\xff\xfe"], b"0 branches\n")
     is_refused = got.status == 2 and not got.output and got.errors.startswith(b"towerbench: ")
-    counts.told("a name that is no text", None if is_refused else f"{got}")
+    counts.count("a name that is no text", None if is_refused else f"{got}")
     unreadable(counts, room)
     counts.end()
 

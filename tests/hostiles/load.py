@@ -5,11 +5,11 @@ from watched import Stage, Watched
 
 # Generous: a stage takes seconds to a few minutes.
 SECONDS = 3600
-# (so many cells are tried: 2^28, which the program may have, take more memory than most machines have)
+# (fewer cells than the program may have: 2^28 take more memory than most machines have)
 MOST_CELLS, MOST_LOGGED, MOST_BRANCHES = 2**24, 2**20, 1024
 HEAD = b"tower 1\nsafe 0\n"
 STEP = b"r 1\n"
-# So many steps are a file's, so that the four inserts of a row take the last cells.
+# A file has this many steps, so that the four inserts of a row take the last cells.
 FILE_STEPS = MOST_CELLS - 4
 LINES_AT_ONCE = 2**12
 FULL = "0: refused 24 Full"
@@ -30,7 +30,7 @@ def stage(name, *pairs, of=None, count=None):
 
 
 def file_of(room, steps):
-    """Makes a file of a safe bit and so many reads' invocations, and returns its path."""
+    """Makes a file of a safe bit and that many reads' invocations, and returns its path."""
     path = f"{room}/steps-{steps}"
     with open(path, "wb") as file:
         file.write(HEAD)
@@ -123,7 +123,7 @@ def cells_by_detach(counts, room):
 
 
 def forks(length):
-    """Returns a stage of as many forks of so many steps as there may be, and the branches then."""
+    """Returns a stage of as many forks of that many steps as there may be, and the branches then."""
     names = [f"b{i}" for i in range(MOST_BRANCHES - 1)]
     made = edits(*[f"0 fork main {length} {name}" for name in names])
     name = f"{len(names)} forks of {length} steps"
@@ -211,7 +211,7 @@ def long_branch(counts, room):
         (f"0 process a {a} 1", f"0: process a {a} of {a}\n  p1 idle"),
         page_of("verdict", "a", a, f"  {a - 1} p1 0 fresh"))
     again = stage(
-        "edits at both ends once more", *edits("0 replace main 0 w 0 0", first=6),
+        "edits at both ends again", *edits("0 replace main 0 w 0 0", first=6),
         state("a", a, "write 0 next ws 0", "idle"), *edits(f"0 remove a {a - 1}", first=7),
         state("a", a - 1, "write 0 next ws 0", "read next re 0"),
         branches(7, MOST_CELLS, ("main", main), ("a", a - 1)))
@@ -222,7 +222,7 @@ def long_branch(counts, room):
 
 
 def breaks_on(own):
-    """Returns breaks, and where each is met: from the beginning forth, from the end back."""
+    """Returns breaks, and the place at which each is met: from the beginning forth, from the end back."""
     return (
         ("returns 1", own + 2, None), ("void", 3, own), ("chosen", None, None),
         ("refused", None, None), ("bit 0 1", None, None), ("bit 0 0", 1, own + 1),
@@ -235,11 +235,11 @@ def moved(session, place):
 
 def begun(sessions):
     """Returns the lines by which sessions join and set two breaks each, with their answers."""
-    told = []
+    lines = []
     for session, sought, _, _ in sessions:
-        told += [(f"{session} join", f"{session}: joined")]
-        told += [(f"{session} break {it}", f"{session}: break set") for it in (sought, "refused")]
-    return told
+        lines += [(f"{session} join", f"{session}: joined")]
+        lines += [(f"{session} break {it}", f"{session}: break set") for it in (sought, "refused")]
+    return lines
 
 
 def cursor(session, place, sought):
@@ -257,17 +257,17 @@ def sixteen_sessions(counts, room):
                  f"0 insert main {own + 1} g 1 0")
     first, *others = [(f"{it} seek", moved(it, forth)) for it, _, forth, _ in sessions]
     back, at, again = [], [], []
-    for session, sought, _, behind in sessions:
+    for session, sought, _, after in sessions:
         back += [(f"{session} go main {end}", f"{session}: at main {end}"),
-                 (f"{session} back", moved(session, behind))]
-        at.append(cursor(session, 1 + (end if behind is None else behind), sought))
+                 (f"{session} back", moved(session, after))]
+        at.append(cursor(session, 1 + (end if after is None else after), sought))
         again.append((f"{session} seek", moved(session, end + 1 if sought == "bit 0 0" else None)))
     drive(counts, "sixteen sessions", [file_of(room, FILE_STEPS), *CELLS], [
         opened(FILE_STEPS), stage("edits at its ends, and breaks", *ends, *begun(sessions)),
         stage("a seek", first, of="cell", count=end), stage("a seek of each other", *others),
         stage("each back from the end", *back),
-        stage("each behind an insert", *edits("0 insert main 0 r 1", first=4), *at),
-        stage("a seek of each once more", *again)])
+        stage("each after an insert", *edits("0 insert main 0 r 1", first=4), *at),
+        stage("a seek of each again", *again)])
 
 
 def free_memory():
@@ -284,19 +284,19 @@ def drive(counts, row, words, stages):
     with Watched(words, SECONDS) as run:
         for place, it in enumerate(stages):
             wrong, measure = run.stage(it)
-            counts.told(it.name, wrong)
+            counts.count(it.name, wrong)
             MEASURED.append((row, measure))
             if wrong:
                 for left in stages[place + 1 :]:
                     counts.skip(left.name, "what comes before it has failed")
                 break
         else:
-            counts.told("the end", run.end())
+            counts.count("the end", run.end())
     counts.end()
 
 
 def print_table():
-    """Tells what each stage took: time, memory, and memory for each thing of which it has many."""
+    """Prints what each stage took: time, memory, and memory for each thing of which it has many."""
     heads = ("Row", "Stage", "Held before, MB", "At most, MB", "Bytes each", "Seconds")
     print(f"| {' | '.join(heads)} |\n{'|---' * len(heads)}|")
     for row, (it, held, most, seconds) in MEASURED:

@@ -1,23 +1,23 @@
-"""Runs of the built program, and how many of them came to what was wanted."""
+"""Runs of the built program, and how many of them ended as wanted."""
 import collections
 import os
 import subprocess
 import time
 
 TOP = os.path.dirname(os.path.dirname(os.path.dirname(os.path.realpath(__file__))))
-# A run that isn't meant to take long has no end where it takes so many seconds.
+# A run that isn't meant to take long has no end if it takes this many seconds.
 SECONDS = 120
-# So many differences of a row are shown.
+# At most this many differences of a row are shown.
 MOST_SHOWN = 8
 BYTES_SHOWN = 300
 _BUILT = []
 
-# status: that of the exit, less than 0 for a signal, or None where the run had no end.
+# status: that of the exit, less than 0 for a signal, or None if the run had no end.
 Ended = collections.namedtuple("Ended", "status output errors")
 
 
 def program():
-    """Returns the path of the proved program, built where it has to be, or "" where it can't be."""
+    """Returns the path of the proved program, built if it must be, or "" if it can't be."""
     if not _BUILT:
         done = subprocess.run([f"{TOP}/tools/program"], stdout=subprocess.PIPE, check=False)
         _BUILT.append(os.fsdecode(done.stdout).strip() if done.returncode == 0 else "")
@@ -36,7 +36,7 @@ def ended(words, script=b"", seconds=SECONDS, **how):
 
 
 def fault(line, output=b""):
-    """Returns the end of a run that tells of a fault."""
+    """Returns the end of a run that reports a fault."""
     return Ended(1, output, f"towerbench: {line}\n".encode())
 
 
@@ -45,7 +45,7 @@ def good(output):
 
 
 def shown(data):
-    """Returns some bytes as they can be shown, the first of them where there are many."""
+    """Returns some bytes as they can be shown, the first of them if there are many."""
     more = f" and {len(data) - BYTES_SHOWN} bytes more" if len(data) > BYTES_SHOWN else ""
     return f"{bytes(data[:BYTES_SHOWN])!r}{more}"
 
@@ -54,17 +54,17 @@ def difference(got, want):
     """Returns how an end differs from the one that is wanted, or None."""
     if got == want:
         return None
-    told = []
+    found = []
     for name, has, wants in zip(Ended._fields, got, want):
         if has != wants:
             are_bytes = isinstance(has, bytes)
-            told.append(f"{name}: {shown(has) if are_bytes else has}, "
-                        f"wanted {shown(wants) if are_bytes else wants}")
-    return "; ".join(told)
+            found.append(f"{name}: {shown(has) if are_bytes else has}, "
+                         f"wanted {shown(wants) if are_bytes else wants}")
+    return "; ".join(found)
 
 
 class Counts:
-    """How many tests passed, failed and weren't run, told row by row."""
+    """How many tests passed, failed and weren't run, shown row by row."""
 
     def __init__(self):
         self.passed = self.failed = 0
@@ -75,14 +75,14 @@ class Counts:
         self.row, self.before, self.begun = row, (self.passed, self.failed), time.monotonic()
 
     def end(self):
-        """Tells what came of the row."""
+        """Prints the result of the row."""
         passed, failed = self.passed - self.before[0], self.failed - self.before[1]
         if passed or failed:
             more = f", {failed} failed" if failed else ""
             took = time.monotonic() - self.begun
             print(f"{self.row}: {passed} passed{more}, {took:.1f} s", flush=True)
 
-    def told(self, name, wrong):
+    def count(self, name, wrong):
         """Counts a test that was run, and shows what is wrong, if anything."""
         if wrong is None:
             self.passed += 1
@@ -95,16 +95,16 @@ class Counts:
             print(f"{self.row}: more fail, which aren't shown", flush=True)
 
     def same(self, name, got, want):
-        self.told(name, difference(got, want))
+        self.count(name, difference(got, want))
 
     def skip(self, name, why):
         self.skipped.append(f"{self.row}: {name}")
         print(f"{self.row}: {name}: not run: {why}", flush=True)
 
     def close(self):
-        """Tells the whole, on one line, and returns the exit status."""
+        """Prints the whole, on one line, and returns the exit status."""
         if self.skipped:
-            print(f"not run, as told above: {'; '.join(self.skipped)}")
+            print(f"not run, as said above: {'; '.join(self.skipped)}")
         more = f", {len(self.skipped)} skipped" if self.skipped else ""
         print(f"{self.passed} passed, {self.failed} failed{more}", flush=True)
         return 1 if self.failed else 0

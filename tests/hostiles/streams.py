@@ -47,7 +47,7 @@ def kept(counts, path, data):
     """Holds a file to be as it was."""
     with open(path, "rb") as file:
         wrong = None if file.read() == data else "it was written to"
-    counts.told("the file stays as it was", wrong)
+    counts.count("the file stays as it was", wrong)
 
 
 def lost_output(counts, room):
@@ -81,7 +81,7 @@ def unread_pipe():
 
 
 def to_full_pipe(words):
-    """Runs the script with answers to a pipe that has no room, where a write doesn't wait."""
+    """Runs the script with answers to a full pipe, if a write doesn't wait."""
     read, write = os.pipe()
     os.set_blocking(write, False)
     try:
@@ -142,7 +142,7 @@ def lost_input(counts, room):
     counts.same("a pipe that doesn't wait, before its first byte", got, NO_READ)
     os.write(write, SCRIPT)
     got = ended([path], None, stdin=read)
-    counts.same("and behind its last", got, fault("read failed", ANSWERS))
+    counts.same("and after its last", got, fault("read failed", ANSWERS))
     os.close(read)
     os.close(write)
     counts.same("no bytes", ended([path], b""), good(b""))
@@ -167,7 +167,7 @@ def outcome(process):
 
 
 def given_slowly(words, pieces):
-    """Gives a run its script by pieces, with a pause behind each."""
+    """Gives a run its script by pieces, with a pause after each."""
     process = begun(words)
     for piece in pieces:
         process.stdin.write(piece)
@@ -176,15 +176,15 @@ def given_slowly(words, pieces):
 
 
 def cut_answers(count):
-    """Returns what the first so many bytes of the script are answered."""
-    told = b""
+    """Returns the answers to the script's first `count` bytes."""
+    answers = b""
     for number, (line, answer) in enumerate(TALK, 1):
         if count >= len(line) - 1:
-            told += answer
+            answers += answer
         elif count > 0:
-            return told + f"line {number}: refused 36 BadLine\n".encode()
+            return answers + f"line {number}: refused 36 BadLine\n".encode()
         count -= len(line)
-    return told
+    return answers
 
 
 def slow_scripts(counts, room):
@@ -195,12 +195,12 @@ def slow_scripts(counts, room):
     counts.same("a byte a write", given_slowly([path], bytewise), good(ANSWERS))
     for count in range(1, len(SCRIPT)):
         pieces = SCRIPT[:count], SCRIPT[count:]
-        counts.same(f"a pause behind {count} bytes", given_slowly([path], pieces), good(ANSWERS))
+        counts.same(f"a pause after {count} bytes", given_slowly([path], pieces), good(ANSWERS))
     counts.end()
     counts.begin("streams: a script that is cut")
     for count in range(len(SCRIPT) + 1):
         got = ended([path], SCRIPT[:count])
-        counts.same(f"behind {count} bytes", got, good(cut_answers(count)))
+        counts.same(f"after {count} bytes", got, good(cut_answers(count)))
     counts.end()
 
 
@@ -239,7 +239,7 @@ def unending(counts, path):
         pass
     counts.same("a script without an end", outcome(process), TOO_LONG)
     is_much = taken > LIMIT + PIPE_BYTES
-    counts.told("how much of it is taken", f"{taken} bytes" if is_much else None)
+    counts.count("how much of it is taken", f"{taken} bytes" if is_much else None)
 
 
 def said(process, line):
@@ -251,7 +251,7 @@ def said(process, line):
 
 
 def read_until_gone(path, count):
-    """Takes so many bytes of a run's answers, line by line, and then reads no more."""
+    """Takes `count` bytes of a run's answers, line by line, and then reads no more."""
     process, left = begun([path]), count
     for line, answer in TALK:
         if left == 0 and not process.stdout.closed:
@@ -269,9 +269,9 @@ def read_until_gone(path, count):
 
 
 def gone_readers(counts, room):
-    """Answers of which a reader takes some bytes, or for which a file has so much room."""
+    """Answers of which a reader takes some bytes, or for which a file is that long at most."""
     path = text_at(f"{room}/tower", TOWER)
-    counts.begin("streams: a reader that is gone behind its k-th byte")
+    counts.begin("streams: a reader that is gone after its k-th byte")
     unseen = len(ANSWERS) - len(TALK[-1][1])
     for count in range(len(ANSWERS) + 1):
         # (the last answer is one write, which the pipe has taken before its reader is gone)
@@ -288,9 +288,9 @@ def gone_readers(counts, room):
 
 
 def to_small_file(path, answers, count):
-    """Runs the script with answers to a file that takes so many bytes."""
+    """Runs the script with answers to a file that takes at most `count` bytes."""
     def limit():
-        # (else the file's limit is told by a signal)
+        # (else the file's limit is reported by a signal)
         signal.signal(signal.SIGXFSZ, signal.SIG_IGN)
         resource.setrlimit(resource.RLIMIT_FSIZE, (count, count))
     with open(answers, "w+b") as out:
@@ -318,7 +318,7 @@ def long_answers(counts, room):
         process.stdout = None
         counts.same(f"{count} bytes", outcome(process), NO_WRITE)
         wrong = None if taken == page[:count] else "it is no front of the page"
-        counts.told(f"{count} bytes: what went out", wrong)
+        counts.count(f"{count} bytes: what went out", wrong)
     counts.end()
 
 

@@ -16,12 +16,12 @@ BRANCHES = 6
 STEPS = 900
 CYCLE = ["w 0 1", "r 1"] + ["g 0 0", "g 1 1"] * 11
 TOWERS = ("safe 0", "regular 2 0", "matrix 2 2 1 3")
-# Behind a script that ends well the program leaves its desk's memory to the end of its process, so
-# that what is lost can't be told. Behind a fault it gives that back: so memcheck has it read a script
+# After a script that ends well the program leaves its desk's memory to the end of its process, so
+# that a loss can't be seen. After a fault it gives that back: so memcheck has it read a script
 # that is too long (`crates/conversation/src/limits.rt`), whose whole lines are answered first.
 MOST_BYTES = 1 << 24
 TOO_LONG = b"towerbench: script too long\n"
-# A call that was refused: not what a history tells of an operation.
+# A call that was refused: not what a history says of an operation.
 REFUSED = re.compile(rb"^(?:line )?[0-9]+: refused ", re.MULTILINE)
 # The crate with the tests of chairs, and those of them that are run, with the tools. Helgrind knows
 # pthread's locks alone, and would take what two threads do by turns for races: the turn is made of
@@ -57,7 +57,7 @@ def script():
 
 
 def found(log):
-    """Returns what a tool's log tells of errors and of what was lost, or None."""
+    """Returns what a tool's log says of errors and losses, or None."""
     end = shown(log[-2000:].encode())
     if "ERROR SUMMARY: 0 errors" not in log:
         return f"errors were found: {end}"
@@ -69,19 +69,19 @@ def found(log):
 
 
 def checked(counts, name, tool, words, given, want, log, fault=b""):
-    """Runs a command under a tool, and holds it to no error, and to its answers and its fault, if told."""
+    """Runs a command under a tool, and holds it to no error, and to its answers and its fault, if given."""
     valgrind = ["valgrind", *TOOLS[tool], f"--log-file={log}"]
     how = {"stdout": subprocess.PIPE, "stderr": subprocess.PIPE, "timeout": UNDER_VALGRIND}
     try:
         done = subprocess.run([*valgrind, *words], input=given, check=False, **how)
     except subprocess.TimeoutExpired:
-        counts.told(f"{name}, {tool}", "it has no end")
+        counts.count(f"{name}, {tool}", "it has no end")
         return
     with open(log, encoding="utf-8", errors="replace") as file:
-        counts.told(f"{name}, {tool}: its errors", found(file.read()))
+        counts.count(f"{name}, {tool}: its errors", found(file.read()))
     is_same = done.returncode == bool(fault) and (want is None or (done.stdout, done.stderr) == (want, fault))
-    told = f"status {done.returncode}, {shown(done.stdout)}, {shown(done.stderr)}"
-    counts.told(f"{name}, {tool}: its answers", None if is_same else told)
+    got = f"status {done.returncode}, {shown(done.stdout)}, {shown(done.stderr)}"
+    counts.count(f"{name}, {tool}: its answers", None if is_same else got)
 
 
 def fills(counts, room):
@@ -90,7 +90,7 @@ def fills(counts, room):
         path = tower(room, line)
         alone = ended([path], script())
         is_good = alone.status == 0 and not alone.errors and not REFUSED.search(alone.output)
-        counts.told(f"{line}, by none", None if is_good else f"{alone}")
+        counts.count(f"{line}, by none", None if is_good else f"{alone}")
         words = [program(), path, "--workers", "4"]
         too_long = script() + b"#" * MOST_BYTES
         checked(counts, line, "memcheck", words, too_long, alone.output, f"{room}/log", TOO_LONG)

@@ -1,6 +1,6 @@
 """A second reader of tower files and bench files, written from the documents alone, to hold the program's own to.
 
-It goes over a file once for each kind of fault, in the order in which the first one is told, and
+It goes over a file once for each kind of fault, in the order in which the first one is reported, and
 knows the pages of a tower on which no step was made.
 """
 import collections
@@ -13,18 +13,18 @@ NUMBERS = {
 }
 BENCH = b"bench 1\n"
 HEADERS = {"tower 1\n": 1, "tower 2\n": 2}
-# How many numbers the second line has behind the tower's name.
+# How many numbers the second line has after the tower's name.
 FIELDS = {"safe": 1, "copies": 2, "regular": 2, "unary": 3, "stamped": 2, "matrix": 4}
 NUMBER = re.compile(r"0|[1-9][0-9]{0,8}")
 NAME = re.compile(r"[a-z][a-z0-9]{0,15}")
 LINE = re.compile(r"[^\n]*\n|[^\n]+")
-# How many numbers a step has behind its letter.
+# How many numbers a step has after its letter.
 STEPS = {"w": 2, "r": 1, "g": 2, "x": 1}
 
-# readers: how many there are behind process 0, or None where each process reads and writes.
+# readers: how many there are after process 0, or None if each process reads and writes.
 Roles = collections.namedtuple("Roles", "processes values readers")
 Tower = collections.namedtuple("Tower", "version kind numbers steps")
-# shared: how many of its steps stand in earlier branches; steps: all of them
+# shared: how many of its steps are in earlier branches; steps: all of them
 Branch = collections.namedtuple("Branch", "name shared steps")
 
 
@@ -73,7 +73,7 @@ def read_bench(data):
 
 
 def branch_of(words, branches, place):
-    """Returns the branch that the words behind the first of a line begin, behind others."""
+    """Returns the branch that the words after the first of a line begin, after others."""
     is_one = len(words) == 3 and NAME.fullmatch(words[0]) and all(map(NUMBER.fullmatch, words[1:]))
     if not is_one or words[0] in [it.name for it in branches]:
         raise Fault("BadBranch", place)
@@ -164,7 +164,7 @@ def unary_at(values, readers, init):
 
 
 def stamped_at(codes):
-    """Returns those of a stamped register: behind its bits a last stamp and a best code."""
+    """Returns those of a stamped register: after its bits a last stamp and a best code."""
     cells, words = unary_at(codes, 1, 0)
     return cells, words + [0, 0]
 

@@ -10,9 +10,9 @@ from runs import BYTES_SHOWN, program
 PIECE = 2**16
 
 # script: bytes; pieces: the bytes that are to be answered, one after the other; of: what it has
-# count of, for each of which memory is told, or None.
+# count of, for each of which memory is shown, or None.
 Stage = collections.namedtuple("Stage", "name script pieces of count", defaults=(None, None))
-# held: what was held before the stage; most: the peak within it; in bytes.
+# held: the memory before the stage; most: the peak within it; in bytes.
 Measure = collections.namedtuple("Measure", "stage held most seconds")
 
 
@@ -40,7 +40,7 @@ def memory_of(process, kind):
 
 
 def begin_peak(process):
-    """Has what was held at most begin anew."""
+    """Has the peak of the memory held begin again."""
     try:
         with open(f"/proc/{process.pid}/clear_refs", "w", encoding="ascii") as file:
             file.write("5")
@@ -49,7 +49,7 @@ def begin_peak(process):
 
 
 class Watched:
-    """A run of the program, used by `with`. It is ended where its answers take too long."""
+    """A run of the program, used by `with`. It is ended if its answers take too long."""
 
     def __init__(self, words, seconds):
         pipes = {"stdin": subprocess.PIPE, "stdout": subprocess.PIPE, "stderr": subprocess.PIPE}
@@ -79,7 +79,7 @@ class Watched:
     def stage(self, stage):
         """Gives the run a stage's script, and returns how its answers differ, and a Measure."""
         begun, held = time.monotonic(), 0
-        # (what is opened before the first stage is told with it)
+        # (what is opened before the first stage is counted with it)
         if self.is_begun:
             held = memory_of(self.process, "VmRSS")
             begin_peak(self.process)

@@ -1,0 +1,130 @@
+#!/usr/bin/env python3
+"""Existentials of public clauses: each has an example in which it holds, and a near miss.
+
+usage: tests/existentials.py [NAME..]   of these crates, or of all
+       tests/existentials.py --list     prints each, with a function whose clause reaches it
+
+An existential is a `(x : T) ×` in a public clause or in a definition that one reaches, as
+tests/citations.py says; or a record with fields that are data as well as fields that are facts. Its
+examples are theorems of its crate's proofs/Examples.antt: of a definition `Old` they are
+`Old-holds` and `Old-fails`, and of a clause's own existential they have the name of the function
+in place of `Old`, the first of those whose clauses say the same of other values. Each is below
+a comment that says what is there or what is wrong, and names `Old`, or has a `(x : T) ×`; the near
+miss ends in `→ ⊥`. The last line sums up. Status 1 if an example is missing.
+"""
+import collections
+import functools
+import os
+import re
+import sys
+
+from citations import NAMED, WORD, all_clauses, definitions, found_in, reached
+from clauses import TOP, crates
+
+WITNESS = re.compile(r"\([\w' ]+ : (?:[^()]|\([^()]*\))*\)\s*×")
+# What only a fact has, and the types of data that are std's.
+FACT = re.compile(r"[≡≢≤<⊎⊥↔¬]")
+DATA = ("ℕ", "Bool", "List", "Option", "Result", "Vec")
+# The types and predicates of a clause's own existential, but for type parameters and structs.
+TYPES = re.compile(r"ℕ|\b(?!Self\b)[A-Z]\w+\b")
+EXAMPLE = re.compile(
+    rf"^-- .*\n({WORD}-(?:holds|fails)) : (.*(?:\n .*)*)\n(?:unfolding .*\n)?\1\b", re.MULTILINE
+)
+
+# name: that of the examples; where: its place; by: what reaches it, in words
+Existential = collections.namedtuple("Existential", "crate name where by is_clause")
+
+
+def is_data(kind, parameters, own, imports):
+    """Returns whether a field of this type is data, and no fact."""
+    head = re.match(rf"\(*({NAMED.pattern})", kind.rpartition("→ ")[2].strip())
+    if not head or FACT.search(kind):
+        return False
+    name = head.group(1)
+    it = found_in(name, own, imports)
+    if not it:
+        is_parameter = re.search(rf"\b{name}\b[^:()]*: Type", parameters)
+        return bool(name in DATA or is_parameter or "declared" in imports[0].get(name, ((),))[0])
+    if it.kind == "record":
+        return all(kinds_of(it))
+    return it.kind == "data" or is_data(it.lines[-1].partition("=")[2], "", *definitions(it.path))
+
+
+def kinds_of(record):
+    """Returns for each field of a record whether it is data."""
+    fields = re.split(rf"\n? *pub {WORD} :", "\n".join(record.lines[1:]))[1:]
+    return [is_data(it, record.lines[0], *definitions(record.path)) for it in fields]
+
+
+def is_existential(it):
+    kinds = kinds_of(it) if it.kind == "record" else []
+    return bool(WITNESS.search("\n".join(it.lines))) or (any(kinds) and not all(kinds))
+
+
+def crate_of(path):
+    return os.path.relpath(path, TOP).split("/")[1]
+
+
+@functools.lru_cache(None)
+def existentials():
+    """Returns the existentials of all public clauses."""
+    found = []
+    for it, clause in reached():
+        if is_existential(it):
+            where = f"{os.path.relpath(it.path, TOP)}:{it.line}"
+            by = f"{crate_of(clause.path)}'s {clause.name}"
+            found.append(Existential(crate_of(it.path), it.name, where, by, False))
+    said = set()
+    for it in all_clauses():
+        witness = WITNESS.search(it.text)
+        key = witness and (crate_of(it.path), *TYPES.findall(it.text, witness.start()))
+        if witness and key not in said:
+            said.add(key)
+            where = os.path.relpath(it.path, TOP)
+            found.append(Existential(crate_of(it.path), it.name, where, "its own clause", True))
+    return found
+
+
+def examples(crate):
+    """Returns the statements of a crate's examples by their names."""
+    path = f"{TOP}/crates/{crate}/proofs/Examples.antt"
+    if not os.path.isfile(path):
+        return {}
+    with open(path, encoding="utf-8") as file:
+        return dict(EXAMPLE.findall(file.read()))
+
+
+def faults_of(crate):
+    """Yields what is missing in a crate's examples."""
+    found = examples(crate)
+    for it in existentials():
+        for ending in ("holds", "fails") if it.crate == crate else ():
+            stated = found.get(f"{it.name}-{ending}", "")
+            says = WITNESS.search(stated) if it.is_clause else it.name in NAMED.findall(stated)
+            if not says or stated.rstrip().endswith("→ ⊥") != (ending == "fails"):
+                yield f"{it.where}: there is no example {it.name}-{ending}, for {it.by}"
+
+
+def fault_of(crate):
+    """Returns what is missing in a crate's examples, as a text, or nothing."""
+    return "; ".join(faults_of(crate)) or None
+
+
+def main(words):
+    if words == ["--list"]:
+        for it in existentials():
+            print(f"{it.where}: {it.name}, by {it.by}")
+        return 0
+    if set(words) - set(crates()):
+        print(__doc__, end="", file=sys.stderr)
+        return 2
+    faults = [it for crate in words or crates() for it in faults_of(crate)]
+    for it in faults:
+        print(it)
+    count = sum(it.crate in (words or crates()) for it in existentials())
+    print(f"existentials: {count}, of whose {2 * count} examples {len(faults)} are missing")
+    return 1 if faults else 0
+
+
+if __name__ == "__main__":
+    sys.exit(main(sys.argv[1:]))
