@@ -1,5 +1,6 @@
-//! Books on one safe bit. What a book is asked is data, so that one function alone makes a book;
-//! what a call promises is forgotten by functions with no clauses, so that no proof carries it on.
+//! Tests of books on one safe bit. What a book is asked is data, so that only one function makes a
+//! book. Each call is in a function without clauses, so that no later proof carries what it
+//! promises.
 
 ghost use Rattle.std.specs.Prelude.{◌<◌};
 ghost use Rattle.frames.specs.SafeBit.{safe_behaviour};
@@ -30,40 +31,41 @@ use views::page::{Page, page_text};
 use views::query::Query;
 use views::slip::Slip;
 
-/// What a book is asked, and what it has to answer.
+/// What a book is asked, and the expected result.
 #[derive(Clone, Copy)]
 enum Ask<'a> {
     /// A command of session 0 without a guard has this reply.
     Replies(Command, Reply),
-    /// A command of session 0 without a guard is refused.
+    /// A command of session 0 without a guard is refused for this reason.
     Refuses(Command, Refusal),
-    /// Each command of a session, with a guard that isn't met, is refused.
+    /// Each of these commands of a session, with a guard that fails, is refused for this reason.
     RefusesEach(u32, &'a [Command], Refusal),
-    /// Each command of session 0 without a guard is refused.
+    /// Each of these commands of session 0, without a guard, is refused for this reason.
     RefusesLate(&'a [Command], Refusal),
-    /// Each command of session 0 without a guard is refused so.
+    /// Each of these commands of session 0, without a guard, is refused for the reason given with
+    /// it.
     RefusesAll(&'a [(Command, Refusal)]),
-    /// A look has a page of this text.
+    /// A look's page has this text.
     Shows(Query, &'a [u8]),
-    /// A look is refused.
+    /// A look is refused for this reason.
     Hides(Query, Refusal),
-    /// Four sessions, from this one on, join, and put their cursors on the places 0 to 3 of a
+    /// The four sessions from this number on join, and move their cursors to places 0 to 3 of a
     /// branch.
     Stand(u32, &'a Name),
-    /// Their cursors stand on these places of a branch.
+    /// The cursors of the four sessions from this number on are at these places of a branch.
     StandAt(u32, &'a Name, [u32; 4]),
-    /// So many commands are logged.
+    /// The log has this number of commands.
     Logs(u32),
-    /// So many edits were accepted.
+    /// This number of edits was accepted.
     Counts(u64),
-    /// A branch has one job, whose run is installed, and then none.
+    /// A branch has one job, and has none after the run of that job is installed.
     Fills(&'a Name),
 }
 
-/// A guard that isn't met.
+/// A guard that fails.
 const MISSED: Option<u64> = Some(9);
 
-/// What a book answers to a command.
+/// A book's reply to a command.
 fn answer(
     alloc: Global,
     book: &mut Book<Safe>,
@@ -74,7 +76,7 @@ fn answer(
     book.act(alloc, 0, who, if_at, command)
 }
 
-/// Whether each command of a session with a guard is refused so.
+/// Whether each of these commands of a session, with this guard, is refused for this reason.
 fn refuses_each(
     alloc: Global,
     book: &mut Book<Safe>,
@@ -91,7 +93,7 @@ fn refuses_each(
     true
 }
 
-/// Whether each command of session 0 is refused so.
+/// Whether each command of session 0, without a guard, is refused for the reason given with it.
 fn refuses_all(alloc: Global, book: &mut Book<Safe>, rows: &[(Command, Refusal)]) -> bool {
     for (command, refusal) in rows {
         if answer(alloc, book, 0, None, command) != Reply::No(*refusal) {
@@ -121,7 +123,7 @@ fn text(alloc: Global, book: &mut Book<Safe>, query: Query) -> Result<Vec<u8>, R
     page_text(alloc, 0, &page).or(Err(Refusal::Memory))
 }
 
-/// Whether a look has a page of this text.
+/// Whether a look's page has this text.
 fn shows(
     alloc: Global,
     book: &mut Book<Safe>,
@@ -131,13 +133,13 @@ fn shows(
     Ok(text(alloc, book, query)?.as_slice() == wanted)
 }
 
-/// Whether a look is refused so.
+/// Whether a look is refused for this reason.
 fn hides(alloc: Global, book: &mut Book<Safe>, query: Query, refusal: Refusal) -> bool {
     page(alloc, book, query).err() == Some(refusal)
 }
 
-/// Puts the cursors of four sessions on the places 0 to 3 of a branch, and tells whether they were
-/// put there.
+/// The four sessions from `first` on join, and move their cursors to places 0 to 3 of a branch.
+/// Returns whether all were accepted.
 fn stand(alloc: Global, book: &mut Book<Safe>, first: u32, branch: &Name) -> bool
     requires { first < 16 }
 {
@@ -152,7 +154,7 @@ fn stand(alloc: Global, book: &mut Book<Safe>, first: u32, branch: &Name) -> boo
     true
 }
 
-/// Whether a session's cursor stands on a place of a branch.
+/// Whether a session's cursor is at a place of a branch.
 fn stands_at(
     alloc: Global,
     book: &mut Book<Safe>,
@@ -164,7 +166,7 @@ fn stands_at(
     Ok(is_cursor_at(&page, branch, place))
 }
 
-/// Whether the cursors of four sessions stand on these places of a branch.
+/// Whether the cursors of the four sessions from `first` on are at these places of a branch.
 fn stand_at(
     alloc: Global,
     book: &mut Book<Safe>,
@@ -182,7 +184,7 @@ fn stand_at(
     Ok(true)
 }
 
-/// Whether a page is that of a cursor on a place of a branch.
+/// Whether a page shows a cursor at this place of this branch.
 fn is_cursor_at(page: &Page, branch: &Name, place: u32) -> bool {
     match page {
         Page::Cursor(page) => page.branch == *branch && page.place == place,
@@ -190,31 +192,32 @@ fn is_cursor_at(page: &Page, branch: &Name, place: u32) -> bool {
     }
 }
 
-/// Whether the run of a branch's one job is installed, and no job is left.
+/// Runs the only job of a branch, and installs the run. Returns whether there was just one job, the
+/// run was installed, and no job is left.
 fn fills(alloc: Global, book: &mut Book<Safe>, branch: &Name) -> Result<bool, Refusal> {
     let jobs = book.plan(alloc, branch)?;
     let [job] = jobs.as_slice() else {
         return Ok(false);
     };
     let run = run_of(alloc, job)?;
-    let answer = book.install(job.key(), run);
+    let answer = book.install(job.key, run);
     Ok(answer == Installation::Installed && jobs_left(alloc, book, branch)? == 0)
 }
 
 /// The run of a job.
 fn run_of(alloc: Global, job: &Job<Safe>) -> Result<Arc<Run<Safe>>, Refusal> {
-    let Ok(run) = run_segment(alloc, job.entry(), job.steps()) else {
+    let Ok(run) = run_segment(alloc, &job.entry, job.steps.as_slice()) else {
         return Err(Refusal::Memory);
     };
     Arc::new(alloc, run).or(Err(Refusal::Memory))
 }
 
-/// How many jobs there are.
+/// The number of jobs in a branch's plan.
 fn jobs_left(alloc: Global, book: &Book<Safe>, branch: &Name) -> Result<usize, Refusal> {
     Ok(book.plan(alloc, branch)?.len())
 }
 
-/// Whether a book answers as it has to.
+/// Asks a book, and returns whether the result is the expected one.
 fn answers(alloc: Global, book: &mut Book<Safe>, ask: &Ask<'_>) -> Result<bool, Refusal> {
     match ask {
         Ask::Replies(command, reply) => Ok(answer(alloc, book, 0, None, command) == *reply),
@@ -240,7 +243,7 @@ fn answers(alloc: Global, book: &mut Book<Safe>, ask: &Ask<'_>) -> Result<bool, 
     }
 }
 
-/// The first row that is answered otherwise.
+/// The index of the first row with a wrong result.
 fn first_wrong(
     alloc: Global,
     book: &mut Book<Safe>,
@@ -254,8 +257,8 @@ fn first_wrong(
     Ok(None)
 }
 
-/// The first row that goes wrong in a book of these steps on `main`; the one behind them all where
-/// its log hasn't so many entries.
+/// The index of the first row with a wrong result, in a book with these steps on `main`; the number
+/// of rows if the book's log doesn't have `entries` entries after them.
 fn tried(
     alloc: Global,
     limits: Limits,
@@ -275,7 +278,7 @@ fn tried(
     }
 }
 
-/// How many entries a book's log has.
+/// The number of entries in a book's log.
 fn entries_of(book: Book<Safe>) -> usize {
     book.into_log().entries().len()
 }

@@ -1,5 +1,5 @@
-//! Branches: names, refusals, and into how many segments edits cut a branch. Edits are data, so
-//! that one function alone holds a trie.
+//! Tests of branches: their names, their refusals, and the segments into which edits cut them.
+//! Edits are data, so that only one function holds a trie.
 
 ghost use Rattle.std.specs.Prelude.{◌<◌, ◌≤◌};
 ghost use Rattle.schedule_trie.specs.Cut.{AreLimits};
@@ -14,7 +14,7 @@ use schedule_trie::trie::{SegKey, Trie};
 use std::alloc::{AllocError, Global};
 use std::process::Abort;
 
-/// As many reads.
+/// `count` reads.
 fn reads(alloc: Global, count: u32) -> Result<Vec<Step>, AllocError> {
     let mut steps = Vec::new(alloc);
     for _ in 0..count {
@@ -34,7 +34,7 @@ fn limits(cells: u32) -> Limits
     }
 }
 
-/// Whether a text is a name of a new branch; none where it is no name at all.
+/// Whether a text may be the name of a new branch; `None` if it isn't a name at all.
 fn is_well_formed(text: &[u8]) -> Option<bool> {
     match Name::new(text) {
         Some(name) => Some(name.is_well_formed()),
@@ -42,7 +42,8 @@ fn is_well_formed(text: &[u8]) -> Option<bool> {
     }
 }
 
-/// Whether names have at most 16 bytes, and begin with a lower-case letter.
+/// Whether names have at most 16 bytes, and a new branch's name is a lower-case letter, followed by
+/// lower-case letters or digits.
 fn names_are_told() -> bool {
     is_well_formed(b"abcdefghijklmnop") == Some(true)
         && is_well_formed(b"abcdefghijklmnopq").is_none()
@@ -57,7 +58,7 @@ fn names(rt: HostRuntime) {
     assert!(rt; names_are_told());
 }
 
-/// Whether a name is its clone, and not another one.
+/// Whether a name equals its clone, and differs from `other`.
 fn is_itself(rt: &impl Abort, name: &Name, other: &Name) -> bool {
     let copy = name.clone().expect(rt, "memory");
     copy == *name && name != other
@@ -69,8 +70,8 @@ fn a_name_is_its_clone(rt: HostRuntime) {
     assert!(rt; is_itself(&rt, &a1, &digit));
 }
 
-/// What is told of a trie: the steps of `main`, into how many segments it is cut, how many cells
-/// were made, and whether each segment that is held is one of `main`'s.
+/// What is checked of a trie: the steps of `main`, the number of `main`'s segments, how many cells
+/// were ever made, and whether each segment in memory is one of `main`'s.
 #[derive(Drop)]
 struct Told {
     steps: Vec<Step>,
@@ -89,13 +90,13 @@ fn told_of(alloc: Global, trie: &Trie<u32>, main: &Name) -> Result<Told, Refusal
     })
 }
 
-/// Into how many segments a branch is cut, and whether each segment that is held is one of them.
+/// The number of a branch's segments, and whether each segment in memory is one of them.
 fn segments_of(alloc: Global, trie: &Trie<u32>, branch: &Name) -> Result<(usize, bool), Refusal> {
     let keys = trie.segments(alloc, branch)?;
     Ok((keys.len(), holds_alone(trie, &keys)))
 }
 
-/// Whether no other segments are held.
+/// Whether each segment in memory has one of these keys. Keys from 4,096 on aren't tried.
 fn holds_alone(trie: &Trie<u32>, keys: &[SegKey]) -> bool {
     for key in 0..4096 {
         if trie.cells_of(key).is_some() && !keys.contains(&key) {
@@ -105,7 +106,7 @@ fn holds_alone(trie: &Trie<u32>, keys: &[SegKey]) -> bool {
     true
 }
 
-/// What is told of a trie of these steps behind edits.
+/// What is checked of a trie that has these steps on `main`, after edits.
 fn tried(rt: &impl Abort, alloc: Global, steps: &[Step], edits: &[Edit]) -> Result<Told, Refusal> {
     let mut trie: Trie<u32> = Trie::new(alloc, limits(2046), steps)?;
     told_behind(rt, alloc, &mut trie, edits)
@@ -121,7 +122,7 @@ fn told_behind(
     told_of(alloc, trie, &name(rt, b"main"))
 }
 
-/// Why steps are refused where there is room for so many cells.
+/// Why a trie of these steps is refused if at most `cells` cells may be made; `None` if it isn't.
 fn refused(alloc: Global, cells: u32, steps: &[Step]) -> Option<Refusal>
     requires { 0 < cells × cells ≤ MOST_CELLS_MADE }
 {
@@ -129,7 +130,7 @@ fn refused(alloc: Global, cells: u32, steps: &[Step]) -> Option<Refusal>
     trie.err()
 }
 
-/// Whether five steps are refused where there is room for four alone.
+/// Whether five steps are refused if at most four cells may be made, and accepted if five may.
 fn five_fit_in_five(rt: &impl Abort, alloc: Global) -> bool {
     let steps = reads(alloc, 5).expect(rt, "memory");
     refused(alloc, 4, &steps) == Some(Refusal::Full) && refused(alloc, 5, &steps).is_none()
@@ -140,12 +141,12 @@ fn the_last_cell_that_fits(rt: HostRuntime) {
     assert!(rt; five_fit_in_five(&rt, rt.alloc()));
 }
 
-/// As many reads, and what is done to `main`; behind it into how many segments `main` is cut, of
-/// how many cells, and how many were made.
+/// How many reads `main` has at first, a change of `main`, if any, and the numbers after it: the
+/// segments of `main`, its cells, and the cells ever made.
 type Cut = (u32, Option<Change>, (usize, usize, u32));
 
-/// Segments have at most 128 cells; an insert cuts a full one, a fork one within, and a detached
-/// branch has new cells.
+/// Segments have at most 128 cells. An insert cuts a full segment, and a fork cuts the segment that
+/// it is within. A detached branch has new cells.
 const CUTS: [Cut; 15] = [
     (0, None, (0, 0, 0)),
     (1, None, (1, 1, 1)),
@@ -164,7 +165,7 @@ const CUTS: [Cut; 15] = [
     (1023, Some(Change::Detach), (8, 1023, 2046)),
 ];
 
-/// What is told of as many reads behind a change of `main`.
+/// What is checked of a trie that has `count` reads on `main`, after the change, if any.
 fn changed(
     rt: &impl Abort,
     alloc: Global,
@@ -178,11 +179,11 @@ fn changed(
     }
 }
 
-/// The first row that is cut otherwise.
+/// The index of the first row with wrong numbers.
 fn first_wrong(rt: &impl Abort, alloc: Global) -> Result<Option<usize>, Refusal> {
     for (i, (count, change, wanted)) in CUTS.iter().enumerate() {
-        let told = changed(rt, alloc, *count, *change)?;
-        if (told.segments, told.steps.len(), told.made) != *wanted {
+        let reported = changed(rt, alloc, *count, *change)?;
+        if (reported.segments, reported.steps.len(), reported.made) != *wanted {
             return Ok(Some(i));
         }
     }
@@ -194,18 +195,19 @@ fn cuts(rt: HostRuntime) {
     none_wrong(&rt, first_wrong(&rt, rt.alloc()));
 }
 
-/// A fork of all cells of `main` gets cells of its own, and then the last cell of `main` another step.
+/// `a` is forked from both cells of `main`, and detached; then the last cell of `main` gets another
+/// step.
 const DETACH_REPLACE: [Edit; 3] = [
     (Branch::Main, Change::Fork(2, Branch::A)),
     (Branch::A, Change::Detach),
     (Branch::Main, Change::Replace(1, GO_ON)),
 ];
 
-/// Whether `main` has that step then, and is cut into one or two segments.
+/// Whether `main` then has the new step, and one or two segments.
 fn has_the_new_step(rt: &impl Abort, alloc: Global) -> Result<bool, Refusal> {
-    let told = tried(rt, alloc, &[READ, GO], &DETACH_REPLACE)?;
+    let reported = tried(rt, alloc, &[READ, GO], &DETACH_REPLACE)?;
     let steps: &[Step] = &[READ, GO_ON];
-    Ok(told.steps.as_slice() == steps && (told.segments == 1 || told.segments == 2))
+    Ok(reported.steps.as_slice() == steps && (reported.segments == 1 || reported.segments == 2))
 }
 
 #[test]
@@ -213,7 +215,7 @@ fn detach_replace(rt: HostRuntime) {
     assert_eq!(rt; has_the_new_step(&rt, rt.alloc()), Ok(true));
 }
 
-/// The order in which 1,023 branches are dropped: from the first, from the last, or every seventh
+/// The order in which 1,023 branches are dropped: from the first, from the last, or every seventh,
 /// round and round.
 #[derive(Clone, Copy)]
 enum Order {
@@ -223,7 +225,7 @@ enum Order {
 }
 
 impl Order {
-    /// The branch that is dropped at a turn.
+    /// The number of the branch that is dropped after `turn` others.
     fn at(self, turn: u32) -> u32
         requires { turn < 1023 }
     {
@@ -235,8 +237,8 @@ impl Order {
     }
 }
 
-/// Edits of 1,023 cells on `main` that make 1,023 branches off it, each a cell later than the one
-/// before, with a cell of its own, and then drop them.
+/// Edits of a trie that has 1,023 cells on `main`. They fork 1,023 branches, each one cell later
+/// than the one before, and give each a cell of its own; then they drop all of them in this order.
 fn branches_and_drops(alloc: Global, order: Order) -> Result<Vec<Edit>, AllocError> {
     let mut edits = Vec::new(alloc);
     for number in 0..1023 {
@@ -250,14 +252,16 @@ fn branches_and_drops(alloc: Global, order: Order) -> Result<Vec<Edit>, AllocErr
     Ok(edits)
 }
 
-/// Whether each segment that is held is one of `main`, where all other branches were dropped.
+/// Whether each segment in memory is one of `main`'s after all other branches are dropped in this
+/// order.
 fn leaves_nothing(rt: &impl Abort, alloc: Global, order: Order) -> Result<bool, Refusal> {
     let steps = reads(alloc, 1023).expect(rt, "memory");
     let edits = branches_and_drops(alloc, order).expect(rt, "memory");
     Ok(tried(rt, alloc, &steps, &edits)?.is_alone)
 }
 
-/// The first order of three in which something is left.
+/// The index of the first of three orders of drops after which a segment is left that isn't
+/// `main`'s.
 fn first_that_leaves(rt: &impl Abort, alloc: Global) -> Result<Option<usize>, Refusal> {
     let orders = [Order::FromTheFirst, Order::FromTheLast, Order::EverySeventh];
     for (i, order) in orders.iter().enumerate() {

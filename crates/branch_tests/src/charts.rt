@@ -1,4 +1,4 @@
-//! Charts on one safe bit.
+//! Tests of charts on one safe bit.
 
 mod counting;
 mod growths;

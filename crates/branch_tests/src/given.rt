@@ -1,4 +1,4 @@
-//! What the tests of each crate give to it, and edits of branches as data.
+//! What the tests share: steps, names, and edits of branches as data.
 
 use frames::types::Step;
 use schedule_trie::name::Name;
@@ -10,17 +10,17 @@ use std::process::Abort;
 /// A read by process 1 of a safe bit.
 pub(crate) const READ: Step = Step::Read { p: 1 };
 
-/// Its next bit action, with choice 0.
+/// The next bit action of process 1, with choice 0.
 pub(crate) const GO: Step = Step::Go { p: 1, c: 0 };
 
-/// The same with choice 1.
+/// The next bit action of process 1, with choice 1.
 pub(crate) const GO_ON: Step = Step::Go { p: 1, c: 1 };
 
 pub(crate) fn name(rt: &impl Abort, text: &[u8]) -> Name {
     Name::new(text).expect(rt, "a short name")
 }
 
-/// A branch: the first one, one by its letter, or one by its number.
+/// A branch: `main`, `a`, `b`, or one that is named by a number.
 #[derive(Clone, Copy)]
 pub(crate) enum Branch {
     Main,
@@ -38,7 +38,7 @@ pub(crate) fn name_of(rt: &impl Abort, alloc: Global, branch: Branch) -> Name {
     }
 }
 
-/// The name of a branch by its number.
+/// The name of a branch by its number: the letter `b`, and the number.
 fn numbered(rt: &impl Abort, alloc: Global, number: u32) -> Name {
     let text = format!(in alloc; "b{number}").expect(rt, "memory");
     name(rt, text.as_bytes())
@@ -49,13 +49,13 @@ fn numbered(rt: &impl Abort, alloc: Global, number: u32) -> Name {
 pub(crate) enum Change {
     Insert(u32, Step),
     Replace(u32, Step),
-    /// A new branch gets the first cells.
+    /// A new branch is forked from the first cells of this one, as many as the number.
     Fork(u32, Branch),
     Detach,
     Drop,
 }
 
-/// A branch, and what is done to it.
+/// A branch, and a change of it.
 pub(crate) type Edit = (Branch, Change);
 
 /// Makes an edit.
@@ -84,8 +84,8 @@ pub(crate) fn edited_by(
     Ok(())
 }
 
-/// Stops where a row went wrong, or a call was refused. Tests end by this alone, since each has to
-/// be proved to drop what it holds.
+/// Fails if a row went wrong, or a call was refused. Tests fail only in this function: wherever a
+/// test may fail, a proof is needed that what the test holds is dropped.
 pub(crate) fn none_wrong(rt: &impl Abort, wrong: Result<Option<usize>, Refusal>) {
     assert_eq!(rt; wrong, Ok(None));
 }

@@ -1,11 +1,11 @@
-//! Reads that return the value of a write which is refused later: that write counts for nothing.
-//! A unary number over stamped registers, one for each of its bits, refuses a write when a stamp is
-//! spent halfway through it.
+//! Reads that return the value of a write before the write is refused. A refused write counts for
+//! nothing, so such a read is stray. The register is a unary number, and a stamped register is
+//! below each of its bits. A write is refused halfway through if one of these has no stamp left.
 
 use crate::given::{GO, READ, name};
 use frames::register::Register;
 use frames::types::Step;
-use regular_bit::RegularBitRules;
+use regular_bit::{NewRegularBit, RegularBit};
 use schedule_trie::limits::Limits;
 use schedule_trie::refusal::Refusal;
 use sessions::book::Book;
@@ -15,7 +15,7 @@ use std::alloc::{AllocError, Global};
 use std::process::Abort;
 use std::test::Fail;
 use towers::stamped;
-use unary_number::UnaryRules;
+use unary_number::{NewUnary, Unary};
 use views::lens::Lens;
 use views::page::page_text;
 use views::query::Query;
@@ -36,8 +36,9 @@ const WRITE_1: Step = Step::Write { p: 0, v: 1 };
 
 const WRITE_2: Step = Step::Write { p: 0, v: 2 };
 
-/// Bit 0 is read as 0, and then a write of 0 sets it, with its only stamp. A write of 1 sets bit 1,
-/// which is read; it is refused when bit 0 is to be cleared.
+/// A read finds 0 in bit 0. Then a write of 0 sets bit 0, and spends the only stamp of that bit. A
+/// write of 1 sets bit 1, and the read finds this and returns 1. The write is refused when it is
+/// about to clear bit 0.
 const BEFORE_CLEARING: [(Step, u32); 8] = [
     (READ, 1),
     (GO, 2),
@@ -49,8 +50,9 @@ const BEFORE_CLEARING: [(Step, u32); 8] = [
     (GO_0, 1),
 ];
 
-/// Writes of 0 and 1 spend both stamps of bit 0. A write of 2 sets bit 2 and clears bit 1, both of
-/// which are read; it is refused when bit 0 is to be cleared.
+/// Writes of 0 and 1 spend both stamps of bit 0. Then a read finds 0 in bit 0. A write of 2 sets
+/// bit 2 and clears bit 1, and the read finds both and returns 2. The write is refused when it is
+/// about to clear bit 0.
 const AFTER_TWO_WRITES: [(Step, u32); 10] = [
     (WRITE_0, 1),
     (GO_0, 60),
@@ -64,7 +66,7 @@ const AFTER_TWO_WRITES: [(Step, u32); 10] = [
     (GO_0, 1),
 ];
 
-/// Each step so many times in a row.
+/// The steps of `runs`, each repeated as often as its count.
 fn in_a_row(alloc: Global, runs: &[(Step, u32)]) -> Result<Vec<Step>, AllocError> {
     let mut steps = Vec::new(alloc);
     for (step, count) in runs {
@@ -75,14 +77,14 @@ fn in_a_row(alloc: Global, runs: &[(Step, u32)]) -> Result<Vec<Step>, AllocError
     Ok(steps)
 }
 
-/// What a slip's page says.
+/// The text of a slip's page.
 fn text_of<R: Register>(alloc: Global, slip: &Slip<R>) -> Result<Vec<u8>, AllocError> {
     let mut lens = Lens::new(alloc)?;
     let page = slip.page(alloc, &mut lens)?;
     page_text(alloc, 0, &page)
 }
 
-/// The page of verdicts after all steps of a book's one branch.
+/// The text of the verdicts at the end of `main`, the only branch of a book, after these steps.
 fn verdicts<R: Register>(
     rt: &impl Abort,
     alloc: Global,
@@ -97,19 +99,25 @@ fn verdicts<R: Register>(
     for step in steps {
         let step = *step;
         let insert = Command::Insert {
-            branch,
-            place,
+            b: branch,
+            k: place,
             step,
         };
         let reply = book.act(alloc, 0, 0, None, &insert);
         assert!(rt; matches!(reply, Reply::Edited(_)));
         place = place.wrapping_add(1);
     }
-    let slip = book.look(alloc, Query::Verdict { branch, place })?;
+    let slip = book.look(
+        alloc,
+        Query::Verdict {
+            b: branch,
+            k: place,
+        },
+    )?;
     text_of(alloc, &slip).or(Err(Refusal::Memory))
 }
 
-/// Stops unless the verdicts on such steps, from a value, are these.
+/// Fails unless the verdicts on these steps, from an initial value, have the text `wanted`.
 fn judges<R: Register>(
     rt: &impl Abort,
     alloc: Global,
@@ -128,7 +136,7 @@ fn judges<R: Register>(
 
 #[test]
 fn refused_before_clearing(rt: HostRuntime) -> Result<(), Fail> {
-    let register = UnaryRules::new(RegularBitRules::new(stamped(2, 1))?, 3)?;
+    let register = Unary::new(RegularBit::new(stamped(2, 1))?, 3)?;
     let wanted = b"0: verdict main 21 of 21\n  19 p1 1 stray\n";
     judges(&rt, rt.alloc(), register, 2, &BEFORE_CLEARING, wanted)?;
     Ok(())
@@ -136,7 +144,7 @@ fn refused_before_clearing(rt: HostRuntime) -> Result<(), Fail> {
 
 #[test]
 fn refused_after_two_writes(rt: HostRuntime) -> Result<(), Fail> {
-    let register = UnaryRules::new(stamped(2, 2), 3)?;
+    let register = Unary::new(stamped(2, 2), 3)?;
     let wanted = b"0: verdict main 160 of 160\n  158 p1 2 stray\n";
     judges(&rt, rt.alloc(), register, 1, &AFTER_TWO_WRITES, wanted)?;
     Ok(())

@@ -1,8 +1,8 @@
-//! Tests of branches that share their steps, of charts over them, and of books of sessions: what no
-//! clause of theirs says.
+//! Tests of branches that share their steps, of charts over them, and of books of sessions. They
+//! test facts that no contract states.
 //!
-//! They stand above the crates that they test, so that none of those is proved a second time for
-//! them.
+//! This crate is above the crates that it tests, so that none of them is proved again for its
+//! tests.
 #![tactic(auto)]
 
 #[cfg(test)]

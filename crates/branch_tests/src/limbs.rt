@@ -1,8 +1,8 @@
-//! Limbs that a trie tells, and tries that are loaded from limbs.
+//! Tests of the limbs of a trie, and of tries that are loaded from limbs.
 
 ghost use Rattle.std.specs.Prelude.{◌<◌, ◌≤◌, IfOk, length};
 ghost use Rattle.schedule_trie.specs.Cut.{AreLimits};
-ghost use Rattle.schedule_trie.specs.Limbs.{IsLawful};
+ghost use Rattle.schedule_trie.specs.Limbs.{AreLawfulLimbs};
 ghost use Rattle.schedule_trie.specs.declared.limits.TheConstants.{MOST_CELLS_MADE};
 
 use crate::given::{Branch, Change, Edit, GO, GO_ON, READ, edited_by};
@@ -20,10 +20,12 @@ const WRITE: Step = Step::Write { p: 0, v: 1 };
 /// A write of 0 by process 0.
 const CLEAR: Step = Step::Write { p: 0, v: 0 };
 
-/// Of a limb: its name, the branch that it is from, how many cells it shares, and its steps.
+/// A limb: the branch's name, the index of the branch whose first cells it shares, how many of
+/// them, and its own steps.
 type Row = (&'static [u8], u32, u32, &'static [Step]);
 
-/// Edits of a read and a write on `main` that make `a`, which shares the first cell of `main`, and `b`, which shares both of `a`.
+/// Edits of a trie that has a read and a write on `main`. They make `a`, which shares the first
+/// cell of `main`, and `b`, which shares both cells of `a`.
 const THREE_BRANCHES: [Edit; 4] = [
     (Branch::Main, Change::Fork(1, Branch::A)),
     (Branch::A, Change::Insert(1, GO)),
@@ -31,21 +33,21 @@ const THREE_BRANCHES: [Edit; 4] = [
     (Branch::B, Change::Insert(2, GO_ON)),
 ];
 
-/// Their limbs.
+/// The limbs of the three branches.
 const LIMBS: [Row; 3] = [
     (b"main", 0, 0, &[READ, WRITE]),
     (b"a", 0, 1, &[GO]),
     (b"b", 1, 2, &[GO_ON]),
 ];
 
-/// The limbs behind an insert before the own cell of `a`.
+/// The limbs of the three branches after a write of 0 is inserted before `a`'s own cell.
 const INSERTED: [Row; 3] = [
     (b"main", 0, 0, &[READ, WRITE]),
     (b"a", 0, 1, &[CLEAR, GO]),
     (b"b", 1, 3, &[GO_ON]),
 ];
 
-/// The limbs where `a` is dropped then.
+/// The limbs of the other two branches after `a` is then dropped.
 const DROPPED: [Row; 2] = [
     (b"main", 0, 0, &[READ, WRITE]),
     (b"b", 0, 1, &[CLEAR, GO, GO_ON]),
@@ -63,30 +65,30 @@ fn limits(cells: u32, branches: u32) -> Limits
     }
 }
 
-/// The limbs of a trie behind edits.
+/// Makes edits of a trie, and returns its limbs.
 fn limbs_behind(
     rt: &impl Abort,
     alloc: Global,
     trie: &mut Trie<u32>,
     edits: &[Edit],
 ) -> Result<Vec<Limb>, Refusal>
-    ensures lawful { IfOk result (λ r. IsLawful r.items) }
+    ensures lawful { IfOk result (λ r. AreLawfulLimbs r.items) }
     ensures some { IfOk result (λ r. 0 < length r.items) }
 {
     edited_by(rt, alloc, trie, edits)?;
     Ok(trie.limbs(alloc)?)
 }
 
-/// The limbs of a read and a write behind edits.
+/// Makes edits of a trie that has a read and a write on `main`, and returns its limbs.
 fn limbs_of(rt: &impl Abort, alloc: Global, edits: &[Edit]) -> Result<Vec<Limb>, Refusal>
-    ensures lawful { IfOk result (λ r. IsLawful r.items) }
+    ensures lawful { IfOk result (λ r. AreLawfulLimbs r.items) }
     ensures some { IfOk result (λ r. 0 < length r.items) }
 {
     let mut trie: Trie<u32> = Trie::new(alloc, limits(64, 64), &[READ, WRITE])?;
     limbs_behind(rt, alloc, &mut trie, edits)
 }
 
-/// The limbs behind edits of a trie that is loaded from limbs.
+/// Loads a trie from `limbs`, makes edits of it, and returns its limbs.
 fn limbs_again(
     rt: &impl Abort,
     alloc: Global,
@@ -95,7 +97,7 @@ fn limbs_again(
     edits: &[Edit],
 ) -> Result<Vec<Limb>, Refusal>
     requires limits { AreLimits limits }
-    requires lawful { IsLawful limbs.now }
+    requires lawful { AreLawfulLimbs limbs.now }
     requires some { 0 < length limbs.now }
 {
     let mut trie: Trie<u32> = Trie::load(alloc, limits, limbs)?;
@@ -109,12 +111,13 @@ fn is_row(limb: &Limb, row: &Row) -> bool {
         && limb.steps.as_slice() == steps
 }
 
-/// Whether limbs are these, in order.
+/// Whether the limbs are those of `rows`, in this order.
 fn are(limbs: &[Limb], rows: &[Row]) -> bool {
     limbs.len() == rows.len() && limbs.iter().zip(rows).all(|(limb, row)| is_row(limb, row))
 }
 
-/// Whether three branches keep their limbs through a load, and edits of a loaded trie are told.
+/// Whether three branches have the same limbs after a load, and the expected ones after edits of a
+/// loaded trie.
 fn are_kept(rt: &impl Abort, alloc: Global) -> Result<bool, Refusal> {
     let limbs = limbs_of(rt, alloc, &THREE_BRANCHES)?;
     let again = limbs_again(rt, alloc, limits(64, 64), &limbs, &[])?;
@@ -135,7 +138,7 @@ fn limbs_are_kept(rt: HostRuntime) {
     assert_eq!(rt; are_kept(&rt, rt.alloc()), Ok(true));
 }
 
-/// Why a load of three branches is refused where there is room for so many cells and branches.
+/// Why a load of the three branches is refused under these limits; `None` if it isn't.
 fn refused(rt: &impl Abort, alloc: Global, cells: u32, branches: u32) -> Option<Refusal>
     requires cells { 0 < cells × cells ≤ MOST_CELLS_MADE }
     requires branches { 0 < branches × branches ≤ 1024 }

@@ -1,25 +1,25 @@
--- What marks and events tell of steps.
+-- The events of steps, from their marks and the stored events.
 use Rattle.std.proofs.Common.{◌≡◌, ◌∙◌, ℕ, zero, suc, List, [], ◌∷◌, ◌++◌, take, refl, sym, ap, subst, append_assoc, append-nil}
 use Rattle.frames.specs.declared.types.Event.{Event}
 use Rattle.frames.specs.declared.types.Step.{Step}
 use Rattle.frames.specs.declared.types.StepEvents.{StepEvents}
 use Rattle.checkpoints.specs.declared.mark.Mark.{Mark}
-use Rattle.checkpoints.specs.Told.{events_with, left_behind, told, TellsOne, IsAdded}
+use Rattle.checkpoints.specs.Reports.{events_with, left_after, reported_events, ReportsOne, IsStepAdded}
 
--- steps, marks and events tell of these steps alone, whatever comes behind
+-- marks and events give the events of these steps alone, whatever events follow
 abbrev pub IsTold : List Step → List Mark → List Event → Type 0
-IsTold steps marks events = (ss : List Step) (ms : List Mark) (es : List Event) → told (steps ++ ss) (marks ++ ms) (events ++ es) ≡ told steps marks events ++ told ss ms es
+IsTold steps marks events = (ss : List Step) (ms : List Mark) (es : List Event) → reported_events (steps ++ ss) (marks ++ ms) (events ++ es) ≡ reported_events steps marks events ++ reported_events ss ms es
 
--- what is told of steps and one more
+-- these marks and events give the events `all` of these steps, also if others follow
 pub record IsToldOf (steps : List Step) (marks : List Mark) (events : List Event) (all : List StepEvents) : Type 0 where
-  pub tells : told steps marks events ≡ all
+  pub reports : reported_events steps marks events ≡ all
   pub kept : IsTold steps marks events
 
-module _ (steps : List Step) (marks : List Mark) (events : List Event) (s : Step) (mark : Mark) (kept : List Event) (one : StepEvents) (is : IsTold steps marks events) (tells : TellsOne s mark kept one) where
+module _ (steps : List Step) (marks : List Mark) (events : List Event) (s : Step) (mark : Mark) (kept : List Event) (one : StepEvents) (is : IsTold steps marks events) (tells : ReportsOne s mark kept one) where
   abbrev pub so_far : List StepEvents
-  so_far = told steps marks events
+  so_far = reported_events steps marks events
 
-  more_told : told (steps ++ s ∷ []) (marks ++ mark ∷ []) (events ++ kept) ≡ so_far ++ one ∷ []
+  more_told : reported_events (steps ++ s ∷ []) (marks ++ mark ∷ []) (events ++ kept) ≡ so_far ++ one ∷ []
   more_told =
       is (s ∷ []) (mark ∷ []) kept
       ∙ ap (λ e. so_far ++ events_with s mark e ∷ []) (sym (append-nil kept))
@@ -27,28 +27,28 @@ module _ (steps : List Step) (marks : List Mark) (events : List Event) (s : Step
 
   more_kept : IsTold (steps ++ s ∷ []) (marks ++ mark ∷ []) (events ++ kept)
   more_kept ss ms es =
-      ap (λ l. told l ((marks ++ mark ∷ []) ++ ms) ((events ++ kept) ++ es)) (append_assoc steps (s ∷ []) ss)
-      ∙ ap (λ l. told (steps ++ s ∷ ss) l ((events ++ kept) ++ es)) (append_assoc marks (mark ∷ []) ms)
-      ∙ ap (told (steps ++ s ∷ ss) (marks ++ mark ∷ ms)) (append_assoc events kept es)
+      ap (λ l. reported_events l ((marks ++ mark ∷ []) ++ ms) ((events ++ kept) ++ es)) (append_assoc steps (s ∷ []) ss)
+      ∙ ap (λ l. reported_events (steps ++ s ∷ ss) l ((events ++ kept) ++ es)) (append_assoc marks (mark ∷ []) ms)
+      ∙ ap (reported_events (steps ++ s ∷ ss) (marks ++ mark ∷ ms)) (append_assoc events kept es)
       ∙ is (s ∷ ss) (mark ∷ ms) (kept ++ es)
-      ∙ ap (λ e. so_far ++ e ∷ told ss ms (left_behind mark (kept ++ es))) (tells es).0
-      ∙ ap (λ l. so_far ++ one ∷ told ss ms l) (tells es).1
-      ∙ sym (append_assoc so_far (one ∷ []) (told ss ms es))
-      ∙ sym (ap (λ l. l ++ told ss ms es) more_told)
+      ∙ ap (λ e. so_far ++ e ∷ reported_events ss ms (left_after mark (kept ++ es))) (tells es).0
+      ∙ ap (λ l. so_far ++ one ∷ reported_events ss ms l) (tells es).1
+      ∙ sym (append_assoc so_far (one ∷ []) (reported_events ss ms es))
+      ∙ sym (ap (λ l. l ++ reported_events ss ms es) more_told)
 
   pub told_one : IsToldOf (steps ++ s ∷ []) (marks ++ mark ∷ []) (events ++ kept) (so_far ++ one ∷ [])
-  told_one = record { tells = more_told; kept = more_kept }
+  told_one = record { reports = more_told; kept = more_kept }
 
 pub told_more : (steps made : List Step) (marks more : List Mark) (events later : List Event) (s : Step) (one : StepEvents) → IsTold steps marks events → made ≡ steps ++ s ∷ []
-    → IsAdded s one marks more events later → IsToldOf made more later (told steps marks events ++ one ∷ [])
+    → IsStepAdded s one marks more events later → IsToldOf made more later (reported_events steps marks events ++ one ∷ [])
 told_more steps made marks more events later s one is is_made added =
-    let all : List StepEvents = told steps marks events ++ one ∷ [] in
+    let all : List StepEvents = reported_events steps marks events ++ one ∷ [] in
     subst (λ l. IsToldOf l more later all) (sym is_made) (subst (λ l. IsToldOf (steps ++ s ∷ []) l later all) (sym added.marked)
-    (subst (λ l. IsToldOf (steps ++ s ∷ []) (marks ++ added.mark ∷ []) l all) (sym added.added) (told_one steps marks events s added.mark added.kept one is added.tells)))
+    (subst (λ l. IsToldOf (steps ++ s ∷ []) (marks ++ added.mark ∷ []) l all) (sym added.added) (told_one steps marks events s added.mark added.kept one is added.reports)))
 
--- the first steps tell of the first
-pub told_front : (n : ℕ) (steps : List Step) (marks : List Mark) (events : List Event) → told (take n steps) marks events ≡ take n (told steps marks events)
+-- the events of the first steps are the first events
+pub told_front : (n : ℕ) (steps : List Step) (marks : List Mark) (events : List Event) → reported_events (take n steps) marks events ≡ take n (reported_events steps marks events)
 told_front zero steps marks events = refl
 told_front (suc n) [] marks events = refl
 told_front (suc n) (s ∷ steps) [] events = refl
-told_front (suc n) (s ∷ steps) (mark ∷ marks) events = ap (λ l. events_with s mark events ∷ l) (told_front n steps marks (left_behind mark events))
+told_front (suc n) (s ∷ steps) (mark ∷ marks) events = ap (λ l. events_with s mark events ∷ l) (told_front n steps marks (left_after mark events))

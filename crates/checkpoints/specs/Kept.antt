@@ -1,4 +1,4 @@
--- Events as runs keep them, and the events that these stand for.
+-- Events, and the forms in which they are stored.
 use Rattle.std.specs.Prelude.{List, map, true, false}
 use Rattle.frames.specs.declared.types.Event.{Event}
 use Rattle.frames.specs.declared.types.Event.TheVariants as event
@@ -6,7 +6,7 @@ use Rattle.frames.specs.declared.types.Op.TheVariants.{Write, Read}
 use Rattle.checkpoints.specs.declared.kept.Kept.{Kept}
 use Rattle.checkpoints.specs.declared.kept.Kept.TheVariants as kept
 
--- the event that is kept so
+-- the event with this stored form
 abbrev pub event_of : Kept → Event
 event_of (kept.InvokedWrite p v) = event.Invoke p (Write v)
 event_of (kept.InvokedRead p) = event.Invoke p Read
@@ -18,6 +18,6 @@ event_of (kept.Stop p) = event.Stop p
 event_of (kept.ChosenZero p bit) = event.Chosen p bit false
 event_of (kept.ChosenOne p bit) = event.Chosen p bit true
 
--- the events that are kept so, in order
-abbrev pub recorded : List Kept → List Event
-recorded events = map event_of events
+-- the events with these stored forms, in order
+abbrev pub kept_events : List Kept → List Event
+kept_events events = map event_of events

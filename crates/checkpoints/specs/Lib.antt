@@ -1,3 +1,3 @@
 pub mod Kept
 pub mod Segment
-pub mod Told
+pub mod Reports

@@ -4,8 +4,8 @@ ghost use Rattle.std.specs.Prelude.{◌≡◌, [], ◌∷◌, ◌++◌, List, If
 ghost use Rattle.frames.specs.Recorded.{at_index, indexed};
 ghost use Rattle.frames.specs.declared.types.Step.{Step as StepSpec};
 ghost use Rattle.checkpoints.specs.declared.mark.Mark.{Mark as MarkSpec};
-ghost use Rattle.checkpoints.specs.Kept.{recorded};
-ghost use Rattle.checkpoints.specs.Told as spec;
+ghost use Rattle.checkpoints.specs.Kept.{kept_events};
+ghost use Rattle.checkpoints.specs.Reports as spec;
 
 use crate::kept::{Kept, event_of, kept_of};
 use crate::mark::{Mark, own_event, own_mark};
@@ -14,35 +14,37 @@ use frames::types::{Event, Step, StepEvents};
 use std::alloc::{AllocError, Global};
 use std::marker::Model;
 
-/// For how many more events room is taken where there is none left, and the most that is left over.
+/// Memory is reserved for this many events at a time, so at most this many slots stay unused.
 const MORE_EVENTS: usize = 8;
 
-/// Steps with what each recorded: a mark a step, and the events that no mark tells, in order.
+/// Steps, and what each recorded: a mark for each step and, in order, the events that the marks
+/// don't determine.
 #[derive(Debug, Drop)]
-pub(crate) struct Told {
+pub(crate) struct Reported {
     pub(crate) steps: Vec<Step>,
     marks: Vec<Mark>,
     events: Vec<Kept>,
 }
 
-/// The events of steps made one after another. A contract sees one item a step, so that an event's
-/// index is that of its step.
+/// The events of steps made one after another. Contracts see a list with one item for each step, at
+/// the step's index.
 #[derive(Debug, Drop)]
 pub struct Events {
-    told: Told,
+    reported: Reported,
 }
 
 impl Model for Events {
     ghost use Rattle.std.specs.Prelude.{List};
     ghost use Rattle.frames.specs.declared.types.StepEvents.{StepEvents};
-    ghost use Rattle.checkpoints.specs.Told.{told_in};
+    ghost use Rattle.checkpoints.specs.Reports.{reported_in};
 
     ghost Value = { List StepEvents };
 
-    ghost view = { λ e. told_in e.told };
+    ghost view = { λ e. reported_in e.reported };
 }
 
-/// A walk over the events of steps, one step after the other. A contract sees those that are left.
+/// A walk over the events of steps, one step after the other. Contracts see the events of the steps
+/// that are left.
 #[derive(Drop)]
 pub struct EventWalk<'a> {
     steps: &'a [Step],
@@ -53,26 +55,27 @@ pub struct EventWalk<'a> {
 impl<'a> Model for EventWalk<'a> {
     ghost use Rattle.std.specs.Prelude.{List};
     ghost use Rattle.frames.specs.declared.types.StepEvents.{StepEvents};
-    ghost use Rattle.checkpoints.specs.Kept.{recorded};
-    ghost use Rattle.checkpoints.specs.Told.{told};
+    ghost use Rattle.checkpoints.specs.Kept.{kept_events};
+    ghost use Rattle.checkpoints.specs.Reports.{reported_events};
 
     ghost Value = { List StepEvents };
 
-    ghost view = { λ w. told w.steps.now w.marks.now (recorded w.events.now) };
+    ghost view = { λ w. reported_events w.steps.now w.marks.now (kept_events w.events.now) };
 }
 
-impl Told {
-    /// Steps with these marks and events, of whose room most that is left over is given back.
-    pub(crate) fn new(steps: Vec<Step>, marks: Vec<Mark>, events: Vec<Kept>) -> Told
+impl Reported {
+    /// Steps with these marks and events. If memory for more than `MORE_EVENTS` further events is
+    /// reserved, it is freed.
+    pub(crate) fn new(steps: Vec<Step>, marks: Vec<Mark>, events: Vec<Kept>) -> Reported
         ensures steps { result.steps.items ≡ steps.items }
-        ensures told { spec.told_in result
-            ≡ spec.told steps.items marks.items (recorded events.items) }
+        ensures reported { spec.reported_in result
+            ≡ spec.reported_events steps.items marks.items (kept_events events.items) }
     {
         let mut events = events;
         if events.capacity() - events.len() > MORE_EVENTS {
             events.shrink_to_fit();
         }
-        Told {
+        Reported {
             steps,
             marks,
             events,
@@ -81,7 +84,7 @@ impl Told {
 
     /// A walk over the events.
     pub(crate) fn walk(&self) -> EventWalk<'_>
-        ensures { result ≡ spec.told_in self.now }
+        ensures { result ≡ spec.reported_in self.now }
     {
         EventWalk {
             steps: &self.steps,
@@ -92,23 +95,23 @@ impl Told {
 }
 
 impl Events {
-    /// The events that are told so.
-    pub(crate) fn of(told: Told) -> Events
-        ensures { result ≡ spec.told_in told }
+    /// The events of `reported`.
+    pub(crate) fn of(reported: Reported) -> Events
+        ensures { result ≡ spec.reported_in reported }
     {
-        Events { told }
+        Events { reported }
     }
 
     /// Each event with the index of its step, in order.
     pub fn indexed(&self, alloc: Global) -> Result<Vec<(usize, Event)>, AllocError>
         ensures { IfOk result (λ all. all.items ≡ indexed 0 self.now) }
     {
-        self.told.walk().indexed(alloc)
+        self.reported.walk().indexed(alloc)
     }
 }
 
 impl<'a> EventWalk<'a> {
-    /// The events of the first `count` steps; of all where there are fewer.
+    /// The events of the first `count` steps, or of all if there are fewer.
     pub fn front(self, count: usize) -> EventWalk<'a>
         ensures { result ≡ take count self.entry }
     {
@@ -135,37 +138,38 @@ impl<'a> EventWalk<'a> {
 }
 
 impl EventWalk<'_> {
-    /// The events of the next step, if one is left.
+    /// The events of the next step; `None` if no step is left.
     #[inline(always)]
     pub fn next(&mut self) -> Option<StepEvents>
-        ensures some { IfSome result (λ told. self.old ≡ told ∷ self.new) }
+        ensures some { IfSome result (λ reported. self.old ≡ reported ∷ self.new) }
         ensures none { IfNone result (self.old ≡ []) }
     {
         let (step, steps) = self.steps.split_first()?;
         let (mark, marks) = self.marks.split_first()?;
-        let (told, events) = split(*step, *mark, self.events);
+        let (reported, events) = split(*step, *mark, self.events);
         self.steps = steps;
         self.marks = marks;
         self.events = events;
-        Some(told)
+        Some(reported)
     }
 
-    /// Adds each event with the index of its step, where the first step has the index `from`, and
-    /// answers the index after the last step.
+    /// Adds each event to `all`, with the index of its step; the first step has the index `from`.
+    /// Returns the index after the last step.
     pub fn push_indexed(
         self,
         from: usize,
         all: &mut Vec<(usize, Event)>,
     ) -> Result<usize, AllocError>
         ensures all { IfOk result (λ _. all.new.items ≡ all.old.items ++ indexed from self.entry) }
-        ensures behind { IfOk result (λ index. index ≡ from + length self.entry) }
+        ensures following { IfOk result (λ index. index ≡ from + length self.entry) }
     {
         let mut left = self;
         let mut index = from;
-        while let Some(told) = left.next() {
-            push_at(all, index, told.first)?;
-            push_at(all, index, told.second)?;
-            // More steps than there are indices are refused, since no memory holds them.
+        while let Some(reported) = left.next() {
+            push_at(all, index, reported.first)?;
+            push_at(all, index, reported.second)?;
+            // no memory holds more steps than there are indices, so this is refused as out of
+            // memory
             let Some(next) = index.checked_add(1) else {
                 all.reserve(usize::MAX)?;
                 unreachable!();
@@ -176,23 +180,23 @@ impl EventWalk<'_> {
     }
 }
 
-/// Adds the mark of the next step, for which there is room, and what the mark doesn't tell of the events
-/// that it recorded.
+/// Adds the mark of the next step, and the events of the step that the mark doesn't determine.
+/// Memory for the mark is reserved already.
 #[inline(always)]
-pub(crate) fn push_told(
+pub(crate) fn push_reported(
     marks: &mut Vec<Mark>,
     events: &mut Vec<Kept>,
     step: Step,
-    told: StepEvents,
+    reported: StepEvents,
 ) -> Result<(), AllocError>
     requires mark { vec_len marks.old < vec_capacity marks.old }
-    ensures added { OnOk result (spec.IsAdded step told marks.old.items marks.new.items
-        (recorded events.old.items) (recorded events.new.items)) }
+    ensures added { OnOk result (spec.IsStepAdded step reported marks.old.items marks.new.items
+        (kept_events events.old.items) (kept_events events.new.items)) }
     ensures marks { OnOk result (vec_len marks.new ≡ vec_len marks.old + 1) }
     ensures marks_room { vec_capacity marks.new ≡ vec_capacity marks.old }
 {
-    let mark = match told.first {
-        Some(first) => match told.second {
+    let mark = match reported.first {
+        Some(first) => match reported.second {
             Some(second) => {
                 push_kept(events, first)?;
                 push_kept(events, second)?;
@@ -206,7 +210,7 @@ pub(crate) fn push_told(
                 }
             },
         },
-        None => match told.second {
+        None => match reported.second {
             Some(second) => {
                 push_kept(events, second)?;
                 Mark::Second
@@ -218,10 +222,11 @@ pub(crate) fn push_told(
     Ok(())
 }
 
-/// Adds an event.
+/// Adds an event in its stored form.
 #[inline(always)]
 fn push_kept(events: &mut Vec<Kept>, event: Event) -> Result<(), AllocError>
-    ensures { OnOk result (recorded events.new.items ≡ recorded events.old.items ++ event ∷ []) }
+    ensures { OnOk result
+        (kept_events events.new.items ≡ kept_events events.old.items ++ event ∷ []) }
 {
     if events.len() == events.capacity() {
         take_room(events)?;
@@ -230,7 +235,7 @@ fn push_kept(events: &mut Vec<Kept>, event: Event) -> Result<(), AllocError>
     Ok(())
 }
 
-/// Takes room for more events.
+/// Reserves memory for more events.
 #[cold]
 #[inline(never)]
 fn take_room(events: &mut Vec<Kept>) -> Result<(), AllocError>
@@ -240,53 +245,53 @@ fn take_room(events: &mut Vec<Kept>) -> Result<(), AllocError>
     events.reserve(MORE_EVENTS)
 }
 
-/// The events of a step with a mark, and those that are left.
+/// The events of a step with this mark, and the stored events that are left after it.
 #[inline(always)]
 fn split(step: Step, mark: Mark, events: &[Kept]) -> (StepEvents, &[Kept])
     ensures { (steps : List StepSpec) (marks : List MarkSpec)
-        → spec.told (step ∷ steps) (mark ∷ marks) (recorded events.now)
-        ≡ result.0 ∷ spec.told steps marks (recorded result.1.now) }
+        → spec.reported_events (step ∷ steps) (mark ∷ marks) (kept_events events.now)
+        ≡ result.0 ∷ spec.reported_events steps marks (kept_events result.1.now) }
 {
     match mark {
         Mark::First => {
-            let (first, behind) = take_next(events);
-            (told_of(first, None), behind)
+            let (first, following) = take_next(events);
+            (step_events_of(first, None), following)
         }
         Mark::Second => {
-            let (second, behind) = take_next(events);
-            (told_of(None, second), behind)
+            let (second, following) = take_next(events);
+            (step_events_of(None, second), following)
         }
         Mark::Both => {
             let (first, later) = take_next(events);
-            let (second, behind) = take_next(later);
-            (told_of(first, second), behind)
+            let (second, following) = take_next(later);
+            (step_events_of(first, second), following)
         }
-        mark => (told_of(own_event(step, mark), None), events),
+        mark => (step_events_of(own_event(step, mark), None), events),
     }
 }
 
-/// The next event, if one is left, and those behind.
+/// The next event, if one is left, and the events after it.
 #[inline(always)]
 fn take_next(events: &[Kept]) -> (Option<Event>, &[Kept])
-    ensures next { result.0 ≡ spec.next_of (recorded events.now) }
-    ensures behind { recorded result.1.now ≡ spec.behind (recorded events.now) }
+    ensures next { result.0 ≡ spec.next_event (kept_events events.now) }
+    ensures following { kept_events result.1.now ≡ spec.later_events (kept_events events.now) }
 {
     match events.split_first() {
-        Some((kept, behind)) => (Some(event_of(*kept)), behind),
+        Some((kept, following)) => (Some(event_of(*kept)), following),
         None => (None, events),
     }
 }
 
-/// The events of a step.
+/// The events of a step, either of which may be missing.
 #[inline(always)]
-fn told_of(first: Option<Event>, second: Option<Event>) -> StepEvents
+fn step_events_of(first: Option<Event>, second: Option<Event>) -> StepEvents
     ensures first { result.first ≡ first }
     ensures second { result.second ≡ second }
 {
     StepEvents { first, second }
 }
 
-/// Adds an event that may be missing.
+/// Adds an event with the index of its step, if there is an event.
 fn push_at(
     all: &mut Vec<(usize, Event)>,
     index: usize,

@@ -1,4 +1,4 @@
-//! Events as runs keep them.
+//! Events as runs store them.
 
 ghost use Rattle.std.specs.Prelude.{◌≡◌};
 ghost use Rattle.frames.specs.declared.types.Event.TheVariants as recorded;
@@ -6,8 +6,8 @@ ghost use Rattle.checkpoints.specs.Kept as spec;
 
 use frames::types::{Event, Layer, Op, Reason};
 
-/// An event in twelve bytes, where `Event` takes sixteen: it tells an operation, and a chosen bit's
-/// value, in which event it is.
+/// An event in 12 bytes, instead of the 16 of `Event`. To save a field, the variant distinguishes
+/// which operation is invoked, and which value a hit read of a bit chose.
 #[derive(Clone, Copy, Debug, PartialEq, Eq)]
 pub(crate) enum Kept {
     InvokedWrite(u32, u32),
@@ -21,7 +21,7 @@ pub(crate) enum Kept {
     ChosenOne(u32, u32),
 }
 
-/// An event as it is kept.
+/// The stored form of an event.
 #[inline(always)]
 pub(crate) fn kept_of(event: Event) -> Kept
     ensures { spec.event_of result ≡ event }
@@ -37,7 +37,7 @@ pub(crate) fn kept_of(event: Event) -> Kept
     }
 }
 
-/// The invocation of an operation as it is kept.
+/// The stored form of the invocation of an operation.
 #[inline(always)]
 fn kept_invocation(p: u32, op: Op) -> Kept
     ensures { spec.event_of result ≡ recorded.Invoke p op }
@@ -48,7 +48,7 @@ fn kept_invocation(p: u32, op: Op) -> Kept
     }
 }
 
-/// The end of a hit read of a bit as it is kept.
+/// The stored form of a choice, which ends a hit read of a bit.
 #[inline(always)]
 fn kept_choice(p: u32, bit: u32, value: bool) -> Kept
     ensures { spec.event_of result ≡ recorded.Chosen p bit value }
@@ -60,7 +60,7 @@ fn kept_choice(p: u32, bit: u32, value: bool) -> Kept
     }
 }
 
-/// The event that is kept so.
+/// The event with this stored form.
 #[inline(always)]
 pub(crate) fn event_of(kept: Kept) -> Event
     ensures { result ≡ spec.event_of kept }

@@ -1,15 +1,15 @@
-//! Marks: what a step recorded, as far as the step itself tells it.
+//! Marks: what a step recorded, as far as the step itself determines it.
 
 ghost use Rattle.std.specs.Prelude.{◌≡◌, Some, IfSome};
 ghost use Rattle.frames.specs.Fitting.{process_of};
 ghost use Rattle.frames.specs.declared.types.Event.TheVariants as event;
 ghost use Rattle.frames.specs.declared.types.Step.{Step as StepSpec};
-ghost use Rattle.checkpoints.specs.Told as spec;
+ghost use Rattle.checkpoints.specs.Reports as spec;
 
 use frames::types::{Event, Op, Reason, Step};
 
-/// What a step recorded. The first four say which of its two events are kept; the others tell its only
-/// event themselves.
+/// What a step recorded. With the first four marks, the step's events are stored: none, the first,
+/// the second, or both. Each other mark determines, together with the step, its only event.
 #[derive(Clone, Copy, Debug, PartialEq, Eq)]
 pub(crate) enum Mark {
     Nothing,
@@ -23,7 +23,7 @@ pub(crate) enum Mark {
     Stopped,
 }
 
-/// The event that a mark tells by itself, of its step.
+/// The event that a step and its mark determine, if they determine one.
 #[inline(always)]
 pub(crate) fn own_event(step: Step, mark: Mark) -> Option<Event>
     ensures { result ≡ spec.own_event step mark }
@@ -38,7 +38,7 @@ pub(crate) fn own_event(step: Step, mark: Mark) -> Option<Event>
     }
 }
 
-/// That a step invokes its operation; none where it invokes none.
+/// The event of a step that invokes an operation; `None` for other steps.
 #[inline(always)]
 fn invocation(step: Step) -> Option<Event>
     ensures { result ≡ spec.invocation step }
@@ -50,7 +50,8 @@ fn invocation(step: Step) -> Option<Event>
     }
 }
 
-/// The mark that tells a step's only event by itself, if one does.
+/// The mark that, together with the step, determines its only event; `None` if there is no such
+/// mark.
 #[inline(always)]
 pub(crate) fn own_mark(step: Step, event: Event) -> Option<Mark>
     ensures { IfSome result (λ mark. spec.own_event step mark ≡ Some event) }
@@ -63,7 +64,7 @@ pub(crate) fn own_mark(step: Step, event: Event) -> Option<Mark>
     }
 }
 
-/// The mark of a step that isn't enabled.
+/// The mark of a step that isn't enabled, for this reason.
 #[inline(always)]
 fn mark_of(reason: Reason) -> Mark
     ensures { (step : StepSpec) → spec.own_event step result

@@ -1,8 +1,8 @@
-//! The first items of a slice, and those behind them.
+//! The first items of a slice, and those after them.
 
 ghost use Rattle.std.specs.Prelude.{◌≡◌, drop, take};
 
-/// The first `count` items; all where there are fewer.
+/// The first `count` items, or all if there are fewer.
 #[inline]
 pub fn front<T>(items: &[T], count: usize) -> &[T]
     ensures { result.now ≡ take count items.now }
@@ -10,9 +10,9 @@ pub fn front<T>(items: &[T], count: usize) -> &[T]
     &items[..items.len().min(count)]
 }
 
-/// The items behind the first `count`; none where there are no more.
+/// The items after the first `count`; empty if there are no more than `count`.
 #[inline]
-pub fn behind<T>(items: &[T], count: usize) -> &[T]
+pub fn following<T>(items: &[T], count: usize) -> &[T]
     ensures { result.now ≡ drop count items.now }
 {
     &items[items.len().min(count)..]

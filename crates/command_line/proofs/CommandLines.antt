@@ -1,4 +1,4 @@
--- What a parse of the program's command line reads behind its options.
+-- What a parse of the program's command line reads after each option.
 use Rattle.std.proofs.Common.{◌≡◌, ◌∙◌, ◌<◌, ◌≤◌, ap, subst, refl, sym, arith, inl, inr, ℕ, Bool, true, false, not, zero, suc, List, [], ◌∷◌, length, map, is_some, Option, Some, None, codes, eqb-true}
 use Rattle.std.specs.Prelude.{find, pos, position, unwrap_or, option_map, slice_get, Result}
 use Rattle.std.specs.List.{All, slice_index_or}
@@ -34,13 +34,13 @@ use Rattle.clap.specs.declared.parser.matches.ArgMatches.{ArgMatches}
 use Rattle.clap.specs.declared.parser.matches.Found.{Found}
 use Rattle.clap.specs.declared.parser.matches.MatchedArg.{MatchedArg}
 use Rattle.clap.proofs.CallerLemmas.{default_present, entry_by_id, same_rules_by_id}
-use Rattle.command_line.specs.CommandLine.{IsAskedBy, IsRunOf, Says, Tells, number_of, number_rule, workers_rule, cells_rule, branches_rule, default_options, faults_of, file_of, file_rule, options_of, path_of, program, save_rule}
+use Rattle.command_line.specs.CommandLine.{IsAskedBy, IsRunInvocation, Says, Explains, option_number, number_rule, workers_rule, cells_rule, branches_rule, default_options, faults_of, file_word, file_rule, options_of, save_path, program, save_rule}
 
 -- the parser of a number
 abbrev number : ℕ → ℕ → ValueParser
 number least most = value_parser.Signed (pos least) (pos most)
 
--- what the text behind an option of this id is
+-- what the text after the option of this id is
 abbrev ReadsNumber : Text → ℕ → ℕ → Found → Type 0
 ReadsNumber id least most f = (t : Text) × (one_text f id ≡ Some (without_minus t)) × IsSignedIn (pos least) (pos most) t
 
@@ -162,16 +162,16 @@ some : {X : Type 0} (xs : List X) → 0 < length xs → X
 some [] lt = absurd (omega (arith, lt))
 some (x ∷ xs) lt = x
 
--- ---- the options, each by its place among the arguments
+-- ---- the options, each by its index among the arguments
 
 abbrev all_rules : List Rule
 all_rules = file_rule ∷ workers_rule ∷ cells_rule ∷ branches_rule ∷ save_rule ∷ []
 
--- the rule at a place
+-- the rule at an index
 abbrev rule_at : ℕ → Rule
 rule_at k = slice_index_or all_rules k file_rule
 
--- the first place with an id
+-- the first index with an id
 abbrev first_with : Text → Option ℕ
 first_with id = position (λ (r : Rule). bytes_eq r.id id) all_rules
 
@@ -184,7 +184,7 @@ each_rule (suc (suc (suc zero))) lt = (refl, refl)
 each_rule (suc (suc (suc (suc zero)))) lt = (refl, refl)
 each_rule (suc (suc (suc (suc (suc k))))) lt = absurd (omega (arith, lt))
 
--- one of the options: its place, and that its id is neither empty nor the help's or the version's
+-- an option: its index, and that its id is neither empty nor that of the help or the version
 pub record IsOption (id : Text) (least most : ℕ) : Type 0 where
   pub place : ℕ
   pub default : Text
@@ -214,11 +214,11 @@ is_free_program : is_simple_and_free program ≡ true
 unfolding clap_on_literals
 is_free_program = refl
 
--- what went wrong is what the words' faults say
+-- a command of this program's shape is simple and free
 pub free : (c : Command) → app_of c ≡ program → is_simple_and_free (app_of c) ≡ true
 free c shape = ap is_simple_and_free shape ∙ is_free_program
 
--- what a read of a number makes of a text
+-- `r` is what `t` is read as, as an unsigned number of 32 bits
 abbrev pub ReadsU32 : Text → Result ℕ ParseIntError → Type 0
 ReadsU32 t r = ParsesUnsigned 32 10 t r × ExplainsUnsignedError 10 t r × HasUnsignedDigitsIfOk t r
 
@@ -232,7 +232,7 @@ module _ (c : Command) (m : ArgMatches) (shape : app_of c ≡ program) (p : IsPa
   no_groups : groups_of c ≡ []
   no_groups = nothing _ (both _ _ plain).0
 
-  -- the arguments have the rules, place by place
+  -- the arguments have these rules, index by index
   rules_are : map rule_of (args_of c) ≡ all_rules
   rules_are = ap (λ (a : App). a.top.rules) shape
 
@@ -251,7 +251,7 @@ module _ (c : Command) (m : ArgMatches) (shape : app_of c ≡ program) (p : IsPa
       let low : k < length all_rules = rw as_many at lt in
       no_arg_groups (slice_index_or (args_of c) k d) (ap (λ (r : Rule). r.is_simple) (has_rule k d low) ∙ (each_rule k low).0)
 
-  -- what is answered where the option of an id is asked for
+  -- `r` is the number that the matches give for the option with this id, if they give one
   abbrev pub Gives : Text → Option ℕ → Type 0
   Gives id r = (t : Text) → one_text (found_of m) id ≡ Some t → ReadsOne ReadsU32 t r
 
@@ -331,9 +331,9 @@ module _ (c : Command) (m : ArgMatches) (shape : app_of c ≡ program) (p : IsPa
         let bad : None ≡ Some (in_range None gives).0 = (in_range None gives).1 in
         cc
 
-    -- it lies in its range, and is the one that the words tell
+    -- it is in its range, and is the one that the words give
     told : (words : List Text) (n : ℕ) → HasMatchesOf (app_of c) words m → Gives id (Some n)
-        → (n ≡ number_of id words) × (least ≤ n) × (n ≤ most)
+        → (n ≡ option_number id words) × (least ≤ n) × (n ≤ most)
     told words n has gives =
         let got = in_range (Some n) gives in
         let same : n ≡ got.0 = ap (λ o. unwrap_or o 0) got.1 in
@@ -341,7 +341,7 @@ module _ (c : Command) (m : ArgMatches) (shape : app_of c ≡ program) (p : IsPa
         let number_is : n ≡ digits_value 10 (without_leading_plus digits) = (gives digits read.1).0.1 in
         let at : one_of id (matches_of program words) ≡ Some digits =
         ap (one_of id) (sym (rows words has)) ∙ sym (one_text-rows (found_of m) id) ∙ read.1 in
-        let is : n ≡ number_of id words = rw at number_is in
+        let is : n ≡ option_number id words = rw at number_is in
         (is, omega (arith, same, got.2), omega (arith, same, got.3))
 
   pub says : (words : List Text) (file save : Option Text) (n k l : ℕ) → HasMatchesOf (app_of c) words m → fault_of (app_of c) words ≡ []
@@ -368,7 +368,7 @@ module _ (c : Command) (m : ArgMatches) (shape : app_of c ≡ program) (p : IsPa
 
 -- ---- what is answered
 
-told_of : (words : List Text) (kinds : Kinds) (e : Error) (r : Invocation) → kinds ≡ faults_of words → HasKind kinds e → Tells (kind_of e) r → IsAskedBy words r
+told_of : (words : List Text) (kinds : Kinds) (e : Error) (r : Invocation) → kinds ≡ faults_of words → HasKind kinds e → Explains (kind_of e) r → IsAskedBy words r
 told_of words kinds e (Run file options save) same has h = absurd h
 told_of words kinds e (Help text) same (inl lack) h =
     let bad : OutOfMemory ≡ DisplayHelp = sym lack ∙ h in
@@ -380,7 +380,7 @@ told_of words kinds e (Refused text) same (inr among) h = (kind_of e, subst (λ 
 told_of words kinds e Memory same has h = tt
 
 pub tells : (c : Command) (words : List Text) (e : Error) (r : Invocation) → app_of c ≡ program → HasKind (fault_of (app_of c) words) e
-    → Tells (kind_of e) r → IsAskedBy words r
+    → Explains (kind_of e) r → IsAskedBy words r
 tells c words e r shape has h = told_of words (fault_of (app_of c) words) e r (ap (λ (a : App). fault_of a words) shape) has h
 
 -- ---- no words
@@ -388,20 +388,20 @@ tells c words e r shape has h = told_of words (fault_of (app_of c) words) e r (a
 -- the words are taken, and ask for this FILE, these options and this PATH
 record Asks (words : List Text) (file : Option Text) (options : Options) (save : Option Text) : Type 0 where
   pub taken : faults_of words ≡ []
-  pub file_is : file_of words ≡ file
+  pub file_is : file_word words ≡ file
   pub options_are : options_of words ≡ options
-  pub save_is : path_of words ≡ save
+  pub save_is : save_path words ≡ save
 
 asks_bare : Asks [] None default_options None
 unfolding clap_on_literals
 asks_bare = record { taken = refl; file_is = refl; options_are = refl; save_is = refl }
 
 runs_of : (words : List Text) (file : Option Text) (options : Options) (save : Option Text) (r : Invocation) → Asks words file options save → IsAskedBy words r
-    → IsRunOf file options save r
+    → IsRunInvocation file options save r
 runs_of words file options save (Run f o s) asks h = (h.file_is ∙ asks.file_is, h.options_are ∙ asks.options_are, h.save_is ∙ asks.save_is)
 runs_of words file options save (Help text) asks h = subst (λ ks. IsAmong DisplayHelp ks) asks.taken h
 runs_of words file options save (Refused text) asks h = subst (λ ks. IsAmong h.0 ks) asks.taken h.1
 runs_of words file options save Memory asks h = tt
 
-pub bare : (words : List Text) (r : Invocation) → words ≡ [] → IsAskedBy words r → IsRunOf None default_options None r
+pub bare : (words : List Text) (r : Invocation) → words ≡ [] → IsAskedBy words r → IsRunInvocation None default_options None r
 bare words r empty h = runs_of [] None default_options None r asks_bare (subst (λ ws. IsAskedBy ws r) empty h)

@@ -1,11 +1,11 @@
--- The ranges of a run's limits.
+-- The ranges of the program's options.
 use Rattle.std.specs.Prelude.{◌≤◌}
 use Rattle.schedule_trie.specs.declared.limits.TheConstants.{MOST_CELLS_MADE}
 use Rattle.schedule_trie.specs.declared.limits.Limits.{Limits}
 use Rattle.command_line.specs.declared.options.Options.{Options}
 
--- each limit lies in its range
-pub record AreLimits (o : Options) : Type 0 where
+-- each option is in its range
+pub record AreOptionsInRange (o : Options) : Type 0 where
   pub few_workers : o.workers ≤ 4
   pub some_cells : 1 ≤ o.cells
   pub few_cells : o.cells ≤ MOST_CELLS_MADE

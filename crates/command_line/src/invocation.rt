@@ -1,9 +1,9 @@
-//! The words behind the program's name.
+//! The words after the program's name.
 
 ghost use Rattle.std.specs.Prelude.{◌≡◌, [], None, IfOk, false, map};
 ghost use Rattle.std.specs.String.{string_bytes};
 ghost use Rattle.clap.specs.Words.{app_of, kind_of, rule_of};
-ghost use Rattle.command_line.specs.CommandLine.{IsAskedBy, IsRunOf, Tells, option_rule, path_rule, default_options, program};
+ghost use Rattle.command_line.specs.CommandLine.{IsAskedBy, IsRunInvocation, Explains, option_rule, path_rule, default_options, program};
 
 use crate::options::Options;
 use clap::builder::ValueParser;
@@ -11,10 +11,10 @@ use clap::error::ErrorKind;
 use clap::{Arg, ArgAction, Command, Error, value_parser};
 use std::alloc::{AllocError, Global};
 
-/// The id of the word that names a tower file.
+/// The id of the word that names a tower or bench file.
 const FILE: &str = "FILE";
 
-/// The id of the option that tells how many threads help to fill.
+/// The id of the option for the number of threads that help to fill.
 const WORKERS: &str = "workers";
 
 /// The id of the option that limits the cells.
@@ -29,7 +29,8 @@ const SAVE: &str = "save";
 /// What the words ask for.
 #[derive(Debug, Drop)]
 pub enum Invocation<'a> {
-    /// A run over the file that is named, if any, and the path to which the branches are then saved, if any.
+    /// To run the program. `file` is the FILE that is named, if any; `save` is the path to save the
+    /// branches to, if one is given.
     Run {
         file: Option<&'a str>,
         options: Options,
@@ -37,16 +38,16 @@ pub enum Invocation<'a> {
     },
     /// The help, to be printed.
     Help(String),
-    /// The words are refused, with this to be told.
+    /// The words are refused, for this reason.
     Refused(String),
-    /// There is no memory to read the words.
+    /// Memory ran out while the words were read.
     Memory,
 }
 
-/// Reads the words behind the program's name.
-pub fn parse<'a>(alloc: Global, words: &'a [String]) -> Invocation<'a>
+/// Reads the words after the program's name.
+pub fn parse_words<'a>(alloc: Global, words: &'a [String]) -> Invocation<'a>
     ensures asked { IsAskedBy (map string_bytes words.entry.now) result }
-    ensures bare { words.entry.now ≡ [] → IsRunOf None default_options None result }
+    ensures bare { words.entry.now ≡ [] → IsRunInvocation None default_options None result }
 {
     let Ok(command) = command(alloc) else {
         return Invocation::Memory;
@@ -95,7 +96,7 @@ fn command<'a>(alloc: Global) -> Result<Command<'a>, AllocError>
     let branches = number_option(alloc, BRANCHES, value_parser!(u32).range(1..=1024), "64").help(
         "The most branches that there are at a time, 1 to 1024",
     );
-    let save = path_option(alloc, SAVE).help("Where the branches are saved behind the script");
+    let save = path_option(alloc, SAVE).help("Where the branches are saved after the script");
     Command::new(alloc, "towerbench")
         .about(
             "Answers the script on standard input: edits and looks over the runs of a register tower",
@@ -108,7 +109,7 @@ fn command<'a>(alloc: Global) -> Result<Command<'a>, AllocError>
         .arg(save)
 }
 
-/// An option that takes a number, and stands for `default` where it isn't used.
+/// An option with a number, which is `default` if the option isn't used.
 fn number_option<'a>(
     alloc: Global,
     id: &'a str,
@@ -126,7 +127,7 @@ fn number_option<'a>(
         .default_value(default)
 }
 
-/// An option that takes a path.
+/// An option with a path.
 fn path_option<'a>(alloc: Global, id: &'a str) -> Arg<'a>
     ensures rule { rule_of result ≡ path_rule id.now }
     ensures own { result.global ≡ false }
@@ -137,9 +138,9 @@ fn path_option<'a>(alloc: Global, id: &'a str) -> Arg<'a>
         .value_name("PATH")
 }
 
-/// What is told of words that aren't taken.
+/// The outcome for words that aren't accepted.
 fn invocation_of<'a>(alloc: Global, error: &Error) -> Invocation<'a>
-    ensures { Tells (kind_of error.now) result }
+    ensures { Explains (kind_of error.now) result }
 {
     let Ok(text) = format!(in alloc; "{error}") else {
         return Invocation::Memory;

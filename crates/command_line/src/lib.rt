@@ -1,5 +1,8 @@
-//! The words behind the program's name: what they ask for.
+//! The words after the program's name: what they ask for.
 #![tactic(auto)]
 
-pub mod invocation;
-pub mod options;
+mod invocation;
+mod options;
+
+pub use invocation::{Invocation, parse_words};
+pub use options::Options;

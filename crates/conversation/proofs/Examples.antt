@@ -1,20 +1,21 @@
--- Worked examples of the definitions by which something is there: one that holds, and a near miss.
+-- Worked examples of definitions which state that something exists: for each, one that holds, and
+-- one that nearly does.
 use Rattle.std.proofs.Common.{ℕ, zero, suc, ◌≡◌, ◌+◌, false, List, [], ◌∷◌, ◌++◌, Some, length, drop, take, slice_index_or, ap, refl, sym, ◌∙◌, append-nil, arith}
 use Rattle.conversation.specs.declared.fault.StreamFault.TheVariants.{Read, Memory}
-use Rattle.conversation.specs.Scripts.{Definition, Marks, lines_of, whole_lines, IsAnswer}
+use Rattle.conversation.specs.Scripts.{Definition, Marks, lines_of, whole_lines, IsLineAnswer}
 use Rattle.conversation.specs.Conversations.{Answering, IsFront, WroteFront, IsAnswered, WentOut, Breaks}
 
 abbrev first : List ℕ → ℕ
 first list = slice_index_or list 0 5
 
--- lines answer how many they are, refused memory or not
+-- lines are answered by the number of lines, whether memory was refused or not
 abbrev counting : Answering
 counting lines marks = length lines ∷ []
 
 abbrev unmarked : Marks
 unmarked number = false
 
--- a line answers its number, and leaves a world that is one more
+-- a line is answered by its number, and adds one to the world
 abbrev numbering : Definition ℕ
 numbering memory number line w = record { world = w + 1; text = number ∷ [] }
 
@@ -26,36 +27,36 @@ one_line = 97 ∷ 10 ∷ []
 IsFront-holds : IsFront (97 ∷ []) (97 ∷ 98 ∷ [])
 IsFront-holds = (98 ∷ [], refl)
 
--- `b` isn't
+-- `b` is not a front of `ab`
 IsFront-fails : IsFront (98 ∷ []) (97 ∷ 98 ∷ []) → ⊥
 IsFront-fails h = let e : 97 ≡ 98 = ap first h.1 in omega (arith, e)
 
--- of `ab` the front `a` came behind what stood there
+-- of `ab` the front `a` was written, after what was there
 WroteFront-holds : WroteFront (Some (9 ∷ [])) (Some (9 ∷ 97 ∷ [])) (97 ∷ 98 ∷ [])
 WroteFront-holds = (97 ∷ [], (98 ∷ [], refl), refl)
 
--- of `ab` only the `b` came
+-- of `ab` only the `b` was written
 WroteFront-fails : WroteFront (Some (9 ∷ [])) (Some (9 ∷ 98 ∷ [])) (97 ∷ 98 ∷ []) → ⊥
 WroteFront-fails h =
     let front : 98 ∷ [] ≡ h.0 = ap (drop 1) h.2 in
     let e : 97 ≡ 98 = ap first (h.1.1 ∙ ap (λ front. front ++ h.1.0) (sym front)) in omega (arith, e)
 
--- `a` and a line end are read whole: two lines, of which the last is empty
+-- `a` and a line end are read to the end: two lines, of which the last is empty
 IsAnswered-holds : IsAnswered counting (Some one_line) (Some []) (Some []) (Some (2 ∷ []))
 IsAnswered-holds = record { script = one_line; marks = unmarked; read = refl; ended = refl; short = omega arith; wrote = refl }
 
--- one of the lines was not answered
+-- one of the lines wasn't answered
 IsAnswered-fails : IsAnswered counting (Some one_line) (Some []) (Some []) (Some (1 ∷ [])) → ⊥
 IsAnswered-fails h =
     let script : one_line ≡ h.script = h.read ∙ append-nil h.script in
     let lines : 2 ≡ length (lines_of h.script) = ap (λ s. length (lines_of s)) script in
     let wrote : 1 ≡ length (lines_of h.script) = ap first h.wrote in omega (arith, lines, wrote)
 
--- after a want of memory the one whole line was answered
+-- out of memory, after the one whole line was answered
 WentOut-holds : WentOut Memory counting unmarked one_line (Some []) (1 ∷ [])
 WentOut-holds = (1, refl)
 
--- two lines can't have been, since the last has no end
+-- two lines can't have been answered, since the last line has no end
 WentOut-fails : WentOut Memory counting unmarked one_line (Some []) (2 ∷ []) → ⊥
 WentOut-fails h = by h.0 (ap first h.1)
   where
@@ -64,22 +65,22 @@ WentOut-fails h = by h.0 (ap first h.1)
     by (suc zero) e = omega (arith, e)
     by (suc (suc count)) e = let two_is : 2 ≡ 1 = e in omega (arith, two_is)
 
--- a read failed behind `a`, a line end and `b`: the whole line was answered
+-- a read failed after `a`, a line end and `b`: the whole line was answered
 Breaks-holds : Breaks counting Read (Some (97 ∷ 10 ∷ 98 ∷ [])) (Some []) (Some []) (Some (1 ∷ []))
 Breaks-holds =
     record { seen = 97 ∷ 10 ∷ 98 ∷ []; marks = unmarked; text = 1 ∷ []; read = refl; few = omega arith; wrote = refl; went = refl }
 
--- the line that has no end was answered too
+-- the line that has no end was answered as well
 Breaks-fails : Breaks counting Read (Some (97 ∷ 10 ∷ 98 ∷ [])) (Some []) (Some []) (Some (2 ∷ [])) → ⊥
 Breaks-fails h =
     let seen : 97 ∷ 10 ∷ 98 ∷ [] ≡ h.seen = h.read ∙ append-nil h.seen in
     let lines : 1 ≡ length (whole_lines h.seen) = ap (λ s. length (whole_lines s)) seen in
     let wrote : 2 ≡ length (whole_lines h.seen) = ap first (h.wrote ∙ h.went) in omega (arith, lines, wrote)
 
--- line 4 answers its number behind what stood there, and leaves the next world
-IsAnswer-holds : IsAnswer numbering 4 one_line 0 1 (9 ∷ []) (9 ∷ 4 ∷ [])
-IsAnswer-holds = record { memory = false; text = 4 ∷ []; answered = refl; added = refl }
+-- line 4 is answered by its number, after what was there, and leaves the next world
+IsLineAnswer-holds : IsLineAnswer numbering 4 one_line 0 1 (9 ∷ []) (9 ∷ 4 ∷ [])
+IsLineAnswer-holds = record { memory = false; text = 4 ∷ []; answered = refl; added = refl }
 
 -- the world stayed as it was
-IsAnswer-fails : IsAnswer numbering 4 one_line 0 0 (9 ∷ []) (9 ∷ 4 ∷ []) → ⊥
-IsAnswer-fails h = let e : 1 ≡ 0 = ap (λ answered. answered.world) h.answered in omega (arith, e)
+IsLineAnswer-fails : IsLineAnswer numbering 4 one_line 0 0 (9 ∷ []) (9 ∷ 4 ∷ []) → ⊥
+IsLineAnswer-fails h = let e : 1 ≡ 0 = ap (λ answered. answered.world) h.answered in omega (arith, e)

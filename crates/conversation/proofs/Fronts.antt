@@ -1,16 +1,16 @@
--- The front of a line, as much as is kept of it.
+-- The front of a line: the part that is kept.
 use Rattle.std.proofs.Common.{◌≡◌, ℕ, zero, suc, ◌+◌, ◌-◌, List, [], ◌++◌, length, take, sym, ap, ◌∙◌, arith, inl, inr, refl, append-nil}
 use Rattle.std.proofs.lemmas.List.{take_all, take-append-le, length-take}
 use Rattle.std.proofs.lemmas.Bool.{cases_lt}
 use Rattle.std.proofs.Math.Seq.{take-append-add}
 use Rattle.conversation.specs.declared.limits.TheConstants.{KEPT_BYTES}
-use Rattle.conversation.specs.Told.{kept_with}
+use Rattle.conversation.specs.Answering.{kept_with}
 
 take_none : (n : ℕ) (bytes : List ℕ) → n ≡ 0 → take n bytes ≡ []
 take_none zero bytes e = refl
 take_none (suc n) bytes e = cc
 
--- more bytes, kept where there is room
+-- of more bytes of a line, those that still fit are kept
 pub front_more : (front text bytes : List ℕ) → front ≡ take KEPT_BYTES text → kept_with front bytes ≡ take KEPT_BYTES (text ++ bytes)
 front_more front text bytes e = elim (cases_lt (length text) KEPT_BYTES) [
   | inl short ↦

@@ -1,4 +1,4 @@
--- What readers and writers of known bytes have left and hold, one call after another.
+-- What a reader of known bytes has left, and what a writer holds, call after call.
 use Rattle.std.proofs.Common.{ℕ, List, [], ◌++◌, Option, Some, None, refl, sym, ap, ◌∙◌, append_assoc, append-nil}
 use Rattle.std.specs.Io.KnownBytes.{Appends, Consumes, Keeps}
 
@@ -17,11 +17,6 @@ appends_kept None b c s h k = tt
 appends_kept (Some xs) None c s h k = absurd h
 appends_kept (Some xs) (Some ys) None s h k = absurd k
 appends_kept (Some xs) (Some ys) (Some zs) s h k = k ∙ h
-
-pub consumes_none : (a b : Option (List ℕ)) → Keeps a b → Consumes a b []
-consumes_none None b h = tt
-consumes_none (Some xs) None h = absurd h
-consumes_none (Some xs) (Some ys) h = sym h
 
 pub consumes_start : (a : Option (List ℕ)) → Consumes a a []
 consumes_start None = tt

@@ -1,4 +1,4 @@
--- Where a text is cut that goes on by a byte.
+-- The parts of a text after one more byte.
 use Rattle.std.proofs.Common.{◌≡◌, ℕ, suc, Bool, true, false, cond, List, [], ◌∷◌, ◌++◌, refl, sym, ap, ◌∙◌, arith, append_assoc, append-nil}
 use Rattle.std.specs.List.{slice_split, onto_first, All}
 use Rattle.std.proofs.lemmas.List.Splits.{slice_split-cons_yes, slice_split-cons_no}
@@ -9,7 +9,7 @@ none_is [] = true
 none_is (part ∷ parts) = false
 
 module _ (p : ℕ → Bool) where
-  -- there is a part always
+  -- there is always a part
   pub onto_first_some : (x : ℕ) (parts : List (List ℕ)) → none_is (onto_first x parts) ≡ false
   onto_first_some x [] = refl
   onto_first_some x (part ∷ parts) = refl
@@ -25,7 +25,7 @@ module _ (p : ℕ → Bool) where
   onto_first-append x [] more h = cc
   onto_first-append x (part ∷ parts) more h = refl
 
-  -- a text that goes on by a cut has one part more, which is empty
+  -- a text followed by a separator has one more part, which is empty
   pub split-push_cut : (xs : List ℕ) (y : ℕ) → p y ≡ true → slice_split p (xs ++ y ∷ []) ≡ slice_split p xs ++ [] ∷ []
   split-push_cut [] y h = slice_split-cons_yes p y [] h
   split-push_cut (x ∷ xs) y h =
@@ -35,7 +35,7 @@ module _ (p : ℕ → Bool) where
         | false ↦ onto_first-append x (slice_split p xs) ([] ∷ []) (split_some xs)
       ]
 
-  -- the parts with a byte more at the end of the last
+  -- the parts with one more byte at the end of the last
   abbrev onto_last : ℕ → List (List ℕ) → List (List ℕ)
   onto_last y [] = (y ∷ []) ∷ []
   onto_last y (part ∷ []) = (part ++ y ∷ []) ∷ []
@@ -64,11 +64,11 @@ module _ (p : ℕ → Bool) where
         | false ↦ onto_last-onto_first x y (slice_split p xs) (split_some xs)
       ]
 
-  -- a text that goes on by another byte has it at the end of its last part
+  -- a text followed by another byte has it at the end of its last part
   pub split-push : (xs : List ℕ) (y : ℕ) (whole : List (List ℕ)) (rest : List ℕ) → p y ≡ false → slice_split p xs ≡ whole ++ rest ∷ [] → slice_split p (xs ++ y ∷ []) ≡ whole ++ (rest ++ y ∷ []) ∷ []
   split-push xs y whole rest h e = split-push_last xs y h ∙ ap (onto_last y) e ∙ onto_last-append whole rest y
 
-  -- and by more bytes at which it isn't cut
+  -- a text followed by several bytes that aren't separators has them at the end of its last part
   pub split-append : (xs ys : List ℕ) (whole : List (List ℕ)) (rest : List ℕ) → All (λ y. p y ≡ false) ys → slice_split p xs ≡ whole ++ rest ∷ [] → slice_split p (xs ++ ys) ≡ whole ++ (rest ++ ys) ∷ []
   split-append xs [] whole rest h e = ap (slice_split p) (append-nil xs) ∙ e ∙ ap (λ r. whole ++ r ∷ []) (sym (append-nil rest))
   split-append xs (y ∷ ys) whole rest h e =

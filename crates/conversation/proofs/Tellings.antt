@@ -1,10 +1,10 @@
--- What was told of a script, one byte at a time.
+-- Which part of a script was answered, byte after byte.
 use Rattle.std.proofs.Common.{◌≡◌, ℕ, ◌+◌, ◌<◌, ◌≤◌, Bool, true, false, cond, nat_eq, List, [], ◌∷◌, ◌++◌, length, take, refl, sym, ap, ◌∙◌, arith, append_assoc, append-nil, eq-eqb}
 use Rattle.std.proofs.lemmas.Bool.Decides.{nat_tests}
 use Rattle.std.specs.List.{fold}
 use Rattle.std.proofs.lemmas.List.Sums.{fold_push}
-use Rattle.conversation.specs.Scripts.{Definition, Marks, Progress, beginning, further, next_line, after_lines, answers_to, lines_of, all_but_last, whole_lines, is_line_end, IsAnswer}
-use Rattle.conversation.specs.Told.{Told, HasNoEnd, kept_with}
+use Rattle.conversation.specs.Scripts.{Definition, Marks, ScriptProgress, beginning, further, next_line, after_lines, answers_to, lines_of, all_but_last, whole_lines, is_line_end, IsLineAnswer}
+use Rattle.conversation.specs.Answering.{HasAnswered, HasNoEnd, kept_with}
 use Rattle.conversation.proofs.Splits.{split-push, split-push_cut, split-append}
 use Rattle.conversation.proofs.Fronts.{front_more}
 use Rattle.conversation.specs.declared.limits.TheConstants.{KEPT_BYTES}
@@ -29,7 +29,7 @@ but_last [] rest = refl
 but_last (line ∷ []) rest = refl
 but_last (line ∷ next ∷ lines) rest = ap (λ (ls : List (List ℕ)). line ∷ ls) (but_last (next ∷ lines) rest)
 
--- what a text's lines are that goes on: its whole lines, and at least one more
+-- the lines of a longer text: its whole lines, and at least one more
 record GoesOn (whole ls : List (List ℕ)) : Type 0 where
   pub next : List ℕ
   pub others : List (List ℕ)
@@ -53,7 +53,7 @@ go_on seen (b ∷ more) whole rest e = step (is_line_end b) refl (λ w r cut. go
         let on = later whole (rest ++ b ∷ []) (split-push is_line_end seen b whole rest h e) in
         record { next = on.next; others = on.others; same = joined ∙ on.same }
 
--- the first whole lines are those of the text before
+-- the first whole lines are those of the shorter text
 first_lines : (whole : List (List ℕ)) (next : List ℕ) (others : List (List ℕ)) → take (length whole) (all_but_last (whole ++ next ∷ others)) ≡ whole
 first_lines [] next others = refl
 first_lines (line ∷ []) next others = refl
@@ -61,20 +61,20 @@ first_lines (line ∷ more ∷ whole) next others = ap (λ (ls : List (List ℕ)
 
 module _ {W : Type 0} (define : Definition W) where
   -- what lines leave depends on their own marks alone
-  same_marks : (old new : Marks) (lines : List (List ℕ)) (p : Progress W) → ((k : ℕ) → k ≤ p.lines + length lines → old k ≡ new k)
+  same_marks : (old new : Marks) (lines : List (List ℕ)) (p : ScriptProgress W) → ((k : ℕ) → k ≤ p.lines + length lines → old k ≡ new k)
       → fold (next_line define old) p lines ≡ fold (next_line define new) p lines
   same_marks old new [] p h = refl
   same_marks old new (line ∷ lines) p h =
       same_marks old new lines (next_line define old p line) (λ k le. h k (omega arith))
       ∙ ap (λ memory. fold (next_line define new) (further p (define memory (p.lines + 1) line p.world)) lines) (h (p.lines + 1) (omega arith))
 
-  count_lines : (marks : Marks) (lines : List (List ℕ)) (p : Progress W) → (fold (next_line define marks) p lines).lines ≡ p.lines + length lines
+  count_lines : (marks : Marks) (lines : List (List ℕ)) (p : ScriptProgress W) → (fold (next_line define marks) p lines).lines ≡ p.lines + length lines
   count_lines marks [] p = omega arith
   count_lines marks (line ∷ lines) p = omega (arith, count_lines marks lines (next_line define marks p line))
 
   module _ (start : W) where
     module _ (seen : List ℕ) (world : W) (lines : ℕ) (line text : List ℕ) where
-      pub told_start : seen ≡ [] → world ≡ start → lines ≡ 0 → line ≡ [] → text ≡ [] → Told define start seen world lines line text
+      pub told_start : seen ≡ [] → world ≡ start → lines ≡ 0 → line ≡ [] → text ≡ [] → HasAnswered define start seen world lines line text
       told_start s w n l t = record {
         marks = λ _. false;
         whole = [];
@@ -86,20 +86,21 @@ module _ {W : Type 0} (define : Definition W) where
         same_text = t;
       }
 
-      module _ (t : Told define start seen world lines line text) where
-        -- the answers are those to the whole lines
+      module _ (t : HasAnswered define start seen world lines line text) where
+        -- the answers so far are those to the whole lines seen
         pub told_whole : text ≡ answers_to define start (whole_lines seen) t.marks
         told_whole = t.same_text ∙ ap (λ ls. answers_to define start ls t.marks) (sym (ap all_but_last t.cut ∙ but_last t.whole t.rest))
 
-        -- and to the first whole lines of what is seen later
+        -- the answers so far are also those to the first whole lines of any longer text that is
+        -- seen later
         pub told_first : (more : List ℕ) → text ≡ answers_to define start (take (length t.whole) (whole_lines (seen ++ more))) t.marks
         told_first more =
             let on = go_on seen more t.whole t.rest t.cut in
             t.same_text ∙ ap (λ ls. answers_to define start ls t.marks) (sym (ap (λ ls. take (length t.whole) (all_but_last ls)) on.same ∙ first_lines t.whole on.next on.others))
 
-        -- of bytes more, in which no line ends
+        -- after more bytes in which no line ends, nothing more is answered
         pub told_on : (bytes : List ℕ) (new_lines : ℕ) (new_line new_text : List ℕ) → HasNoEnd bytes
-            → new_lines ≡ lines → new_line ≡ kept_with line bytes → new_text ≡ text → Told define start (seen ++ bytes) world new_lines new_line new_text
+            → new_lines ≡ lines → new_line ≡ kept_with line bytes → new_text ≡ text → HasAnswered define start (seen ++ bytes) world new_lines new_line new_text
         told_on bytes new_lines new_line new_text h n l same = record {
           marks = t.marks;
           whole = t.whole;
@@ -119,8 +120,8 @@ pub record ToldAll {W : Type 0} (define : Definition W) (start : W) (script : Li
   pub same_text : text ≡ answers_to define start (lines_of script) marks
 
 module _ {W : Type 0} (define : Definition W) (front : (memory : Bool) (number : ℕ) (line : List ℕ) (w : W) → define memory number (take KEPT_BYTES line) w ≡ define memory number line w)
-    (start : W) (seen : List ℕ) (world : W) (lines : ℕ) (line text : List ℕ) (t : Told define start seen world lines line text) where
-  pub told_all : (new_world : W) (new_text : List ℕ) → IsAnswer define (lines + 1) line world new_world text new_text → ToldAll define start seen new_world (lines + 1) new_text
+    (start : W) (seen : List ℕ) (world : W) (lines : ℕ) (line text : List ℕ) (t : HasAnswered define start seen world lines line text) where
+  pub told_all : (new_world : W) (new_text : List ℕ) → IsLineAnswer define (lines + 1) line world new_world text new_text → ToldAll define start seen new_world (lines + 1) new_text
   told_all new_world new_text a = record {
     marks = new_marks;
     same_world = ap (λ q. q.world) (sym all_lines);
@@ -128,7 +129,7 @@ module _ {W : Type 0} (define : Definition W) (front : (memory : Bool) (number :
     same_text = a.added ∙ ap (λ xs. xs ++ a.text) t.same_text ∙ ap (λ q. q.text) (sym all_lines);
   }
     where
-      p : Progress W
+      p : ScriptProgress W
       p = after_lines define start t.whole t.marks
 
       new_marks : Marks
@@ -158,8 +159,8 @@ module _ {W : Type 0} (define : Definition W) (front : (memory : Bool) (number :
           ∙ ap (further p) answered
           ∙ ap (λ n. record { world = new_world; lines = n + 1; text = p.text ++ a.text }) (sym t.same_lines)
 
-  pub told_line : (new_world : W) (new_lines : ℕ) (new_line new_text : List ℕ) → IsAnswer define (lines + 1) line world new_world text new_text
-      → new_lines ≡ lines + 1 → new_line ≡ [] → Told define start (seen ++ 10 ∷ []) new_world new_lines new_line new_text
+  pub told_line : (new_world : W) (new_lines : ℕ) (new_line new_text : List ℕ) → IsLineAnswer define (lines + 1) line world new_world text new_text
+      → new_lines ≡ lines + 1 → new_line ≡ [] → HasAnswered define start (seen ++ 10 ∷ []) new_world new_lines new_line new_text
   told_line new_world new_lines new_line new_text a n l =
       let all = told_all new_world new_text a in
       record {
@@ -173,8 +174,8 @@ module _ {W : Type 0} (define : Definition W) (front : (memory : Bool) (number :
         same_text = all.same_text;
       }
 
--- an answer stands behind whatever went before
+-- an answer that was added to one text was also added to a longer text which ends with it
 pub behind : {W : Type 0} (define : Definition W) (number : ℕ) (line : List ℕ) (old new : W) (before after front : List ℕ)
-    → IsAnswer define number line old new before after → IsAnswer define number line old new (front ++ before) (front ++ after)
+    → IsLineAnswer define number line old new before after → IsLineAnswer define number line old new (front ++ before) (front ++ after)
 behind define number line old new before after front a =
     record { memory = a.memory; text = a.text; answered = a.answered; added = ap (λ xs. front ++ xs) a.added ∙ sym (append_assoc front before a.text) }

@@ -1,16 +1,16 @@
--- What a turn and the end of a conversation come to.
+-- What a turn and the end of a conversation do.
 use Rattle.std.proofs.Common.{◌≡◌, ℕ, ◌+◌, ◌<◌, ◌≤◌, Bool, List, [], ◌++◌, length, take, Option, refl, sym, ap, subst, ◌∙◌, arith, append_assoc, append-nil, length-append, inl, inr}
 use Rattle.std.specs.Io.KnownBytes.{Appends, Consumes, IsAtEnd}
 use Rattle.conversation.specs.declared.fault.StreamFault.TheVariants.{Read, Write, TooLong, Memory}
-use Rattle.conversation.specs.Scripts.{Definition, answers_to, IsAnswer}
+use Rattle.conversation.specs.Scripts.{Definition, answers_to, IsLineAnswer}
 use Rattle.std.specs.Prelude.{⊤, IfErr, OnOk, Result, Ok, Err}
 use Rattle.std.specs.Result.{IsErr, IsErrAnd}
 use Rattle.conversation.specs.declared.fault.StreamFault.{StreamFault}
-use Rattle.conversation.specs.Told.{Told, Reached, Finished}
+use Rattle.conversation.specs.Answering.{HasAnswered, Reached, Finished}
 use Rattle.conversation.specs.Conversations.{Leaves, Breaks, IsFront}
 use Rattle.conversation.proofs.Tellings.{ToldAll, told_start, told_whole, told_first, told_all, behind}
 use Rattle.conversation.proofs.Known.{appends_none, appends_more, consumes_start, consumes_more, consumes_kept}
-use Rattle.conversation.specs.declared.limits.TheConstants.{KEPT_BYTES, MOST_BYTES}
+use Rattle.conversation.specs.declared.limits.TheConstants.{KEPT_BYTES, MOST_SCRIPT_BYTES}
 
 front_behind : (text front out : List ℕ) → IsFront front out → IsFront (text ++ front) (text ++ out)
 front_behind text front out h = (h.0, ap (λ xs. text ++ xs) h.1 ∙ sym (append_assoc text front h.0))
@@ -23,51 +23,54 @@ module _ {W : Type 0} (define : Definition W) (start : W) where
     read = consumes_start old;
     counted = refl;
     wrote = appends_none before;
-    told = told_start define start [] start lines line [] refl refl n l refl;
+    reported = told_start define start [] start lines line [] refl refl n l refl;
   }
 
   module _ (old now before after : Option (List ℕ)) (count : ℕ) (world : W) (lines : ℕ) (line : List ℕ) (r : Reached define start old now before after count world lines line) where
-    pub reached_kept : (next : Option (List ℕ)) → Consumes now next [] → Reached define start old next before after count world lines line
-    reached_kept next k = record { seen = r.seen; text = r.text; read = consumes_kept old now next r.seen r.read k; counted = r.counted; wrote = r.wrote; told = r.told }
+    pub reached_at : (other : ℕ) → count ≡ other → Reached define start old now before after other world lines line
+    reached_at other e = subst (λ n. Reached define start old now before after n world lines line) e r
 
-    pub breaks_read : (next : Option (List ℕ)) → Consumes now next [] → count ≤ MOST_BYTES → Breaks (answers_to define start) Read old next before after
+    pub reached_kept : (next : Option (List ℕ)) → Consumes now next [] → Reached define start old next before after count world lines line
+    reached_kept next k = record { seen = r.seen; text = r.text; read = consumes_kept old now next r.seen r.read k; counted = r.counted; wrote = r.wrote; reported = r.reported }
+
+    pub breaks_read : (next : Option (List ℕ)) → Consumes now next [] → count ≤ MOST_SCRIPT_BYTES → Breaks (answers_to define start) Read old next before after
     breaks_read next k few = record {
       seen = r.seen;
-      marks = r.told.marks;
+      marks = r.reported.marks;
       text = r.text;
       read = consumes_kept old now next r.seen r.read k;
       few = omega (arith, r.counted);
       wrote = r.wrote;
-      went = told_whole define start r.seen world lines line r.text r.told;
+      went = told_whole define start r.seen world lines line r.text r.reported;
     }
 
-    pub breaks_long : count ≤ MOST_BYTES → Breaks (answers_to define start) TooLong old now before after
+    pub breaks_long : count ≤ MOST_SCRIPT_BYTES → Breaks (answers_to define start) TooLong old now before after
     breaks_long few = record {
       seen = r.seen;
-      marks = r.told.marks;
+      marks = r.reported.marks;
       text = r.text;
       read = r.read;
       few = omega (arith, r.counted);
       wrote = r.wrote;
-      went = told_whole define start r.seen world lines line r.text r.told;
+      went = told_whole define start r.seen world lines line r.text r.reported;
     }
 
-    -- what was read in a turn that memory ends goes unanswered
-    pub breaks_memory : (next : Option (List ℕ)) (piece : List ℕ) → Consumes now next piece → count + length piece ≤ MOST_BYTES
+    -- what was read in a turn that runs out of memory goes unanswered
+    pub breaks_memory : (next : Option (List ℕ)) (piece : List ℕ) → Consumes now next piece → count + length piece ≤ MOST_SCRIPT_BYTES
         → Breaks (answers_to define start) Memory old next before after
     breaks_memory next piece k few = record {
       seen = r.seen ++ piece;
-      marks = r.told.marks;
+      marks = r.reported.marks;
       text = r.text;
       read = consumes_more old now next r.seen piece r.read k;
       few = omega (arith, r.counted, length-append r.seen piece);
       wrote = r.wrote;
-      went = (length r.told.whole, told_first define start r.seen world lines line r.text r.told piece);
+      went = (length r.reported.whole, told_first define start r.seen world lines line r.text r.reported piece);
     }
 
-    -- a turn's answers, and what of them the writer took
+    -- the answers of a turn, and the part of them that the writer took
     module _ (next : Option (List ℕ)) (piece : List ℕ) (k : Consumes now next piece) (n : ℕ) (size : length piece ≡ n)
-        (new_world : W) (new_lines : ℕ) (new_line out : List ℕ) (t : Told define start (r.seen ++ piece) new_world new_lines new_line (r.text ++ out)) where
+        (new_world : W) (new_lines : ℕ) (new_line out : List ℕ) (t : HasAnswered define start (r.seen ++ piece) new_world new_lines new_line (r.text ++ out)) where
       pub reached_more : (last : Option (List ℕ)) (last_lines : ℕ) (last_line : List ℕ) → last_lines ≡ new_lines → last_line ≡ new_line → Appends after last out
           → Reached define start old next before last (count + n) new_world last_lines last_line
       reached_more last last_lines last_line same_lines same_line w = record {
@@ -76,7 +79,7 @@ module _ {W : Type 0} (define : Definition W) (start : W) where
         read = consumes_more old now next r.seen piece r.read k;
         counted = omega (arith, r.counted, size, length-append r.seen piece);
         wrote = appends_more before after last r.text out r.wrote w;
-        told = record {
+        reported = record {
           marks = t.marks;
           whole = t.whole;
           rest = t.rest;
@@ -88,7 +91,7 @@ module _ {W : Type 0} (define : Definition W) (start : W) where
         };
       }
 
-      pub breaks_write : (last : Option (List ℕ)) (front : List ℕ) → IsFront front out → Appends after last front → count + n ≤ MOST_BYTES
+      pub breaks_write : (last : Option (List ℕ)) (front : List ℕ) → IsFront front out → Appends after last front → count + n ≤ MOST_SCRIPT_BYTES
           → Breaks (answers_to define start) Write old next before last
       breaks_write last front f w few =
           let h = front_behind r.text front out f in
@@ -103,29 +106,29 @@ module _ {W : Type 0} (define : Definition W) (start : W) where
             went = inl (h.0, sym all ∙ h.1);
           }
 
-    -- nothing is kept back between turns
-    pub told_onto : (out : List ℕ) → out ≡ [] → Told define start r.seen world lines line (r.text ++ out)
+    -- between turns no answer is held back, so all that was read is answered
+    pub told_onto : (out : List ℕ) → out ≡ [] → HasAnswered define start r.seen world lines line (r.text ++ out)
     told_onto out e = record {
-      marks = r.told.marks;
-      whole = r.told.whole;
-      rest = r.told.rest;
-      cut = r.told.cut;
-      kept = r.told.kept;
-      same_world = r.told.same_world;
-      same_lines = r.told.same_lines;
-      same_text = ap (λ xs. r.text ++ xs) e ∙ append-nil r.text ∙ r.told.same_text;
+      marks = r.reported.marks;
+      whole = r.reported.whole;
+      rest = r.reported.rest;
+      cut = r.reported.cut;
+      kept = r.reported.kept;
+      same_world = r.reported.same_world;
+      same_lines = r.reported.same_lines;
+      same_text = ap (λ xs. r.text ++ xs) e ∙ append-nil r.text ∙ r.reported.same_text;
     }
 
     -- the end: the last line is answered too
     module _ (reads_front : (memory : Bool) (number : ℕ) (line : List ℕ) (w : W) → define memory number (take KEPT_BYTES line) w ≡ define memory number line w)
-        (ended : IsAtEnd now) (short : count < MOST_BYTES) (new_world : W) (sent out : List ℕ) (none : sent ≡ []) (a : IsAnswer define (lines + 1) line world new_world sent out) where
-      onto : IsAnswer define (lines + 1) line world new_world r.text (r.text ++ out)
+        (ended : IsAtEnd now) (short : count < MOST_SCRIPT_BYTES) (new_world : W) (sent out : List ℕ) (none : sent ≡ []) (a : IsLineAnswer define (lines + 1) line world new_world sent out) where
+      onto : IsLineAnswer define (lines + 1) line world new_world r.text (r.text ++ out)
       onto =
           let b = behind define (lines + 1) line world new_world sent out r.text a in
           record { memory = b.memory; text = b.text; answered = b.answered; added = b.added ∙ ap (λ xs. (r.text ++ xs) ++ b.text) none ∙ ap (λ xs. xs ++ b.text) (append-nil r.text) }
 
       all : ToldAll define start r.seen new_world (lines + 1) (r.text ++ out)
-      all = told_all define reads_front start r.seen world lines line r.text r.told new_world (r.text ++ out) onto
+      all = told_all define reads_front start r.seen world lines line r.text r.reported new_world (r.text ++ out) onto
 
       pub all_answered : (last : Option (List ℕ)) → Appends after last out → Leaves define start new_world old now before last
       all_answered last w = record {
@@ -154,7 +157,7 @@ module _ {W : Type 0} (define : Definition W) (start : W) where
             went = inr (ended, (h.0, sym all.same_text ∙ h.1));
           }
 
-  -- an end that went well or didn't, clause by clause
+  -- an end with and without a fault, clause by clause
   module _ (old now before after : Option (List ℕ)) (left : W) where
     abbrev IsEnd : Result ⊤ StreamFault → Type 0
     IsEnd r = record { done : OnOk r (Leaves define start left old now before after); fault : IfErr r (λ e. Breaks (answers_to define start) e old now before after) }
@@ -163,7 +166,7 @@ module _ {W : Type 0} (define : Definition W) (start : W) where
     finished (Ok done) h = record { done = h; fault = tt }
     finished (Err e) h = record { done = tt; fault = h }
 
-    -- a fault that is handed on
+    -- if a call has the fault e, the conversation ends with that fault
     pub broken : (r : Result ⊤ StreamFault) (e : StreamFault) (Is : StreamFault → Type 0) → IsErr r → IsErrAnd r Is → ((x : StreamFault) → Is x → x ≡ e)
         → Breaks (answers_to define start) e old now before after → IsEnd r
     broken (Ok done) e Is h k same b = absurd k

@@ -1,3 +1,3 @@
 pub mod Scripts
 pub mod Conversations
-pub mod Told
+pub mod Answering

@@ -1,20 +1,24 @@
-//! Whatever lines see and change.
+//! The state that lines see and change.
 
 ghost use Rattle.std.specs.Prelude.{◌≡◌, ℕ, Bool, List, take};
 ghost use Rattle.conversation.specs.Scripts.{Definition};
 ghost use Rattle.conversation.specs.declared.limits.TheConstants.{KEPT_BYTES};
 
-/// What is changed as lines are answered, one after the other, and how each changes it and answers. What answers them is called with it.
+/// The state that a conversation's closure is called with. For contracts, this trait also defines
+/// what each line does to the state.
 pub trait Answers {
-    /// What its worlds are.
+    /// The type of the worlds.
     ghost Worlds: { Type 0 };
 
-    /// What lines see and change.
+    /// The world in a state: what lines see and change.
     ghost world: { Self → Worlds };
 
-    /// What each line leaves and answers.
+    /// Whether nobody else changes what lines see.
+    ghost alone: { Self → Type 0 };
+
+    /// The world that each line leaves, and the answer to the line.
     ghost define: { Definition Worlds };
 
-    /// A line answers as its first bytes do, as many as are kept.
+    /// What a line does, and its answer, depend only on the line's first `KEPT_BYTES` bytes.
     ghost reads_front: { (memory : Bool) (number : ℕ) (line : List ℕ) (w : Worlds) → define memory number (take KEPT_BYTES line) w ≡ define memory number line w };
 }

@@ -1,27 +1,28 @@
-//! A conversation: the script comes in by pieces, and the answers to each piece go out together.
+//! A conversation: a script is read in pieces, and the answers to each piece are written together.
 
 ghost use Rattle.std.specs.Prelude.{◌≡◌, ◌++◌, ◌∷◌, [], ◌<◌, ◌≤◌, ◌+◌, ◌^◌, ℕ, List, Option, OnOk, OnErr, IfOk, IfErr, IfSome, MatchOption, length, take};
-ghost use Rattle.std.specs.Io.KnownBytes.{Appends, IsAtEnd};
-ghost use Rattle.conversation.specs.declared.limits.TheConstants.{KEPT_BYTES, MOST_BYTES};
-ghost use Rattle.conversation.specs.Scripts.{answers_to, AnswersBy, IsAnswer};
-ghost use Rattle.conversation.specs.Told.{HasNoEnd, kept_with, TellsOn, Reached, Turned, Finished};
+ghost use Rattle.std.specs.Io.KnownBytes.{Appends, Consumes, IsAtEnd};
+ghost use Rattle.conversation.specs.declared.limits.TheConstants.{KEPT_BYTES, MOST_SCRIPT_BYTES};
+ghost use Rattle.conversation.specs.Scripts.{answers_to, AnswersBy, IsLineAnswer};
+ghost use Rattle.conversation.specs.Answering.{HasNoEnd, kept_with, AnswersFurther, Reached, TurnsTo, Finished};
 ghost use Rattle.conversation.specs.Conversations.{Leaves, Breaks, WroteFront};
 
 use crate::answering::Answers;
 use crate::fault::StreamFault;
-use crate::limits::{KEPT_BYTES, MOST_BYTES, MOST_READS};
+use crate::limits::{KEPT_BYTES, MOST_READS, MOST_SCRIPT_BYTES};
 use crate::streams::{read_piece, write_whole};
-use memchr::memchr;
+use bstr::ByteSlice;
 use std::alloc::{AllocError, Global};
 use std::io::{Read, Write};
 
-/// The most bytes of one read.
+/// The most bytes that one read takes.
 const PIECE_BYTES: usize = 4096;
 
-/// What ends a line.
+/// The end of a line.
 const LINE_END: u8 = b'\n';
 
-/// The line that has not ended yet, how many lines have, and the answers that have not gone out.
+/// The kept bytes of the line that hasn't ended yet, how many lines have ended, and the answers
+/// that aren't written yet.
 #[derive(Drop)]
 pub struct Conversation {
     line: Vec<u8>,
@@ -30,7 +31,7 @@ pub struct Conversation {
 }
 
 impl Conversation {
-    /// The conversation before the script.
+    /// A conversation before the first read.
     fn new(alloc: Global) -> Conversation
         ensures line { result.line.items ≡ [] }
         ensures lines { result.lines ≡ 0 }
@@ -43,7 +44,7 @@ impl Conversation {
         }
     }
 
-    /// Takes a piece of the script, and adds the answers to the lines that end in it.
+    /// Takes a piece of the script, and adds the answers to the lines that end in the piece.
     fn take<A: Answers, F: Fn(&mut A, u32, &[u8], &mut Vec<u8>) -> Result<(), AllocError>>(
         &mut self,
         answers: &mut A,
@@ -52,20 +53,23 @@ impl Conversation {
     ) -> Result<(), AllocError>
         requires few { self.old.lines + length piece.now < 2 ^ 32 }
         requires callable { F.IsAlwaysCallable answer.now }
-        requires answers { AnswersBy A.define A.world (F.post answer.now) }
-        ensures told { OnOk result (TellsOn A.define (A.world answers.old) self.old
-            (A.world answers.new) self.new piece.now) }
+        requires answers { AnswersBy A.alone A.define A.world (F.post answer.now) }
+        ensures reported { A.alone answers.old
+            → OnOk result (AnswersFurther A.define (A.world answers.old)
+            self.old (A.world answers.new) self.new piece.now) }
+        ensures alone { A.alone answers.old → OnOk result (A.alone answers.new) }
         ensures lines { self.new.lines ≤ self.old.lines + length piece.now }
     {
         let mut rest = piece;
-        'lines: while let Some((end, behind)) = first_line(rest) {
+        'lines: while let Some((end, following)) = first_line(rest) {
             self.answer_line(answers, answer, end)?;
-            rest = behind;
+            rest = following;
         }
         self.keep(rest)
     }
 
-    /// Adds the answer to the line that ends with these bytes. Where nothing is kept of it, it is answered as it lies in the piece.
+    /// Adds the answer to the line that ends with the bytes `end`. If no byte of the line was kept
+    /// before, the line isn't copied.
     fn answer_line<A: Answers, F: Fn(&mut A, u32, &[u8], &mut Vec<u8>) -> Result<(), AllocError>>(
         &mut self,
         answers: &mut A,
@@ -74,13 +78,15 @@ impl Conversation {
     ) -> Result<(), AllocError>
         requires few { self.old.lines + 1 < 2 ^ 32 }
         requires callable { F.IsAlwaysCallable answer.now }
-        requires answers { AnswersBy A.define A.world (F.post answer.now) }
+        requires answers { AnswersBy A.alone A.define A.world (F.post answer.now) }
         ensures lines { self.new.lines ≤ self.old.lines + 1 }
         ensures counted { OnOk result (self.new.lines ≡ self.old.lines + 1) }
         ensures line { OnOk result (self.new.line.items ≡ []) }
-        ensures answer { OnOk result (IsAnswer A.define (self.old.lines + 1)
+        ensures answer { A.alone answers.old
+            → OnOk result (IsLineAnswer A.define (self.old.lines + 1)
             (kept_with self.old.line.items end.now) (A.world answers.old) (A.world answers.new)
             self.old.out.items self.new.out.items) }
+        ensures alone { A.alone answers.old → OnOk result (A.alone answers.new) }
     {
         if self.line.as_slice().is_empty() {
             self.lines += 1;
@@ -91,7 +97,7 @@ impl Conversation {
         self.end_line(answers, answer)
     }
 
-    /// Adds the answer to the line, which ends here.
+    /// Adds the answer to the kept line, which ends here.
     fn end_line<A: Answers, F: Fn(&mut A, u32, &[u8], &mut Vec<u8>) -> Result<(), AllocError>>(
         &mut self,
         answers: &mut A,
@@ -99,11 +105,14 @@ impl Conversation {
     ) -> Result<(), AllocError>
         requires few { self.old.lines + 1 < 2 ^ 32 }
         requires callable { F.IsAlwaysCallable answer.now }
-        requires answers { AnswersBy A.define A.world (F.post answer.now) }
+        requires answers { AnswersBy A.alone A.define A.world (F.post answer.now) }
         ensures lines { self.new.lines ≡ self.old.lines + 1 }
         ensures line { OnOk result (self.new.line.items ≡ []) }
-        ensures answer { OnOk result (IsAnswer A.define (self.old.lines + 1) self.old.line.items
-            (A.world answers.old) (A.world answers.new) self.old.out.items self.new.out.items) }
+        ensures answer { A.alone answers.old
+            → OnOk result (IsLineAnswer A.define (self.old.lines + 1)
+            self.old.line.items (A.world answers.old) (A.world answers.new)
+            self.old.out.items self.new.out.items) }
+        ensures alone { A.alone answers.old → OnOk result (A.alone answers.new) }
     {
         self.lines += 1;
         answer(answers, self.lines, &self.line, &mut self.out)?;
@@ -111,7 +120,7 @@ impl Conversation {
         Ok(())
     }
 
-    /// Adds bytes to the line, as far as it isn't longer than a call.
+    /// Keeps more bytes of the line, up to `KEPT_BYTES` in all, one more than any call has.
     fn keep(&mut self, bytes: &[u8]) -> Result<(), AllocError>
         ensures out { self.new.out ≡ self.old.out }
         ensures lines { self.new.lines ≡ self.old.lines }
@@ -122,7 +131,8 @@ impl Conversation {
         self.line.extend_from_slice(&bytes[..most])
     }
 
-    /// Sends the answers out, in one write where the writer takes them all. With none there is nothing to write.
+    /// Writes the answers, in one write if the writer takes them all. If there are none, writes
+    /// nothing.
     fn send<W: Write>(&mut self, writer: &mut W) -> Result<(), StreamFault>
         ensures line { self.new.line ≡ self.old.line }
         ensures lines { self.new.lines ≡ self.old.lines }
@@ -144,55 +154,45 @@ impl Conversation {
         Ok(())
     }
 
-    /// Reads once, and sends the answers to the lines that end in what was read. Nothing is answered
-    /// at the end; else how many bytes were read, 0 where the read was interrupted.
+    /// Answers the lines that end in a piece of the script, and writes the answers.
     fn turn<
         A: Answers,
         F: Fn(&mut A, u32, &[u8], &mut Vec<u8>) -> Result<(), AllocError>,
-        R: Read,
         W: Write,
     >(
         &mut self,
         answers: &mut A,
         answer: &F,
-        room: u32,
-        reader: &mut R,
+        piece: &[u8],
         writer: &mut W,
-    ) -> Result<Option<u32>, StreamFault>
-        requires some { 0 < room }
-        requires few { self.old.lines + room < 2 ^ 32 }
+    ) -> Result<(), StreamFault>
+        requires few { self.old.lines + length piece.now < 2 ^ 32 }
         requires sent { self.old.out.items ≡ [] }
         requires callable { F.IsAlwaysCallable answer.now }
-        requires answers { AnswersBy A.define A.world (F.post answer.now) }
+        requires answers { AnswersBy A.alone A.define A.world (F.post answer.now) }
         ensures out { OnOk result (self.new.out.items ≡ []) }
-        ensures lines { IfOk result (λ taken. IfSome taken
-            (λ n. self.new.lines ≤ self.old.lines + n)) }
-        ensures last { IfOk result (λ taken. taken ≡ None → self.new.lines ≡ self.old.lines) }
-        ensures turned { (start : A.Worlds) (old before : Option (List ℕ)) (count : ℕ)
-            → count + room ≤ MOST_BYTES
-            → Reached A.define start old (R.remaining reader.old) before (W.contents writer.old)
+        ensures lines { self.new.lines ≤ self.old.lines + length piece.now }
+        ensures alone { A.alone answers.old → OnOk result (A.alone answers.new) }
+        ensures turned { A.alone answers.old
+            → (start : A.Worlds) (old now next before : Option (List ℕ)) (count : ℕ)
+            → Consumes now next piece.now → count + length piece.now ≤ MOST_SCRIPT_BYTES
+            → Reached A.define start old now before (W.contents writer.old)
             count (A.world answers.old) self.old.lines self.old.line.items
-            → Turned A.define start old (R.remaining reader.new) before (W.contents writer.new) room
-            count (A.world answers.new) self.new.lines self.new.line.items result }
+            → TurnsTo A.define start old next before (W.contents writer.new)
+            (count + length piece.now) (A.world answers.new) self.new.lines self.new.line.items
+            result }
     {
-        let mut buffer = [0; PIECE_BYTES];
-        let most = PIECE_BYTES.min(room as usize);
-        let Ok(taken) = read_piece(reader, &mut buffer, most) else {
-            return Err(StreamFault::Read);
-        };
-        let Some(n) = taken else {
-            return Ok(None);
-        };
-        let Ok(()) = self.take(answers, answer, &buffer[..n]) else {
+        let Ok(()) = self.take(answers, answer, piece) else {
             return Err(StreamFault::Memory);
         };
         let Ok(()) = self.send(writer) else {
             return Err(StreamFault::Write);
         };
-        Ok(Some(n as u32))
+        Ok(())
     }
 
-    /// Answers the last line, if the script doesn't end with a line's end.
+    /// Answers the last line, which has no line end. It is empty if the script ends with a line
+    /// end.
     fn finish<
         A: Answers,
         F: Fn(&mut A, u32, &[u8], &mut Vec<u8>) -> Result<(), AllocError>,
@@ -201,9 +201,11 @@ impl Conversation {
         requires few { self.old.lines + 1 < 2 ^ 32 }
         requires sent { self.old.out.items ≡ [] }
         requires callable { F.IsAlwaysCallable answer.now }
-        requires answers { AnswersBy A.define A.world (F.post answer.now) }
-        ensures { (start : A.Worlds) (old now before : Option (List ℕ)) (count : ℕ)
-            → count < MOST_BYTES → IsAtEnd now
+        requires answers { AnswersBy A.alone A.define A.world (F.post answer.now) }
+        ensures alone { A.alone answers.old → OnOk result (A.alone answers.new) }
+        ensures ended { A.alone answers.old
+            → (start : A.Worlds) (old now before : Option (List ℕ)) (count : ℕ)
+            → count < MOST_SCRIPT_BYTES → IsAtEnd now
             → Reached A.define start old now before (W.contents writer.old) count
             (A.world answers.old) self.old.lines self.old.line.items
             → Finished A.define start old now before (W.contents writer.new)
@@ -219,24 +221,26 @@ impl Conversation {
     }
 }
 
-/// The bytes of a line that are kept of it.
+/// The part of a line that is kept: at most its first `KEPT_BYTES` bytes.
 fn kept_front(line: &[u8]) -> &[u8]
     ensures { result.now ≡ take KEPT_BYTES line.now }
 {
     &line[..KEPT_BYTES.min(line.len())]
 }
 
-/// The bytes before the first line's end of a text, and those behind it; none where no line ends in it.
+/// The bytes before the first line end of `text`, and the bytes after that end; `None` if `text`
+/// has no line end.
 fn first_line(text: &[u8]) -> Option<(&[u8], &[u8])>
     ensures { MatchOption result (HasNoEnd text.now) (λ r. HasNoEnd r.0.now
         × (text.now ≡ r.0.now ++ LINE_END ∷ r.1.now)) }
 {
-    let end = memchr(LINE_END, text)?;
-    let (line, behind) = text.split_at(end);
-    Some((line, &behind[1..]))
+    let end = text.find_byte(LINE_END)?;
+    let (line, following) = text.split_at(end);
+    Some((line, &following[1..]))
 }
 
-/// Answers a script by what is called for each line, the lines of each read before the next one.
+/// Answers a script: calls `answer` for each line, and writes the answers. The lines that end in
+/// one read are answered before the next read.
 pub fn converse<
     A: Answers,
     F: Fn(&mut A, u32, &[u8], &mut Vec<u8>) -> Result<(), AllocError>,
@@ -250,21 +254,30 @@ pub fn converse<
     writer: &mut W,
 ) -> Result<(), StreamFault>
     requires callable { F.IsAlwaysCallable answer.now }
-    requires answers { AnswersBy A.define A.world (F.post answer.now) }
-    ensures done { OnOk result (Leaves A.define (A.world answers.old) (A.world answers.new)
+    requires answers { AnswersBy A.alone A.define A.world (F.post answer.now) }
+    ensures done { A.alone answers.old → OnOk result (Leaves A.define
+        (A.world answers.old) (A.world answers.new)
         (R.remaining reader.old) (R.remaining reader.new)
         (W.contents writer.old) (W.contents writer.new)) }
-    ensures fault { IfErr result (λ e. Breaks (answers_to A.define (A.world answers.old)) e
+    ensures alone { A.alone answers.old → OnOk result (A.alone answers.new) }
+    ensures fault { A.alone answers.old → IfErr result (λ e. Breaks
+        (answers_to A.define (A.world answers.old)) e
         (R.remaining reader.old) (R.remaining reader.new)
         (W.contents writer.old) (W.contents writer.new)) }
 {
     let mut conversation = Conversation::new(alloc);
-    let mut room = MOST_BYTES;
+    let mut buffer = [0; PIECE_BYTES];
+    let mut room = MOST_SCRIPT_BYTES;
     for _ in 0..MOST_READS {
-        let Some(taken) = conversation.turn(answers, answer, room, reader, writer)? else {
+        let most = PIECE_BYTES.min(room as usize);
+        let Ok(taken) = read_piece(reader, &mut buffer, most) else {
+            return Err(StreamFault::Read);
+        };
+        let Some(count) = taken else {
             return conversation.finish(answers, answer, writer);
         };
-        room -= taken;
+        conversation.turn(answers, answer, &buffer[..count], writer)?;
+        room -= count as u32;
         if room == 0 {
             return Err(StreamFault::TooLong);
         }

@@ -11,10 +11,10 @@ pub enum StreamFault {
     /// A write failed, or took no bytes.
     #[error("write failed")]
     Write,
-    /// The script has no end within its limits.
+    /// The script has too many bytes, or takes too many reads.
     #[error("script too long")]
     TooLong,
-    /// There was no memory to go on.
+    /// Out of memory.
     #[error("memory")]
     Memory,
 }

@@ -1,4 +1,5 @@
-//! Conversations: a script comes in by pieces, and what each line answers goes out, over whatever answers lines.
+//! Conversations: a script is read in pieces, and the answers to its lines are written. The caller
+//! supplies what answers a line.
 #![tactic(auto)]
 
 pub mod answering;

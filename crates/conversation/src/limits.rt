@@ -1,10 +1,10 @@
 //! The limits of a script.
 
-/// The bytes that a script doesn't reach.
-pub const MOST_BYTES: u32 = 1 << 24;
+/// A script has fewer bytes than this.
+pub const MOST_SCRIPT_BYTES: u32 = 1 << 24;
 
-/// The most reads of a script.
+/// The most reads that a script may take.
 pub const MOST_READS: u32 = 1 << 25;
 
-/// A line is kept up to this many bytes: no call is as long.
+/// The most bytes that are kept of a line: one more than any call has.
 pub const KEPT_BYTES: usize = 256;

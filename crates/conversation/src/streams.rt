@@ -7,9 +7,9 @@ ghost use Rattle.conversation.specs.Conversations.{IsFront, WroteFront};
 use crate::fault::StreamFault;
 use std::io::{ErrorKind, Read, Write};
 
-/// Reads at most so many bytes to the front of a buffer: how many, 0 where the read was
-/// interrupted, and none at the end.
-pub fn read_piece<R: Read>(
+/// Reads at most `most` bytes into the front of `buffer`. Returns how many were read, which is 0 if
+/// the read was interrupted, or `None` at the end.
+pub(crate) fn read_piece<R: Read>(
     reader: &mut R,
     buffer: &mut [u8],
     most: usize,
@@ -32,7 +32,7 @@ pub fn read_piece<R: Read>(
     }
 }
 
-/// Writes all bytes; where a write fails, or takes none, a front of them was written.
+/// Writes all bytes. If a write fails or takes no bytes, a prefix of `bytes` was written.
 pub fn write_whole<W: Write>(writer: &mut W, bytes: &[u8]) -> Result<(), StreamFault>
     ensures written { OnOk result
         (Appends (W.contents writer.old) (W.contents writer.new) bytes.now) }

@@ -1,4 +1,4 @@
--- Stored runs that come down to a configuration, seen from below.
+-- Stored runs that lead to a configuration, climbed from below.
 use Rattle.std.proofs.Common.{◌≡◌, ℕ, ◌+◌, ◌<◌, ◌≤◌, arith, length, Bool, true, false, ◌||◌, nat_eq, List, [], ◌∷◌, ◌++◌, Option, Some, None, slice_get, inl, inr, refl, sym, ap, subst, ◌∙◌, true≢false, eq-eqb}
 use Rattle.std.specs.Prelude.{⊤}
 use Rattle.std.specs.Cmp.{IsPartialEquivalence}
@@ -9,13 +9,13 @@ use Rattle.frames.specs.Equality.{SameConfiguration}
 use Rattle.checkpoints.specs.Segment.{SegmentRun, IsRun}
 use Rattle.std.proofs.lemmas.List.{length-append}
 use Rattle.schedule_trie.specs.Cut.{Cut, piece_at, note_of, keys_in, has, Once, IsCut}
-use Rattle.schedule_trie.specs.Climbs.{keys_up_to, keys_to, last_of, IsReached}
+use Rattle.schedule_trie.specs.Climbs.{keys_up_to, keys_to, last_of, HasClimbedTo}
 use Rattle.schedule_trie.proofs.Climbs.{IsStepUp, once_before, step_up}
 use Rattle.schedule_trie.proofs.Once.{Once-from_linked}
 use Rattle.schedule_trie.proofs.Partings.{parting}
 use Rattle.cutoff.specs.Fitting.{StoredRun, steps_at}
-use Rattle.cutoff.specs.Links.{alone, number_at, number_of, CameTo, IsStored, IsLinked}
-use Rattle.cutoff.specs.Plans.{ComesDown, FitsDown}
+use Rattle.cutoff.specs.Links.{without_register, number_at, run_number, IsExitOf, IsStored, IsLinked}
+use Rattle.cutoff.specs.Plans.{FitsDownTo, FitsDown}
 use Rattle.cutoff.proofs.Fits.{alone_same, stored_at, register_kept, same_symm, same_trans, same_from_alone, exit_same, fits_from_note, no_note_no_fit}
 
 not_first : (key k : ℕ) (ks : List ℕ) → has key (k ∷ ks) ≡ false → key ≡ k → ⊥
@@ -28,10 +28,10 @@ not_below key k ks h = by (nat_eq key k) refl
     by true e = absurd (true≢false (sym (ap (λ x. x || has key ks) e) ∙ h))
     by false e = sym (ap (λ x. x || has key ks) e) ∙ h
 
--- a run at a key fits where runs above come down to where it begins
+-- a run at a key fits if the runs above lead to its entry
 module _ {R P : Type 0} (E : R → R → Bool) (b : Behaviour P) (cut : Cut (StoredRun R P)) (key : ℕ) (run : SegmentRun R P) where
   pub down_parts : (c : Configuration R P) (front back : List ℕ) → has key front ≡ false → FitsDown E b cut key run c (front ++ key ∷ back)
-      → (run.steps ≡ steps_at cut key) × ComesDown E b cut c front run.entry
+      → (run.steps ≡ steps_at cut key) × FitsDownTo E b cut c front run.entry
   down_parts c [] back lacks (inl f) = (f.1.steps, f.1.entry)
   down_parts c [] back lacks (inr f) = absurd (f.0 refl)
   down_parts c (k ∷ front) back lacks (inl f) = absurd (not_first key k front lacks f.0)
@@ -39,31 +39,31 @@ module _ {R P : Type 0} (E : R → R → Bool) (b : Behaviour P) (cut : Cut (Sto
       let rest = down_parts (replayed b c (steps_at cut k)) front back (not_below key k front lacks) f.2 in
       (rest.0, (f.1, rest.1))
 
-  pub down_whole : (c : Configuration R P) (front back : List ℕ) → has key front ≡ false → run.steps ≡ steps_at cut key → ComesDown E b cut c front run.entry
+  pub down_whole : (c : Configuration R P) (front back : List ℕ) → has key front ≡ false → run.steps ≡ steps_at cut key → FitsDownTo E b cut c front run.entry
       → FitsDown E b cut key run c (front ++ key ∷ back)
   down_whole c [] back lacks steps down = inl (refl, record { steps = steps; entry = down })
   down_whole c (k ∷ front) back lacks steps down =
       inr (not_first key k front lacks, down.0, down_whole (replayed b c (steps_at cut k)) front back (not_below key k front lacks) steps down.1)
 
--- where no run is stored none comes down
+-- if no run is stored, none leads on
 down_noted : {R P : Type 0} (E : R → R → Bool) (b : Behaviour P) (cut : Cut (StoredRun R P)) (k : ℕ) (entry c : Configuration R P) (front : List ℕ)
-    → note_of (piece_at cut.pieces k) ≡ None → ComesDown E b cut c (front ++ k ∷ []) entry → ⊥
+    → note_of (piece_at cut.pieces k) ≡ None → FitsDownTo E b cut c (front ++ k ∷ []) entry → ⊥
 down_noted E b cut k entry c [] none d = no_note_no_fit E cut c k none d.0
 down_noted E b cut k entry c (j ∷ front) none d = down_noted E b cut k entry (replayed b c (steps_at cut j)) front none d.1
 
 pub climb_noted : {R P : Type 0} (E : R → R → Bool) (b : Behaviour P) (cut : Cut (StoredRun R P)) (k : ℕ) (entry c : Configuration R P) (keys : List ℕ) (at : Option ℕ)
-    → at ≡ Some k → IsReached keys at → note_of (piece_at cut.pieces k) ≡ None → ComesDown E b cut c (keys_to keys at) entry → ⊥
+    → at ≡ Some k → HasClimbedTo keys at → note_of (piece_at cut.pieces k) ≡ None → FitsDownTo E b cut c (keys_to keys at) entry → ⊥
 climb_noted E b cut k entry c keys at here there none d =
-    let p = parting keys k (subst (IsReached keys) here there) in
+    let p = parting keys k (subst (HasClimbedTo keys) here there) in
     down_noted E b cut k entry c p.front none
-    (subst (λ l. ComesDown E b cut c l entry) p.to (subst (λ o. ComesDown E b cut c (keys_to keys o) entry) here d))
+    (subst (λ l. FitsDownTo E b cut c l entry) p.to (subst (λ o. FitsDownTo E b cut c (keys_to keys o) entry) here d))
 
--- one segment more, by the run that is stored there
+-- one more segment, with the run stored there
 module _ {R P : Type 0} (E : R → R → Bool) (per : IsPartialEquivalence E) (is : R → Behaviour P) (alike : (x y : R) → E x y ≡ true → is x ≡ is y) (b : Behaviour P)
     (cut : Cut (StoredRun R P)) (k : ℕ) (s : StoredRun R P) (noted : note_of (piece_at cut.pieces k) ≡ Some s) (true_run : IsRun (is s.run.entry.register) s.run)
     (entry : Configuration R P) where
-  pub down_before : (c : Configuration R P) (front : List ℕ) → is c.register ≡ b → ComesDown E b cut c (front ++ k ∷ []) entry
-      → SameConfiguration E entry s.run.exit × ComesDown E b cut c front s.run.entry
+  pub down_before : (c : Configuration R P) (front : List ℕ) → is c.register ≡ b → FitsDownTo E b cut c (front ++ k ∷ []) entry
+      → SameConfiguration E entry s.run.exit × FitsDownTo E b cut c front s.run.entry
   down_before c [] home d =
       let fits = fits_from_note E cut c k s noted d.0 in
       let exit = exit_same E is alike b c (steps_at cut k) s.run home true_run fits in
@@ -72,48 +72,48 @@ module _ {R P : Type 0} (E : R → R → Bool) (per : IsPartialEquivalence E) (i
       let rest = down_before (replayed b c (steps_at cut j)) front (ap is (register_kept b c (steps_at cut j)) ∙ home) d.1 in
       (rest.0, (d.0, rest.1))
 
--- a run comes to where one that was found behind it begins
+-- a run's exit is the entry of one that was linked to it
 module _ {R P : Type 0} (E : R → R → Bool) (per : IsPartialEquivalence E) (b : Behaviour P) (s : StoredRun R P) (entry : Configuration R P) where
   pub link_same : (h : R) (exits : List (Configuration ⊤ P)) (segment : List Step) → IsStored E h exits segment s → (a : ℕ) → s.id ≡ Some a
-      → slice_get exits a ≡ Some (alone entry) → E entry.register h ≡ true → (alone entry ≡ alone s.run.exit) × (E entry.register s.run.entry.register ≡ true)
+      → slice_get exits a ≡ Some (without_register entry) → E entry.register h ≡ true → (without_register entry ≡ without_register s.run.exit) × (E entry.register s.run.entry.register ≡ true)
   link_same h exits segment told a numbered there own =
-      let here : slice_get exits a ≡ Some (alone s.run.exit) = subst (λ o. CameTo exits o (alone s.run.exit)) numbered told.id in
+      let here : slice_get exits a ≡ Some (without_register s.run.exit) = subst (λ o. IsExitOf exits o (without_register s.run.exit)) numbered told.id in
       let home : E h s.run.entry.register ≡ true = per.symm h s.run.entry.register ∙ told.own in
       (cc, per.trans entry.register h s.run.entry.register own home)
 
-  pub ends_same : IsRun b s.run → (alone entry ≡ alone s.run.exit) → E entry.register s.run.entry.register ≡ true → SameConfiguration E entry s.run.exit
+  pub ends_same : IsRun b s.run → (without_register entry ≡ without_register s.run.exit) → E entry.register s.run.entry.register ≡ true → SameConfiguration E entry s.run.exit
   ends_same true_run same own =
       let kept : s.run.exit.register ≡ s.run.entry.register = ap (λ c. c.register) true_run.exit ∙ register_kept b s.run.entry s.run.steps in
       same_from_alone E entry s.run.exit (subst (λ r. E entry.register r ≡ true) (sym kept) own) same
 
--- what a stored run tells of where it begins
+-- a stored run with the link a begins at the exit of the run with the number a
 pub link_came : {R P : Type 0} (E : R → R → Bool) (h : R) (exits : List (Configuration ⊤ P)) (segment : List Step) (s : StoredRun R P) → IsStored E h exits segment s
-    → (a : ℕ) → s.link ≡ Some a → (slice_get exits a ≡ Some (alone s.run.entry)) × (E s.run.entry.register h ≡ true)
-link_came E h exits segment s told a linked = (subst (λ o. CameTo exits o (alone s.run.entry)) linked told.link, told.own)
+    → (a : ℕ) → s.link ≡ Some a → (slice_get exits a ≡ Some (without_register s.run.entry)) × (E s.run.entry.register h ≡ true)
+link_came E h exits segment s told a linked = (subst (λ o. IsExitOf exits o (without_register s.run.entry)) linked told.link, told.own)
 
--- one step of the climb: what is wanted of the segments down to one is wanted of those above it
+-- one step of the climb: a claim about the segments down to one becomes one about those above it
 module _ {R P : Type 0} (E : R → R → Bool) (per : IsPartialEquivalence E) (is : R → Behaviour P) (alike : (x y : R) → E x y ≡ true → is x ≡ is y)
     (cut : Cut (StoredRun R P)) (start entry : Configuration R P) (keys : List ℕ) (k : ℕ) (s : StoredRun R P) (noted : note_of (piece_at cut.pieces k) ≡ Some s)
     (true_run : IsRun (is s.run.entry.register) s.run) where
   abbrev b : Behaviour P
   b = is start.register
 
-  pub climb_ends : has k keys ≡ true → ComesDown E b cut start (keys_up_to k keys) entry → SameConfiguration E entry s.run.exit
+  pub climb_ends : has k keys ≡ true → FitsDownTo E b cut start (keys_up_to k keys) entry → SameConfiguration E entry s.run.exit
   climb_ends h d =
       let p = parting keys k h in
-      (down_before E per is alike b cut k s noted true_run entry start p.front refl (subst (λ l. ComesDown E b cut start l entry) p.to d)).0
+      (down_before E per is alike b cut k s noted true_run entry start p.front refl (subst (λ l. FitsDownTo E b cut start l entry) p.to d)).0
 
   module _ (above : Option ℕ) (step : IsStepUp keys k above) where
-    pub climb_down : ComesDown E b cut start (keys_up_to k keys) entry → ComesDown E b cut start (keys_to keys above) s.run.entry
+    pub climb_down : FitsDownTo E b cut start (keys_up_to k keys) entry → FitsDownTo E b cut start (keys_to keys above) s.run.entry
     climb_down d =
-        (down_before E per is alike b cut k s noted true_run entry start (keys_to keys above) refl (subst (λ l. ComesDown E b cut start l entry) step.is d)).1
+        (down_before E per is alike b cut k s noted true_run entry start (keys_to keys above) refl (subst (λ l. FitsDownTo E b cut start l entry) step.is d)).1
 
--- each key of a branch once
+-- no key is twice on a branch
 pub path_once : {T : Type 0} (cut : Cut T) → IsCut cut → (i : ℕ) → Once (keys_in cut.strands i)
 path_once cut whole i = Once-from_linked whole.shares.above (keys_in cut.strands i) (whole.shares.linked i)
 
--- no more keys than the branch has
-few_to : (keys : List ℕ) (last : Option ℕ) → IsReached keys last → length (keys_to keys last) ≤ length keys
+-- at most as many keys as the branch has
+few_to : (keys : List ℕ) (last : Option ℕ) → HasClimbedTo keys last → length (keys_to keys last) ≤ length keys
 few_to keys None h = omega arith
 few_to keys (Some k) h =
     let p = parting keys k h in
@@ -127,13 +127,13 @@ some_to keys k h =
     let to : length (keys_up_to k keys) ≡ length p.front + 1 = ap length p.to ∙ length-append p.front (k ∷ []) in
     omega (arith, to)
 
--- a climb that has passed all keys is past the first
-past_first : (keys : List ℕ) (at : Option ℕ) (counter all : ℕ) → IsReached keys at → counter + length (keys_to keys at) ≤ all → all ≤ counter → at ≡ None
+-- a climb that has passed all keys is above the first
+past_first : (keys : List ℕ) (at : Option ℕ) (counter all : ℕ) → HasClimbedTo keys at → counter + length (keys_to keys at) ≤ all → all ≤ counter → at ≡ None
 past_first keys None counter all h short past = refl
 past_first keys (Some k) counter all h short past = let some = some_to keys k h in absurd (omega (arith, some))
 
--- and so is one that has made as many steps as the branch has keys, or more
-pub past_all : (keys : List ℕ) (last at : Option ℕ) (counter end : ℕ) → IsReached keys last → length keys ≤ end → IsReached keys at → counter + length (keys_to keys at) ≤ length (keys_to keys last)
+-- a climb that has made as many steps as the branch has keys, or more, is above the first
+pub past_all : (keys : List ℕ) (last at : Option ℕ) (counter end : ℕ) → HasClimbedTo keys last → length keys ≤ end → HasClimbedTo keys at → counter + length (keys_to keys at) ≤ length (keys_to keys last)
     → end ≤ counter → at ≡ None
 past_all keys last at counter end there made reached short past =
     let few = few_to keys last there in
@@ -153,7 +153,7 @@ module _ {R P : Type 0} (E : R → R → Bool) (per : IsPartialEquivalence E) (i
   lacks_above i step = once_before (keys_to (keys_in cut.strands i) above) key step.back (subst Once step.parts (path_once cut whole i))
 
   pub fits_whole : (run : SegmentRun R P) (i : ℕ) → has key (keys_in cut.strands i) ≡ true → run.steps ≡ steps_at cut key
-      → ComesDown E (is start.register) cut start (keys_to (keys_in cut.strands i) above) run.entry
+      → FitsDownTo E (is start.register) cut start (keys_to (keys_in cut.strands i) above) run.entry
       → FitsDown E (is start.register) cut key run start (keys_in cut.strands i)
   fits_whole run i h steps down =
       let step = above_step i h in
@@ -161,7 +161,7 @@ module _ {R P : Type 0} (E : R → R → Bool) (per : IsPartialEquivalence E) (i
       (down_whole E (is start.register) cut key run start (keys_to (keys_in cut.strands i) above) step.back (lacks_above i step) steps down)
 
   pub fits_parts : (run : SegmentRun R P) (i : ℕ) → has key (keys_in cut.strands i) ≡ true → FitsDown E (is start.register) cut key run start (keys_in cut.strands i)
-      → (run.steps ≡ steps_at cut key) × ComesDown E (is start.register) cut start (keys_to (keys_in cut.strands i) above) run.entry
+      → (run.steps ≡ steps_at cut key) × FitsDownTo E (is start.register) cut start (keys_to (keys_in cut.strands i) above) run.entry
   fits_parts run i h fits =
       let step = above_step i h in
       down_parts E (is start.register) cut key run start (keys_to (keys_in cut.strands i) above) step.back (lacks_above i step)
@@ -174,18 +174,18 @@ down_steps E b cut key run c [] f = absurd f
 down_steps E b cut key run c (k ∷ ks) (inl f) = f.1.steps ∙ ap (steps_at cut) (sym f.0)
 down_steps E b cut key run c (k ∷ ks) (inr f) = down_steps E b cut key run (replayed b c (steps_at cut k)) ks f.2
 
--- the number of the run right above is that of one that came to where a run begins
+-- the number of the run right above is that of a run whose exit is this run's entry
 pub number_came : {R P : Type 0} (E : R → R → Bool) (per : IsPartialEquivalence E) (is : R → Behaviour P) (alike : (x y : R) → E x y ≡ true → is x ≡ is y)
-    (cut : Cut (StoredRun R P)) (start entry : Configuration R P) (keys : List ℕ) (above : Option ℕ) (next : ℕ) → IsReached keys above
+    (cut : Cut (StoredRun R P)) (start entry : Configuration R P) (keys : List ℕ) (above : Option ℕ) (next : ℕ) → HasClimbedTo keys above
     → ((k : ℕ) (s : StoredRun R P) → above ≡ Some k → note_of (piece_at cut.pieces k) ≡ Some s → IsRun (is s.run.entry.register) s.run)
-    → ComesDown E (is start.register) cut start (keys_to keys above) entry → IsLinked E start.register next None (alone start) cut
-    → IsLinked E start.register next (number_at cut above) (alone entry) cut
-number_came E per is alike cut start entry keys None next h true_run d l = record { exits = l.exits; as_many = l.as_many; each = l.each; came = tt }
+    → FitsDownTo E (is start.register) cut start (keys_to keys above) entry → IsLinked E start.register next None (without_register start) cut
+    → IsLinked E start.register next (number_at cut above) (without_register entry) cut
+number_came E per is alike cut start entry keys None next h true_run d l = record { exits = l.exits; as_many = l.as_many; each = l.each; reached_exit = tt }
 number_came {R} {P} E per is alike cut start entry keys (Some k) next h true_run d l =
-    record { exits = l.exits; as_many = l.as_many; each = l.each; came = by (note_of (piece_at cut.pieces k)) refl }
+    record { exits = l.exits; as_many = l.as_many; each = l.each; reached_exit = by (note_of (piece_at cut.pieces k)) refl }
   where
-    by : (o : Option (StoredRun R P)) → note_of (piece_at cut.pieces k) ≡ o → CameTo l.exits (number_of o) (alone entry)
+    by : (o : Option (StoredRun R P)) → note_of (piece_at cut.pieces k) ≡ o → IsExitOf l.exits (run_number o) (without_register entry)
     by None e = tt
     by (Some s) e =
         let same = climb_ends E per is alike cut start entry keys k s e (true_run k s refl e) h d in
-        subst (CameTo l.exits s.id) (sym (alone_same E entry s.run.exit same)) (stored_at E start.register l.exits cut k s (l.each k) e).id
+        subst (IsExitOf l.exits s.id) (sym (alone_same E entry s.run.exit same)) (stored_at E start.register l.exits cut k s (l.each k) e).id

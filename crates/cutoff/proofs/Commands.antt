@@ -1,4 +1,4 @@
--- Each command leaves steps that fit.
+-- If all steps fit, they fit after each command.
 use Rattle.std.proofs.Common.{◌≡◌, ℕ, zero, suc, ◌+◌, Bool, true, false, nat_eq, nat_le, nat_lt, not, cond, List, [], ◌∷◌, ◌++◌, length, map, take, Option, Some, None, Result, Ok, Err, sym, subst}
 use Rattle.std.specs.List.{remove, list_any}
 use Rattle.std.specs.Cmp.Lexicographic.{pointwise}
@@ -17,7 +17,7 @@ use Rattle.schedule_trie.specs.Names.{is_well_formed}
 use Rattle.cutoff.specs.Held.{StepsFit}
 use Rattle.cutoff.proofs.Edits.{FitAll, fits_everywhere, at_cell_fits, steps_numbered}
 
--- a command that wasn't refused
+-- the result of a command that wasn't refused
 pub passed : (refused : Bool) (e : Refusal) (r : Result Forest Refusal) (g : Forest) → cond refused (Err e) r ≡ Ok g → r ≡ Ok g
 passed true e r g h = absurd (cc)
 passed false e r g h = h

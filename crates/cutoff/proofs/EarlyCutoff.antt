@@ -1,4 +1,4 @@
--- Nothing is replayed of segments that stored runs fit.
+-- Segments that stored runs fit aren't replayed.
 use Rattle.std.proofs.Common.{◌≡◌, ℕ, ◌+◌, ◌-◌, Bool, List, [], ◌∷◌, ◌++◌, length, map, take, refl, sym, ap, subst, arith, inl, inr}
 use Rattle.std.specs.Prelude.{MatchOption}
 use Rattle.std.specs.Option.{option_map}
@@ -9,10 +9,10 @@ use Rattle.schedule_trie.specs.Cut.{Cut, piece_at, slots_of, note_of}
 use Rattle.schedule_trie.proofs.Once.{has-head, has-tail}
 use Rattle.checkpoints.specs.Segment.{SegmentRun}
 use Rattle.cutoff.specs.Fitting.{StoredRun, RunPart, RunFits, Fits, IsWork, Settles, run_of, steps_at}
-use Rattle.cutoff.specs.EarlyCutoff.{AreKept, AreFitted, comes_to, StopsEarly}
+use Rattle.cutoff.specs.EarlyCutoff.{AreKept, AreFitted, replayed_through, StopsEarly}
 
 module _ {R P : Type 0} (E : R → R → Bool) (b : Behaviour P) where
-  -- runs that fitted fit where cells and runs are as they were
+  -- runs that fitted still fit if cells and runs are unchanged
   fitted_still : (was old : Cut (StoredRun R P)) (c : Configuration R P) (ks : List ℕ) → AreKept was old ks → AreFitted b was E c ks → AreFitted b old E c ks
   fitted_still was old c [] kept f = tt
   fitted_still was old c (k ∷ ks) kept f =
@@ -38,7 +38,7 @@ module _ {R P : Type 0} (E : R → R → Bool) (b : Behaviour P) where
         let sum : n ≡ s.0 + s.1 = s.2 in
         omega arith
 
-    all_above : (c : Configuration R P) (place : ℕ) (above below : List ℕ) (parts : List (RunPart R P)) (n : ℕ) → AreFitted b old E (comes_to b old c above) below
+    all_above : (c : Configuration R P) (place : ℕ) (above below : List ℕ) (parts : List (RunPart R P)) (n : ℕ) → AreFitted b old E (replayed_through b old c above) below
         → Settles E b old new c place (above ++ below) parts n → Settles E b old new c place above (take (length above) parts) n
     all_above c place [] below parts n f s = (refl, none_replayed c place below parts n f s)
     all_above c place (k ∷ above) below [] n f s = absurd s

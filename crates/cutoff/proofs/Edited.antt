@@ -8,14 +8,14 @@ use Rattle.schedule_trie.specs.Forest.{Forest}
 use Rattle.schedule_trie.specs.Cut.{Cut, forest, KeepsNotes}
 use Rattle.schedule_trie.specs.Edits.{Edit, Insert, Remove, Replace, Fork, Detach, Drop, edited, KeepsNotesBy, IsEdited, IsUnedited}
 use Rattle.cutoff.specs.Fitting.{StoredRun}
-use Rattle.cutoff.specs.Links.{alone}
+use Rattle.cutoff.specs.Links.{without_register}
 use Rattle.cutoff.specs.Held.{Charted, IsCharted, StepsFit}
 use Rattle.cutoff.specs.Edits.{IsUneditedChart}
 use Rattle.cutoff.proofs.Commands.{insert_fits, remove_fits, fork_fits, detach_fits, drop_fits}
 use Rattle.cutoff.proofs.Edits.{replace_fits, linked_kept}
 use Rattle.cutoff.proofs.Kept.{charted_marked}
 
--- the step that an edit brings, if any, fits
+-- the step of an edit, if it has one, fits
 abbrev pub Brings : {P : Type 0} → Behaviour P → Edit → Type 0
 Brings b (Insert name place step) = fits_step b step ≡ true
 Brings b (Remove name place) = Unit {0}
@@ -40,7 +40,7 @@ notes_by (Fork name place made) old new h = h.notes
 notes_by (Detach name) old new h = h.0
 notes_by (Drop name) old new h = h.0
 
--- what a chart keeps, after an edit of its trie that was made or refused
+-- the invariant of a chart after an edit of its trie that was made or refused
 pub charted : {R P Y : Type 0} (E : R → R → Bool) (is : R → Behaviour P) (next : ℕ) (mark : Option ℕ) (c : Charted R P) (new : Cut (StoredRun R P)) (edit : Edit) (result : Result Y Refusal)
     → IsCharted E is next mark c → Brings (is c.start.register) edit → OnOk result (IsEdited c.cut new edit) → IfErr result (IsUnedited c.cut new edit)
     → IsCharted E is next None (record { cut = new; start = c.start; value = c.value })
@@ -50,13 +50,13 @@ charted E is next mark c new edit (Ok y) was brings ok err =
       begins = was.begins;
       fits = edited_fits (is c.start.register) c.cut.limits (forest c.cut) (forest new) edit brings was.fits ok.forest;
       whole = ok.cut;
-      linked = linked_kept E c.start.register next None (alone c.start) c.cut new (notes_by edit c.cut new ok.notes) was.linked;
+      linked = linked_kept E c.start.register next None (without_register c.start) c.cut new (notes_by edit c.cut new ok.notes) was.linked;
       marked = tt;
     }
 charted E is next mark c new edit (Err e) was brings ok err =
     subst (λ d. IsCharted E is next None (record { cut = d; start = c.start; value = c.value })) (sym err.unchanged) (charted_marked E is next mark None c tt was)
 
--- a refused edit of the trie is one of the chart
+-- a refused edit of the trie is a refused edit of the chart
 pub chart_unedited : {R P Y : Type 0} (c d : Charted R P) (new : Cut (StoredRun R P)) (edit : Edit) (result : Result Y Refusal) → c ≡ d
     → IfErr result (IsUnedited c.cut new edit) → IfErr result (IsUneditedChart d (record { cut = new; start = c.start; value = c.value }) edit)
 chart_unedited c d new edit (Ok y) same err = tt

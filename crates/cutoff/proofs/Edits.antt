@@ -1,4 +1,4 @@
--- What an edit leaves of a chart: steps that fit, and stored runs that are true.
+-- After an edit, all steps fit and stored runs are true, if they were before.
 use Rattle.std.proofs.Common.{◌≡◌, ℕ, zero, suc, ◌<◌, Bool, true, false, nat_eq, nat_le, nat_lt, cond, List, [], ◌∷◌, ◌++◌, length, map, Option, Some, None, Ok, Err, MatchOption, refl, sym, ap, subst}
 use Rattle.std.specs.Prelude.{⊤}
 use Rattle.std.specs.List.{All}
@@ -11,14 +11,14 @@ use Rattle.schedule_trie.specs.declared.slot.Slot.{Slot}
 use Rattle.schedule_trie.specs.declared.limits.Limits.{Limits}
 use Rattle.schedule_trie.specs.declared.refusal.Refusal.{Refusal}
 use Rattle.schedule_trie.specs.declared.refusal.Refusal.TheVariants.{NoPlace, Full}
-use Rattle.schedule_trie.specs.Forest.{Forest, Branch, step_of, slots_in, numbered, opened, opening, everywhere, with_step, replaced, replaced_by, index_of, cell_in, at_cell, on_found, replace_step}
+use Rattle.schedule_trie.specs.Forest.{Forest, Branch, step_of, slots_in, numbered, opened, opening_forest, everywhere, with_step, replaced, replaced_by, index_of, cell_in, at_cell, on_found, replace_step}
 use Rattle.schedule_trie.specs.Cut.{Cut, Piece, piece_at, note_of, forest, KeepsNotes, IsBlank, IsCut}
 use Rattle.schedule_trie.proofs.Notes.{notes_kept}
 use Rattle.cutoff.specs.Fitting.{StoredRun}
-use Rattle.cutoff.specs.Links.{IsStored, IsTold, IsLinked}
+use Rattle.cutoff.specs.Links.{IsStored, IsTruePiece, IsLinked}
 use Rattle.cutoff.specs.Held.{IsCharted, StepsFit}
 
--- facts on each element of two lists
+-- a property of each item of two lists
 module _ {X : Type 0} (Q : X → Type 0) where
   pub all_left : (xs ys : List X) → All Q (xs ++ ys) → All Q xs
   all_left [] ys all = All-nil Q
@@ -71,25 +71,25 @@ module _ {P : Type 0} (b : Behaviour P) where
   steps_numbered n [] = refl
   steps_numbered n (s ∷ ss) = ap (λ l. s ∷ l) (steps_numbered (suc n) ss)
 
-  opening_fits : (steps : List Step) → AllFit b steps → StepsFit b (opening steps)
+  opening_fits : (steps : List Step) → AllFit b steps → StepsFit b (opening_forest steps)
   opening_fits steps h zero = rw (steps_numbered 0 steps) h
   opening_fits steps h (suc i) = All-nil (λ s. fits_step b s ≡ true)
 
   pub opened_fits : (limits : Limits) (steps : List Step) (f : Forest) → AllFit b steps → opened limits steps ≡ Ok f → StepsFit b f
-  opened_fits limits steps f h e = subst (StepsFit b) (if_ok (nat_lt limits.cells (length steps)) Full (opening steps) f e) (opening_fits steps h)
+  opened_fits limits steps f h e = subst (StepsFit b) (if_ok (nat_lt limits.cells (length steps)) Full (opening_forest steps) f e) (opening_fits steps h)
 
 -- stored runs that are true
 module _ {R P : Type 0} (E : R → R → Bool) (h : R) (exits : List (Configuration ⊤ P)) where
-  pub unnoted_told : (o : Option (Piece (StoredRun R P))) → note_of o ≡ None → IsTold E h exits o
+  pub unnoted_told : (o : Option (Piece (StoredRun R P))) → note_of o ≡ None → IsTruePiece E h exits o
   unnoted_told None e = tt
   unnoted_told (Some p) e = subst (λ n. MatchOption n ⊤ (IsStored E h exits (map step_of p.slots))) (sym e) tt
 
 pub linked_kept : {R P : Type 0} (E : R → R → Bool) (h : R) (next : ℕ) (above : Option ℕ) (c : Configuration ⊤ P) (old new : Cut (StoredRun R P)) → KeepsNotes old new
     → IsLinked E h next above c old → IsLinked E h next above c new
 linked_kept E h next above c old new notes l =
-    record { exits = l.exits; as_many = l.as_many; each = notes_kept (IsTold E h l.exits) (unnoted_told E h l.exits) old new notes l.each; came = l.came }
+    record { exits = l.exits; as_many = l.as_many; each = notes_kept (IsTruePiece E h l.exits) (unnoted_told E h l.exits) old new notes l.each; reached_exit = l.reached_exit }
 
--- a chart at first
+-- a new chart has the invariant
 pub started : {R P : Type 0} (E : R → R → Bool) (is : R → Behaviour P) (register : R) (value : ℕ) (cut : Cut (StoredRun R P)) (start : Configuration R P)
     → value < (is register).values → StepsFit (is register) (forest cut) → IsCut cut → IsBlank cut → start ≡ initial_configuration (is register) register value
     → IsCharted E is 0 None (record { cut = cut; start = start; value = value })
@@ -100,6 +100,6 @@ started {R} {P} E is register value cut start within fits whole blank e =
       begins = subst (λ x. start ≡ initial_configuration (is x) x value) r e;
       fits = subst (λ x. StepsFit (is x) (forest cut)) r fits;
       whole = whole;
-      linked = record { exits = []; as_many = refl; each = λ k. unnoted_told E start.register [] (piece_at cut.pieces k) (blank k); came = tt };
+      linked = record { exits = []; as_many = refl; each = λ k. unnoted_told E start.register [] (piece_at cut.pieces k) (blank k); reached_exit = tt };
       marked = tt;
     }

@@ -1,4 +1,4 @@
--- Worked examples of the definitions by which something is there: one that holds, and a near miss.
+-- Worked examples of definitions that claim an existence: one that holds, and a near miss.
 use Rattle.std.proofs.Common.{ℕ, zero, suc, ◌≡◌, Bool, true, List, [], ◌∷◌, Option, Some, None, option_map, codes, slice_index_or, ap, refl, ◌∙◌, inr, ⊎_elim, arith}
 use Rattle.std.specs.Prelude.{⊤}
 use Rattle.frames.specs.declared.types.Step.{Step}
@@ -48,7 +48,8 @@ reading = run_over (Read 1)
 abbrev stored : Run → StoredRun ⊤ SafePoint
 stored run = record { run = run; id = None; link = None }
 
--- `main` alone: one segment, at key 0, of the one step that process 0 writes 1; with or without a stored run
+-- `main` alone: one segment, at key 0, with the one step in which process 0 invokes a write of 1;
+-- with or without a stored run
 abbrev with_run : Option Run → Cut (StoredRun ⊤ SafePoint)
 with_run run = record {
   strands = strand (codes "main") (0 ∷ []) ∷ [];
@@ -79,12 +80,12 @@ no_note s e = cc
 other_steps : Read 1 ≡ Write 0 1 → ⊥
 other_steps e = cc
 
--- no run was stored, and one step was replayed for one
+-- no run was stored, and one step was replayed for it
 settled : Settles same safe_behaviour (with_run None) (with_run (Some writing)) start 1 (0 ∷ []) (part ∷ []) 1
 settled =
     (1, 0, refl, record { stored = refl; fits = record { steps = refl; entry = same_as start }; count = refl; work = inr (λ h. h, refl) }, (refl, refl))
 
--- one step is settled, for which one step was replayed, since no run was stored
+-- one step is settled, and it was replayed, since no run was stored
 Settles-holds : Settles same safe_behaviour (with_run None) (with_run (Some writing)) start 1 (0 ∷ []) (part ∷ []) 1
 Settles-holds = settled
 
@@ -101,11 +102,11 @@ HasFitting-fails : HasFitting same safe_behaviour (with_run None) (with_run (Som
 HasFitting-fails h =
     other_steps (ap first_step h.1 ∙ ap (λ steps. slice_index_or steps 0 (Read 7)) h.2.steps)
 
--- the last run that a settle of one step answers
+-- the last run of a settle of one step
 IsSettledLast-holds : IsSettledLast same safe_behaviour (chart_with None) (chart_with (Some writing)) (codes "main") 1 (Some part) 1
 IsSettledLast-holds = (part ∷ [], record { settles = settled; sum = refl }, refl)
 
--- it answers none, although one step was wanted
+-- there is no last run, although one step was wanted
 IsSettledLast-fails : IsSettledLast same safe_behaviour (chart_with None) (chart_with (Some writing)) (codes "main") 1 None 1 → ⊥
 IsSettledLast-fails h = by h.0 h.1.settles h.2
   where

@@ -1,4 +1,4 @@
--- Runs that fit, and configurations that are equal but for the name of their register.
+-- Runs that fit, and configurations that are equal except for their registers.
 use Rattle.std.proofs.Common.{◌≡◌, ℕ, Bool, true, List, [], ◌∷◌, map, Option, Some, None, MatchOption, slice_get, refl, sym, ap, subst, ◌∙◌}
 use Rattle.std.specs.Prelude.{⊤}
 use Rattle.std.specs.Option.{option_map}
@@ -11,22 +11,22 @@ use Rattle.checkpoints.specs.Segment.{SegmentRun, IsRun}
 use Rattle.schedule_trie.specs.Forest.{step_of}
 use Rattle.schedule_trie.specs.Cut.{Cut, Piece, piece_at, slots_of, note_of}
 use Rattle.cutoff.specs.Fitting.{StoredRun, run_of, RunFits, Fits, steps_at, run_at}
-use Rattle.cutoff.specs.Links.{alone, CameTo, IsStored, IsTold}
+use Rattle.cutoff.specs.Links.{without_register, IsExitOf, IsStored, IsTruePiece}
 
--- a replay keeps the register, and does the same whatever it is called
+-- a replay keeps the register, and makes the same of an equal register
 pub register_kept : {R P : Type 0} (b : Behaviour P) (c : Configuration R P) (steps : List Step) → (replayed b c steps).register ≡ c.register
 register_kept b c [] = refl
 register_kept b c (s ∷ steps) = register_kept b (stepped b c s) steps
 
-alone_replayed : {R P : Type 0} (b : Behaviour P) (c : Configuration R P) (steps : List Step) → alone (replayed b c steps) ≡ replayed b (alone c) steps
+alone_replayed : {R P : Type 0} (b : Behaviour P) (c : Configuration R P) (steps : List Step) → without_register (replayed b c steps) ≡ replayed b (without_register c) steps
 alone_replayed b c [] = refl
 alone_replayed b c (s ∷ steps) = alone_replayed b (stepped b c s) steps
 
 module _ {R P : Type 0} (E : R → R → Bool) where
-  pub alone_same : (a c : Configuration R P) → SameConfiguration E a c → alone a ≡ alone c
+  pub alone_same : (a c : Configuration R P) → SameConfiguration E a c → without_register a ≡ without_register c
   alone_same a c e = λ i. record { register = tt; memory = e.memory i; running = e.running i; stopped = e.stopped i }
 
-  pub same_from_alone : (a c : Configuration R P) → E a.register c.register ≡ true → alone a ≡ alone c → SameConfiguration E a c
+  pub same_from_alone : (a c : Configuration R P) → E a.register c.register ≡ true → without_register a ≡ without_register c → SameConfiguration E a c
   same_from_alone a c r e = record { register = r; memory = ap (λ d. d.memory) e; running = ap (λ d. d.running) e; stopped = ap (λ d. d.stopped) e }
 
   pub replayed_same : (b : Behaviour P) (a c : Configuration R P) (steps : List Step) → SameConfiguration E a c → SameConfiguration E (replayed b a steps) (replayed b c steps)
@@ -57,7 +57,7 @@ module _ {R P : Type 0} (E : R → R → Bool) where
         by None h = h
         by (Some run) h = run_fits_alike c d (steps_at cut k) run e h
 
-  -- what a fitting run comes to
+  -- the exit of a run that fits is the configuration that replay of the segment reaches
   pub exit_same : (is : R → Behaviour P) → ((x y : R) → E x y ≡ true → is x ≡ is y) → (b : Behaviour P) (c : Configuration R P) (segment : List Step) (run : SegmentRun R P)
       → is c.register ≡ b → IsRun (is run.entry.register) run → RunFits E c segment run → SameConfiguration E run.exit (replayed b c segment)
   exit_same is alike b c segment run home true_run f =
@@ -67,23 +67,14 @@ module _ {R P : Type 0} (E : R → R → Bool) where
 
   -- the stored run at a key is true
   module _ (h : R) (exits : List (Configuration ⊤ P)) (cut : Cut (StoredRun R P)) (k : ℕ) (s : StoredRun R P) where
-    pub stored_at : IsTold E h exits (piece_at cut.pieces k) → note_of (piece_at cut.pieces k) ≡ Some s → IsStored E h exits (steps_at cut k) s
+    pub stored_at : IsTruePiece E h exits (piece_at cut.pieces k) → note_of (piece_at cut.pieces k) ≡ Some s → IsStored E h exits (steps_at cut k) s
     stored_at = by (piece_at cut.pieces k)
       where
-        by : (o : Option (Piece (StoredRun R P))) → IsTold E h exits o → note_of o ≡ Some s → IsStored E h exits (map step_of (slots_of o)) s
+        by : (o : Option (Piece (StoredRun R P))) → IsTruePiece E h exits o → note_of o ≡ Some s → IsStored E h exits (map step_of (slots_of o)) s
         by None t e = cc
         by (Some p) t e = subst (λ n. MatchOption n ⊤ (IsStored E h exits (map step_of p.slots))) e t
 
-  -- a run whose link is the number of what a walk has come to begins there
-  pub link_begins : (exits : List (Configuration ⊤ P)) (segment : List Step) (s : StoredRun R P) (c : Configuration R P) (above : Option ℕ)
-      → IsStored E c.register exits segment s → CameTo exits above (alone c)
-      → (a : ℕ) → s.link ≡ Some a → above ≡ Some a → SameConfiguration E s.run.entry c
-  link_begins exits segment s c above told came a linked numbered =
-      let here : slice_get exits a ≡ Some (alone s.run.entry) = subst (λ o. CameTo exits o (alone s.run.entry)) linked told.link in
-      let there : slice_get exits a ≡ Some (alone c) = subst (λ o. CameTo exits o (alone c)) numbered came in
-      same_from_alone s.run.entry c told.own (cc)
-
-  -- whether the run that is stored at a key fits
+  -- if a stored run fits at a key, it is the one noted there
   pub fits_from_note : (cut : Cut (StoredRun R P)) (c : Configuration R P) (k : ℕ) (s : StoredRun R P) → note_of (piece_at cut.pieces k) ≡ Some s
       → Fits E cut c k → RunFits E c (steps_at cut k) s.run
   fits_from_note cut c k s e f = subst (λ n. MatchOption (option_map run_of n) ⊥ (RunFits E c (steps_at cut k))) e f

@@ -1,4 +1,4 @@
--- Stored runs that hang from one another, as their numbers tell.
+-- Stored runs that hang from one another, by their numbers.
 use Rattle.std.proofs.Common.{◌≡◌, ℕ, Bool, true, List, [], ◌∷◌, ◌++◌, Option, Some, None, sym, ap, subst, ◌∙◌, append_assoc, append-nil, map, true≢false}
 use Rattle.std.specs.Option.{option_map}
 use Rattle.std.specs.Cmp.{IsPartialEquivalence}
@@ -8,29 +8,29 @@ use Rattle.frames.specs.Equality.{SameConfiguration}
 use Rattle.checkpoints.specs.Segment.{IsRun}
 use Rattle.schedule_trie.specs.Forest.{step_of}
 use Rattle.schedule_trie.specs.Cut.{Cut, piece_at, slots_of, note_of, keys_in, has}
-use Rattle.schedule_trie.specs.Climbs.{keys_up_to, keys_to, IsReached}
+use Rattle.schedule_trie.specs.Climbs.{keys_up_to, keys_to, HasClimbedTo}
 use Rattle.schedule_trie.proofs.Climbs.{IsStepUp}
 use Rattle.schedule_trie.proofs.Once.{has_cases, has-head, has-tail}
 use Rattle.cutoff.specs.Fitting.{StoredRun, run_of, RunFits, steps_at}
-use Rattle.cutoff.specs.Links.{alone, IsLinked}
-use Rattle.cutoff.specs.Prefixes.{HasTrueRun, RunsDown, Hangs, IsHung, come_to, exit_or}
+use Rattle.cutoff.specs.Links.{without_register, IsLinked}
+use Rattle.cutoff.specs.Prefixes.{HasTrueRun, RunsDown, Hangs, IsHung, exit_or_start, exit_or}
 use Rattle.cutoff.proofs.Climbs.{link_came, link_same, ends_same}
 use Rattle.cutoff.proofs.Fits.{register_kept, run_fits_alike, exit_same, stored_at}
 
 module _ {R P : Type 0} (E : R → R → Bool) (is : R → Behaviour P) (cut : Cut (StoredRun R P)) where
-  -- none hangs above a key itself
+  -- nothing hangs between a key and itself
   pub hung_here : (key i : ℕ) → has key (keys_in cut.strands i) ≡ true → IsHung E is cut key key i
   hung_here key i h = record { there = h; below = []; path = sym (append-nil (keys_up_to key (keys_in cut.strands i))); hangs = λ start. tt }
 
-  -- a run is stored at a key, and has this link
+  -- a run with this link is stored at a key
   pub record HasLinked (k : ℕ) (link : Option ℕ) : Type 0 where
     pub stored : StoredRun R P
     pub noted : note_of (piece_at cut.pieces k) ≡ Some stored
     pub true_run : IsRun (is stored.run.entry.register) stored.run
     pub linked : stored.link ≡ link
 
-  -- one more hangs, from the run with the number of its link
-  pub hung_more : IsPartialEquivalence E → (hung k key i next a : ℕ) (start : Configuration R P) (at link : Option ℕ) (s : StoredRun R P) → IsLinked E start.register next None (alone start) cut
+  -- one more hangs, from the run whose number is its link
+  pub hung_more : IsPartialEquivalence E → (hung k key i next a : ℕ) (start : Configuration R P) (at link : Option ℕ) (s : StoredRun R P) → IsLinked E start.register next None (without_register start) cut
       → HasLinked hung link → note_of (piece_at cut.pieces k) ≡ Some s → IsRun (is s.run.entry.register) s.run → link ≡ Some a → s.id ≡ Some a → at ≡ Some k
       → IsStepUp (keys_in cut.strands i) hung at → IsHung E is cut hung key i → IsHung E is cut k key i
   hung_more per hung k key i next a start at link s told was noted true_run linked numbered here step h =
@@ -42,13 +42,13 @@ module _ {R P : Type 0} (E : R → R → Bool) (is : R → Behaviour P) (cut : C
       let fits : RunFits E s.run.exit (steps_at cut hung) u.run = record { steps = told_u.covers; entry = ends_same E per (is s.run.entry.register) s u.run.entry true_run same.0 same.1 } in
       let first : HasTrueRun E is cut s.run.exit hung = record { stored = u; noted = was.noted; true_run = was.true_run; fits = fits } in
       record {
-        there = subst (IsReached (keys_in cut.strands i)) here step.reached;
+        there = subst (HasClimbedTo (keys_in cut.strands i)) here step.reached;
         below = hung ∷ h.below;
         path = h.path ∙ ap (λ l. l ++ h.below) step.is ∙ append_assoc (keys_to (keys_in cut.strands i) at) (hung ∷ []) h.below
             ∙ ap (λ o. keys_to (keys_in cut.strands i) o ++ hung ∷ h.below) here;
         hangs = λ from.
-            let up : come_to cut from (Some k) ≡ s.run.exit = ap (λ n. exit_or from (option_map run_of n)) noted in
-            let down : come_to cut from (Some hung) ≡ u.run.exit = ap (λ n. exit_or from (option_map run_of n)) was.noted in
+            let up : exit_or_start cut from (Some k) ≡ s.run.exit = ap (λ n. exit_or from (option_map run_of n)) noted in
+            let down : exit_or_start cut from (Some hung) ≡ u.run.exit = ap (λ n. exit_or from (option_map run_of n)) was.noted in
             subst (λ c. Hangs E is cut c (hung ∷ h.below)) (sym up) (first, subst (λ c. Hangs E is cut c h.below) down (h.hangs from));
       }
 
@@ -58,7 +58,7 @@ has-left j (k ∷ keys) more h =
     has_cases j k keys (has j (k ∷ (keys ++ more)) ≡ true) h (λ e. subst (λ z. has j (z ∷ (keys ++ more)) ≡ true) e (has-head j (keys ++ more))) (λ r. has-tail j k (keys ++ more) (has-left j keys more r))
 
 module _ {R P : Type 0} (E : R → R → Bool) (is : R → Behaviour P) where
-  -- they hang where nothing is noted
+  -- runs still hang if nothing is stored at their keys
   pub hang_kept : (cut new : Cut (StoredRun R P)) (c : Configuration R P) (keys : List ℕ) → ((j : ℕ) → has j keys ≡ true → piece_at new.pieces j ≡ piece_at cut.pieces j)
       → Hangs E is cut c keys → Hangs E is new c keys
   hang_kept cut new c [] same h = tt
@@ -73,7 +73,7 @@ module _ {R P : Type 0} (E : R → R → Bool) (is : R → Behaviour P) where
         hang_kept cut new h.0.stored.run.exit ks (λ j g. same j (has-tail j k ks g)) h.1,
       )
 
-  -- such runs are stored down what hangs
+  -- true runs that fit are stored down a chain that hangs
   pub hang_down : IsPartialEquivalence E → ((x y : R) → E x y ≡ true → is x ≡ is y) → (cut : Cut (StoredRun R P)) (b : Behaviour P) (c d : Configuration R P) (keys : List ℕ)
       → SameConfiguration E d c → is c.register ≡ b → Hangs E is cut d keys → (end : Configuration R P) × RunsDown E is cut b c keys end
   hang_down per alike cut b c d [] same home h = (d, same)

@@ -1,4 +1,4 @@
--- What an installed run leaves of a chart.
+-- A chart after an install.
 use Rattle.std.proofs.Common.{◌≡◌, ℕ, ◌+◌, Bool, true, List, [], ◌∷◌, ◌++◌, map, Option, Some, None, IsSome, ◌⊎◌, inl, inr, refl, sym, ap, subst, ◌∙◌, append_assoc, true≢false}
 use Rattle.std.specs.Option.{option_map}
 use Rattle.std.specs.Cmp.{IsPartialEquivalence}
@@ -11,10 +11,10 @@ use Rattle.schedule_trie.specs.Cut.{Cut, piece_at, note_of, keys_in, has, Once, 
 use Rattle.schedule_trie.proofs.Climbs.{once_before}
 use Rattle.schedule_trie.proofs.Partings.{parting}
 use Rattle.cutoff.specs.Fitting.{StoredRun, KeepsRuns, run_of, steps_at, slots_at}
-use Rattle.cutoff.specs.Links.{alone, IsLinked}
+use Rattle.cutoff.specs.Links.{without_register, IsLinked}
 use Rattle.cutoff.specs.Held.{Charted, IsCharted}
 use Rattle.cutoff.specs.Plans.{FitsDown}
-use Rattle.cutoff.specs.Prefixes.{RunsDown, RunsTo, IsMarked, GoesOn, come_to, exit_or}
+use Rattle.cutoff.specs.Prefixes.{RunsDown, RunsTo, IsMarked, RunGoesOn, exit_or_start, exit_or}
 use Rattle.cutoff.proofs.Fits.{register_kept}
 use Rattle.cutoff.proofs.Links.{linked_none, new_linked}
 use Rattle.cutoff.proofs.Walks.{by_key, noted_slots}
@@ -23,8 +23,8 @@ use Rattle.cutoff.proofs.Climbs.{path_once}
 use Rattle.cutoff.proofs.Prefixes.{down_more}
 use Rattle.cutoff.proofs.Rests.{down_kept, noted_at, noted_cells}
 
--- equal configurations are the same but for their registers
-pub alone_same : {R P : Type 0} {E : R → R → Bool} {c d : Configuration R P} → SameConfiguration E c d → alone c ≡ alone d
+-- equal configurations are the same except for their registers
+pub alone_same : {R P : Type 0} {E : R → R → Bool} {c d : Configuration R P} → SameConfiguration E c d → without_register c ≡ without_register d
 alone_same s = λ i. record { register = tt; memory = s.memory i; running = s.running i; stopped = s.stopped i }
 
 module _ {R P : Type 0} (E : R → R → Bool) (b : Behaviour P) where
@@ -48,14 +48,14 @@ module _ {R P : Type 0} (E : R → R → Bool) (b : Behaviour P) where
     runs = λ k. inr tt;
   }
 
--- down to an installed run stored runs are known to fit, where it goes on from those above
+-- stored runs are known to fit down to an installed run, if it goes on from those above
 module _ {R P : Type 0} (E : R → R → Bool) (per : IsPartialEquivalence E) (is : R → Behaviour P) (alike : (x y : R) → E x y ≡ true → is x ≡ is y) (old new : Cut (StoredRun R P))
     (start : Configuration R P) (key : ℕ) (s : StoredRun R P) (whole : IsCut old) (noted : IsNoted old new key (Some s)) (there : IsSome (piece_at old.pieces key))
     (true_run : IsRun (is s.run.entry.register) s.run) (covers : s.run.steps ≡ steps_at old key) where
   abbrev b : Behaviour P
   b = is start.register
 
-  pub mark_installed : GoesOn E is old start key s.run → IsMarked E is new start (Some key)
+  pub mark_installed : RunGoesOn E is old start key s.run → IsMarked E is new start (Some key)
   mark_installed on = λ i h.
       let keys = keys_in old.strands i in
       let has_it : has key keys ≡ true = subst (λ ss. has key (keys_in ss i) ≡ true) noted.strands h in
@@ -70,25 +70,25 @@ module _ {R P : Type 0} (E : R → R → Bool) (per : IsPartialEquivalence E) (i
       let steps : s.run.steps ≡ steps_at new key =
       covers ∙ ap (map step_of) (sym (noted_cells s (piece_at old.pieces key) (piece_at new.pieces key) noted.here)) in
       let more = down_more E per is alike new key s here true_run steps b start g.0 refl kept in
-      let come : come_to new start (Some key) ≡ s.run.exit = ap (λ n. exit_or start (option_map run_of n)) here in
-      let down = subst (λ l. RunsDown E is new b start l (come_to new start (Some key))) (sym g.1) (subst (RunsDown E is new b start (g.0 ++ key ∷ [])) (sym come) more) in
+      let come : exit_or_start new start (Some key) ≡ s.run.exit = ap (λ n. exit_or start (option_map run_of n)) here in
+      let down = subst (λ l. RunsDown E is new b start l (exit_or_start new start (Some key))) (sym g.1) (subst (RunsDown E is new b start (g.0 ++ key ∷ [])) (sym come) more) in
       subst (λ ss. RunsTo E is new start (Some key) (keys_in ss i)) (sym noted.strands) down
 
 pub charted_installed : {R P : Type 0} (E : R → R → Bool) (per : IsPartialEquivalence E) (is : R → Behaviour P) (alike : (x y : R) → E x y ≡ true → is x ≡ is y) (next after : ℕ) (mark : Option ℕ) (c : Charted R P) (new : Cut (StoredRun R P)) (key : ℕ) (s : StoredRun R P) (run seen : SegmentRun R P) (keys : List ℕ) (id : Option ℕ)
-    → IsCharted E is next mark c → FitsDown E (is c.start.register) c.cut key seen c.start keys → GoesOn E is c.cut c.start key seen → IsRun (is seen.entry.register) seen
+    → IsCharted E is next mark c → FitsDown E (is c.start.register) c.cut key seen c.start keys → RunGoesOn E is c.cut c.start key seen → IsRun (is seen.entry.register) seen
     → IsSome (piece_at c.cut.pieces key) → seen ≡ run → s.run ≡ run → s.id ≡ id → (above : Option ℕ) → s.link ≡ above
-    → (IsLinked E c.start.register next None (alone c.start) c.cut → IsLinked E c.start.register next above (alone seen.entry) c.cut) → IsNoted c.cut new key (Some s)
+    → (IsLinked E c.start.register next None (without_register c.start) c.cut → IsLinked E c.start.register next above (without_register seen.entry) c.cut) → IsNoted c.cut new key (Some s)
     → ((id ≡ None) × (after ≡ next)) ⊎ ((id ≡ Some next) × (after ≡ next + 1))
     → IsCharted E is after (Some key) (record { cut = new; start = c.start; value = c.value })
 charted_installed {R} {P} E per is alike next after mark c new key s run seen keys id was fits on true_run there same is_run number above link moved noted given =
     let owns = down_owns E (is c.start.register) c.cut key s.run c.start keys (subst (λ r. FitsDown E (is c.start.register) c.cut key r c.start keys) (same ∙ sym is_run) fits) in
     let linked =
     new_linked E c.start.register c.cut new key next above s.run.entry
-    (subst (λ (r : SegmentRun R P). IsLinked E c.start.register next above (alone r.entry) c.cut) (same ∙ sym is_run) (moved was.linked)) s noted after
+    (subst (λ (r : SegmentRun R P). IsLinked E c.start.register next above (without_register r.entry) c.cut) (same ∙ sym is_run) (moved was.linked)) s noted after
     owns.0 owns.1 link refl (subst (λ n. ((n ≡ None) × (after ≡ next)) ⊎ ((n ≡ Some next) × (after ≡ next + 1))) (sym number) given) in
     let marked =
     mark_installed E per is alike c.cut new c.start key s was.whole noted there (subst (λ (r : SegmentRun R P). IsRun (is r.entry.register) r) (same ∙ sym is_run) true_run) owns.1
-    (subst (GoesOn E is c.cut c.start key) (same ∙ sym is_run) on) in
+    (subst (RunGoesOn E is c.cut c.start key) (same ∙ sym is_run) on) in
     charted_marked E is after None (Some key) (record { cut = new; start = c.start; value = c.value }) marked
     (charted_kept E is next after mark c new (λ k. Unit {0}) (noted_keeps E (is c.start.register) c.cut new key s noted)
-    (linked_none E c.start.register after s.id (alone s.run.exit) (alone c.start) new linked) was)
+    (linked_none E c.start.register after s.id (without_register s.run.exit) (without_register c.start) new linked) was)

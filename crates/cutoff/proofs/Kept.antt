@@ -1,4 +1,4 @@
--- A chart whose stored runs changed, and whose forest didn't.
+-- A chart whose stored runs changed, but not its forest.
 use Rattle.std.proofs.Common.{◌≡◌, ℕ, ◌<◌, ◌≤◌, Bool, true, false, nat_lt, cond, List, length, map, Option, Some, None, IsSome, Result, Ok, Err, IfErr, inl, refl, sym, ap, subst, ◌∙◌, arith}
 use Rattle.std.specs.Option.{option_map, IfSome}
 use Rattle.std.specs.Result.{IsErrAnd}
@@ -12,7 +12,7 @@ use Rattle.schedule_trie.specs.Forest.{slots_in, step_of, index_of, on_found}
 use Rattle.schedule_trie.specs.Cut.{Cut, Piece, piece_at, line, forest, has, keys_in, SharesAbove, IsCut}
 use Rattle.schedule_trie.proofs.Lines.{slots_in_on}
 use Rattle.cutoff.specs.Fitting.{StoredRun, KeepsRuns, IsFilled}
-use Rattle.cutoff.specs.Links.{alone, IsLinked}
+use Rattle.cutoff.specs.Links.{without_register, IsLinked}
 use Rattle.cutoff.specs.Prefixes.{IsMarked}
 use Rattle.cutoff.specs.Held.{Charted, IsCharted, StepsFit, keys_or, keys_named, looked_at, look}
 
@@ -41,7 +41,7 @@ cut_kept old new Missed kept cut = record {
 }
 
 pub charted_kept : {R P : Type 0} (E : R → R → Bool) (is : R → Behaviour P) (next after : ℕ) (mark : Option ℕ) (c : Charted R P) (new : Cut (StoredRun R P)) (Missed : ℕ → Type 0)
-    → KeepsRuns c.cut new Missed → IsLinked E c.start.register after None (alone c.start) new → IsCharted E is next mark c
+    → KeepsRuns c.cut new Missed → IsLinked E c.start.register after None (without_register c.start) new → IsCharted E is next mark c
     → IsCharted E is after None (record { cut = new; start = c.start; value = c.value })
 charted_kept E is next after mark c new Missed kept linked was = record {
   within = was.within;
@@ -52,7 +52,7 @@ charted_kept E is next after mark c new Missed kept linked was = record {
   marked = tt;
 }
 
--- another mark, or none
+-- the invariant holds with another mark, if stored runs fit down to that mark
 pub charted_marked : {R P : Type 0} (E : R → R → Bool) (is : R → Behaviour P) (next : ℕ) (mark other : Option ℕ) (c : Charted R P) → IsMarked E is c.cut c.start other
     → IsCharted E is next mark c → IsCharted E is next other c
 charted_marked E is next mark other c marked was = record {
@@ -64,7 +64,7 @@ charted_marked E is next mark other c marked was = record {
   marked = marked;
 }
 
--- the branch of a name, where it stands in order of making
+-- the named branch, by its index in the order the branches were made
 module _ {R P : Type 0} (b : Behaviour P) (cut : Cut (StoredRun R P)) (name : List ℕ) (index len : ℕ) (at : index_of (forest cut).branches name ≡ Some index)
     (long : len ≡ length (slots_in (forest cut).branches index)) where
   line_there : slots_in (forest cut).branches index ≡ line (piece_at cut.pieces) (keys_in cut.strands index)
@@ -87,22 +87,22 @@ module _ {R P : Type 0} (b : Behaviour P) (cut : Cut (StoredRun R P)) (name : Li
       not_behind : (n : ℕ) → n ≡ len → nat_lt n place ≡ false
       not_behind n e = grind (arith, nat_tests)
 
--- a refused step keeps what was kept before it
+-- if nothing more changes, the same is kept or filled
 pub keeps_still : {R P : Type 0} (E : R → R → Bool) (b : Behaviour P) (old : Cut (StoredRun R P)) (start : Configuration R P) (ks : List ℕ) {cut new : Cut (StoredRun R P)} → new ≡ cut
     → KeepsRuns old cut (IsFilled E b old cut start ks) → KeepsRuns old new (IsFilled E b old new start ks)
 keeps_still E b old start ks same = subst (λ t. KeepsRuns old t (IsFilled E b old t start ks)) (sym same)
 
--- what a refusal that is handed up says
+-- what holds for an error that is passed up
 pub passed_up : {T E : Type 0} {Is : E → Type 0} (r : Result T E) (P : E → Type 0) → ((e : E) → Is e → P e) → IsErrAnd r Is → IfErr r P
 passed_up (Ok x) P f h = absurd h
 passed_up (Err e) P f h = f e h
 
--- what is seen of a chart and what it is
+-- a chart as its contract sees it, and its fields
 module _ {R P : Type 0} {v w : Charted R P} (seen : v ≡ w) where
   pub seen_begins : (E : R → R → Bool) (is : R → Behaviour P) (next : ℕ) (mark : Option ℕ) → IsCharted E is next mark v
       → w.start ≡ initial_configuration (is w.start.register) w.start.register w.value
   seen_begins E is next mark was = subst (λ (c : Charted R P). c.start ≡ initial_configuration (is c.start.register) c.start.register c.value) seen was.begins
 
--- nothing is changed
+-- a cut that doesn't change keeps its runs
 pub all_kept : {R P : Type 0} (cut : Cut (StoredRun R P)) (Filled : ℕ → Type 0) → KeepsRuns cut cut Filled
 all_kept cut Filled = record { strands = refl; limits = refl; forest_kept = refl; slots = λ k. refl; runs = λ k. inl refl }

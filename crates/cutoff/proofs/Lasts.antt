@@ -1,4 +1,4 @@
--- The last run of a branch's first cells: what is left of the branch, and what is answered.
+-- The last run of a branch's first cells: what is left of the branch, and the result.
 use Rattle.std.proofs.Common.{◌≡◌, ◌⊎◌, ℕ, zero, suc, ◌-◌, ◌+◌, ◌<◌, ◌≤◌, Bool, true, List, [], ◌∷◌, ◌++◌, length, map, Option, Some, None, inl, inr, refl, sym, ap, subst, ◌∙◌, arith, append_assoc}
 use Rattle.std.specs.Cmp.{IsEquivalence}
 use Rattle.std.specs.Option.{option_map}
@@ -9,13 +9,13 @@ use Rattle.frames.specs.Configuration.{Configuration}
 use Rattle.frames.specs.Recorded.{AllFit}
 use Rattle.checkpoints.specs.Segment.{SegmentRun}
 use Rattle.schedule_trie.specs.Forest.{step_of, index_of}
-use Rattle.schedule_trie.specs.Cut.{Cut, piece_at, slots_of, line, has, keys_in, forest, LiesIn}
+use Rattle.schedule_trie.specs.Cut.{Cut, piece_at, slots_of, line, has, keys_in, forest, LiesInPath}
 use Rattle.schedule_trie.specs.Climbs.{keys_up_to, keys_to}
 use Rattle.schedule_trie.proofs.Climbs.{up_to-here}
 use Rattle.schedule_trie.proofs.Lines.{slots_in_on}
 use Rattle.schedule_trie.proofs.Partings.{parting, has-in}
 use Rattle.cutoff.specs.Fitting.{StoredRun, run_of, RunPart, Settles, reached, run_at, part_of, KeepsRuns, IsFilled}
-use Rattle.cutoff.specs.Prefixes.{RunsTo, IsKnown, IsBehind, IsMarked, IsPlaceIn, IsHung, IsLeft, SettlesTo}
+use Rattle.cutoff.specs.Prefixes.{RunsTo, IsKnown, AreKeysAfter, IsMarked, IsPlaceIn, IsHung, IsLeft, SettlesTo}
 use Rattle.cutoff.specs.Held.{Charted, StepsFit, IsSettledLast, keys_or, keys_named, reached_by, last_part}
 use Rattle.cutoff.proofs.Walks.{reached_none}
 
@@ -24,9 +24,9 @@ last_of_parts [] p = refl
 last_of_parts (q ∷ []) p = refl
 last_of_parts (q ∷ r ∷ before) p = last_of_parts (r ∷ before) p
 
--- what is left of each branch that has a key, of which runs hang from another one
+-- what is left of each branch with `key`, if runs hang from `hung` down to `key`
 module _ {R P : Type 0} (E : R → R → Bool) (equal : IsEquivalence E) (is : R → Behaviour P) (cut : Cut (StoredRun R P)) (start : Configuration R P) (hung key : ℕ) (known front : Option ℕ) (left : List ℕ)
-    (hangs : (i : ℕ) → has key (keys_in cut.strands i) ≡ true → IsHung E is cut hung key i) (down : IsKnown E is cut start hung known) (behind : IsBehind cut hung known front left)
+    (hangs : (i : ℕ) → has key (keys_in cut.strands i) ≡ true → IsHung E is cut hung key i) (down : IsKnown E is cut start hung known) (behind : AreKeysAfter cut hung known front left)
     (fits : StepsFit (is start.register) (forest cut)) where
   pub left_in : (i count place : ℕ) → IsPlaceIn cut key count place i → IsLeft E is cut start front left hung key count place i
   left_in i count place lies =
@@ -49,7 +49,7 @@ module _ {R P : Type 0} (E : R → R → Bool) (equal : IsEquivalence E) (is : R
           subst (λ o. RunsTo E is cut start o (keys_in cut.strands i)) (sym e)
           (record { register = equal.refl start.register; memory = refl; running = refl; stopped = refl })
 
--- a key can be marked that has been settled
+-- a settled key can be marked
 pub marked_now : {R P : Type 0} (E : R → R → Bool) (is : R → Behaviour P) (cut new : Cut (StoredRun R P)) (start : Configuration R P) (key count n : ℕ) → 0 < count → count ≤ length (slots_of (piece_at cut.pieces key))
     → new.strands ≡ cut.strands → ((i m place : ℕ) → IsPlaceIn cut key m place i → SettlesTo E is cut new start key m place i n) → IsMarked E is new start (Some key)
 marked_now E is cut new start key count n some few same settles i h =
@@ -63,8 +63,9 @@ marked_now E is cut new start key count n some few same settles i h =
     } in
     subst (λ s. RunsTo E is new start (Some key) (keys_in s i)) (sym same) (settles i count (length (line (piece_at cut.pieces) p.front) + count) lies).down
 
--- a place that was found
-pub place_found : {T : Type 0} (cut : Cut T) (i place key offset : ℕ) → LiesIn (piece_at cut.pieces) (keys_in cut.strands i) (place - 1) (key, offset) → (place ≡ 0 → ⊥)
+-- if the last of the first `place` cells is at `offset` in the segment `key`, the first `place`
+-- cells end with the first offset + 1 cells of that segment
+pub place_found : {T : Type 0} (cut : Cut T) (i place key offset : ℕ) → LiesInPath (piece_at cut.pieces) (keys_in cut.strands i) (place - 1) (key, offset) → (place ≡ 0 → ⊥)
     → IsPlaceIn cut key (offset + 1) place i
 place_found cut i place key offset lies positive = record {
   there = ap (has key) lies.is ∙ has-in key lies.front lies.back;
@@ -81,12 +82,12 @@ place_found cut i place key offset lies positive = record {
     some_more zero positive b = absurd (positive refl)
     some_more (suc n) positive b = omega (arith, b)
 
--- and a number as the place is
-pub found_fits : {T : Type 0} (cut : Cut T) (i place key offset n : ℕ) → LiesIn (piece_at cut.pieces) (keys_in cut.strands i) (place - 1) (key, offset) → (place ≡ 0 → ⊥)
+-- the offset of that cell is below each number that the place is below
+pub found_fits : {T : Type 0} (cut : Cut T) (i place key offset n : ℕ) → LiesInPath (piece_at cut.pieces) (keys_in cut.strands i) (place - 1) (key, offset) → (place ≡ 0 → ⊥)
     → place < n → (offset < n) × (offset + 1 < n)
 found_fits cut i place key offset n lies positive small = let sum = (place_found cut i place key offset lies positive).ends.sum in (omega arith, omega arith)
 
--- nothing is wanted
+-- a settle of no cells returns no run, and replays nothing
 pub none_settled : {R P : Type 0} (E : R → R → Bool) (b : Behaviour P) (c : Charted R P) (name : List ℕ) (place : ℕ) → place ≡ 0 → IsSettledLast E b c c name place None 0
 none_settled {R} {P} E b c name place none = (
   [],
@@ -98,7 +99,7 @@ none_settled {R} {P} E b c name place none = (
   refl,
 )
 
--- what is answered
+-- the result of a settle of the first `place` cells, which end in the segment `key`
 pub last_settled : {R P Z : Type 0} (E : R → R → Bool) (is : R → Behaviour P) (old new : Charted R P) (name : List ℕ) (place key count i n : ℕ) (run : Arc (SegmentRun R P) Z)
     → index_of (forest old.cut).branches name ≡ Some i → SettlesTo E is old.cut new.cut old.start key count place i n → Some (arc_value run) ≡ run_at new.cut key
     → IsSettledLast E (is old.start.register) old new name place (Some (part_of (run, count))) n
@@ -115,7 +116,7 @@ last_settled {R} {P} {Z} E is old new name place key count i n run found s store
       ap last_part s.last.is ∙ last_of_parts s.last.before (record { run = s.last.stored.run; count = count }) ∙ ap (λ r. Some (record { run = r; count = count })) (sym one),
     )
 
--- what is kept, by the branch's name
+-- a settle keeps or fills each stored run, by the name of the branch
 pub keeps_named : {R P : Type 0} (E : R → R → Bool) (is : R → Behaviour P) (v : Charted R P) (old new : Cut (StoredRun R P)) (start : Configuration R P) (value : ℕ)
     → ◌≡◌ {A = Charted R P} (record { cut = old; start = start; value = value }) v → (name : List ℕ) (place i : ℕ) → index_of (forest old).branches name ≡ Some i
     → KeepsRuns old new (IsFilled E (is start.register) old new start (reached old place (keys_in old.strands i)))

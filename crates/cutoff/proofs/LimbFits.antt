@@ -1,4 +1,4 @@
--- The steps of limbs fit where those of their forest do, and the other way round.
+-- The steps of limbs fit just if those of their forest do.
 use Rattle.std.proofs.Common.{◌≡◌, ℕ, zero, suc, List, [], ◌∷◌, ◌++◌, length, take, drop, nat_lt, Result, Ok, Err, IfOk, sym, subst}
 use Rattle.std.proofs.lemmas.List.Elements.{All-nil, All-cons, All-head, All-tail}
 use Rattle.frames.specs.Behaviour.{Behaviour}

@@ -1,4 +1,4 @@
--- What storing a run leaves of numbers and links.
+-- The effect of storing a run on numbers and links.
 use Rattle.std.proofs.Common.{◌≡◌, ℕ, zero, suc, ◌+◌, Bool, true, false, nat_eq, List, [], ◌∷◌, ◌++◌, length, map, Option, Some, None, MatchOption, ◌⊎◌, inl, inr, slice_get, refl, sym, ap, subst, ◌∙◌, eq-eqb, true≢false}
 use Rattle.std.specs.Prelude.{⊤}
 use Rattle.std.specs.Option.{option_map}
@@ -9,7 +9,7 @@ use Rattle.frames.specs.Configuration.{Configuration}
 use Rattle.schedule_trie.specs.Forest.{step_of}
 use Rattle.schedule_trie.specs.Cut.{Cut, Piece, piece_at, slots_of, with_note, IsNoted}
 use Rattle.cutoff.specs.Fitting.{StoredRun, steps_at}
-use Rattle.cutoff.specs.Links.{alone, CameTo, IsStored, IsTold, IsLinked}
+use Rattle.cutoff.specs.Links.{without_register, IsExitOf, IsStored, IsTruePiece, IsLinked}
 
 -- one more exit
 slice_get_more : {X : Type 0} (xs ys : List X) (i : ℕ) (x : X) → slice_get xs i ≡ Some x → slice_get (xs ++ ys) i ≡ Some x
@@ -21,16 +21,16 @@ slice_get_last : {X : Type 0} (xs : List X) (x : X) → slice_get (xs ++ x ∷ [
 slice_get_last [] x = refl
 slice_get_last (y ∷ xs) x = slice_get_last xs x
 
-pub came_more : {P : Type 0} (exits more : List (Configuration ⊤ P)) (number : Option ℕ) (c : Configuration ⊤ P) → CameTo exits number c → CameTo (exits ++ more) number c
+pub came_more : {P : Type 0} (exits more : List (Configuration ⊤ P)) (number : Option ℕ) (c : Configuration ⊤ P) → IsExitOf exits number c → IsExitOf (exits ++ more) number c
 came_more exits more None c h = tt
 came_more exits more (Some a) c h = slice_get_more exits more a c h
 
 module _ {R P : Type 0} (E : R → R → Bool) (h : R) where
   pub stored_more : (exits more : List (Configuration ⊤ P)) (segment : List Step) (s : StoredRun R P) → IsStored E h exits segment s → IsStored E h (exits ++ more) segment s
   stored_more exits more segment s t =
-      record { own = t.own; covers = t.covers; id = came_more exits more s.id (alone s.run.exit) t.id; link = came_more exits more s.link (alone s.run.entry) t.link }
+      record { own = t.own; covers = t.covers; id = came_more exits more s.id (without_register s.run.exit) t.id; link = came_more exits more s.link (without_register s.run.entry) t.link }
 
-  pub told_more : (exits more : List (Configuration ⊤ P)) (o : Option (Piece (StoredRun R P))) → IsTold E h exits o → IsTold E h (exits ++ more) o
+  pub told_more : (exits more : List (Configuration ⊤ P)) (o : Option (Piece (StoredRun R P))) → IsTruePiece E h exits o → IsTruePiece E h (exits ++ more) o
   told_more exits more None t = tt
   told_more exits more (Some p) t = by p.note t
     where
@@ -39,58 +39,58 @@ module _ {R P : Type 0} (E : R → R → Bool) (h : R) where
       by (Some s) t = stored_more exits more (map step_of p.slots) s t
 
   told_here : (exits : List (Configuration ⊤ P)) (s : StoredRun R P) (o : Option (Piece (StoredRun R P))) → IsStored E h exits (map step_of (slots_of o)) s
-      → IsTold E h exits (option_map (with_note (Some s)) o)
+      → IsTruePiece E h exits (option_map (with_note (Some s)) o)
   told_here exits s None t = tt
   told_here exits s (Some p) t = t
 
-  -- a true run is noted at a segment
-  pub noted_told : (exits : List (Configuration ⊤ P)) (old new : Cut (StoredRun R P)) (k : ℕ) (s : StoredRun R P) → ((j : ℕ) → IsTold E h exits (piece_at old.pieces j))
-      → IsNoted old new k (Some s) → IsStored E h exits (steps_at old k) s → (j : ℕ) → IsTold E h exits (piece_at new.pieces j)
+  -- a true run is stored at a segment
+  pub noted_told : (exits : List (Configuration ⊤ P)) (old new : Cut (StoredRun R P)) (k : ℕ) (s : StoredRun R P) → ((j : ℕ) → IsTruePiece E h exits (piece_at old.pieces j))
+      → IsNoted old new k (Some s) → IsStored E h exits (steps_at old k) s → (j : ℕ) → IsTruePiece E h exits (piece_at new.pieces j)
   noted_told exits old new k s each noted t j = by (nat_eq j k) refl
     where
-      by : (b : Bool) → nat_eq j k ≡ b → IsTold E h exits (piece_at new.pieces j)
+      by : (b : Bool) → nat_eq j k ≡ b → IsTruePiece E h exits (piece_at new.pieces j)
       by true e =
           let same : j ≡ k = eqb-true j k e in
-          subst (λ i. IsTold E h exits (piece_at new.pieces i)) (sym same) (subst (IsTold E h exits) (sym noted.here) (told_here exits s (piece_at old.pieces k) t))
+          subst (λ i. IsTruePiece E h exits (piece_at new.pieces i)) (sym same) (subst (IsTruePiece E h exits) (sym noted.here) (told_here exits s (piece_at old.pieces k) t))
       by false e =
           let other : j ≡ k → ⊥ = λ same. true≢false (sym (eq-eqb j k same) ∙ e) in
-          subst (IsTold E h exits) (sym (noted.others j other)) (each j)
+          subst (IsTruePiece E h exits) (sym (noted.others j other)) (each j)
 
-  module _ (old new : Cut (StoredRun R P)) (k next : ℕ) (above : Option ℕ) (c : Configuration R P) (l : IsLinked E h next above (alone c) old) (s : StoredRun R P)
+  module _ (old new : Cut (StoredRun R P)) (k next : ℕ) (above : Option ℕ) (c : Configuration R P) (l : IsLinked E h next above (without_register c) old) (s : StoredRun R P)
       (noted : IsNoted old new k (Some s)) where
-    -- a stored run is noted again, behind what a walk has come to
-    pub taken_linked : IsStored E h l.exits (steps_at old k) s → IsLinked E h next s.id (alone s.run.exit) new
-    taken_linked t = record { exits = l.exits; as_many = l.as_many; each = noted_told l.exits old new k s l.each noted t; came = t.id }
+    -- a stored run is stored again, linked to the run reached
+    pub taken_linked : IsStored E h l.exits (steps_at old k) s → IsLinked E h next s.id (without_register s.run.exit) new
+    taken_linked t = record { exits = l.exits; as_many = l.as_many; each = noted_told l.exits old new k s l.each noted t; reached_exit = t.id }
 
-    -- a new run is noted, with the next number or none
+    -- a new run is stored, with the next number or none
     pub new_linked : (after : ℕ) → E s.run.entry.register h ≡ true → s.run.steps ≡ steps_at old k → s.link ≡ above → s.run.entry ≡ c
-        → ((s.id ≡ None) × (after ≡ next)) ⊎ ((s.id ≡ Some next) × (after ≡ next + 1)) → IsLinked E h after s.id (alone s.run.exit) new
+        → ((s.id ≡ None) × (after ≡ next)) ⊎ ((s.id ≡ Some next) × (after ≡ next + 1)) → IsLinked E h after s.id (without_register s.run.exit) new
     new_linked after own covers linked entry (inl none) =
-        let came : CameTo l.exits s.id (alone s.run.exit) = subst (λ o. CameTo l.exits o (alone s.run.exit)) (sym none.0) tt in
+        let came : IsExitOf l.exits s.id (without_register s.run.exit) = subst (λ o. IsExitOf l.exits o (without_register s.run.exit)) (sym none.0) tt in
         record {
           exits = l.exits;
           as_many = l.as_many ∙ sym none.1;
           each = noted_told l.exits old new k s l.each noted (record { own = own; covers = covers; id = came; link = link_came linked entry });
-          came = came;
+          reached_exit = came;
         }
       where
-        link_came : s.link ≡ above → s.run.entry ≡ c → CameTo l.exits s.link (alone s.run.entry)
-        link_came e f = subst (λ o. CameTo l.exits o (alone s.run.entry)) (sym e) (subst (λ d. CameTo l.exits above (alone d)) (sym f) l.came)
+        link_came : s.link ≡ above → s.run.entry ≡ c → IsExitOf l.exits s.link (without_register s.run.entry)
+        link_came e f = subst (λ o. IsExitOf l.exits o (without_register s.run.entry)) (sym e) (subst (λ d. IsExitOf l.exits above (without_register d)) (sym f) l.reached_exit)
     new_linked after own covers linked entry (inr given) =
-        let last : slice_get (l.exits ++ alone s.run.exit ∷ []) next ≡ Some (alone s.run.exit) =
-        subst (λ n. slice_get (l.exits ++ alone s.run.exit ∷ []) n ≡ Some (alone s.run.exit)) l.as_many (slice_get_last l.exits (alone s.run.exit)) in
-        let came : CameTo (l.exits ++ alone s.run.exit ∷ []) s.id (alone s.run.exit) = subst (λ o. CameTo (l.exits ++ alone s.run.exit ∷ []) o (alone s.run.exit)) (sym given.0) last in
-        let was : CameTo l.exits s.link (alone s.run.entry) = subst (λ o. CameTo l.exits o (alone s.run.entry)) (sym linked) (subst (λ d. CameTo l.exits above (alone d)) (sym entry) l.came) in
+        let last : slice_get (l.exits ++ without_register s.run.exit ∷ []) next ≡ Some (without_register s.run.exit) =
+        subst (λ n. slice_get (l.exits ++ without_register s.run.exit ∷ []) n ≡ Some (without_register s.run.exit)) l.as_many (slice_get_last l.exits (without_register s.run.exit)) in
+        let came : IsExitOf (l.exits ++ without_register s.run.exit ∷ []) s.id (without_register s.run.exit) = subst (λ o. IsExitOf (l.exits ++ without_register s.run.exit ∷ []) o (without_register s.run.exit)) (sym given.0) last in
+        let was : IsExitOf l.exits s.link (without_register s.run.entry) = subst (λ o. IsExitOf l.exits o (without_register s.run.entry)) (sym linked) (subst (λ d. IsExitOf l.exits above (without_register d)) (sym entry) l.reached_exit) in
         record {
-          exits = l.exits ++ alone s.run.exit ∷ [];
-          as_many = length-append l.exits (alone s.run.exit ∷ []) ∙ ap (λ n. n + 1) l.as_many ∙ sym given.1;
+          exits = l.exits ++ without_register s.run.exit ∷ [];
+          as_many = length-append l.exits (without_register s.run.exit ∷ []) ∙ ap (λ n. n + 1) l.as_many ∙ sym given.1;
           each =
-              noted_told (l.exits ++ alone s.run.exit ∷ []) old new k s (λ j. told_more l.exits (alone s.run.exit ∷ []) (piece_at old.pieces j) (l.each j)) noted
-              (record { own = own; covers = covers; id = came; link = came_more l.exits (alone s.run.exit ∷ []) s.link (alone s.run.entry) was });
-          came = came;
+              noted_told (l.exits ++ without_register s.run.exit ∷ []) old new k s (λ j. told_more l.exits (without_register s.run.exit ∷ []) (piece_at old.pieces j) (l.each j)) noted
+              (record { own = own; covers = covers; id = came; link = came_more l.exits (without_register s.run.exit ∷ []) s.link (without_register s.run.entry) was });
+          reached_exit = came;
         }
 
--- the numbers and links stand whatever run is looked at last, and for an equal register
+-- numbers and links are true whatever the run reached, and for an equal register
 pub linked_none : {R P : Type 0} (E : R → R → Bool) (h : R) (next : ℕ) (above : Option ℕ) (c d : Configuration ⊤ P) (cut : Cut (StoredRun R P))
     → IsLinked E h next above c cut → IsLinked E h next None d cut
-linked_none E h next above c d cut l = record { exits = l.exits; as_many = l.as_many; each = l.each; came = tt }
+linked_none E h next above c d cut l = record { exits = l.exits; as_many = l.as_many; each = l.each; reached_exit = tt }

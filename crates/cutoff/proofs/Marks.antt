@@ -1,4 +1,4 @@
--- The mark behind a fork of a whole branch, which leaves each segment.
+-- The mark after a fork of a whole branch, which keeps each segment.
 use Rattle.std.proofs.Common.{◌≡◌, ◌⊎◌, ℕ, zero, suc, Bool, true, List, [], ◌∷◌, ◌++◌, map, length, Option, None, Some, Result, Ok, Err, OnOk, IfErr, inl, inr, refl, sym, ap, subst, ◌∙◌}
 use Rattle.std.specs.Option.{option_map}
 use Rattle.frames.specs.Behaviour.{Behaviour}
@@ -10,12 +10,12 @@ use Rattle.schedule_trie.specs.Climbs.{keys_to}
 use Rattle.schedule_trie.specs.Edits.{Fork, IsEdited, IsUnedited}
 use Rattle.schedule_trie.specs.Forks.{IsForkedWhole, CutsNoneAtEnd}
 use Rattle.cutoff.specs.Fitting.{StoredRun, RunFits, run_of, steps_at}
-use Rattle.cutoff.specs.Prefixes.{HasTrueRun, RunsDown, RunsTo, IsMarked, come_to, exit_or}
+use Rattle.cutoff.specs.Prefixes.{HasTrueRun, RunsDown, RunsTo, IsMarked, exit_or_start, exit_or}
 use Rattle.cutoff.specs.Held.{Charted, IsCharted}
 use Rattle.cutoff.proofs.Edited.{charted}
 use Rattle.cutoff.proofs.Kept.{charted_marked}
 
--- the keys of a branch, where one more goes last
+-- the keys of a branch, after one is added
 last_keys : (strands : List Strand) (s : Strand) (i : ℕ) → (keys_in (strands ++ s ∷ []) i ≡ keys_in strands i) ⊎ (keys_in (strands ++ s ∷ []) i ≡ s.keys)
 last_keys [] s zero = inr refl
 last_keys [] s (suc i) = inl refl
@@ -42,9 +42,9 @@ module _ {R P : Type 0} (E : R → R → Bool) (is : R → Behaviour P) (old new
   to_same : (start : Configuration R P) (k : ℕ) (keys : List ℕ) → RunsTo E is old start (Some k) keys → RunsTo E is new start (Some k) keys
   to_same start k keys d =
       subst (RunsDown E is new (is start.register) start (keys_to keys (Some k))) (ap (λ ps. exit_or start (option_map run_of (note_of (piece_at ps k)))) (sym same))
-      (runs_same (is start.register) start (keys_to keys (Some k)) (come_to old start (Some k)) d)
+      (runs_same (is start.register) start (keys_to keys (Some k)) (exit_or_start old start (Some k)) d)
 
--- a branch with the same segments as another one has the same runs
+-- a branch with the same segments as another has the same runs
 module _ {R P : Type 0} (E : R → R → Bool) (is : R → Behaviour P) (old new : Cut (StoredRun R P)) (start : Configuration R P) (index : ℕ) (name : List ℕ) (forked : IsForkedWhole old new index name) where
   there : (k i j : ℕ) → IsMarked E is old start (Some k) → has k (keys_in new.strands i) ≡ true → keys_in new.strands i ≡ keys_in old.strands j → RunsTo E is new start (Some k) (keys_in new.strands i)
   there k i j marked h e =
@@ -63,7 +63,7 @@ module _ {R P : Type 0} (E : R → R → Bool) (is : R → Behaviour P) (old new
   marked_whole None marked = tt
   marked_whole (Some k) marked = λ i h. either k i marked h (last_keys old.strands made i)
 
--- a branch that has so many cells is there
+-- a branch with a length exists
 len_found : {T : Type 0} (cut : Cut T) (name : List ℕ) (place : ℕ) → len_of (forest cut) name ≡ Some place
     → (index : ℕ) × ((index_of (forest cut).branches name ≡ Some index) × (place ≡ length (slots_in (forest cut).branches index)))
 len_found cut name place e = by (index_of (forest cut).branches name) refl e
@@ -73,7 +73,7 @@ len_found cut name place e = by (index_of (forest cut).branches name) refl e
     by None at e = cc
     by (Some i) at e = let long : length (slots_in (forest cut).branches i) ≡ place = cc in (i, (at, sym long))
 
--- what a chart keeps, behind a fork: the mark too, where it is of all cells
+-- the invariant of a chart after a fork; the mark stays too, if the fork is of all cells
 pub forked_charted : {R P Y : Type 0} (E : R → R → Bool) (is : R → Behaviour P) (next : ℕ) (mark after : Option ℕ) (c : Charted R P) (new : Cut (StoredRun R P)) (source : List ℕ) (place : ℕ) (name : List ℕ) (result : Result Y Refusal)
     → IsCharted E is next mark c → (after ≡ None) ⊎ ((after ≡ mark) × (len_of (forest c.cut) source ≡ Some place))
     → OnOk result (IsEdited c.cut new (Fork source place name)) → OnOk result (CutsNoneAtEnd c.cut new source place name) → IfErr result (IsUnedited c.cut new (Fork source place name))

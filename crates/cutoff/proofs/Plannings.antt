@@ -1,4 +1,4 @@
--- Jobs of branches one after the other.
+-- The jobs of branches, one after the other.
 use Rattle.std.proofs.Common.{◌≡◌, ℕ, zero, suc, ◌+◌, ◌<◌, ◌≤◌, Bool, List, [], ◌∷◌, length, map, drop, Option, Some, None, IsSome, refl, sym, ap, subst, ◌∙◌, arith, true≢false}
 use Rattle.frames.specs.Behaviour.{Behaviour}
 use Rattle.frames.specs.Configuration.{Configuration}
@@ -20,7 +20,7 @@ none_left [] (suc i) h = refl
 none_left (s ∷ ss) zero h = absurd (omega arith)
 none_left (s ∷ ss) (suc i) h = none_left ss i (omega arith)
 
--- what one branch adds
+-- one branch adds a job for its first segment that no stored run fits, if it has no job yet
 abbrev pub Adds : {R P : Type 0} → (R → R → Bool) → Behaviour P → Cut (StoredRun R P) → Configuration R P → List ℕ → List (Planned R P) → List (Planned R P) → Type 0
 Adds {R} {P} E b cut c keys old new = (missed : Option ℕ) × (end : Configuration R P) × Descends E b cut c keys missed end × (new ≡ with_job old (job_of cut missed end))
 
@@ -40,17 +40,3 @@ module _ {R P : Type 0} (E : R → R → Bool) (b : Behaviour P) (cut : Cut (Sto
 
   pub plan_ends : (done : List (Planned R P)) (i : ℕ) → length cut.strands ≤ i → Plans E b cut c done (map keys_of (drop i cut.strands)) done
   plan_ends done i past = subst (λ l. Plans E b cut c done l done) (sym (none_left cut.strands i past)) refl
-
--- the keys of a branch that is there
-pub keys_found : (o : Option ℕ) (strands : List Strand) (keys : List ℕ) → keys_by o strands ≡ Some keys → keys_or o strands ≡ keys
-keys_found None strands keys e = absurd (let f : ◌≡◌ {A = Option (List ℕ)} None (Some keys) = e in cc)
-keys_found (Some i) strands keys e = cc
-
-pub keys_some : (o : Option ℕ) (strands : List Strand) (keys : List ℕ) → keys_by o strands ≡ Some keys → IsSome o
-keys_some None strands keys e = absurd (let f : ◌≡◌ {A = Option (List ℕ)} None (Some keys) = e in cc)
-keys_some (Some i) strands keys e = refl
-
--- where the branch is there, all that is lacking is memory
-pub lacks_memory : (o : Option ℕ) → IsSome o → if_lacks o ≡ Memory
-lacks_memory None some = absurd (true≢false (sym some))
-lacks_memory (Some i) some = refl

@@ -13,20 +13,20 @@ use Rattle.schedule_trie.specs.Climbs.{keys_to, keys_up_to}
 use Rattle.schedule_trie.proofs.Climbs.{IsStepUp}
 use Rattle.schedule_trie.proofs.Once.{has_cases, has-head, has-tail}
 use Rattle.cutoff.specs.Fitting.{StoredRun, run_of, RunFits, steps_at}
-use Rattle.cutoff.specs.Links.{alone, IsLinked}
-use Rattle.cutoff.specs.Prefixes.{RunsDown, RunsTo, IsKnown, come_to, exit_or}
-use Rattle.cutoff.specs.Plans.{ComesDown}
+use Rattle.cutoff.specs.Links.{without_register, IsLinked}
+use Rattle.cutoff.specs.Prefixes.{RunsDown, RunsTo, IsKnown, exit_or_start, exit_or}
+use Rattle.cutoff.specs.Plans.{FitsDownTo}
 use Rattle.cutoff.proofs.Fits.{register_kept, same_trans, exit_same, stored_at, fits_to_note}
 use Rattle.cutoff.proofs.Walks.{linked_home}
 
 module _ {R P : Type 0} (E : R → R → Bool) (per : IsPartialEquivalence E) (is : R → Behaviour P) (alike : (x y : R) → E x y ≡ true → is x ≡ is y) (cut : Cut (StoredRun R P)) where
-  -- where they come to
+  -- stored runs that lead to a configuration lead to each equal one
   pub down_same : (b : Behaviour P) (c : Configuration R P) (keys : List ℕ) (a e : Configuration R P) → SameConfiguration E a e → RunsDown E is cut b c keys e → RunsDown E is cut b c keys a
   down_same b c [] a e s d = same_trans E per a e c s d
   down_same b c (k ∷ ks) a e s d = (d.0, down_same b (replayed b c (steps_at cut k)) ks a e s d.1)
 
-  -- they fit
-  pub runs_come : (b : Behaviour P) (c : Configuration R P) (keys : List ℕ) (end : Configuration R P) → RunsDown E is cut b c keys end → ComesDown E b cut c keys end
+  -- stored runs fit all keys at which true runs that fit are stored
+  pub runs_come : (b : Behaviour P) (c : Configuration R P) (keys : List ℕ) (end : Configuration R P) → RunsDown E is cut b c keys end → FitsDownTo E b cut c keys end
   runs_come b c [] end d = d
   runs_come b c (k ∷ ks) end d = (fits_to_note E cut c k d.0.stored d.0.noted d.0.fits, runs_come b (replayed b c (steps_at cut k)) ks end d.1)
 
@@ -38,21 +38,21 @@ module _ {R P : Type 0} (E : R → R → Bool) (per : IsPartialEquivalence E) (i
     down_more b c (j ∷ ks) home d =
         (d.0, down_more b (replayed b c (steps_at cut j)) ks (ap is (register_kept b c (steps_at cut j)) ∙ home) d.1)
 
-    -- one step up a branch: the runs down to this one, and those behind it
+    -- one step up a branch: the runs down to this one, and those after it
     module _ (start : Configuration R P) (keys : List ℕ) (above : Option ℕ) (step : IsStepUp keys k above) where
-      come_here : come_to cut start (Some k) ≡ s.run.exit
+      come_here : exit_or_start cut start (Some k) ≡ s.run.exit
       come_here = ap (λ n. exit_or start (option_map run_of n)) noted
 
       pub up_new : RunsDown E is cut (is start.register) start (keys_to keys above) s.run.entry → RunsTo E is cut start (Some k) keys
       up_new d =
-          subst (λ l. RunsDown E is cut (is start.register) start l (come_to cut start (Some k))) (sym step.is)
+          subst (λ l. RunsDown E is cut (is start.register) start l (exit_or_start cut start (Some k))) (sym step.is)
           (subst (RunsDown E is cut (is start.register) start (keys_to keys above ++ k ∷ [])) (sym come_here) (down_more (is start.register) start (keys_to keys above) refl d))
 
-      -- to what is the same as where they come to
+      -- if runs fit down to the key k, they lead to each configuration equal to the exit of its run
       pub up_same : (entry : Configuration R P) → SameConfiguration E entry s.run.exit → RunsTo E is cut start (Some k) keys
           → RunsDown E is cut (is start.register) start (keys_up_to k keys) entry
       up_same entry same d =
-          down_same (is start.register) start (keys_up_to k keys) entry (come_to cut start (Some k)) (subst (SameConfiguration E entry) (sym come_here) same) d
+          down_same (is start.register) start (keys_up_to k keys) entry (exit_or_start cut start (Some k)) (subst (SameConfiguration E entry) (sym come_here) same) d
 
 pub same_key : (a b : Option ℕ) → option_eq nat_eq a b ≡ true → a ≡ b
 same_key None None e = refl
@@ -60,7 +60,7 @@ same_key None (Some k) e = cc
 same_key (Some j) None e = cc
 same_key (Some j) (Some k) e = ap Some (eqb-true j k e)
 
--- a key that is another one, and stands before it where it stands down to it
+-- if a climb is at the key k and not at the key f, the two differ
 pub other_key : (f k : ℕ) (at front : Option ℕ) → front ≡ Some f → at ≡ Some k → option_eq nat_eq at front ≡ false → f ≡ k → ⊥
 other_key f k at front e here differs same =
     true≢false (sym (eq-eqb k f (sym same)) ∙ sym (ap (λ o. option_eq nat_eq o front) here ∙ ap (option_eq nat_eq (Some k)) e) ∙ differs)
@@ -70,7 +70,7 @@ by_other f k [] h other = has_cases f k [] (has f [] ≡ true) h (λ e. absurd (
 by_other f k (j ∷ keys) h other =
     has_cases f j (keys ++ k ∷ []) (has f (j ∷ keys) ≡ true) h (λ e. subst (λ z. has f (z ∷ keys) ≡ true) e (has-head f keys)) (λ r. has-tail f j keys (by_other f k keys r other))
 
--- what a stored run comes to is of the chart's register, and its number is that of a run that came there
+-- a stored run's exit is of the chart's register, and its number is that of a run with this exit
 module _ {R P : Type 0} (E : R → R → Bool) (per : IsPartialEquivalence E) (b : Behaviour P) (cut : Cut (StoredRun R P)) (h : R) (k : ℕ) (s : StoredRun R P)
     (noted : note_of (piece_at cut.pieces k) ≡ Some s) (true_run : IsRun b s.run) (next : ℕ) (c : Configuration ⊤ P) (linked : IsLinked E h next None c cut) where
   pub exit_own : E s.run.exit.register h ≡ true
@@ -78,11 +78,11 @@ module _ {R P : Type 0} (E : R → R → Bool) (per : IsPartialEquivalence E) (b
       let kept : s.run.exit.register ≡ s.run.entry.register = ap (λ d. d.register) true_run.exit ∙ register_kept b s.run.entry s.run.steps in
       subst (λ r. E r h ≡ true) (sym kept) (stored_at E h linked.exits cut k s (linked.each k) noted).own
 
-  pub exit_linked : IsLinked E s.run.exit.register next s.id (alone s.run.exit) cut
+  pub exit_linked : IsLinked E s.run.exit.register next s.id (without_register s.run.exit) cut
   exit_linked =
-      linked_home E per h s.run.exit.register next s.id (alone s.run.exit) cut (per.symm h s.run.exit.register ∙ exit_own)
-      (record { exits = linked.exits; as_many = linked.as_many; each = linked.each; came = (stored_at E h linked.exits cut k s (linked.each k) noted).id })
+      linked_home E per h s.run.exit.register next s.id (without_register s.run.exit) cut (per.symm h s.run.exit.register ∙ exit_own)
+      (record { exits = linked.exits; as_many = linked.as_many; each = linked.each; reached_exit = (stored_at E h linked.exits cut k s (linked.each k) noted).id })
 
--- no run need be known
+-- if there is no key, no run has to be known
 pub none_known : {R P : Type 0} (E : R → R → Bool) (equal : IsEquivalence E) (is : R → Behaviour P) (cut : Cut (StoredRun R P)) (start : Configuration R P) (key : ℕ) → IsKnown E is cut start key None
 none_known E equal is cut start key = λ i h. (tt, record { register = equal.refl start.register; memory = refl; running = refl; stopped = refl })

@@ -1,4 +1,4 @@
--- A walk down the segments that are left of a branch, behind a part that stored runs are known to fit.
+-- A walk down the segments left of a branch, after a part that stored runs are known to fit.
 use Rattle.std.proofs.Common.{◌≡◌, ◌⊎◌, ℕ, suc, drop, get_or, ◌+◌, ◌-◌, ◌<◌, ◌≤◌, Bool, true, false, List, [], ◌∷◌, ◌++◌, length, map, Option, Some, None, IsSome, inl, inr, refl, sym, ap, subst, ◌∙◌, arith, append_assoc, append-nil, true≢false}
 use Rattle.std.specs.Prelude.{min}
 use Rattle.std.specs.Cmp.{IsPartialEquivalence, IsEquivalence}
@@ -12,14 +12,14 @@ use Rattle.frames.specs.Recorded.{AllFit}
 use Rattle.checkpoints.specs.Segment.{SegmentRun, IsRun}
 use Rattle.schedule_trie.specs.Forest.{step_of}
 use Rattle.schedule_trie.specs.Cut.{Cut, Piece, piece_at, slots_of, note_of, with_note, line, has, Once, keys_in, IsCut}
-use Rattle.schedule_trie.specs.Climbs.{keys_up_to, keys_to, IsReached}
+use Rattle.schedule_trie.specs.Climbs.{keys_up_to, keys_to, HasClimbedTo}
 use Rattle.schedule_trie.proofs.Once.{has-head, has-tail}
 use Rattle.schedule_trie.proofs.Climbs.{once_before}
 use Rattle.schedule_trie.proofs.Partings.{parting}
 use Rattle.schedule_trie.proofs.Pushes.{line-append}
 use Rattle.cutoff.specs.Fitting.{StoredRun, run_of, RunPart, RunFits, IsWork, IsSegmentSettled, Settles, steps_at, run_at, reached, exit_of}
-use Rattle.cutoff.specs.Links.{alone, IsLinked}
-use Rattle.cutoff.specs.Prefixes.{RunsDown, Hangs, EndsIn, IsRest, EndsWith, SettlesTo, come_to, exit_or}
+use Rattle.cutoff.specs.Links.{without_register, IsLinked}
+use Rattle.cutoff.specs.Prefixes.{RunsDown, Hangs, EndsIn, IsRest, EndsWith, SettlesTo, exit_or_start, exit_or}
 use Rattle.cutoff.proofs.Climbs.{path_once}
 use Rattle.cutoff.proofs.Fits.{register_kept, same_symm, run_fits_alike, fits_to_note, exit_same}
 use Rattle.cutoff.proofs.Hangings.{hang_kept, hang_down, has-left}
@@ -28,7 +28,7 @@ use Rattle.cutoff.proofs.Prefixes.{down_same, down_more}
 use Rattle.cutoff.proofs.Segments.{noted_still}
 use Rattle.cutoff.proofs.Walks.{reached_none, IsWalking, drop_past, walk_starts, walk_on, fits_here, linked_home, exit_of-last}
 
--- what is stored after a note
+-- once a run is stored at a key, it is the run noted there
 pub noted_at : {T : Type 0} (s : T) (o p : Option (Piece T)) → p ≡ option_map (with_note (Some s)) o → IsSome o → note_of p ≡ Some s
 noted_at s None p e h = absurd (true≢false (sym h))
 noted_at s (Some q) p e h = ap note_of e
@@ -37,7 +37,7 @@ pub noted_cells : {T : Type 0} (s : T) (o p : Option (Piece T)) → p ≡ option
 noted_cells s None p e = ap slots_of e
 noted_cells s (Some q) p e = ap slots_of e
 
--- runs stay stored where nothing is noted
+-- runs stay stored if nothing is stored at their keys
 pub down_kept : {R P : Type 0} (E : R → R → Bool) (is : R → Behaviour P) (cut new : Cut (StoredRun R P)) (b : Behaviour P) (c : Configuration R P) (keys : List ℕ) (end : Configuration R P)
     → ((j : ℕ) → has j keys ≡ true → piece_at new.pieces j ≡ piece_at cut.pieces j) → RunsDown E is cut b c keys end → RunsDown E is new b c keys end
 down_kept E is cut new b c [] end same d = d
@@ -53,7 +53,7 @@ down_kept E is cut new b c (k ∷ ks) end same d =
       subst (λ l. RunsDown E is new b (replayed b c l) ks end) steps (down_kept E is cut new b (replayed b c (steps_at cut k)) ks end (λ j h. same j (has-tail j k ks h)) d.1),
     )
 
--- the last of some keys; `above` where there are none
+-- the last of some keys, or `above` if there are none
 abbrev pub last_or : Option ℕ → List ℕ → Option ℕ
 last_or above [] = above
 last_or above (k ∷ ks) = last_or (Some k) ks
@@ -62,28 +62,29 @@ pub last_or-last : (above : Option ℕ) (front : List ℕ) (k : ℕ) → last_or
 last_or-last above [] k = refl
 last_or-last above (j ∷ front) k = last_or-last (Some j) front k
 
-pub last_to : (keys : List ℕ) (last : Option ℕ) → IsReached keys last → last_or None (keys_to keys last) ≡ last
+pub last_to : (keys : List ℕ) (last : Option ℕ) → HasClimbedTo keys last → last_or None (keys_to keys last) ≡ last
 last_to keys None h = refl
 last_to keys (Some k) h = let p = parting keys k h in ap (last_or None) p.to ∙ last_or-last None p.front k
 
--- it has come behind the run that is stored at `above`, if a key is named, with the segments `left` still to go
+-- the walk has passed the key `above`, or is above the first key; the segments `left` are still to
+-- go
 pub record IsGoing {R P : Type 0} (E : R → R → Bool) (is : R → Behaviour P) (old cut : Cut (StoredRun R P)) (start : Configuration R P) (next key count : ℕ)
     (keys left back : List ℕ) (place n : ℕ) (above : Option ℕ) : Type 0 where
   pub done : List ℕ
   pub last : last_or None done ≡ above
   pub path : keys_up_to key keys ≡ done ++ left
   pub whole : keys ≡ done ++ (left ++ back)
-  pub down : RunsDown E is cut (is start.register) start done (come_to cut start above)
+  pub down : RunsDown E is cut (is start.register) start done (exit_or_start cut start above)
   pub rest : ℕ
   pub parts : List (RunPart R P)
   pub walk : IsWalking E (is start.register) old cut start next None keys (left ++ back) place rest n parts
-  pub from : exit_of start parts ≡ come_to cut start above
+  pub from : exit_of start parts ≡ exit_or_start cut start above
   pub ahead : EndsIn old key count rest left ⊎ ((left ≡ []) × (rest ≡ 0) × (above ≡ Some key) × EndsWith cut key count parts)
   pub once : Once keys
   pub some : 0 < count
   pub few : count ≤ length (slots_of (piece_at old.pieces key))
 
--- so many cells are still wanted
+-- `rest` cells are still wanted
 more : {R P : Type 0} (old : Cut (StoredRun R P)) (key count rest : ℕ) (left : List ℕ) → 0 < count → EndsIn old key count rest left → 0 < rest
 more old key count rest left some ends = let s = ends.sum in omega arith
 
@@ -96,7 +97,7 @@ some_steps : {T : Type 0} (o : Option (Piece T)) → IsSome o → IfSome o (λ p
 some_steps None h s = absurd (true≢false (sym h))
 some_steps (Some p) h s = let some = s.0 in let e : length (map step_of p.slots) ≡ length p.slots = length-map p.slots step_of in omega arith
 
--- it goes on behind one more settled segment
+-- the walk goes on after one more settled segment
 module _ {R P : Type 0} (E : R → R → Bool) (equal : IsEquivalence E) (per : IsPartialEquivalence E) (is : R → Behaviour P) (alike : (x y : R) → E x y ≡ true → is x ≡ is y)
     (old cut : Cut (StoredRun R P)) (start : Configuration R P) (next key count : ℕ) (keys ks back : List ℕ) (k place n : ℕ) (above : Option ℕ)
     (g : IsGoing E is old cut start next key count keys (k ∷ ks) back place n above) where
@@ -115,7 +116,7 @@ module _ {R P : Type 0} (E : R → R → Bool) (equal : IsEquivalence E) (per : 
       let same : length (steps_at cut k) ≡ length (steps_at old k) = ap (λ o. length (map step_of (slots_of o))) (g.walk.ahead k (has-head k (ks ++ back))) in
       let s = g.walk.small k in omega (arith, same, s)
 
-  home : E (come_to cut start above).register start.register ≡ true
+  home : E (exit_or_start cut start above).register start.register ≡ true
   home = subst (λ (d : Configuration R P). E d.register start.register ≡ true) g.from (subst (λ r. E (exit_of start g.parts).register r ≡ true) g.walk.home g.walk.same.register)
 
   pub fits_left : AllFit (is start.register) (steps_at cut k)
@@ -126,8 +127,8 @@ module _ {R P : Type 0} (E : R → R → Bool) (equal : IsEquivalence E) (per : 
   lacks_here : has k g.done ≡ false
   lacks_here = once_before g.done k (ks ++ back) (subst Once g.whole g.once)
 
-  module _ (new : Cut (StoredRun R P)) (after : ℕ) (run : SegmentRun R P) (work : ℕ) (settled : IsSegmentSettled E cut new (come_to cut start above) k run work)
-      (linked : IsLinked E start.register after None (alone start) new) (true_run : IsRun (is run.entry.register) run) where
+  module _ (new : Cut (StoredRun R P)) (after : ℕ) (run : SegmentRun R P) (work : ℕ) (settled : IsSegmentSettled E cut new (exit_or_start cut start above) k run work)
+      (linked : IsLinked E start.register after None (without_register start) new) (true_run : IsRun (is run.entry.register) run) where
     abbrev s : StoredRun R P
     s = settled.noted.0
 
@@ -142,24 +143,24 @@ module _ {R P : Type 0} (E : R → R → Bool) (equal : IsEquivalence E) (per : 
     same_run : s.run ≡ run
     same_run = settled.noted.2
 
-    come_here : come_to new start (Some k) ≡ run.exit
+    come_here : exit_or_start new start (Some k) ≡ run.exit
     come_here = ap (λ o. exit_or start (option_map run_of o)) noted ∙ ap (λ r. r.exit) same_run
 
-    down_here : RunsDown E is new (is start.register) start (g.done ++ k ∷ []) (come_to new start (Some k))
+    down_here : RunsDown E is new (is start.register) start (g.done ++ k ∷ []) (exit_or_start new start (Some k))
     down_here =
-        let kept = down_kept E is cut new (is start.register) start g.done (come_to cut start above)
+        let kept = down_kept E is cut new (is start.register) start g.done (exit_or_start cut start above)
         (λ j h. settled.noted.1.others j (λ e. true≢false (sym (subst (λ i. has i g.done ≡ true) e h) ∙ lacks_here))) g.down in
-        let entry = subst (λ r. SameConfiguration E r.entry (come_to cut start above)) (sym same_run) settled.fits.entry in
+        let entry = subst (λ r. SameConfiguration E r.entry (exit_or_start cut start above)) (sym same_run) settled.fits.entry in
         subst (RunsDown E is new (is start.register) start (g.done ++ k ∷ [])) (ap (λ r. r.exit) same_run ∙ sym come_here)
         (down_more E per is alike new k s noted (subst (λ r. IsRun (is r.entry.register) r) (sym same_run) true_run)
         (ap (λ r. r.steps) same_run ∙ settled.fits.steps ∙ sym steps_still) (is start.register) start g.done refl
-        (down_same E per is alike new (is start.register) start g.done s.run.entry (come_to cut start above) entry kept))
+        (down_same E per is alike new (is start.register) start g.done s.run.entry (exit_or_start cut start above) entry kept))
 
-    -- where nothing is replayed its run stays stored
+    -- if nothing is replayed, the segment's run stays stored
     pub kept_here : IsCut old → work ≡ 0 → run_at new k ≡ run_at old k
     kept_here whole none = by settled.work
       where
-        by : IsWork E cut (come_to cut start above) k run work → run_at new k ≡ run_at old k
+        by : IsWork E cut (exit_or_start cut start above) k run work → run_at new k ≡ run_at old k
         by (inl f) = ap (option_map run_of) noted ∙ ap Some same_run ∙ sym f.1 ∙ ap (λ o. option_map run_of (note_of o)) (g.walk.ahead k (has-head k (ks ++ back)))
         by (inr f) =
             let some = some_steps (piece_at old.pieces k) (g.walk.there k (has-head k (ks ++ back))) (whole.sizes k) in
@@ -174,9 +175,9 @@ module _ {R P : Type 0} (E : R → R → Bool) (equal : IsEquivalence E) (per : 
     walk_here =
         walk_on E equal per is alike old cut start next None keys (ks ++ back) k place g.rest n g.parts g.walk wanted_here (exit_of start g.parts) refl
         new after None run work counts (g.rest - counts) (n + work) (subst (λ d. IsSegmentSettled E cut new d k run work) (sym g.from) settled)
-        (linked_none E (exit_of start g.parts).register after None (alone start) (alone run.exit) new
-        (subst (λ (d : Configuration R P). IsLinked E d.register after None (alone start) new) (sym g.from)
-        (linked_home E per start.register (come_to cut start above).register after None (alone start) new (per.symm start.register (come_to cut start above).register ∙ home) linked)))
+        (linked_none E (exit_of start g.parts).register after None (without_register start) (without_register run.exit) new
+        (subst (λ (d : Configuration R P). IsLinked E d.register after None (without_register start) new) (sym g.from)
+        (linked_home E per start.register (exit_or_start cut start above).register after None (without_register start) new (per.symm start.register (exit_or_start cut start above).register ∙ home) linked)))
         true_run refl refl refl
 
     run_len : length run.steps ≡ length (steps_at old k)
@@ -236,24 +237,24 @@ module _ {R P : Type 0} (E : R → R → Bool) (equal : IsEquivalence E) (per : 
     }
 
 module _ {R P : Type 0} (E : R → R → Bool) (equal : IsEquivalence E) (per : IsPartialEquivalence E) (is : R → Behaviour P) (alike : (x y : R) → E x y ≡ true → is x ≡ is y) where
-  -- it goes down a part that stored runs fit, and replays nothing
+  -- the walk goes down a part that stored runs fit, and replays nothing
   going_down : (old cut : Cut (StoredRun R P)) (start : Configuration R P) (next key count : ℕ) (keys front left back : List ℕ) (place n : ℕ) (above : Option ℕ) (c end : Configuration R P)
-      → IsLinked E start.register next None (alone start) cut → SameConfiguration E c (come_to cut start above) → is c.register ≡ is start.register
+      → IsLinked E start.register next None (without_register start) cut → SameConfiguration E c (exit_or_start cut start above) → is c.register ≡ is start.register
       → RunsDown E is cut (is start.register) c front end → IsGoing E is old cut start next key count keys (front ++ left) back place n above
       → IsGoing E is old cut start next key count keys left back place n (last_or above front)
   going_down old cut start next key count keys [] left back place n above c end linked same own down g = g
   going_down old cut start next key count keys (k ∷ front) left back place n above c end linked same own down g =
       let s = down.0.stored in
       let noted = down.0.noted in
-      let fits = run_fits_alike E per c (come_to cut start above) (steps_at cut k) s.run same down.0.fits in
-      let settled : IsSegmentSettled E cut cut (come_to cut start above) k s.run 0 = record {
+      let fits = run_fits_alike E per c (exit_or_start cut start above) (steps_at cut k) s.run same down.0.fits in
+      let settled : IsSegmentSettled E cut cut (exit_or_start cut start above) k s.run 0 = record {
         noted = (s, noted_still cut k s noted, refl);
         fits = fits;
-        work = inl (fits_to_note E cut (come_to cut start above) k s noted fits, ap (option_map run_of) noted, refl);
+        work = inl (fits_to_note E cut (exit_or_start cut start above) k s noted fits, ap (option_map run_of) noted, refl);
       } in
       let on = going_step E equal per is alike old cut start next key count keys (front ++ left) back k place n above g cut next s.run 0 settled linked down.0.true_run in
       let none : n + 0 ≡ n = omega arith in
-      let here : s.run.exit ≡ come_to cut start (Some k) = sym (ap (λ o. exit_or start (option_map run_of o)) noted) in
+      let here : s.run.exit ≡ exit_or_start cut start (Some k) = sym (ap (λ o. exit_or start (option_map run_of o)) noted) in
       going_down old cut start next key count keys front left back place n (Some k) (replayed (is start.register) c (steps_at cut k)) end linked
       (subst (SameConfiguration E (replayed (is start.register) c (steps_at cut k))) here
       (same_symm E per s.run.exit (replayed (is start.register) c (steps_at cut k)) (exit_same E is alike (is start.register) c (steps_at cut k) s.run own down.0.true_run down.0.fits)))
@@ -261,7 +262,7 @@ module _ {R P : Type 0} (E : R → R → Bool) (equal : IsEquivalence E) (per : 
       (subst (λ m. IsGoing E is old cut start next key count keys (front ++ left) back place m (Some k)) none on)
 
   pub going_starts : (old : Cut (StoredRun R P)) (start : Configuration R P) (next : ℕ) (front : Option ℕ) (left : List ℕ) (key count place i : ℕ) → IsCut old
-      → IsLinked E start.register next None (alone start) old → IsRest E is old start front left key count place i
+      → IsLinked E start.register next None (without_register start) old → IsRest E is old start front left key count place i
       → (back : List ℕ) × IsGoing E is old old start next key count (keys_in old.strands i) left back place 0 front
   going_starts old start next front left key count place i whole linked r =
       let keys = keys_in old.strands i in
@@ -295,10 +296,10 @@ module _ {R P : Type 0} (E : R → R → Bool) (equal : IsEquivalence E) (per : 
       } in (
         p.back,
         subst (IsGoing E is old old start next key count keys left p.back place 0) (last_to keys front r.reached)
-            (going_down old old start next key count keys (keys_to keys front) left p.back place 0 None start (come_to old start front) linked same refl r.down begun),
+            (going_down old old start next key count keys (keys_to keys front) left p.back place 0 None start (exit_or_start old start front) linked same refl r.down begun),
       )
 
--- it ends
+-- the walk ends
 module _ {R P : Type 0} (E : R → R → Bool) (is : R → Behaviour P) (old cut : Cut (StoredRun R P)) (start : Configuration R P) (next key count i place n : ℕ) (back : List ℕ) (above : Option ℕ)
     (g : IsGoing E is old cut start next key count (keys_in old.strands i) [] back place n above) where
   abbrev keys : List ℕ
@@ -323,11 +324,11 @@ module _ {R P : Type 0} (E : R → R → Bool) (is : R → Behaviour P) (old cut
             (g.walk.settles cut [] 0 (λ k h. refl) (subst (λ l. Settles E (is start.register) old cut g.walk.at g.rest l [] 0) (sym past) (refl, refl))));
         sum = omega (arith, sum, last);
         last = end.2;
-        down = subst (λ o. RunsDown E is cut (is start.register) start (keys_up_to key keys) (come_to cut start o)) end.1
-            (subst (λ l. RunsDown E is cut (is start.register) start l (come_to cut start above)) (sym (g.path ∙ append-nil g.done)) g.down);
+        down = subst (λ o. RunsDown E is cut (is start.register) start (keys_up_to key keys) (exit_or_start cut start o)) end.1
+            (subst (λ l. RunsDown E is cut (is start.register) start l (exit_or_start cut start above)) (sym (g.path ∙ append-nil g.done)) g.down);
       }
 
--- where it stands, by the index of the next key, with `more` behind those of a list
+-- the walk by the index of the next key, with the keys `more` after those of a list
 module _ {R P : Type 0} (E : R → R → Bool) (equal : IsEquivalence E) (per : IsPartialEquivalence E) (is : R → Behaviour P) (alike : (x y : R) → E x y ≡ true → is x ≡ is y)
     {old cut : Cut (StoredRun R P)} {start : Configuration R P} {next key count : ℕ} {keys back : List ℕ} {place n : ℕ} {above : Option ℕ} (all : List ℕ) (index : ℕ) (more : List ℕ)
     (g : IsGoing E is old cut start next key count keys (drop index all ++ more) back place n above) where
@@ -346,8 +347,8 @@ module _ {R P : Type 0} (E : R → R → Bool) (equal : IsEquivalence E) (per : 
     pub fits_next : AllFit (is start.register) (steps_at cut (get_or all index 0))
     fits_next = fits_left E equal per is alike old cut start next key count keys (drop (index + 1) all ++ more) back (get_or all index 0) place n above going_at
 
-    module _ {new : Cut (StoredRun R P)} {after work : ℕ} (settled : (run : SegmentRun R P) × IsSegmentSettled E cut new (come_to cut start above) (get_or all index 0) run work × IsRun (is run.entry.register) run)
-        (linked : IsLinked E start.register after None (alone start) new) where
+    module _ {new : Cut (StoredRun R P)} {after work : ℕ} (settled : (run : SegmentRun R P) × IsSegmentSettled E cut new (exit_or_start cut start above) (get_or all index 0) run work × IsRun (is run.entry.register) run)
+        (linked : IsLinked E start.register after None (without_register start) new) where
       pub going_next : IsGoing E is old new start after key count keys (drop (index + 1) all ++ more) back place (n + work) (Some (get_or all index 0))
       going_next =
           going_step E equal per is alike old cut start next key count keys (drop (index + 1) all ++ more) back (get_or all index 0) place n above going_at
@@ -362,12 +363,12 @@ module _ {R P : Type 0} (E : R → R → Bool) (equal : IsEquivalence E) (per : 
 module _ {R P : Type 0} (E : R → R → Bool) (equal : IsEquivalence E) (per : IsPartialEquivalence E) (is : R → Behaviour P) (alike : (x y : R) → E x y ≡ true → is x ≡ is y)
     (old cut : Cut (StoredRun R P)) (start : Configuration R P) (next key count i place n : ℕ) (left back : List ℕ) (above : Option ℕ)
     (g : IsGoing E is old cut start next key count (keys_in old.strands i) left back place n above) where
-  home_here : E (come_to cut start above).register start.register ≡ true
+  home_here : E (exit_or_start cut start above).register start.register ≡ true
   home_here = subst (λ (d : Configuration R P). E d.register start.register ≡ true) g.from (subst (λ r. E (exit_of start g.parts).register r ≡ true) g.walk.home g.walk.same.register)
 
-  pub hanging_settles : Hangs E is old (come_to cut start above) left → IsLinked E start.register next None (alone start) cut → SettlesTo E is old cut start key count place i n
+  pub hanging_settles : Hangs E is old (exit_or_start cut start above) left → IsLinked E start.register next None (without_register start) cut → SettlesTo E is old cut start key count place i n
   hanging_settles hangs linked =
-      let c : Configuration R P = come_to cut start above in
+      let c : Configuration R P = exit_or_start cut start above in
       let here : SameConfiguration E c c = record { register = equal.refl c.register; memory = refl; running = refl; stopped = refl } in
       let own : is c.register ≡ is start.register = alike c.register start.register home_here in
       let down = hang_down E is per alike cut (is start.register) c c left here own (hang_kept E is old cut c left (λ j h. g.walk.ahead j (has-left j left back h)) hangs) in

@@ -1,4 +1,4 @@
--- A settled segment: a stored run that is taken, and one that is new.
+-- A settled segment: a stored run that fits, or a new one.
 use Rattle.std.proofs.Common.{◌≡◌, ℕ, ◌+◌, Bool, true, length, Option, Some, None, ◌⊎◌, inl, inr, refl, sym, ap, subst, ◌∙◌}
 use Rattle.std.specs.Cmp.{IsEquivalence}
 use Rattle.std.specs.Option.{option_map}
@@ -7,11 +7,11 @@ use Rattle.frames.specs.Equality.{SameConfiguration}
 use Rattle.checkpoints.specs.Segment.{SegmentRun}
 use Rattle.schedule_trie.specs.Cut.{Cut, Piece, piece, piece_at, note_of, with_note, IsNoted}
 use Rattle.cutoff.specs.Fitting.{StoredRun, run_of, RunFits, Fits, steps_at, IsSegmentSettled}
-use Rattle.cutoff.specs.Links.{alone, CameTo, IsStored, IsLinked}
+use Rattle.cutoff.specs.Links.{without_register, IsExitOf, IsStored, IsLinked}
 use Rattle.cutoff.proofs.Fits.{alone_same, stored_at, fits_to_note}
 use Rattle.cutoff.proofs.Links.{taken_linked, new_linked}
 
--- a note that is there already
+-- setting a note that is there already changes nothing
 pub noted_still : {T : Type 0} (c : Cut T) (k : ℕ) (s : T) → note_of (piece_at c.pieces k) ≡ Some s → IsNoted c c k (Some s)
 noted_still c k s e = record { here = by (piece_at c.pieces k) e; others = λ j ne. refl; strands = refl; limits = refl; unchanged = refl }
   where
@@ -33,12 +33,12 @@ module _ {R P : Type 0} (E : R → R → Bool) (old new : Cut (StoredRun R P)) (
     work = inr (misses, all);
   }
 
-  pub replayed_linked : (next after : ℕ) (above id : Option ℕ) → IsEquivalence E → IsLinked E c.register next above (alone c) old → run.steps ≡ steps_at old k → run.entry ≡ c
-      → s.link ≡ above → s.id ≡ id → ((id ≡ None) × (after ≡ next)) ⊎ ((id ≡ Some next) × (after ≡ next + 1)) → IsLinked E c.register after id (alone run.exit) new
+  pub replayed_linked : (next after : ℕ) (above id : Option ℕ) → IsEquivalence E → IsLinked E c.register next above (without_register c) old → run.steps ≡ steps_at old k → run.entry ≡ c
+      → s.link ≡ above → s.id ≡ id → ((id ≡ None) × (after ≡ next)) ⊎ ((id ≡ Some next) × (after ≡ next + 1)) → IsLinked E c.register after id (without_register run.exit) new
   replayed_linked next after above id e l steps entry link number given =
       let entry_is : s.run.entry ≡ c = ap (λ r. r.entry) same ∙ entry in
-      subst (λ r. IsLinked E c.register after id (alone r.exit) new) same
-      (subst (λ n. IsLinked E c.register after n (alone s.run.exit) new) number
+      subst (λ r. IsLinked E c.register after id (without_register r.exit) new) same
+      (subst (λ n. IsLinked E c.register after n (without_register s.run.exit) new) number
       (new_linked E c.register old new k next above c l s noted after
       (subst (λ d. E d.register c.register ≡ true) (sym entry_is) (e.refl c.register)) (ap (λ r. r.steps) same ∙ steps) link entry_is
       (subst (λ n. ((n ≡ None) × (after ≡ next)) ⊎ ((n ≡ Some next) × (after ≡ next + 1))) (sym number) given)))
@@ -56,19 +56,19 @@ module _ {R P : Type 0} (E : R → R → Bool) (old new : Cut (StoredRun R P)) (
       work = inl (fits_to_note E old c k was at_first fits, ap (option_map run_of) at_first ∙ ap Some (sym again ∙ same), refl);
     }
 
-    pub taken_again : (next : ℕ) (above id : Option ℕ) → IsLinked E c.register next above (alone c) old → s.id ≡ was.id → was.id ≡ id → (s.link ≡ above) ⊎ (s.link ≡ was.link)
-        → IsLinked E c.register next id (alone run.exit) new
+    pub taken_again : (next : ℕ) (above id : Option ℕ) → IsLinked E c.register next above (without_register c) old → s.id ≡ was.id → was.id ≡ id → (s.link ≡ above) ⊎ (s.link ≡ was.link)
+        → IsLinked E c.register next id (without_register run.exit) new
     taken_again next above id l number same_number link =
         let t : IsStored E c.register l.exits (steps_at old k) was = stored_at E c.register l.exits old k was (l.each k) at_first in
-        subst (λ r. IsLinked E c.register next id (alone r.exit) new) same
-        (subst (λ n. IsLinked E c.register next n (alone s.run.exit) new) (number ∙ same_number)
+        subst (λ r. IsLinked E c.register next id (without_register r.exit) new) same
+        (subst (λ n. IsLinked E c.register next n (without_register s.run.exit) new) (number ∙ same_number)
         (taken_linked E c.register old new k next above c l s noted (record {
           own = subst (λ r. E r.entry.register c.register ≡ true) (sym again) t.own;
           covers = ap (λ r. r.steps) again ∙ t.covers;
-          id = subst (λ r. CameTo l.exits s.id (alone r.exit)) (sym again) (subst (λ n. CameTo l.exits n (alone was.run.exit)) (sym number) t.id);
-          link = subst (λ r. CameTo l.exits s.link (alone r.entry)) (sym again) (came link t.link);
+          id = subst (λ r. IsExitOf l.exits s.id (without_register r.exit)) (sym again) (subst (λ n. IsExitOf l.exits n (without_register was.run.exit)) (sym number) t.id);
+          link = subst (λ r. IsExitOf l.exits s.link (without_register r.entry)) (sym again) (came link t.link);
         })))
       where
-        came : (s.link ≡ above) ⊎ (s.link ≡ was.link) → CameTo l.exits was.link (alone was.run.entry) → CameTo l.exits s.link (alone was.run.entry)
-        came (inl e) t = subst (λ o. CameTo l.exits o (alone was.run.entry)) (sym e) (subst (CameTo l.exits above) (sym (alone_same E was.run.entry c fits.entry)) l.came)
-        came (inr e) t = subst (λ o. CameTo l.exits o (alone was.run.entry)) (sym e) t
+        came : (s.link ≡ above) ⊎ (s.link ≡ was.link) → IsExitOf l.exits was.link (without_register was.run.entry) → IsExitOf l.exits s.link (without_register was.run.entry)
+        came (inl e) t = subst (λ o. IsExitOf l.exits o (without_register was.run.entry)) (sym e) (subst (IsExitOf l.exits above) (sym (alone_same E was.run.entry c fits.entry)) l.reached_exit)
+        came (inr e) t = subst (λ o. IsExitOf l.exits o (without_register was.run.entry)) (sym e) t

@@ -1,4 +1,4 @@
--- What a plan sees of segments, one after the other down a branch.
+-- What a plan finds of segments, one after the other down a branch.
 use Rattle.std.proofs.Common.{◌≡◌, ◌⊎◌, ℕ, zero, suc, ◌+◌, ◌<◌, arith, drop, Bool, true, false, cond, ◌||◌, nat_eq, List, [], ◌∷◌, ◌++◌, length, map, reverse, get_or, Option, Some, None, inl, inr, refl, sym, ap, subst, ◌∙◌, append_assoc, append-nil, true≢false}
 use Rattle.std.specs.Cmp.{IsEquivalence, IsPartialEquivalence}
 use Rattle.std.proofs.lemmas.Bool.{ne_eqb}
@@ -10,16 +10,16 @@ use Rattle.frames.specs.Equality.{SameConfiguration}
 use Rattle.frames.specs.Recorded.{AllFit}
 use Rattle.schedule_trie.specs.Forest.{step_of}
 use Rattle.schedule_trie.specs.Cut.{Cut, piece_at, slots_of, line, keys_in, has, Once, IsCut}
-use Rattle.schedule_trie.specs.Climbs.{last_of, keys_up_to, keys_to, IsReached}
+use Rattle.schedule_trie.specs.Climbs.{last_of, keys_up_to, keys_to, HasClimbedTo}
 use Rattle.schedule_trie.proofs.Climbs.{IsLast, IsStepUp, last_some, once_before, step_up, up_to-here}
 use Rattle.schedule_trie.proofs.Once.{has_cases, has-append, has-head, has-tail}
 use Rattle.schedule_trie.proofs.Partings.{has-in, parting}
 use Rattle.cutoff.specs.declared.sight.Sight.{Sight}
 use Rattle.cutoff.specs.declared.sight.Sight.TheVariants.{Unseen, Fit, Unfit}
 use Rattle.cutoff.specs.Fitting.{StoredRun, Fits, steps_at}
-use Rattle.cutoff.specs.Plans.{ComesDown, Descends, Planned, job_of, key_of, with_job}
-use Rattle.cutoff.specs.Prefixes.{HasTrueRun, IsMarked, RunsTo, come_to}
-use Rattle.cutoff.specs.Sights.{AddsMissed, AreSeen, ComesAbove, IsAbove, IsCome, IsKnownAt, IsSeen, IsSight, IsUnseenPart, LooksBelow, sight_at, sight_of}
+use Rattle.cutoff.specs.Plans.{FitsDownTo, Descends, Planned, job_of, key_of, with_job}
+use Rattle.cutoff.specs.Prefixes.{HasTrueRun, IsMarked, RunsTo, exit_or_start}
+use Rattle.cutoff.specs.Sights.{AddsMissed, AreSeen, HasDescendedAbove, IsAbove, HasDescended, IsKnownAt, IsSeen, IsSight, IsUnseenPart, LooksBelow, sight_at, sight_of}
 use Rattle.cutoff.proofs.Climbs.{path_once}
 use Rattle.cutoff.proofs.Edits.{all_left, all_right}
 use Rattle.cutoff.proofs.Fits.{fits_alike, same_symm}
@@ -27,16 +27,16 @@ use Rattle.cutoff.proofs.Prefixes.{down_same, runs_come, up_new}
 use Rattle.cutoff.proofs.Rests.{last_or, last_or-last}
 use Rattle.cutoff.proofs.Walks.{by_key}
 
--- what was seen, where room is made for more
+-- what was found stays the same when a place is added for another key
 pub unseen_more : (seen : List Sight) (k : ℕ) → sight_at (seen ++ Unseen ∷ []) k ≡ sight_at seen k
 unseen_more [] zero = refl
 unseen_more [] (suc k) = refl
 unseen_more (s ∷ seen) zero = refl
 unseen_more (s ∷ seen) (suc k) = unseen_more seen k
 
--- a climb has come to a key, and these are below it, the last first
+-- a climb is at a key, and `own` are the keys below it
 pub record IsClimbing (seen : List Sight) (keys : List ℕ) (at : Option ℕ) (own : List ℕ) : Type 0 where
-  pub reached : IsReached keys at
+  pub reached : HasClimbedTo keys at
   pub is : keys ≡ keys_to keys at ++ reverse own
   pub lacks : (k : ℕ) → has k (reverse own) ≡ true → sight_at seen k ≡ Unseen
 
@@ -72,7 +72,7 @@ last_pushed (f ∷ front) key =
     let p = last_some (front ++ key ∷ []) f f in
     p.1.1.0 ∙ sym (last_or-last None p.1.0 p.0) ∙ ap (last_or None) (sym p.1.1.1) ∙ last_or-last None (f ∷ front) key
 
-last_reached : (keys : List ℕ) (at : Option ℕ) → IsReached keys at → last_of (keys_to keys at) ≡ at
+last_reached : (keys : List ℕ) (at : Option ℕ) → HasClimbedTo keys at → last_of (keys_to keys at) ≡ at
 last_reached keys None h = refl
 last_reached keys (Some key) h = let p = parting keys key h in ap last_of p.to ∙ last_pushed p.front key
 
@@ -94,18 +94,18 @@ segment_fits b cut (j ∷ js) k h fit =
     (λ e. subst (λ i. AllFit b (steps_at cut i)) (sym e) (all_left (λ s. fits_step b s ≡ true) (steps_at cut j) (map step_of (line (piece_at cut.pieces) js)) both))
     (λ r. segment_fits b cut js k r (all_right (λ s. fits_step b s ≡ true) (steps_at cut j) (map step_of (line (piece_at cut.pieces) js)) both))
 
--- walks down that end, and what they miss
+-- walks down that end, and the first segment that no run fits
 module _ {R P : Type 0} (E : R → R → Bool) (b : Behaviour P) (cut : Cut (StoredRun R P)) where
   descends_more : (c end : Configuration R P) (keys more : List ℕ) (m : ℕ) → Descends E b cut c keys (Some m) end → Descends E b cut c (keys ++ more) (Some m) end
   descends_more c end [] more m d = absurd (let e : ◌≡◌ {A = Option ℕ} (Some m) None = d.0 in cc)
   descends_more c end (k ∷ ks) more m (inl d) = inl (d.0, descends_more (replayed b c (steps_at cut k)) end ks more m d.1)
   descends_more c end (k ∷ ks) more m (inr d) = inr d
 
-  comes_descends : (c end : Configuration R P) (keys : List ℕ) → ComesDown E b cut c keys end → Descends E b cut c keys None end
+  comes_descends : (c end : Configuration R P) (keys : List ℕ) → FitsDownTo E b cut c keys end → Descends E b cut c keys None end
   comes_descends c end [] d = (refl, d)
   comes_descends c end (k ∷ ks) d = inl (d.0, comes_descends (replayed b c (steps_at cut k)) end ks d.1)
 
-  comes_missing : (per : IsPartialEquivalence E) (c end : Configuration R P) (keys : List ℕ) (k : ℕ) → ComesDown E b cut c keys end → (Fits E cut end k → ⊥)
+  comes_missing : (per : IsPartialEquivalence E) (c end : Configuration R P) (keys : List ℕ) (k : ℕ) → FitsDownTo E b cut c keys end → (Fits E cut end k → ⊥)
       → Descends E b cut c (keys ++ k ∷ []) (Some k) end
   comes_missing per c end [] k d misses = inr ((λ f. misses (fits_alike E per cut c end k (same_symm E per end c d) f)), refl, d)
   comes_missing per c end (j ∷ ks) k d misses = inl (d.0, comes_missing per (replayed b c (steps_at cut j)) end ks k d.1 misses)
@@ -127,13 +127,13 @@ module _ {R P : Type 0} (cut : Cut (StoredRun R P)) (k : ℕ) (end : Configurati
   keys_more : (jobs : List (Planned R P)) (j : ℕ) → has j (map key_of (jobs ++ job ∷ [])) ≡ has j (map key_of jobs) || has j (k ∷ [])
   keys_more jobs j = ap (has j) (map-append key_of jobs (job ∷ [])) ∙ has-append j (map key_of jobs) (k ∷ [])
 
--- nothing was seen yet
+-- nothing has been visited yet
 pub none_seen : {R P : Type 0} (E : R → R → Bool) (is : R → Behaviour P) (cut : Cut (StoredRun R P)) (start : Configuration R P) (seen : List Sight) (jobs : List (Planned R P)) → seen ≡ [] → jobs ≡ []
     → AreSeen E is cut start seen jobs
 none_seen E is cut start seen jobs no_sights no_jobs k =
     subst (λ l. IsSight E is cut start jobs k (sight_at l k)) (sym no_sights) (subst (λ l. has k (map key_of l) ≡ false) (sym no_jobs) refl)
 
--- what jobs a visit of a key leaves
+-- a visit of a key adds the key's job or nothing
 abbrev pub Grows : {R P : Type 0} → Cut (StoredRun R P) → ℕ → List (Planned R P) → List (Planned R P) → Type 0
 Grows {R} {P} cut key old new = (new ≡ old) ⊎ ((end : Configuration R P) × (new ≡ old ++ record { key = key; entry = end; steps = steps_at cut key } ∷ []))
 
@@ -153,7 +153,7 @@ module _ {R P : Type 0} (E : R → R → Bool) (per : IsPartialEquivalence E) (i
   abbrev b : Behaviour P
   b = is start.register
 
-  come_seen : (old jobs : List (Planned R P)) (last : Option ℕ) (fits : Bool) → IsCome E is cut start old jobs last fits → IsSeen E is cut start jobs last fits
+  come_seen : (old jobs : List (Planned R P)) (last : Option ℕ) (fits : Bool) → HasDescended E is cut start old jobs last fits → IsSeen E is cut start jobs last fits
   come_seen old jobs last true c = c.0
   come_seen old jobs last false c = λ i h. let p = c i h in (p.0, p.1, p.2, p.3)
 
@@ -162,30 +162,30 @@ module _ {R P : Type 0} (E : R → R → Bool) (per : IsPartialEquivalence E) (i
     step : (i : ℕ) → has key (keys_in cut.strands i) ≡ true → IsStepUp (keys_in cut.strands i) key above
     step i h = step_up (keys_in cut.strands i) key above (path_once cut whole i) h (λ front back e. each i front back e)
 
-    pub come_unfit : (old jobs : List (Planned R P)) → IsCome E is cut start old jobs above false → IsCome E is cut start old jobs (Some key) false
+    pub come_unfit : (old jobs : List (Planned R P)) → HasDescended E is cut start old jobs above false → HasDescended E is cut start old jobs (Some key) false
     come_unfit old jobs c = λ i h.
         let keys = keys_in cut.strands i in
         let s = step i h in
         let p = c i s.reached in
         (p.0, p.1, subst (λ l. Descends E b cut start l (Some p.0) p.1) (sym s.is) (descends_more E b cut start p.1 (keys_to keys above) (key ∷ []) p.0 p.2), p.3, p.4)
 
-    pub come_fit : (old jobs new : List (Planned R P)) → IsCome E is cut start old jobs above true → HasTrueRun E is cut (come_to cut start above) key → new ≡ jobs
-        → IsCome E is cut start old new (Some key) true
+    pub come_fit : (old jobs new : List (Planned R P)) → HasDescended E is cut start old jobs above true → HasTrueRun E is cut (exit_or_start cut start above) key → new ≡ jobs
+        → HasDescended E is cut start old new (Some key) true
     come_fit old jobs new c run same = (
       λ i h.
           let keys = keys_in cut.strands i in
           let s = step i h in
           up_new E per is alike cut key run.stored run.noted run.true_run run.fits.steps start keys above s
-          (down_same E per is alike cut b start (keys_to keys above) run.stored.run.entry (come_to cut start above) run.fits.entry (c.0 i s.reached)),
+          (down_same E per is alike cut b start (keys_to keys above) run.stored.run.entry (exit_or_start cut start above) run.fits.entry (c.0 i s.reached)),
       same ∙ c.1,
     )
 
-    pub come_missed : (old jobs new : List (Planned R P)) → IsCome E is cut start old jobs above true → has key (map key_of jobs) ≡ false → (Fits E cut (come_to cut start above) key → ⊥)
-        → new ≡ jobs ++ record { key = key; entry = come_to cut start above; steps = steps_at cut key } ∷ [] → IsCome E is cut start old new (Some key) false
+    pub come_missed : (old jobs new : List (Planned R P)) → HasDescended E is cut start old jobs above true → has key (map key_of jobs) ≡ false → (Fits E cut (exit_or_start cut start above) key → ⊥)
+        → new ≡ jobs ++ record { key = key; entry = exit_or_start cut start above; steps = steps_at cut key } ∷ [] → HasDescended E is cut start old new (Some key) false
     come_missed old jobs new c other misses added = λ i h.
         let keys = keys_in cut.strands i in
         let s = step i h in
-        let end = come_to cut start above in
+        let end = exit_or_start cut start above in
         let down = runs_come E per is alike cut b start (keys_to keys above) end (c.0 i s.reached) in
         let lacks : has key (map key_of old) ≡ false = ap (λ l. has key (map key_of l)) (sym c.1) ∙ other in (
           key,
@@ -195,7 +195,7 @@ module _ {R P : Type 0} (E : R → R → Bool) (per : IsPartialEquivalence E) (i
           added ∙ ap (λ l. l ++ job cut key end ∷ []) c.1 ∙ sym (job_new cut key end old lacks),
         )
 
-  -- what was seen stays so, and the key that was visited is seen
+  -- what was found stays so, and the key visited is now known
   pub see_on : (seen after : List Sight) (jobs new : List (Planned R P)) (key : ℕ) (fits : Bool) → AreSeen E is cut start seen jobs → sight_at after key ≡ sight_of fits
       → ((k : ℕ) → (k ≡ key → ⊥) → sight_at after k ≡ sight_at seen k) → IsSeen E is cut start new (Some key) fits → Grows cut key jobs new → AreSeen E is cut start after new
   see_on seen after jobs new key fits were at others now grows = λ k. by_key k key (IsSight E is cut start new k (sight_at after k))
@@ -211,58 +211,59 @@ module _ {R P : Type 0} (E : R → R → Bool) (per : IsPartialEquivalence E) (i
       still k ne Fit h = h
       still k ne Unfit h = λ i r. let p = h i r in (p.0, p.1, p.2, grows_has cut key jobs new grows p.0 p.3)
 
-  -- a visit of a key below one down to which runs don't fit
+  -- a visit of a key, if runs don't fit down to the key above
   module _ (whole : IsCut cut) (key : ℕ) (above : Option ℕ) (each : IsAbove cut key above) (jobs : List (Planned R P)) where
-    pub visit_unfit : (old : List (Planned R P)) → ComesAbove E is cut start old jobs key false → IsCome E is cut start old jobs (Some key) false
+    pub visit_unfit : (old : List (Planned R P)) → HasDescendedAbove E is cut start old jobs key false → HasDescended E is cut start old jobs (Some key) false
     visit_unfit old c = come_unfit whole key above each old jobs (c above each)
 
     pub seen_unfit : (seen after : List Sight) → AreSeen E is cut start seen jobs → sight_at after key ≡ Unfit → ((k : ℕ) → (k ≡ key → ⊥) → sight_at after k ≡ sight_at seen k)
-        → (old : List (Planned R P)) × ComesAbove E is cut start old jobs key false → AreSeen E is cut start after jobs
+        → (old : List (Planned R P)) × HasDescendedAbove E is cut start old jobs key false → AreSeen E is cut start after jobs
     seen_unfit seen after were at others c =
         see_on seen after jobs jobs key false were at others (come_seen c.0 jobs (Some key) false (visit_unfit c.0 c.1)) (inl refl)
 
-    module _ (fits : Bool) (new : List (Planned R P)) (looks : LooksBelow E is cut (come_to cut start above) key fits jobs new) (lacks : has key (map key_of jobs) ≡ false) where
-      pub visit_below : (old : List (Planned R P)) → ComesAbove E is cut start old jobs key true → IsCome E is cut start old new (Some key) fits
+    module _ (fits : Bool) (new : List (Planned R P)) (looks : LooksBelow E is cut (exit_or_start cut start above) key fits jobs new) (lacks : has key (map key_of jobs) ≡ false) where
+      pub visit_below : (old : List (Planned R P)) → HasDescendedAbove E is cut start old jobs key true → HasDescended E is cut start old new (Some key) fits
       visit_below old c = by fits looks
         where
-          by : (f : Bool) → LooksBelow E is cut (come_to cut start above) key f jobs new → IsCome E is cut start old new (Some key) f
+          by : (f : Bool) → LooksBelow E is cut (exit_or_start cut start above) key f jobs new → HasDescended E is cut start old new (Some key) f
           by true l = come_fit whole key above each old jobs new (c above each) l.0 l.1
           by false l = come_missed whole key above each old jobs new (c above each) lacks l.0 l.1
 
       grows : Grows cut key jobs new
       grows = by fits looks
         where
-          by : (f : Bool) → LooksBelow E is cut (come_to cut start above) key f jobs new → Grows cut key jobs new
+          by : (f : Bool) → LooksBelow E is cut (exit_or_start cut start above) key f jobs new → Grows cut key jobs new
           by true l = inl l.1
-          by false l = inr (come_to cut start above, l.1)
+          by false l = inr (exit_or_start cut start above, l.1)
 
       pub seen_below : (seen after : List Sight) → AreSeen E is cut start seen jobs → sight_at after key ≡ sight_of fits → ((k : ℕ) → (k ≡ key → ⊥) → sight_at after k ≡ sight_at seen k)
-          → (old : List (Planned R P)) × ComesAbove E is cut start old jobs key true → AreSeen E is cut start after new
+          → (old : List (Planned R P)) × HasDescendedAbove E is cut start old jobs key true → AreSeen E is cut start after new
       seen_below seen after were at others c =
           see_on seen after jobs new key fits were at others (come_seen c.0 new (Some key) fits (visit_below c.0 c.1)) grows
 
-  -- what is known of a key that was seen, or marked
+  -- what is known of a key that was visited or is marked is true
   known_come : (mark : Option ℕ) (seen : List Sight) (jobs : List (Planned R P)) (last : Option ℕ) (fits : Bool) → IsEquivalence E → IsMarked E is cut start mark
-      → AreSeen E is cut start seen jobs → IsKnownAt mark seen last fits → IsCome E is cut start jobs jobs last fits
+      → AreSeen E is cut start seen jobs → IsKnownAt mark seen last fits → HasDescended E is cut start jobs jobs last fits
   known_come mark seen jobs None fits equal marked seen_so known =
-      subst (IsCome E is cut start jobs jobs None) (sym known) ((λ i h. record { register = equal.refl start.register; memory = refl; running = refl; stopped = refl }), refl)
+      subst (HasDescended E is cut start jobs jobs None) (sym known) ((λ i h. record { register = equal.refl start.register; memory = refl; running = refl; stopped = refl }), refl)
   known_come mark seen jobs (Some k) fits equal marked seen_so (inl known) =
-      subst (IsCome E is cut start jobs jobs (Some k)) (sym known.1) (subst (IsMarked E is cut start) known.0 marked, refl)
+      subst (HasDescended E is cut start jobs jobs (Some k)) (sym known.1) (subst (IsMarked E is cut start) known.0 marked, refl)
   known_come mark seen jobs (Some k) fits equal marked seen_so (inr known) = by fits (subst (IsSight E is cut start jobs k) known (seen_so k))
     where
-      by : (f : Bool) → IsSight E is cut start jobs k (sight_of f) → IsCome E is cut start jobs jobs (Some k) f
+      by : (f : Bool) → IsSight E is cut start jobs k (sight_of f) → HasDescended E is cut start jobs jobs (Some k) f
       by true h = (h, refl)
       by false h = λ i r. let p = h i r in (p.0, p.1, p.2, p.3, job_again cut p.0 p.1 jobs p.3)
 
--- a walk down a branch has come to a key, if one is named, with these keys still to go, which weren't seen
+-- a walk down a branch has passed a key, or is above the first; the keys `left` are still to go,
+-- and weren't visited
 pub record IsPlanning {R P : Type 0} (E : R → R → Bool) (is : R → Behaviour P) (cut : Cut (StoredRun R P)) (start : Configuration R P) (old jobs : List (Planned R P)) (seen : List Sight)
     (i : ℕ) (left : List ℕ) (fits : Bool) : Type 0 where
   pub above : Option ℕ
-  pub reached : IsReached (keys_in cut.strands i) above
+  pub reached : HasClimbedTo (keys_in cut.strands i) above
   pub path : keys_in cut.strands i ≡ keys_to (keys_in cut.strands i) above ++ left
   pub lacks : (k : ℕ) → has k left ≡ true → sight_at seen k ≡ Unseen
   pub seen_so : AreSeen E is cut start seen jobs
-  pub come : IsCome E is cut start old jobs above fits
+  pub come : HasDescended E is cut start old jobs above fits
 
 module _ {R P : Type 0} (E : R → R → Bool) (per : IsPartialEquivalence E) (is : R → Behaviour P) (alike : (x y : R) → E x y ≡ true → is x ≡ is y)
     (cut : Cut (StoredRun R P)) (start : Configuration R P) (old : List (Planned R P)) (i : ℕ) where
@@ -290,13 +291,13 @@ module _ {R P : Type 0} (E : R → R → Bool) (per : IsPartialEquivalence E) (i
     pub next_there : has key keys ≡ true
     next_there = ap (has key) p.path ∙ has-in key (keys_to keys p.above) rest
 
-    pub next_comes : ComesAbove E is cut start old jobs key fits
+    pub next_comes : HasDescendedAbove E is cut start old jobs key fits
     next_comes = λ above each.
         let same : above ≡ p.above = each i (keys_to keys p.above) rest p.path ∙ last_reached keys p.above p.reached in
-        subst (λ o. IsCome E is cut start old jobs o fits) (sym same) p.come
+        subst (λ o. HasDescended E is cut start old jobs o fits) (sym same) p.come
 
     pub planning_on : IsCut cut → (new : List (Planned R P)) (after : List Sight) (found : Bool) → AreSeen E is cut start after new
-        → ((k : ℕ) → (k ≡ key → ⊥) → sight_at after k ≡ sight_at seen k) → IsCome E is cut start old new (Some key) found → IsPlanning E is cut start old new after i rest found
+        → ((k : ℕ) → (k ≡ key → ⊥) → sight_at after k ≡ sight_at seen k) → HasDescended E is cut start old new (Some key) found → IsPlanning E is cut start old new after i rest found
     planning_on whole new after found seen_so others come =
         let front = keys_to keys p.above in
         let once : Once (front ++ key ∷ rest) = subst Once p.path (path_once cut whole i) in
@@ -321,10 +322,10 @@ module _ {R P : Type 0} (E : R → R → Bool) (per : IsPartialEquivalence E) (i
       all : keys_to (keys_in cut.strands i) p.above ≡ keys_in cut.strands i
       all = sym (p.path ∙ ap (λ l. keys_to (keys_in cut.strands i) p.above ++ l) none ∙ append-nil (keys_to (keys_in cut.strands i) p.above))
 
-      by : (f : Bool) → IsCome E is cut start old jobs p.above f
+      by : (f : Bool) → HasDescended E is cut start old jobs p.above f
           → (missed : Option ℕ) × (end : Configuration R P) × Descends E (is start.register) cut start (keys_in cut.strands i) missed end × (jobs ≡ with_job old (job_of cut missed end))
       by true c =
-          let end = come_to cut start p.above in
+          let end = exit_or_start cut start p.above in
           let down = runs_come E per is alike cut (is start.register) start (keys_to (keys_in cut.strands i) p.above) end (c.0 i p.reached) in
           (None, end, subst (λ l. Descends E (is start.register) cut start l None end) all (comes_descends E (is start.register) cut start end (keys_to (keys_in cut.strands i) p.above) down), c.1)
       by false c =

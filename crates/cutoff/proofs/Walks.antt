@@ -18,12 +18,12 @@ use Rattle.schedule_trie.specs.Forest.{step_of}
 use Rattle.schedule_trie.specs.Cut.{Cut, Piece, piece_at, slots_of, note_of, with_note, line, has, Once, keys_in, IsNoted, IsCut}
 use Rattle.schedule_trie.proofs.Once.{has-head, has-tail, Once-from_linked}
 use Rattle.cutoff.specs.Fitting.{StoredRun, RunPart, run_of, RunFits, Fits, IsWork, IsSettledAt, IsSegmentSettled, Settles, IsFilled, KeepsRuns, steps_at, slots_at, run_at, reached, exit_of, counted, part_of}
-use Rattle.cutoff.specs.Links.{alone, IsStored, IsTold, IsLinked}
+use Rattle.cutoff.specs.Links.{without_register, IsStored, IsTruePiece, IsLinked}
 use Rattle.cutoff.proofs.Edits.{all_left, all_right}
 use Rattle.cutoff.proofs.Fits.{register_kept, same_symm, run_fits_alike, fits_alike, exit_same}
 
 module _ {R P : Type 0} where
-  -- no key is reached of no cells
+  -- if no cells are to be reached, no segment is
   pub reached_none : (cut : Cut (StoredRun R P)) (ks : List ℕ) → reached cut 0 ks ≡ []
   reached_none cut [] = refl
   reached_none cut (k ∷ ks) = refl
@@ -39,7 +39,7 @@ module _ {R P : Type 0} where
   counted-last [] p = omega arith
   counted-last (q ∷ parts) p = let e : counted (parts ++ p ∷ []) ≡ counted parts + p.count = counted-last parts p in omega arith
 
--- whether two keys are one
+-- two cases: two keys are the same, or they aren't
 pub by_key : (j k : ℕ) (Q : Type 0) → (j ≡ k → Q) → ((j ≡ k → ⊥) → Q) → Q
 by_key j k Q same other = by (nat_eq j k) refl
   where
@@ -54,7 +54,7 @@ lacks_cons j k ks h = (λ e. true≢false (sym (subst (λ i. has i (k ∷ ks) �
     by true e = absurd (true≢false (sym (has-tail j k ks e) ∙ h))
     by false e = e
 
--- what a note changes
+-- the effect of storing a run
 module _ {R P : Type 0} where
   noted_run : (s : StoredRun R P) (o : Option (Piece (StoredRun R P))) → IsSome o → option_map run_of (note_of (option_map (with_note (Some s)) o)) ≡ Some s.run
   noted_run s None h = absurd (true≢false (sym h))
@@ -65,33 +65,34 @@ module _ {R P : Type 0} where
   noted_slots s None = refl
   noted_slots s (Some p) = refl
 
--- numbers and links, for an equal register
+-- numbers and links are also true for an equal register
 pub linked_home : {R P : Type 0} (E : R → R → Bool) → IsPartialEquivalence E → (h g : R) (next : ℕ) (above : Option ℕ) (c : Configuration ⊤ P) (cut : Cut (StoredRun R P))
     → E h g ≡ true → IsLinked E h next above c cut → IsLinked E g next above c cut
-linked_home {R} {P} E per h g next above c cut e l = record { exits = l.exits; as_many = l.as_many; each = λ k. told (piece_at cut.pieces k) (l.each k); came = l.came }
+linked_home {R} {P} E per h g next above c cut e l = record { exits = l.exits; as_many = l.as_many; each = λ k. told (piece_at cut.pieces k) (l.each k); reached_exit = l.reached_exit }
   where
     stored : (segment : List Step) (n : Option (StoredRun R P)) → MatchOption n ⊤ (IsStored E h l.exits segment) → MatchOption n ⊤ (IsStored E g l.exits segment)
     stored segment None t = tt
     stored segment (Some s) t = record { own = per.trans s.run.entry.register h g t.own e; covers = t.covers; id = t.id; link = t.link }
 
-    told : (o : Option (Piece (StoredRun R P))) → IsTold E h l.exits o → IsTold E g l.exits o
+    told : (o : Option (Piece (StoredRun R P))) → IsTruePiece E h l.exits o → IsTruePiece E g l.exits o
     told None t = tt
     told (Some p) t = stored (map step_of p.slots) p.note t
 
--- a segment stays filled where its stored run stays
+-- a segment stays filled if its stored run stays
 filled_still : {R P : Type 0} (E : R → R → Bool) (b : Behaviour P) (old cut new : Cut (StoredRun R P)) (c : Configuration R P) (ks : List ℕ) (k : ℕ)
     → run_at new k ≡ run_at cut k → IsFilled E b old cut c ks k → IsFilled E b old new c ks k
 filled_still E b old cut new c [] k same f = f
 filled_still E b old cut new c (j ∷ js) k same (inl f) = inl (f.0, f.1, (f.2.0, ap (run_at new) (sym f.0) ∙ same ∙ ap (run_at cut) f.0 ∙ f.2.1, f.2.2))
 filled_still E b old cut new c (j ∷ js) k same (inr f) = inr (filled_still E b old cut new (replayed b c (steps_at old j)) js k same f)
 
--- a walk has come behind runs `parts`, with the segments `left` and `rest` cells still to go, and n steps were replayed
+-- a walk has passed the runs `parts` and replayed n steps; the segments `left` and `rest` cells are
+-- still to go
 pub record IsWalking {R P : Type 0} (E : R → R → Bool) (b : Behaviour P) (old cut : Cut (StoredRun R P)) (start : Configuration R P) (next : ℕ) (above : Option ℕ)
     (keys left : List ℕ) (place rest n : ℕ) (parts : List (RunPart R P)) : Type 0 where
   pub at : Configuration R P
   pub home : at.register ≡ start.register
   pub same : SameConfiguration E (exit_of start parts) at
-  pub linked : IsLinked E start.register next above (alone (exit_of start parts)) cut
+  pub linked : IsLinked E start.register next above (without_register (exit_of start parts)) cut
   pub keeps : KeepsRuns old cut (IsFilled E b old cut start (reached old place keys))
   pub ahead : (k : ℕ) → has k left ≡ true → piece_at cut.pieces k ≡ piece_at old.pieces k
   pub there : (k : ℕ) → has k left ≡ true → IsSome (piece_at old.pieces k)
@@ -105,7 +106,7 @@ pub record IsWalking {R P : Type 0} (E : R → R → Bool) (b : Behaviour P) (ol
   pub once : Once left
   pub fit : AllFit b (map step_of (line (piece_at old.pieces) left))
 
--- it begins
+-- the walk begins
 module _ {R P : Type 0} (E : R → R → Bool) (equal : IsEquivalence E) (b : Behaviour P) (old : Cut (StoredRun R P)) (start : Configuration R P) where
   small_steps : IsCut old → (k : ℕ) → length (steps_at old k) ≤ 128
   small_steps whole k = by (piece_at old.pieces k) (whole.sizes k)
@@ -114,7 +115,7 @@ module _ {R P : Type 0} (E : R → R → Bool) (equal : IsEquivalence E) (b : Be
       by None h = omega arith
       by (Some p) h = let e : length (map step_of p.slots) ≡ length p.slots = length-map p.slots step_of in omega arith
 
-  pub walk_starts : (next : ℕ) (keys : List ℕ) (place : ℕ) → IsCut old → (branch : (i : ℕ) × (keys ≡ keys_in old.strands i)) → IsLinked E start.register next None (alone start) old
+  pub walk_starts : (next : ℕ) (keys : List ℕ) (place : ℕ) → IsCut old → (branch : (i : ℕ) × (keys ≡ keys_in old.strands i)) → IsLinked E start.register next None (without_register start) old
       → AllFit b (map step_of (line (piece_at old.pieces) keys)) → place ≤ length (line (piece_at old.pieces) keys)
       → IsWalking E b old old start next None keys keys place place 0 []
   walk_starts next keys place whole branch linked fit within = record {
@@ -135,18 +136,18 @@ module _ {R P : Type 0} (E : R → R → Bool) (equal : IsEquivalence E) (b : Be
     fit = fit;
   }
 
--- it goes on behind one more settled segment
+-- the walk goes on after one more settled segment
 module _ {R P : Type 0} (E : R → R → Bool) (equal : IsEquivalence E) (per : IsPartialEquivalence E) (is : R → Behaviour P) (alike : (x y : R) → E x y ≡ true → is x ≡ is y)
     (old cut : Cut (StoredRun R P)) (start : Configuration R P) (next : ℕ) (above : Option ℕ) (keys ks : List ℕ) (k place rest n : ℕ) (parts : List (RunPart R P))
     (w : IsWalking E (is start.register) old cut start next above keys (k ∷ ks) place rest n parts) (wanted : rest ≡ 0 → ⊥) (cfg : Configuration R P) (came : cfg ≡ exit_of start parts) where
-  -- what holds as the segment is settled
+  -- what holds when the segment is settled
   pub home_same : E (exit_of start parts).register start.register ≡ true
   home_same = subst (λ r. E (exit_of start parts).register r ≡ true) w.home w.same.register
 
-  pub linked_here : IsLinked E cfg.register next above (alone cfg) cut
+  pub linked_here : IsLinked E cfg.register next above (without_register cfg) cut
   linked_here =
-      subst (λ d. IsLinked E d.register next above (alone d) cut) (sym came)
-      (linked_home E per start.register (exit_of start parts).register next above (alone (exit_of start parts)) cut
+      subst (λ d. IsLinked E d.register next above (without_register d) cut) (sym came)
+      (linked_home E per start.register (exit_of start parts).register next above (without_register (exit_of start parts)) cut
       (per.symm start.register (exit_of start parts).register ∙ home_same) w.linked)
 
   here_same : piece_at cut.pieces k ≡ piece_at old.pieces k
@@ -186,13 +187,13 @@ module _ {R P : Type 0} (E : R → R → Bool) (equal : IsEquivalence E) (per : 
       by false e = reached_here false e refl
 
   module _ (new : Cut (StoredRun R P)) (after : ℕ) (id : Option ℕ) (run : SegmentRun R P) (work count rest_after n_after : ℕ)
-      (settled_cfg : IsSegmentSettled E cut new cfg k run work) (linked_cfg : IsLinked E cfg.register after id (alone run.exit) new)
+      (settled_cfg : IsSegmentSettled E cut new cfg k run work) (linked_cfg : IsLinked E cfg.register after id (without_register run.exit) new)
       (true_run : IsRun (is run.entry.register) run) (counts : count ≡ min rest (length run.steps)) (less : rest_after ≡ rest - count) (more_work : n_after ≡ n + work) where
     abbrev settled : IsSegmentSettled E cut new (exit_of start parts) k run work
     settled = subst (λ d. IsSegmentSettled E cut new d k run work) came settled_cfg
 
-    linked : IsLinked E (exit_of start parts).register after id (alone run.exit) new
-    linked = subst (λ d. IsLinked E d.register after id (alone run.exit) new) came linked_cfg
+    linked : IsLinked E (exit_of start parts).register after id (without_register run.exit) new
+    linked = subst (λ d. IsLinked E d.register after id (without_register run.exit) new) came linked_cfg
 
     noted : IsNoted cut new k (Some settled.noted.0)
     noted = settled.noted.1
@@ -221,7 +222,7 @@ module _ {R P : Type 0} (E : R → R → Bool) (equal : IsEquivalence E) (per : 
     run_here : run_at cut k ≡ run_at old k
     run_here = ap (λ o. option_map run_of (note_of o)) here_same
 
-    -- the same fits in the tree as it was
+    -- the same run fits in the cut as it was
     fits_cut : Fits E old w.at k → Fits E cut (exit_of start parts) k
     fits_cut f = subst (λ o. MatchOption (option_map run_of (note_of o)) ⊥ (RunFits E (exit_of start parts) (map step_of (slots_of o)))) (sym here_same)
         (fits_alike E per old w.at (exit_of start parts) k (same_symm E per (exit_of start parts) w.at w.same) f)
@@ -287,8 +288,8 @@ module _ {R P : Type 0} (E : R → R → Bool) (equal : IsEquivalence E) (per : 
       at = goes_to;
       home = register_kept (is start.register) w.at (steps_at old k) ∙ w.home;
       same = subst (λ c. SameConfiguration E c goes_to) (sym exit_is) (exit_same E is alike (is start.register) w.at (steps_at old k) run (ap is w.home) true_run fits_at);
-      linked = subst (λ c. IsLinked E start.register after id (alone c) new) (sym exit_is)
-          (linked_home E per (exit_of start parts).register start.register after id (alone run.exit) new home_same linked);
+      linked = subst (λ c. IsLinked E start.register after id (without_register c) new) (sym exit_is)
+          (linked_home E per (exit_of start parts).register start.register after id (without_register run.exit) new home_same linked);
       keeps = record {
         strands = noted.strands ∙ w.keeps.strands;
         limits = noted.limits ∙ w.keeps.limits;
@@ -318,7 +319,7 @@ drop_past zero (x ∷ xs) h = absurd (omega arith)
 drop_past (suc n) [] h = refl
 drop_past (suc n) (x ∷ xs) h = drop_past n xs (omega arith)
 
--- where it stands, by the index of the next key
+-- the walk by the index of the next key
 module _ {R P : Type 0} (E : R → R → Bool) (b : Behaviour P) (old cut : Cut (StoredRun R P)) (start : Configuration R P) (next : ℕ) (above : Option ℕ)
     (keys : List ℕ) (i place rest n : ℕ) (parts : List (RunPart R P)) (w : IsWalking E b old cut start next above keys (drop i keys) place rest n parts) where
   pub walk_at : i < length keys → IsWalking E b old cut start next above keys (get_or keys i 0 ∷ drop (i + 1) keys) place rest n parts
@@ -344,7 +345,7 @@ module _ {R P : Type 0} (E : R → R → Bool) (b : Behaviour P) (old cut : Cut 
       gone (inl past) = let e : length (line (piece_at old.pieces) (drop i keys)) ≡ 0 = ap (λ l. length (line (piece_at old.pieces) l)) (drop_past i keys past) in let m = w.enough in omega arith
       gone (inr e) = e
 
--- the next key's segment, where the walk stands at what its last run came to
+-- the next key's segment, when the walk is at its last run's exit
 module _ {R P Z : Type 0} (E : R → R → Bool) (equal : IsEquivalence E) (per : IsPartialEquivalence E) (is : R → Behaviour P) (alike : (x y : R) → E x y ≡ true → is x ≡ is y)
     {old cut : Cut (StoredRun R P)} {start : Configuration R P} {next : ℕ} {above : Option ℕ} {keys : List ℕ} {i place rest n : ℕ} {runs : List (Arc (SegmentRun R P) Z × ℕ)}
     (w : IsWalking E (is start.register) old cut start next above keys (drop i keys) place rest n (map part_of runs)) (h : i < length keys) (wanted : rest ≡ 0 → ⊥)
@@ -355,24 +356,24 @@ module _ {R P Z : Type 0} (E : R → R → Bool) (equal : IsEquivalence E) (per 
   at_key : IsWalking E (is start.register) old cut start next above keys (get_or keys i 0 ∷ drop (i + 1) keys) place rest n (map part_of runs)
   at_key = walk_at E (is start.register) old cut start next above keys i place rest n (map part_of runs) w h
 
-  -- what is wanted there
-  pub walk_wants : IsLinked E cfg.register next above (alone cfg) cut × (length (steps_at cut (get_or keys i 0)) ≤ 128) × AllFit (is cfg.register) (steps_at cut (get_or keys i 0))
+  -- what settling the next segment requires
+  pub walk_wants : IsLinked E cfg.register next above (without_register cfg) cut × (length (steps_at cut (get_or keys i 0)) ≤ 128) × AllFit (is cfg.register) (steps_at cut (get_or keys i 0))
   walk_wants = (
     linked_here E equal per is alike old cut start next above keys (drop (i + 1) keys) (get_or keys i 0) place rest n (map part_of runs) at_key wanted cfg came,
     small_here E equal per is alike old cut start next above keys (drop (i + 1) keys) (get_or keys i 0) place rest n (map part_of runs) at_key wanted cfg came,
     fits_here E equal per is alike old cut start next above keys (drop (i + 1) keys) (get_or keys i 0) place rest n (map part_of runs) at_key wanted cfg came,
   )
 
-  -- it goes on behind it
+  -- the walk goes on after it
   pub walk_step : {new : Cut (StoredRun R P)} {after : ℕ} {id : Option ℕ} {run seen : SegmentRun R P} {work count : ℕ} {steps : List Step} → IsSegmentSettled E cut new cfg (get_or keys i 0) run work
-      → IsLinked E cfg.register after id (alone run.exit) new → seen ≡ run → IsRun (is seen.entry.register) seen → steps ≡ seen.steps → count ≡ min rest (length steps)
+      → IsLinked E cfg.register after id (without_register run.exit) new → seen ≡ run → IsRun (is seen.entry.register) seen → steps ≡ seen.steps → count ≡ min rest (length steps)
       → IsWalking E (is start.register) old new start after id keys (drop (i + 1) keys) place (rest - count) (n + work) (map part_of runs ++ part run count ∷ [])
   walk_step {new} {after} {id} {run} {seen} {work} {count} settled linked same true_run are counts =
       walk_on E equal per is alike old cut start next above keys (drop (i + 1) keys) (get_or keys i 0) place rest n (map part_of runs) at_key wanted cfg came
       new after id run work count (rest - count) (n + work) settled linked
       (subst (λ r. IsRun (is r.entry.register) r) same true_run) (counts ∙ ap (λ l. min rest (length l)) are ∙ ap (λ r. min rest (length r.steps)) same) refl refl
 
--- what the last run came to
+-- the exit of the last run
 pub exit_last : {R P Z : Type 0} (c : Configuration R P) (runs : List (Arc (SegmentRun R P) Z × ℕ)) (x : Arc (SegmentRun R P) Z × ℕ) → Some x ≡ slice_get runs (length runs - 1)
     → exit_of c (map part_of runs) ≡ (arc_value x.0).exit
 exit_last c [] x e = cc

@@ -1,4 +1,4 @@
--- What an edit keeps of a chart beside its cut, and a refused one of all.
+-- What an edit of a chart keeps besides the cut; and refused edits, which change nothing.
 use Rattle.std.specs.Prelude.{◌≡◌}
 use Rattle.schedule_trie.specs.declared.refusal.Refusal.{Refusal}
 use Rattle.schedule_trie.specs.Cut.{forest}
@@ -10,7 +10,7 @@ pub record KeepsBeginning {R P : Type 0} (old new : Charted R P) : Type 0 where
   pub start : new.start ≡ old.start
   pub value : new.value ≡ old.value
 
--- an edit is refused, as of a cut, and nothing of the chart is changed
+-- an edit is refused, for the same reason as on the cut alone, and the chart doesn't change
 pub record IsUneditedChart {R P : Type 0} (old new : Charted R P) (edit : Edit) (e : Refusal) : Type 0 where
   pub why : WhyRefused edit (edited old.cut.limits (forest old.cut) edit) e
   pub unchanged : new ≡ old

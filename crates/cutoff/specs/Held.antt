@@ -1,4 +1,4 @@
--- What a chart keeps.
+-- The invariant of a chart.
 use Rattle.std.specs.Prelude.{ℕ, ◌≡◌, ◌<◌, Bool, nat_lt, List, [], ◌∷◌, Option, None, Some, Result, Ok, Err, length, map, if◌then◌else◌}
 use Rattle.std.specs.List.{All}
 use Rattle.frames.specs.Behaviour.{Behaviour}
@@ -10,10 +10,11 @@ use Rattle.schedule_trie.specs.declared.refusal.Refusal.TheVariants.{NoPlace}
 use Rattle.schedule_trie.specs.Forest.{Forest, slots_in, step_of, index_of, on_branch}
 use Rattle.schedule_trie.specs.Cut.{Cut, Strand, IsCut, forest, keys_in}
 use Rattle.cutoff.specs.Fitting.{StoredRun, RunPart, reached, Settles, KeepsRuns, IsFilled, counted}
-use Rattle.cutoff.specs.Links.{alone, IsLinked}
+use Rattle.cutoff.specs.Links.{without_register, IsLinked}
 use Rattle.cutoff.specs.Prefixes.{IsMarked}
 
--- a forest cut into segments with their stored runs, the initial configuration, and its value
+-- a chart: a forest cut into segments with their stored runs, the initial configuration, and the
+-- initial value
 pub record Charted (R P : Type 0) : Type 0 where
   pub cut : Cut (StoredRun R P)
   pub start : Configuration R P
@@ -23,20 +24,21 @@ pub record Charted (R P : Type 0) : Type 0 where
 abbrev pub StepsFit : {P : Type 0} → Behaviour P → Forest → Type 0
 StepsFit b f = (i : ℕ) → AllFit b (map step_of (slots_in f.branches i))
 
--- what a chart keeps: the numbers below `next` are given out, and stored runs fit down to the mark
+-- the invariant of a chart: in particular, the numbers below `next` are given out, and stored runs
+-- fit down to the mark
 pub record IsCharted {R P : Type 0} (E : R → R → Bool) (is : R → Behaviour P) (next : ℕ) (mark : Option ℕ) (c : Charted R P) : Type 0 where
   pub within : c.value < (is c.start.register).values
   pub begins : c.start ≡ initial_configuration (is c.start.register) c.start.register c.value
   pub fits : StepsFit (is c.start.register) (forest c.cut)
   pub whole : IsCut c.cut
-  pub linked : IsLinked E c.start.register next None (alone c.start) c.cut
+  pub linked : IsLinked E c.start.register next None (without_register c.start) c.cut
   pub marked : IsMarked E is c.cut c.start mark
 
 -- each own step of each limb fits
 abbrev pub LimbsFit : {P : Type 0} → Behaviour P → List Limb → Type 0
 LimbsFit b limbs = All (λ l. AllFit b l.steps) limbs
 
--- the keys of the segments of the branch of a name
+-- the keys of the segments of the named branch; none if there is no such branch
 abbrev pub keys_or : Option ℕ → List Strand → List ℕ
 keys_or None strands = []
 keys_or (Some i) strands = keys_in strands i
@@ -44,24 +46,26 @@ keys_or (Some i) strands = keys_in strands i
 abbrev pub keys_named : {R P : Type 0} → Cut (StoredRun R P) → List ℕ → List ℕ
 keys_named cut name = keys_or (index_of (forest cut).branches name) cut.strands
 
--- a look at a place of a branch leaves the forest: it is refused where there is no such branch or place
+-- a look at a place of a branch keeps the forest, and is refused if there is no such branch or
+-- place
 abbrev pub looked_at : Forest → ℕ → ℕ → Result Forest Refusal
 looked_at f place i = if nat_lt (length (slots_in f.branches i)) place then Err NoPlace else Ok f
 
 abbrev pub look : Forest → List ℕ → ℕ → Result Forest Refusal
 look f name place = on_branch f name (looked_at f place)
 
--- the keys of the segments that hold one of the first `place` cells of the branch of a name
+-- the keys of the segments that have at least one of the first `place` cells of the named branch
 abbrev pub reached_by : {R P : Type 0} → Cut (StoredRun R P) → List ℕ → ℕ → List ℕ
 reached_by cut name place = reached cut place (keys_named cut name)
 
--- a settle of the first `place` cells of a branch leaves each stored run, but where no run fitted and one that fits is stored now
+-- a settle of the first `place` cells of a branch keeps each segment's stored run, unless that run
+-- didn't fit or was missing, and one that fits is now stored
 abbrev pub KeepsOrFills : {R P : Type 0} → (R → R → Bool) → (R → Behaviour P) → Charted R P → Charted R P → List ℕ → ℕ → Type 0
 KeepsOrFills E is old new name place =
     KeepsRuns old.cut new.cut (IsFilled E (is old.start.register) old.cut new.cut old.start (reached_by old.cut name place))
 
--- what a settle of the first `place` cells of a branch answers: runs that are stored at their segments and fit there, `place`
--- steps of them in all, and how many steps were replayed
+-- the result of a settle of the first `place` cells of a branch: the parts are stored runs that fit
+-- their segments, with `place` steps that count in all, and n steps were replayed
 pub record IsSettled {R P : Type 0} (E : R → R → Bool) (b : Behaviour P) (old new : Charted R P) (name : List ℕ) (place : ℕ) (parts : List (RunPart R P)) (n : ℕ) : Type 0 where
   pub settles : Settles E b old.cut new.cut old.start place (reached_by old.cut name place) parts n
   pub sum : counted parts ≡ place
@@ -72,6 +76,6 @@ last_part [] = None
 last_part (part ∷ []) = Some part
 last_part (part ∷ next ∷ parts) = last_part (next ∷ parts)
 
--- what a settle of the first `place` cells of a branch answers of the last of its runs alone
+-- the result of a settle of the first `place` cells of a branch that returns only the last run
 abbrev pub IsSettledLast : {R P : Type 0} → (R → R → Bool) → Behaviour P → Charted R P → Charted R P → List ℕ → ℕ → Option (RunPart R P) → ℕ → Type 0
 IsSettledLast {R} {P} E b old new name place last n = (parts : List (RunPart R P)) × IsSettled E b old new name place parts n × (last_part parts ≡ last)

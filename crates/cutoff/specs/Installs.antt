@@ -1,4 +1,4 @@
--- What an install answers.
+-- The result of an install.
 use Rattle.std.specs.Prelude.{ℕ, ◌≡◌, Bool, None, IsSome}
 use Rattle.frames.specs.Behaviour.{Behaviour}
 use Rattle.checkpoints.specs.Segment.{SegmentRun}
@@ -8,7 +8,8 @@ use Rattle.cutoff.specs.declared.install.Installation.TheVariants.{Installed, St
 use Rattle.cutoff.specs.Held.{Charted}
 use Rattle.cutoff.specs.Plans.{CanInstall, CannotInstall, IsInstalled}
 
--- Gone where the key names no segment, Installed where the run fits and stored runs fit all segments above, and else Stale
+-- Gone if there is no segment at the key; Installed if the run fits and stored runs fit all
+-- segments above; else Stale
 abbrev pub Installs : {R P : Type 0} → (R → R → Bool) → Behaviour P → Charted R P → Charted R P → ℕ → SegmentRun R P → Installation → Type 0
 Installs E b old new key run Gone = (piece_at old.cut.pieces key ≡ None) × (new ≡ old)
 Installs E b old new key run Stale = IsSome (piece_at old.cut.pieces key) × CannotInstall E b old key run × (new ≡ old)

@@ -1,4 +1,4 @@
--- The numbers of a stored run: its own, and that of the run that it was found behind.
+-- The numbers of a stored run: its own, and its link.
 use Rattle.std.specs.Prelude.{ℕ, Option, Some, None}
 use Rattle.cutoff.specs.declared.stored.Numbers.{Numbers}
 use Rattle.cutoff.specs.declared.stored.Numbers.TheVariants.{Neither, Own, Behind, Both}

@@ -1,13 +1,12 @@
 //! The chart: branches of a schedule, with stored runs of their segments.
 
-ghost use Rattle.std.specs.Prelude.{ℕ, ◌≡◌, ◌<◌, ◌≤◌, Some, IsSome, length, map, IfOk, IfErr, OnOk, Ok, Err};
+ghost use Rattle.std.specs.Prelude.{ℕ, ◌≡◌, ◌<◌, ◌≤◌, Some, IsSome, length, IfOk, IfErr, OnOk, Ok, Err};
 ghost use Rattle.frames.specs.Configuration.{initial_configuration};
 ghost use Rattle.frames.specs.Recorded.{AllFit};
-ghost use Rattle.schedule_trie.specs.Forest.{index_of, opened, IsRefused, slots_in, len_of, name_in, cell_at, place_of, path_of, AreNamedApart, IsForest};
+ghost use Rattle.schedule_trie.specs.Forest.{index_of, opened, IsRefused, slots_in, len_of, name_in, cell_on_branch, place_of, path_of, AreNamedApart, IsForest};
 ghost use Rattle.std.specs.Arc.{arc_value};
 ghost use Rattle.cutoff.specs.Plans.{IsPlan};
 ghost use Rattle.cutoff.specs.Installs.{Installs};
-ghost use Rattle.cutoff.specs.Fitting.{part_of};
 ghost use Rattle.cutoff.specs.Held.{IsSettled, KeepsOrFills, StepsFit, look};
 ghost use Rattle.schedule_trie.specs.Cut.{AreLimits, IsCut, IsBlank, forest, if_lacks};
 
@@ -31,8 +30,9 @@ use std::alloc::{AllocError, Global};
 use std::marker::Model;
 use std::sync::Arc;
 
-/// Branches of a schedule on a register, each segment with a stored run or none, and the configuration that they all begin
-/// from. Down to the segment that is marked, if one is, stored runs are known to fit.
+/// The branches of a schedule on a register, and the configuration before their first steps. Each
+/// segment has a stored run or none. If a segment is marked, stored runs are known to fit all
+/// segments down to it, on each branch that has it.
 #[derive(Drop)]
 pub struct Chart<R: Register> {
     trie: Trie<Stored<R>>,
@@ -49,15 +49,16 @@ impl<R: Register> Model for Chart<R> {
 
     ghost view = { λ c. record { cut = c.trie; start = c.start; value = c.value } };
 
-    ghost invariant = { λ c. IsCharted R.PartialEq.eq R.is c.next c.mark (record { cut = c.trie; start = c.start; value = c.value }) };
+    ghost invariant = { λ c. IsCharted R.PartialEq.eq R.behaviour c.next c.mark (record { cut = c.trie; start = c.start; value = c.value }) };
 }
 
 impl<R: Register> Chart<R> {
-    /// A chart of these steps on the branch `main`, from the register's initial configuration at a value. Nothing is stored.
+    /// A chart with one branch, `main`, which has these steps. It begins from the initial
+    /// configuration of `register` with the value `value`. No run is stored.
     ///
     /// # Errors
     ///
-    /// Full where there are more steps than cells may be made; Memory.
+    /// Full if there are more steps than `limits.cells`; Memory.
     pub fn new(
         alloc: Global,
         register: R,
@@ -65,12 +66,12 @@ impl<R: Register> Chart<R> {
         limits: Limits,
         steps: &[Step],
     ) -> Result<Chart<R>, Refusal>
-        requires value { value < (R.is register).values }
+        requires value { value < (R.behaviour register).values }
         requires limits { AreLimits limits }
-        requires fits { AllFit (R.is register) steps.now }
+        requires fits { AllFit (R.behaviour register) steps.now }
         ensures forest { IfOk result (λ c. opened limits steps.now ≡ Ok (forest c.cut)) }
         ensures limits { IfOk result (λ c. c.cut.limits ≡ limits) }
-        ensures start { let initial = initial_configuration (R.is register) register value in
+        ensures start { let initial = initial_configuration (R.behaviour register) register value in
             IfOk result (λ c. c.start ≡ initial) }
         ensures value { IfOk result (λ c. c.value ≡ value) }
         ensures blank { IfOk result (λ c. IsBlank c.cut) }
@@ -81,19 +82,20 @@ impl<R: Register> Chart<R> {
         Ok(Chart::over(alloc, trie, register, value)?)
     }
 
-    /// A chart of a trie at which nothing is noted yet, from the register's initial configuration at a value.
+    /// A chart of the branches of `trie`, which has no notes. It begins from the initial
+    /// configuration of `register` with the value `value`.
     fn over(
         alloc: Global,
         trie: Trie<Stored<R>>,
         register: R,
         value: u32,
     ) -> Result<Chart<R>, AllocError>
-        requires value { value < (R.is register).values }
-        requires fits { StepsFit (R.is register) (forest trie) }
+        requires value { value < (R.behaviour register).values }
+        requires fits { StepsFit (R.behaviour register) (forest trie) }
         requires cut { IsCut trie }
         requires blank { IsBlank trie }
         ensures cut { IfOk result (λ c. c.cut ≡ trie) }
-        ensures start { let initial = initial_configuration (R.is register) register value in
+        ensures start { let initial = initial_configuration (R.behaviour register) register value in
             IfOk result (λ c. c.start ≡ initial) }
         ensures value { IfOk result (λ c. c.value ≡ value) }
     {
@@ -107,40 +109,40 @@ impl<R: Register> Chart<R> {
         })
     }
 
-    /// The configuration that each branch begins from.
+    /// The configuration before each branch's first step.
     pub fn initial(&self) -> &Config<R>
         ensures start { result.now ≡ self.now.start }
         ensures initial { result.now ≡ initial_configuration
-            (R.is self.now.start.register) self.now.start.register self.now.value }
+            (R.behaviour self.now.start.register) self.now.start.register self.now.value }
     {
         &self.start
     }
 
-    /// The initial value.
+    /// The register's initial value.
     pub fn value(&self) -> u32
         ensures value { result ≡ self.now.value }
-        ensures within { result < (R.is self.now.start.register).values }
+        ensures within { result < (R.behaviour self.now.start.register).values }
     {
         self.value
     }
 
-    /// Each step of each branch fits, and the value is the register's. It does nothing: callers learn this
-    /// by its contract.
+    /// Does nothing. Its contract guarantees that each step of each branch fits, and that the
+    /// initial value is one of the register's values.
     pub fn steps_fit(&self)
-        ensures fit { StepsFit (R.is self.now.start.register) (forest self.now.cut) }
-        ensures within { self.now.value < (R.is self.now.start.register).values }
+        ensures fit { StepsFit (R.behaviour self.now.start.register) (forest self.now.cut) }
+        ensures within { self.now.value < (R.behaviour self.now.start.register).values }
     {
         let _start = &self.start;
     }
 
-    /// How many cells were ever made.
+    /// The number of cells ever made.
     pub fn made(&self) -> u32
         ensures { result ≡ (forest self.now.cut).made }
     {
         self.trie.made()
     }
 
-    /// How many branches there are. No two have the same name.
+    /// The number of branches. No two have the same name.
     pub fn branches(&self) -> u32
         ensures count { result ≡ length (forest self.now.cut).branches }
         ensures apart { AreNamedApart (forest self.now.cut).branches }
@@ -148,39 +150,41 @@ impl<R: Register> Chart<R> {
         self.trie.branches()
     }
 
-    /// What a chart keeps by its type: its branches are a forest that is cut into segments, and they begin from the initial
-    /// configuration. It does nothing: callers learn this by its contract.
+    /// Does nothing. Its contract states what a chart's type guarantees: the branches are a forest
+    /// that is cut into segments, and they begin from the initial configuration.
     pub fn held(&self)
         ensures forest { IsForest (forest self.now.cut) }
         ensures cut { IsCut self.now.cut }
         ensures initial { self.now.start ≡ initial_configuration
-            (R.is self.now.start.register) self.now.start.register self.now.value }
+            (R.behaviour self.now.start.register) self.now.start.register self.now.value }
     {
         self.trie.held()
     }
 
-    /// The name of a branch, in order of making.
+    /// The name of the branch at `index`, in the order the branches were made; `None` if there is
+    /// no such branch.
     pub fn name_at(&self, index: u32) -> Option<Name>
         ensures { result ≡ name_in (forest self.now.cut).branches index }
     {
         self.trie.name_at(index)
     }
 
-    /// How many cells a branch has; none where there is no such branch.
+    /// The number of a branch's cells; `None` if there is no such branch.
     pub fn len(&self, branch: &Name) -> Option<u32>
         ensures { result ≡ len_of (forest self.now.cut) branch.now }
     {
         self.trie.len(branch)
     }
 
-    /// The number of the cell at a place of a branch; none where there is no such branch or cell.
+    /// The number of the cell at `place` of a branch; `None` if there is no such branch or cell.
     pub fn cell_at(&self, branch: &Name, place: u32) -> Option<u32>
-        ensures { result ≡ cell_at (forest self.now.cut) branch.now place }
+        ensures { result ≡ cell_on_branch (forest self.now.cut) branch.now place }
     {
         self.trie.cell_at(branch, place)
     }
 
-    /// The place of a cell on a branch; none where there is no such branch, or it hasn't the cell.
+    /// The place of the cell with the number `cell` on a branch; `None` if there is no such branch,
+    /// or it doesn't have that cell.
     pub fn place_of(&self, branch: &Name, cell: u32) -> Option<u32>
         ensures { result ≡ place_of (forest self.now.cut) branch.now cell }
     {
@@ -200,31 +204,31 @@ impl<R: Register> Chart<R> {
         self.trie.path(alloc, branch)
     }
 
-    /// The stored runs of a branch's first `place` cells. Where none fits, a segment is replayed whole, and its run stored.
+    /// Settles a branch's first `place` cells, and returns their stored runs, which fit. A segment
+    /// that no stored run fits is replayed whole, and the new run is stored.
     ///
     /// # Errors
     ///
-    /// NoBranch; NoPlace where the branch has fewer cells; Memory. The forest is as before then too, and true runs may have
-    /// been stored.
+    /// NoBranch; NoPlace if the branch has fewer than `place` cells; Memory. Even then the forest
+    /// doesn't change, but new runs that fit may have been stored.
     pub fn settle(&mut self, alloc: Global, branch: &Name, place: u32) -> Result<Spot<R>, Refusal>
         ensures ok { IfOk result
-            (λ spot. IsSettled R.PartialEq.eq (R.is self.old.start.register) self.old self.new
-            branch.now place (map part_of spot.runs.items) spot.replayed) }
+            (λ spot. IsSettled R.PartialEq.eq (R.behaviour self.old.start.register) self.old
+            self.new
+            branch.now place spot.runs spot.replayed) }
         ensures found { OnOk result (look (forest self.old.cut) branch.now place
             ≡ Ok (forest self.new.cut)) }
-        ensures len { IfOk result (λ spot.
-            len_of (forest self.old.cut) branch.now ≡ Some spot.len) }
         ensures err { IfErr result (IsRefused (look (forest self.old.cut) branch.now place)) }
-        ensures keeps { KeepsOrFills R.PartialEq.eq R.is self.old self.new branch.now place }
+        ensures keeps { KeepsOrFills R.PartialEq.eq R.behaviour self.old self.new branch.now place }
         ensures begins { self.old.start ≡ initial_configuration
-            (R.is self.old.start.register) self.old.start.register self.old.value }
+            (R.behaviour self.old.start.register) self.old.start.register self.old.value }
         ensures start { self.new.start ≡ self.old.start }
         ensures value { self.new.value ≡ self.old.value }
     {
-        let (index, len) = branch_to(&self.trie, branch, place)?;
-        let keys = self.trie.keys_at(alloc, index)?;
+        let there = branch_to(&self.trie, branch, place)?;
+        let keys = self.trie.keys_at(alloc, there.0)?;
         self.mark = None;
-        let (runs, replayed) = settle_along(
+        let spot = settle_along(
             alloc,
             &mut self.trie,
             &mut self.next,
@@ -232,22 +236,19 @@ impl<R: Register> Chart<R> {
             &keys,
             place,
         )?;
-        Ok(Spot {
-            len,
-            runs,
-            replayed,
-        })
+        Ok(spot)
     }
 
-    /// The segments that no stored run fits where their branch comes to them: the first of the named branch, and that of each
-    /// other branch in order of making, each once. None where stored runs fit them all.
+    /// For each branch, a job for its first segment that no stored run fits. The named branch comes
+    /// first, then all in the order they were made; no segment has two jobs. There are no jobs if
+    /// stored runs fit all segments.
     ///
     /// # Errors
     ///
     /// NoBranch; Memory.
     pub fn plan(&self, alloc: Global, branch: &Name) -> Result<Vec<Job<R>>, Refusal>
         ensures ok { IfOk result
-            (λ jobs. IsPlan R.PartialEq.eq (R.is self.now.start.register) self.now branch.now
+            (λ jobs. IsPlan R.PartialEq.eq (R.behaviour self.now.start.register) self.now branch.now
             jobs.items) }
         ensures found { OnOk result (IsSome (index_of (forest self.now.cut).branches branch.now)) }
         ensures err { IfErr result
@@ -260,10 +261,11 @@ impl<R: Register> Chart<R> {
         Ok(jobs)
     }
 
-    /// Stores a run that was made elsewhere, if it fits its segment and stored runs fit all segments above. It takes no
-    /// memory. Where it answers Stale or Gone nothing is changed.
+    /// Stores a run made elsewhere in the segment `key`, if the run fits there and stored runs fit
+    /// all segments above. Never allocates. If the result is Stale or Gone, nothing changes.
     pub fn install(&mut self, key: SegKey, run: Arc<Run<R>>) -> Installation
-        ensures { Installs R.PartialEq.eq (R.is self.old.start.register) self.old self.new key
+        ensures { Installs R.PartialEq.eq (R.behaviour self.old.start.register) self.old self.new
+            key
             (arc_value run) result }
     {
         if !has_segment(&self.trie, key) {
@@ -280,11 +282,12 @@ impl<R: Register> Chart<R> {
     }
 }
 
-/// Where a branch stands in order of making, and its length, if it has so many cells.
+/// The index of a branch, in the order the branches were made, and its length, which is at least
+/// `place`.
 ///
 /// # Errors
 ///
-/// NoBranch; NoPlace where it has fewer.
+/// NoBranch; NoPlace if the branch has fewer than `place` cells.
 fn branch_to<T: Drop>(trie: &Trie<T>, branch: &Name, place: u32) -> Result<(usize, u32), Refusal>
     ensures index { IfOk result (λ r. index_of (forest trie.now).branches branch.now ≡ Some r.0) }
     ensures len { IfOk result (λ r. len_of (forest trie.now) branch.now ≡ Some r.1) }

@@ -1,10 +1,11 @@
-//! A walk up a branch that only looks: whether stored runs come down to where a run begins.
+//! A climb of a branch, which finds whether stored runs lead down to a configuration. It changes
+//! nothing.
 
 ghost use Rattle.std.specs.Prelude.{◌≡◌, ◌≤◌, ◌+◌, ℕ, None, true, length};
 ghost use Rattle.schedule_trie.specs.Cut.{keys_in, line, piece_at, IsCut};
-ghost use Rattle.schedule_trie.specs.Climbs.{keys_to, IsReached};
-ghost use Rattle.cutoff.specs.Links.{IsLinked, alone};
-ghost use Rattle.cutoff.specs.Plans.{ComesDown};
+ghost use Rattle.schedule_trie.specs.Climbs.{keys_to, HasClimbedTo};
+ghost use Rattle.cutoff.specs.Links.{IsLinked, without_register};
+ghost use Rattle.cutoff.specs.Plans.{FitsDownTo};
 ghost use Rattle.cutoff.specs.Prefixes.{IsMarked, RunsDown};
 
 use crate::prefix::is_marked;
@@ -13,8 +14,9 @@ use frames::config::Config;
 use frames::register::Register;
 use schedule_trie::trie::{SegKey, Trie};
 
-/// Whether stored runs fit all segments from a branch's first down to one, if one is named, and come to a configuration there. It
-/// takes no memory: it goes up, from each run to the one that came to where it begins, and not past the mark.
+/// Whether stored runs fit all segments from a branch's first down to `last`, and lead to `config`;
+/// if `last` is `None`, whether `config` is the start. Climbs from run to run, at most up to the
+/// mark, and compares each run's exit with the entry of the run below. Never allocates.
 pub(crate) fn comes_down<R: Register>(
     trie: &Trie<Stored<R>>,
     start: &Config<R>,
@@ -23,19 +25,19 @@ pub(crate) fn comes_down<R: Register>(
     config: &Config<R>,
 ) -> bool
     requires linked { (next : ℕ) × IsLinked R.PartialEq.eq start.now.register next None
-        (alone start.now) trie.now }
+        (without_register start.now) trie.now }
     requires cut { IsCut trie.now }
-    requires marked { IsMarked R.PartialEq.eq R.is trie.now start.now mark }
-    requires reached { (i : ℕ) × IsReached (keys_in trie.now.strands i) last }
-    ensures { (i : ℕ) → let keys = keys_in trie.now.strands i in IsReached keys last
-        → let b = R.is start.now.register in let down = keys_to keys last in
-        (result ≡ true → RunsDown R.PartialEq.eq R.is trie.now b start.now down config.now)
-        × (ComesDown R.PartialEq.eq b trie.now start.now down config.now → result ≡ true) }
+    requires marked { IsMarked R.PartialEq.eq R.behaviour trie.now start.now mark }
+    requires reached { (i : ℕ) × HasClimbedTo (keys_in trie.now.strands i) last }
+    ensures { (i : ℕ) → let keys = keys_in trie.now.strands i in HasClimbedTo keys last
+        → let b = R.behaviour start.now.register in let down = keys_to keys last in
+        (result ≡ true → RunsDown R.PartialEq.eq R.behaviour trie.now b start.now down config.now)
+        × (FitsDownTo R.PartialEq.eq b trie.now start.now down config.now → result ≡ true) }
 {
     let mut entry = config;
     let mut link = None;
     let mut at = last;
-    // A branch has no more segments than cells were made.
+    // a branch never has more segments than cells were made
     for _ in 0..trie.made() {
         let Some(key) = at else {
             break;

@@ -1,15 +1,15 @@
-//! Installing: whether a run that was made elsewhere fits a segment.
+//! Installing: whether a run made elsewhere fits a segment.
 
 ghost use Rattle.std.specs.Prelude.{◌≡◌, ℕ, None, Some, IsSome, true, false, map};
 ghost use Rattle.std.specs.Bool.{Decides};
 ghost use Rattle.schedule_trie.specs.Forest.{step_of};
 ghost use Rattle.schedule_trie.specs.Cut.{has, keys_in, note_of, piece_at, IsCut};
-ghost use Rattle.cutoff.specs.Links.{IsLinked, alone};
+ghost use Rattle.cutoff.specs.Links.{IsLinked, without_register};
 ghost use Rattle.checkpoints.specs.Segment.{IsRun};
 ghost use Rattle.cutoff.specs.Fitting.{StoredRun, steps_at};
 ghost use Rattle.cutoff.specs.Links.{number_at};
 ghost use Rattle.cutoff.specs.Plans.{FitsDown};
-ghost use Rattle.cutoff.specs.Prefixes.{GoesOn, IsMarked};
+ghost use Rattle.cutoff.specs.Prefixes.{RunGoesOn, IsMarked};
 
 use crate::climb::comes_down;
 use crate::settle::segment_cells;
@@ -21,19 +21,20 @@ use frames::types::Step;
 use schedule_trie::slot::Slot;
 use schedule_trie::trie::{SegKey, Trie};
 
-/// What an install answers.
+/// The result of an install.
 #[derive(Clone, Copy, Debug, PartialEq, Eq)]
 pub enum Installation {
     /// The run fits, and is stored.
     Installed,
-    /// The run doesn't fit, or runs are missing above it.
+    /// The run doesn't fit, or a segment above has no stored run that fits.
     Stale,
     /// No segment has the key.
     Gone,
 }
 
-/// Whether a run fits the segment of a key, and stored runs fit all segments above: down to the mark they are known to. And the
-/// number of the run right above it, if that has one.
+/// Whether `run` fits the segment `key`, and stored runs fit all segments above. Down to the mark,
+/// stored runs are already known to fit. If all fit, also returns the number of the run right
+/// above, if it has one.
 pub(crate) fn fits_down<R: Register>(
     trie: &Trie<Stored<R>>,
     start: &Config<R>,
@@ -42,18 +43,21 @@ pub(crate) fn fits_down<R: Register>(
     run: &Run<R>,
 ) -> (bool, Option<u64>)
     requires linked { (next : ℕ) × IsLinked R.PartialEq.eq start.now.register next None
-        (alone start.now) trie.now }
+        (without_register start.now) trie.now }
     requires cut { IsCut trie.now }
-    requires marked { IsMarked R.PartialEq.eq R.is trie.now start.now mark }
+    requires marked { IsMarked R.PartialEq.eq R.behaviour trie.now start.now mark }
     requires there { IsSome (piece_at trie.now.pieces key) }
     ensures fits { (i : ℕ) → has key (keys_in trie.now.strands i) ≡ true
-        → Decides result.0 (FitsDown R.PartialEq.eq (R.is start.now.register) trie.now key run.now
+        → Decides result.0
+        (FitsDown R.PartialEq.eq (R.behaviour start.now.register) trie.now key run.now
         start.now (keys_in trie.now.strands i)) }
     ensures moved { result.0 ≡ true → (next : ℕ)
-        → IsLinked R.PartialEq.eq start.now.register next None (alone start.now) trie.now
-        → IsLinked R.PartialEq.eq start.now.register next result.1 (alone run.now.entry) trie.now }
-    ensures runs { result.0 ≡ true → GoesOn R.PartialEq.eq R.is trie.now start.now key run.now }
-    ensures kept { result.0 ≡ true → IsRun (R.is run.now.entry.register) run.now }
+        → IsLinked R.PartialEq.eq start.now.register next None (without_register start.now) trie.now
+        → IsLinked R.PartialEq.eq start.now.register next result.1 (without_register run.now.entry)
+        trie.now }
+    ensures runs { result.0 ≡ true
+        → RunGoesOn R.PartialEq.eq R.behaviour trie.now start.now key run.now }
+    ensures kept { result.0 ≡ true → IsRun (R.behaviour run.now.entry.register) run.now }
 {
     if !has_steps(trie, key, run.steps()) {
         return (false, None);
@@ -65,7 +69,7 @@ pub(crate) fn fits_down<R: Register>(
     (true, number_at(trie, above))
 }
 
-/// Whether a segment has a key.
+/// Whether there is a segment with this key.
 pub(crate) fn has_segment<R: Register>(trie: &Trie<Stored<R>>, key: SegKey) -> bool
     ensures yes { result ≡ true → IsSome (piece_at trie.now.pieces key) }
     ensures no { result ≡ false → piece_at trie.now.pieces key ≡ None }
@@ -73,25 +77,27 @@ pub(crate) fn has_segment<R: Register>(trie: &Trie<Stored<R>>, key: SegKey) -> b
     trie.cells_of(key).is_some()
 }
 
-/// The number of the run that is stored at a segment, if one is named and its run has one.
+/// The number of the run stored in a segment; `None` if there is no segment or no run, or if the
+/// run has no number.
 fn number_at<R: Register>(trie: &Trie<Stored<R>>, key: Option<SegKey>) -> Option<u64>
     ensures number { result ≡ number_at trie.now key }
     ensures kept { (k : ℕ) (s : StoredRun R R.Pending) → key ≡ Some k
-        → note_of (piece_at trie.now.pieces k) ≡ Some s → IsRun (R.is s.run.entry.register) s.run }
+        → note_of (piece_at trie.now.pieces k) ≡ Some s
+        → IsRun (R.behaviour s.run.entry.register) s.run }
 {
     let stored = trie.note(key?)?;
     let _exit = stored.exit();
     stored.id()
 }
 
-/// Whether a segment has these steps.
+/// Whether the segment `key` has these steps.
 fn has_steps<R: Register>(trie: &Trie<Stored<R>>, key: SegKey, steps: &[Step]) -> bool
     ensures { Decides result (steps.now ≡ steps_at trie.now key) }
 {
     are_steps(segment_cells(trie, key), steps)
 }
 
-/// Whether cells have these steps.
+/// Whether the cells `slots` have these steps.
 fn are_steps(slots: &[Slot], steps: &[Step]) -> bool
     ensures { Decides result (steps.now ≡ map step_of slots.now) }
 {
@@ -106,8 +112,9 @@ fn are_steps(slots: &[Slot], steps: &[Step]) -> bool
     true
 }
 
-/// Whether two steps are the same. Bit actions, of which there are most, are told first, and without a table of jumps. Two numbers
-/// are compared as one word of memory, where the derived comparison takes one after the other.
+/// Whether two steps are the same. Most steps are bit actions (`Go`), so these are tested first,
+/// without a jump table. Two numbers are compared as one word of memory, which the derived
+/// comparison does in two comparisons.
 #[inline(always)]
 fn is_same(a: &Step, b: &Step) -> bool
     ensures { Decides result (a.now ≡ b.now) }

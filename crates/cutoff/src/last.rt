@@ -1,4 +1,5 @@
-//! The last stored run of a branch's first cells. Segments down to which stored runs are known to fit aren't gone over again.
+//! The last stored run of a branch's first cells. Segments that stored runs are known to fit aren't
+//! visited again.
 
 ghost use Rattle.std.specs.Prelude.{◌≡◌, ◌≤◌, ℕ, None, Some, true, IfOk, OnOk, OnErr, length};
 ghost use Rattle.std.specs.Arc.{arc_value};
@@ -8,8 +9,8 @@ ghost use Rattle.frames.specs.Recorded.{AllFit};
 ghost use Rattle.schedule_trie.specs.Cut.{forest, keys_in, line, piece_at, IsCut};
 ghost use Rattle.cutoff.specs.Fitting.{IsSegmentSettled, IsFilled, KeepsRuns, reached, run_at, steps_at};
 ghost use Rattle.cutoff.specs.Held.{StepsFit};
-ghost use Rattle.cutoff.specs.Links.{IsLinked, alone};
-ghost use Rattle.cutoff.specs.Prefixes.{IsMarked, IsPlaceIn, IsLeft, SettlesTo, come_to, exit_or, run_named};
+ghost use Rattle.cutoff.specs.Links.{IsLinked, without_register};
+ghost use Rattle.cutoff.specs.Prefixes.{IsMarked, IsPlaceIn, IsLeft, SettlesTo, exit_or_start, exit_or, run_named};
 
 use crate::prefix::{Rest, keys_down_to, rest_to};
 use crate::settle::{fitting, settle_segment};
@@ -21,8 +22,9 @@ use schedule_trie::trie::{SegKey, Trie};
 use std::alloc::{AllocError, Global};
 use std::sync::Arc;
 
-/// The length of a branch; the last of the stored runs of its first cells, if there are any, with how many of its steps count;
-/// and how many steps were replayed to have it.
+/// The result of a settle that returns only the last run: the branch's length; the last of the
+/// stored runs of its first cells, if there are any, with how many of its steps count; and how many
+/// steps were replayed.
 #[derive(Drop)]
 pub struct Last<R: Register> {
     pub len: u32,
@@ -30,7 +32,7 @@ pub struct Last<R: Register> {
     pub replayed: u32,
 }
 
-/// The run that is stored at a segment, if a segment is named and has one.
+/// The run stored in a segment; `None` if there is no segment or no run.
 fn run_named<R: Register>(
     trie: &Trie<Stored<R>>,
     key: Option<SegKey>,
@@ -46,20 +48,21 @@ fn run_named<R: Register>(
     }
 }
 
-/// What the run that is stored at a segment comes to, and its number, if it has one. What all branches begin from, if no
-/// segment is named or no run is stored there.
+/// The exit of the run stored in a segment, and the run's number, if it has one. If there is no
+/// segment or no run, the initial configuration without a number.
 pub(crate) fn exit_named<'a, R: Register>(
     trie: &'a Trie<Stored<R>>,
     start: &'a Config<R>,
     key: Option<SegKey>,
 ) -> (&'a Config<R>, Option<u64>)
     requires linked { (next : ℕ) × IsLinked R.PartialEq.eq start.now.register next None
-        (alone start.now) trie.now }
-    ensures exit { result.0.now ≡ come_to trie.now start.now key }
+        (without_register start.now) trie.now }
+    ensures exit { result.0.now ≡ exit_or_start trie.now start.now key }
     ensures own { R.PartialEq.eq result.0.now.register start.now.register ≡ true }
     ensures moved { (next : ℕ) → IsLinked R.PartialEq.eq start.now.register next None
-        (alone start.now) trie.now → IsLinked R.PartialEq.eq result.0.now.register next result.1
-        (alone result.0.now) trie.now }
+        (without_register start.now) trie.now
+        → IsLinked R.PartialEq.eq result.0.now.register next result.1
+        (without_register result.0.now) trie.now }
 {
     let Some(key) = key else {
         return (start, None);
@@ -70,7 +73,7 @@ pub(crate) fn exit_named<'a, R: Register>(
     }
 }
 
-/// What a run comes to; where there is none, a copy of this configuration.
+/// The exit of `run`; a copy of `config` if there is no run.
 fn exit_or<R: Register>(
     alloc: Global,
     config: &Config<R>,
@@ -85,18 +88,21 @@ fn exit_or<R: Register>(
     Ok(exit)
 }
 
-/// Whether a segment's stored run is known to fit behind the one that is stored above it, if a segment is named.
-fn is_known_behind<R: Register>(
+/// Whether the segment `key` is already settled: its stored run fits at the exit of the run stored
+/// in the segment `above`, and keeps its link. If there is no run above, it has to fit at the
+/// start.
+fn is_known_after<R: Register>(
     trie: &Trie<Stored<R>>,
     start: &Config<R>,
     above: Option<SegKey>,
     key: SegKey,
 ) -> bool
     requires linked { (next : ℕ) × IsLinked R.PartialEq.eq start.now.register next None
-        (alone start.now) trie.now }
+        (without_register start.now) trie.now }
     ensures { result ≡ true → (run : SegmentRun R R.Pending)
-        × IsSegmentSettled R.PartialEq.eq trie.now trie.now (come_to trie.now start.now above) key
-        run 0 × IsRun (R.is run.entry.register) run }
+        × IsSegmentSettled R.PartialEq.eq trie.now trie.now (exit_or_start trie.now start.now above)
+        key
+        run 0 × IsRun (R.behaviour run.entry.register) run }
 {
     let (config, number) = exit_named(trie, start, above);
     match fitting(trie, key, config, number) {
@@ -108,8 +114,9 @@ fn is_known_behind<R: Register>(
     }
 }
 
-/// Settles a segment behind the run that is stored above it, if a segment is named. How many steps were replayed.
-fn settle_behind<R: Register>(
+/// Settles the segment `key` at the exit of the run stored in the segment `above`, or at the start
+/// if there is no run above. Returns how many steps were replayed.
+fn settle_after<R: Register>(
     alloc: Global,
     trie: &mut Trie<Stored<R>>,
     next: &mut u64,
@@ -118,17 +125,18 @@ fn settle_behind<R: Register>(
     key: SegKey,
 ) -> Result<u32, AllocError>
     requires linked { IsLinked R.PartialEq.eq start.now.register next.old None
-        (alone start.now) trie.old }
+        (without_register start.now) trie.old }
     requires short { length (steps_at trie.old key) ≤ 128 }
-    requires fits { AllFit (R.is start.now.register) (steps_at trie.old key) }
+    requires fits { AllFit (R.behaviour start.now.register) (steps_at trie.old key) }
     ensures settled { IfOk result (λ n. (run : SegmentRun R R.Pending)
-        × IsSegmentSettled R.PartialEq.eq trie.old trie.new (come_to trie.old start.now above) key
-        run n × IsRun (R.is run.entry.register) run) }
+        × IsSegmentSettled R.PartialEq.eq trie.old trie.new (exit_or_start trie.old start.now above)
+        key
+        run n × IsRun (R.behaviour run.entry.register) run) }
     ensures linked { IsLinked R.PartialEq.eq start.now.register next.new None
-        (alone start.now) trie.new }
+        (without_register start.now) trie.new }
     ensures unchanged { OnErr result (trie.new ≡ trie.old) }
 {
-    if is_known_behind(trie, start, above, key) {
+    if is_known_after(trie, start, above, key) {
         return Ok(0);
     }
     let (_, number) = exit_named(trie, start, above);
@@ -139,8 +147,9 @@ fn settle_behind<R: Register>(
     Ok(settled.replayed())
 }
 
-/// Settles what is left of a branch down to a segment. Where the run that others hang from stays stored, so do they. How many
-/// steps were replayed.
+/// Settles `rest`, the part of a branch that is left down to the segment `key`. If the run at
+/// `rest.hung` isn't replayed, the runs that hang from it still fit, and aren't visited. Returns
+/// how many steps were replayed.
 fn settle_rest<R: Register>(
     alloc: Global,
     trie: &mut Trie<Stored<R>>,
@@ -150,26 +159,27 @@ fn settle_rest<R: Register>(
     key: SegKey,
 ) -> Result<u32, AllocError>
     requires linked { IsLinked R.PartialEq.eq start.now.register next.old None
-        (alone start.now) trie.old }
+        (without_register start.now) trie.old }
     requires cut { IsCut trie.old }
-    requires left { (i : ℕ) × (count : ℕ) × (place : ℕ) × IsLeft R.PartialEq.eq R.is trie.old
+    requires left { (i : ℕ) × (count : ℕ) × (place : ℕ) × IsLeft R.PartialEq.eq R.behaviour trie.old
         start.now rest.now.front rest.now.keys.items rest.now.hung key count place i
         × (length (line (piece_at trie.old.pieces) (keys_in trie.old.strands i)) ≤ 4294967295) }
-    ensures settles { IfOk result (λ n. (i count place : ℕ) → IsLeft R.PartialEq.eq R.is trie.old
+    ensures settles { IfOk result
+        (λ n. (i count place : ℕ) → IsLeft R.PartialEq.eq R.behaviour trie.old
         start.now rest.now.front rest.now.keys.items rest.now.hung key count place i
-        → SettlesTo R.PartialEq.eq R.is trie.old trie.new start.now key count place i n) }
-    ensures keeps { (i count place : ℕ) → IsLeft R.PartialEq.eq R.is trie.old start.now
+        → SettlesTo R.PartialEq.eq R.behaviour trie.old trie.new start.now key count place i n) }
+    ensures keeps { (i count place : ℕ) → IsLeft R.PartialEq.eq R.behaviour trie.old start.now
         rest.now.front rest.now.keys.items rest.now.hung key count place i
-        → KeepsRuns trie.old trie.new (IsFilled R.PartialEq.eq (R.is start.now.register)
+        → KeepsRuns trie.old trie.new (IsFilled R.PartialEq.eq (R.behaviour start.now.register)
         trie.old trie.new start.now (reached trie.old place (keys_in trie.old.strands i))) }
     ensures linked { IsLinked R.PartialEq.eq start.now.register next.new None
-        (alone start.now) trie.new }
+        (without_register start.now) trie.new }
 {
     let mut replayed = 0;
     let mut last = 0;
     let mut above = rest.front;
     for segment in &rest.keys {
-        last = settle_behind(alloc, trie, next, start, above, *segment)?;
+        last = settle_after(alloc, trie, next, start, above, *segment)?;
         replayed += last;
         above = Some(*segment);
     }
@@ -179,7 +189,7 @@ fn settle_rest<R: Register>(
     trie.held();
     let (_, hanging) = keys_down_to(alloc, trie, Some(rest.hung), key)?;
     for below in &hanging {
-        let here = settle_behind(alloc, trie, next, start, above, *below)?;
+        let here = settle_after(alloc, trie, next, start, above, *below)?;
         replayed += here;
         above = Some(*below);
         if here == 0 {
@@ -189,8 +199,8 @@ fn settle_rest<R: Register>(
     Ok(replayed)
 }
 
-/// Settles the segments of a branch down to one, of which stored runs are known to fit down to the mark. The last run, and how
-/// many steps were replayed.
+/// Settles the segments of a branch down to the segment `key`. Down to the mark, stored runs are
+/// already known to fit. Returns the run of that segment, and how many steps were replayed.
 pub(crate) fn settle_to<R: Register>(
     alloc: Global,
     trie: &mut Trie<Stored<R>>,
@@ -200,21 +210,22 @@ pub(crate) fn settle_to<R: Register>(
     key: SegKey,
 ) -> Result<(Arc<Run<R>>, u32), AllocError>
     requires linked { IsLinked R.PartialEq.eq start.now.register next.old None
-        (alone start.now) trie.old }
+        (without_register start.now) trie.old }
     requires cut { IsCut trie.old }
-    requires marked { IsMarked R.PartialEq.eq R.is trie.old start.now mark }
-    requires fits { StepsFit (R.is start.now.register) (forest trie.old) }
+    requires marked { IsMarked R.PartialEq.eq R.behaviour trie.old start.now mark }
+    requires fits { StepsFit (R.behaviour start.now.register) (forest trie.old) }
     requires there { (i : ℕ) × (count : ℕ) × (place : ℕ) × IsPlaceIn trie.old key count place i
         × (length (line (piece_at trie.old.pieces) (keys_in trie.old.strands i)) ≤ 4294967295) }
     ensures run { IfOk result (λ r. Some (arc_value r.0) ≡ run_at trie.new key) }
     ensures settles { IfOk result (λ r. (i count place : ℕ) → IsPlaceIn trie.old key count place i
-        → SettlesTo R.PartialEq.eq R.is trie.old trie.new start.now key count place i r.1) }
-    ensures marked { OnOk result (IsMarked R.PartialEq.eq R.is trie.new start.now (Some key)) }
+        → SettlesTo R.PartialEq.eq R.behaviour trie.old trie.new start.now key count place i r.1) }
+    ensures marked { OnOk result
+        (IsMarked R.PartialEq.eq R.behaviour trie.new start.now (Some key)) }
     ensures keeps { (i count place : ℕ) → IsPlaceIn trie.old key count place i
-        → KeepsRuns trie.old trie.new (IsFilled R.PartialEq.eq (R.is start.now.register)
+        → KeepsRuns trie.old trie.new (IsFilled R.PartialEq.eq (R.behaviour start.now.register)
         trie.old trie.new start.now (reached trie.old place (keys_in trie.old.strands i))) }
     ensures linked { IsLinked R.PartialEq.eq start.now.register next.new None
-        (alone start.now) trie.new }
+        (without_register start.now) trie.new }
 {
     let rest = rest_to(alloc, trie, start, mark, key)?;
     let replayed = settle_rest(alloc, trie, next, start, &rest, key)?;

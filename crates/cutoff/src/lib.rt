@@ -1,7 +1,8 @@
-//! Charts: a schedule's branches with stored runs of their segments, so that a place of a branch is found by replaying only
-//! what an edit changed.
+//! Charts: a schedule's branches with stored runs of their segments, so that reaching a place of a
+//! branch replays only what an edit changed.
 //!
-//! A stored run is trusted only where it is looked at: an edit throws no run away but that of the segment that it touches.
+//! An edit discards no run except that of the segment that it touches. Whether a stored run still
+//! fits is tested only when the run is needed.
 #![tactic(auto)]
 
 pub mod chart;
@@ -11,6 +12,14 @@ pub mod last;
 pub mod laws;
 pub mod plan;
 mod prefix;
+pub mod runs;
 pub mod settle;
 mod sight;
 mod stored;
+
+pub use chart::Chart;
+pub use install::Installation;
+pub use last::Last;
+pub use plan::Job;
+pub use runs::Runs;
+pub use settle::Spot;

@@ -1,4 +1,4 @@
-//! Jobs: segments that no stored run fits, of each branch the first.
+//! Plans: for each branch, a job for its first segment that no stored run fits.
 
 ghost use Rattle.std.specs.Prelude.{◌≡◌, ℕ, List, [], ◌∷◌, Option, None, Some, OnOk, IfOk, map};
 ghost use Rattle.frames.specs.Configuration.{Configuration};
@@ -7,10 +7,10 @@ ghost use Rattle.schedule_trie.specs.Forest.{step_of};
 ghost use Rattle.schedule_trie.specs.Cut.{keys_in, forest, IsCut};
 ghost use Rattle.cutoff.specs.Fitting.{steps_at};
 ghost use Rattle.cutoff.specs.Held.{StepsFit};
-ghost use Rattle.cutoff.specs.Links.{IsLinked, alone};
+ghost use Rattle.cutoff.specs.Links.{IsLinked, without_register};
 ghost use Rattle.cutoff.specs.Plans.{Descends, Planned, Plans, with_job, job_of, keys_of};
-ghost use Rattle.cutoff.specs.Prefixes.{IsMarked, come_to};
-ghost use Rattle.cutoff.specs.Sights.{AreSeen, ComesAbove, IsCome, IsUnseenPart, LooksBelow, sight_at, unseen};
+ghost use Rattle.cutoff.specs.Prefixes.{IsMarked, exit_or_start};
+ghost use Rattle.cutoff.specs.Sights.{AreSeen, HasDescendedAbove, HasDescended, IsUnseenPart, LooksBelow, sight_at, unseen};
 
 use crate::last::exit_named;
 use crate::settle::{fitting, segment_cells};
@@ -19,17 +19,19 @@ use crate::stored::Stored;
 use frames::config::Config;
 use frames::register::Register;
 use frames::types::Step;
+use schedule_trie::Steps;
 use schedule_trie::slot::Slot;
 use schedule_trie::trie::{SegKey, Trie};
 use std::alloc::{AllocError, Global};
 use std::marker::Model;
 
-/// A segment to be run: its key, the configuration that its branch comes to at its start, and its steps, which fit.
+/// A segment to be replayed: its key, the configuration that replay reaches at its start, and its
+/// steps. By the type of a job, the steps fit.
 #[derive(Drop)]
 pub struct Job<R: Register> {
-    key: SegKey,
-    entry: Config<R>,
-    steps: Vec<Step>,
+    pub key: SegKey,
+    pub entry: Config<R>,
+    pub steps: Steps,
 }
 
 impl<R: Register> Model for Job<R> {
@@ -38,44 +40,20 @@ impl<R: Register> Model for Job<R> {
 
     ghost Value = { Planned R R.Pending };
 
-    ghost view = { λ j. record { key = j.key; entry = j.entry; steps = j.steps.items } };
+    ghost view = { λ j. record { key = j.key; entry = j.entry; steps = j.steps } };
 
-    ghost invariant = { λ j. AllFit (R.is j.entry.register) j.steps.items };
+    ghost invariant = { λ j. AllFit (R.behaviour j.entry.register) j.steps };
 }
 
-impl<R: Register> Job<R> {
-    /// The key of its segment.
-    pub fn key(&self) -> SegKey
-        ensures { result ≡ self.now.key }
-    {
-        self.key
-    }
-
-    /// The configuration that its run begins from.
-    pub fn entry(&self) -> &Config<R>
-        ensures { result.now ≡ self.now.entry }
-    {
-        &self.entry
-    }
-
-    /// Its steps.
-    pub fn steps(&self) -> &[Step]
-        ensures steps { result.now ≡ self.now.steps }
-        ensures fit { AllFit (R.is self.now.entry.register) self.now.steps }
-    {
-        &self.steps
-    }
-}
-
-/// The jobs of a plan so far, and what it has seen of segments, by their keys.
+/// The jobs of a plan so far, and what the plan has found at each segment, by the segment's key.
 #[derive(Drop)]
 struct Planning<R: Register> {
     jobs: Vec<Job<R>>,
     seen: Vec<Sight>,
 }
 
-/// The jobs of the branch at an index, and then those of all branches. Each segment is visited once, and none that is above the
-/// mark.
+/// The job of the branch at `index`, then those of all branches. Visits each segment at most once.
+/// On a branch with the marked segment, it visits only segments below that one.
 pub(crate) fn plan_all<R: Register>(
     alloc: Global,
     trie: &Trie<Stored<R>>,
@@ -84,12 +62,12 @@ pub(crate) fn plan_all<R: Register>(
     index: usize,
 ) -> Result<Vec<Job<R>>, AllocError>
     requires linked { (next : ℕ) × IsLinked R.PartialEq.eq start.now.register next None
-        (alone start.now) trie.now }
+        (without_register start.now) trie.now }
     requires cut { IsCut trie.now }
-    requires marked { IsMarked R.PartialEq.eq R.is trie.now start.now mark }
-    requires fits { StepsFit (R.is start.now.register) (forest trie.now) }
+    requires marked { IsMarked R.PartialEq.eq R.behaviour trie.now start.now mark }
+    requires fits { StepsFit (R.behaviour start.now.register) (forest trie.now) }
     ensures { IfOk result
-        (λ jobs. Plans R.PartialEq.eq (R.is start.now.register) trie.now start.now []
+        (λ jobs. Plans R.PartialEq.eq (R.behaviour start.now.register) trie.now start.now []
         (keys_in trie.now.strands index ∷ map keys_of trie.now.strands) jobs.items) }
 {
     let mut planning = Planning {
@@ -104,7 +82,8 @@ pub(crate) fn plan_all<R: Register>(
     Ok(jobs)
 }
 
-/// Adds the job of the branch at an index, unless stored runs fit it all or the segment is planned already.
+/// Adds a job for the first segment of the branch at `index` that no stored run fits, if there is
+/// such a segment and it has no job yet.
 fn plan_branch<R: Register>(
     alloc: Global,
     trie: &Trie<Stored<R>>,
@@ -114,16 +93,16 @@ fn plan_branch<R: Register>(
     planning: &mut Planning<R>,
 ) -> Result<(), AllocError>
     requires linked { (next : ℕ) × IsLinked R.PartialEq.eq start.now.register next None
-        (alone start.now) trie.now }
+        (without_register start.now) trie.now }
     requires cut { IsCut trie.now }
-    requires marked { IsMarked R.PartialEq.eq R.is trie.now start.now mark }
-    requires fits { StepsFit (R.is start.now.register) (forest trie.now) }
-    requires seen { AreSeen R.PartialEq.eq R.is trie.now start.now planning.old.seen.items
+    requires marked { IsMarked R.PartialEq.eq R.behaviour trie.now start.now mark }
+    requires fits { StepsFit (R.behaviour start.now.register) (forest trie.now) }
+    requires seen { AreSeen R.PartialEq.eq R.behaviour trie.now start.now planning.old.seen.items
         planning.old.jobs.items }
-    ensures seen { OnOk result (AreSeen R.PartialEq.eq R.is trie.now start.now
+    ensures seen { OnOk result (AreSeen R.PartialEq.eq R.behaviour trie.now start.now
         planning.new.seen.items planning.new.jobs.items) }
     ensures adds { OnOk result ((missed : Option ℕ) × (end : Configuration R R.Pending)
-        × Descends R.PartialEq.eq (R.is start.now.register) trie.now start.now
+        × Descends R.PartialEq.eq (R.behaviour start.now.register) trie.now start.now
         (keys_in trie.now.strands index) missed end
         × (planning.new.jobs.items ≡ with_job planning.old.jobs.items
         (job_of trie.now missed end))) }
@@ -136,8 +115,9 @@ fn plan_branch<R: Register>(
     Ok(())
 }
 
-/// The keys of a branch's segments that a plan hasn't seen and that don't come above the mark, in order; and whether stored runs
-/// fit down to right above them.
+/// The keys of a branch's segments below the lowest one that is marked or that a plan has visited,
+/// in order; and whether stored runs fit down to that one. If there is no such segment, all keys of
+/// the branch, and true.
 fn unseen_keys<R: Register>(
     alloc: Global,
     trie: &Trie<Stored<R>>,
@@ -163,8 +143,9 @@ fn unseen_keys<R: Register>(
     Ok((true, keys))
 }
 
-/// Whether stored runs fit down to a segment that a plan hasn't seen, by whether they fit down to right above it. The first that
-/// none fits gets a job.
+/// Visits the segment `key`, and returns whether stored runs fit down to it. `above_fits` is
+/// whether they fit down to the segment right above. If this is the first that no run fits, adds
+/// its job.
 fn visit<R: Register>(
     alloc: Global,
     trie: &Trie<Stored<R>>,
@@ -174,23 +155,26 @@ fn visit<R: Register>(
     planning: &mut Planning<R>,
 ) -> Result<bool, AllocError>
     requires linked { (next : ℕ) × IsLinked R.PartialEq.eq start.now.register next None
-        (alone start.now) trie.now }
+        (without_register start.now) trie.now }
     requires cut { IsCut trie.now }
-    requires fits { AllFit (R.is start.now.register) (steps_at trie.now key) }
-    requires seen { AreSeen R.PartialEq.eq R.is trie.now start.now planning.old.seen.items
+    requires fits { AllFit (R.behaviour start.now.register) (steps_at trie.now key) }
+    requires seen { AreSeen R.PartialEq.eq R.behaviour trie.now start.now planning.old.seen.items
         planning.old.jobs.items }
     requires new { sight_at planning.old.seen.items key ≡ unseen }
-    requires comes { (jobs : List (Planned R R.Pending))
-        × ComesAbove R.PartialEq.eq R.is trie.now start.now jobs planning.old.jobs.items key
+    requires arrives { (jobs : List (Planned R R.Pending))
+        × HasDescendedAbove R.PartialEq.eq R.behaviour trie.now start.now jobs
+        planning.old.jobs.items key
         above_fits }
-    ensures seen { OnOk result (AreSeen R.PartialEq.eq R.is trie.now start.now
+    ensures seen { OnOk result (AreSeen R.PartialEq.eq R.behaviour trie.now start.now
         planning.new.seen.items planning.new.jobs.items) }
     ensures others { OnOk result ((k : ℕ) → (k ≡ key → ⊥)
         → sight_at planning.new.seen.items k ≡ sight_at planning.old.seen.items k) }
-    ensures comes { IfOk result (λ fits. (jobs : List (Planned R R.Pending))
-        → ComesAbove R.PartialEq.eq R.is trie.now start.now jobs planning.old.jobs.items key
+    ensures arrives { IfOk result (λ fits. (jobs : List (Planned R R.Pending))
+        → HasDescendedAbove R.PartialEq.eq R.behaviour trie.now start.now jobs
+        planning.old.jobs.items key
         above_fits
-        → IsCome R.PartialEq.eq R.is trie.now start.now jobs planning.new.jobs.items (Some key)
+        → HasDescended R.PartialEq.eq R.behaviour trie.now start.now jobs planning.new.jobs.items
+        (Some key)
         fits) }
 {
     let above = trie.above(key);
@@ -203,7 +187,8 @@ fn visit<R: Register>(
     Ok(fits)
 }
 
-/// Whether a stored run fits a segment where the runs above it come to. If none does, its job is added.
+/// Whether a stored run fits the segment `key` at the exit of the run above. If none does, adds the
+/// segment's job.
 fn look_below<R: Register>(
     alloc: Global,
     trie: &Trie<Stored<R>>,
@@ -213,10 +198,10 @@ fn look_below<R: Register>(
     jobs: &mut Vec<Job<R>>,
 ) -> Result<bool, AllocError>
     requires linked { (next : ℕ) × IsLinked R.PartialEq.eq start.now.register next None
-        (alone start.now) trie.now }
-    requires fits { AllFit (R.is start.now.register) (steps_at trie.now key) }
-    ensures { IfOk result (λ fits. LooksBelow R.PartialEq.eq R.is trie.now
-        (come_to trie.now start.now above) key fits jobs.old.items jobs.new.items) }
+        (without_register start.now) trie.now }
+    requires fits { AllFit (R.behaviour start.now.register) (steps_at trie.now key) }
+    ensures { IfOk result (λ fits. LooksBelow R.PartialEq.eq R.behaviour trie.now
+        (exit_or_start trie.now start.now above) key fits jobs.old.items jobs.new.items) }
 {
     let (config, number) = exit_named(trie, start, above);
     if let Some(stored) = fitting(trie, key, config, number) {
@@ -228,17 +213,18 @@ fn look_below<R: Register>(
     Ok(false)
 }
 
-/// The job of a segment where a walk has come to a configuration.
+/// The job of the segment `key`, at whose start a walk has reached `config`.
 fn job_at<R: Register>(
     alloc: Global,
     trie: &Trie<Stored<R>>,
     key: SegKey,
     config: &Config<R>,
 ) -> Result<Job<R>, AllocError>
-    requires { AllFit (R.is config.now.register) (steps_at trie.now key) }
+    requires { AllFit (R.behaviour config.now.register) (steps_at trie.now key) }
     ensures { IfOk result (λ job. Some job ≡ job_of trie.now (Some key) config.now) }
 {
     let steps = steps_in(alloc, segment_cells(trie, key))?;
+    let steps = Steps::new(steps);
     let entry = config.copy(alloc)?;
     Ok(Job { key, entry, steps })
 }

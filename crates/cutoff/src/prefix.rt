@@ -1,12 +1,13 @@
-//! The part of a branch that stored runs are known to fit, seen from one of its segments upwards.
+//! The part of a branch that stored runs are known to
+//! fit, found by climbing from one of its segments.
 
 ghost use Rattle.std.specs.Prelude.{◌≡◌, ℕ, None, Some, true, IfOk};
 ghost use Rattle.std.specs.Bool.{Decides};
 ghost use Rattle.frames.specs.Configuration.{Configuration};
 ghost use Rattle.schedule_trie.specs.Cut.{forest, has, keys_in, IsCut};
 ghost use Rattle.schedule_trie.specs.Climbs.{keys_up_to};
-ghost use Rattle.cutoff.specs.Links.{IsLinked, alone};
-ghost use Rattle.cutoff.specs.Prefixes.{IsBehind, IsMarked, IsKnown, IsPlaceIn, IsHung, IsLeft};
+ghost use Rattle.cutoff.specs.Links.{IsLinked, without_register};
+ghost use Rattle.cutoff.specs.Prefixes.{AreKeysAfter, IsMarked, IsKnown, IsPlaceIn, IsHung, IsLeft};
 ghost use Rattle.cutoff.specs.Held.{StepsFit};
 
 use crate::stored::Stored;
@@ -15,9 +16,10 @@ use frames::register::Register;
 use schedule_trie::trie::{SegKey, Trie};
 use std::alloc::{AllocError, Global};
 
-/// What is left of a branch down to one of its segments: a segment from which stored runs hang down to that one; the keys of the
-/// segments down to there that runs aren't known to fit, in order; and the one that they come behind, if they don't begin with
-/// the branch's first.
+/// What is left to settle of a branch down to one of its segments. Stored runs hang from the
+/// segment `hung` down to that one. `keys` are, in order, the segments down to `hung` that stored
+/// runs aren't known to fit. `front` is the segment right above `keys`, or `None` if they begin
+/// with the branch's first segment.
 #[derive(Drop)]
 pub(crate) struct Rest {
     pub(crate) front: Option<SegKey>,
@@ -25,8 +27,9 @@ pub(crate) struct Rest {
     pub(crate) hung: SegKey,
 }
 
-/// The lowest segment, of one and those above it, down to which stored runs are known to fit: by their numbers, and by the
-/// mark, down to which they do. None where no run is known to.
+/// The lowest segment, at `key` or above, down to which stored runs are known to fit. This is known
+/// by the mark, by the runs' numbers, and by a comparison of the first run's entry with the start.
+/// `None` if no run is known to fit.
 fn known_prefix<R: Register>(
     trie: &Trie<Stored<R>>,
     start: &Config<R>,
@@ -34,14 +37,14 @@ fn known_prefix<R: Register>(
     key: SegKey,
 ) -> Option<SegKey>
     requires linked { (next : ℕ) × IsLinked R.PartialEq.eq start.now.register next None
-        (alone start.now) trie.now }
+        (without_register start.now) trie.now }
     requires cut { IsCut trie.now }
-    requires marked { IsMarked R.PartialEq.eq R.is trie.now start.now mark }
+    requires marked { IsMarked R.PartialEq.eq R.behaviour trie.now start.now mark }
     requires there { (i : ℕ) × (has key (keys_in trie.now.strands i) ≡ true) }
-    ensures { IsKnown R.PartialEq.eq R.is trie.now start.now key result }
+    ensures { IsKnown R.PartialEq.eq R.behaviour trie.now start.now key result }
 {
     let mut front = key;
-    // A branch has no more segments than cells were made.
+    // a branch never has more segments than cells were made
     for _ in 0..trie.made() {
         let top = hung_from(trie, mark, front);
         if is_marked(mark, top) {
@@ -58,15 +61,16 @@ fn known_prefix<R: Register>(
     None
 }
 
-/// The segment from which stored runs hang down to one, this one if there is none above it: each run that hangs was found behind
-/// the one right above it. It goes up by their numbers alone, and not past the mark.
+/// The highest segment from which stored runs hang down to `key`, or `key` itself. A run hangs from
+/// the run right above it if its link is that run's number, so that it begins at that run's exit.
+/// Climbs by these numbers alone, at most up to the mark.
 fn hung_from<R: Register>(trie: &Trie<Stored<R>>, mark: Option<SegKey>, key: SegKey) -> SegKey
     requires linked { (start : Configuration R R.Pending) × (next : ℕ)
-        × IsLinked R.PartialEq.eq start.register next None (alone start) trie.now }
+        × IsLinked R.PartialEq.eq start.register next None (without_register start) trie.now }
     requires cut { IsCut trie.now }
     requires there { (i : ℕ) × (has key (keys_in trie.now.strands i) ≡ true) }
     ensures { (i : ℕ) → has key (keys_in trie.now.strands i) ≡ true
-        → IsHung R.PartialEq.eq R.is trie.now result key i }
+        → IsHung R.PartialEq.eq R.behaviour trie.now result key i }
 {
     let (note, above) = trie.step_up_from(key);
     let Some(stored) = note else {
@@ -76,7 +80,7 @@ fn hung_from<R: Register>(trie: &Trie<Stored<R>>, mark: Option<SegKey>, key: Seg
     let mut hung = key;
     let mut link = stored.link();
     let mut at = above;
-    // A branch has no more segments than cells were made.
+    // a branch never has more segments than cells were made
     for _ in 0..trie.made() {
         if is_marked(mark, hung) {
             break;
@@ -99,7 +103,7 @@ fn hung_from<R: Register>(trie: &Trie<Stored<R>>, mark: Option<SegKey>, key: Seg
     hung
 }
 
-/// Whether a segment is the marked one.
+/// Whether the segment `key` is the marked one.
 pub(crate) fn is_marked(mark: Option<SegKey>, key: SegKey) -> bool
     ensures { Decides result (mark ≡ Some key) }
 {
@@ -109,7 +113,7 @@ pub(crate) fn is_marked(mark: Option<SegKey>, key: SegKey) -> bool
     }
 }
 
-/// What is left of a branch down to one of its segments.
+/// What is left to settle of a branch down to the segment `key`.
 pub(crate) fn rest_to<R: Register>(
     alloc: Global,
     trie: &Trie<Stored<R>>,
@@ -118,13 +122,13 @@ pub(crate) fn rest_to<R: Register>(
     key: SegKey,
 ) -> Result<Rest, AllocError>
     requires linked { (next : ℕ) × IsLinked R.PartialEq.eq start.now.register next None
-        (alone start.now) trie.now }
+        (without_register start.now) trie.now }
     requires cut { IsCut trie.now }
-    requires marked { IsMarked R.PartialEq.eq R.is trie.now start.now mark }
-    requires fits { StepsFit (R.is start.now.register) (forest trie.now) }
+    requires marked { IsMarked R.PartialEq.eq R.behaviour trie.now start.now mark }
+    requires fits { StepsFit (R.behaviour start.now.register) (forest trie.now) }
     requires there { (i : ℕ) × (has key (keys_in trie.now.strands i) ≡ true) }
     ensures { IfOk result (λ r. (i count place : ℕ) → IsPlaceIn trie.now key count place i
-        → IsLeft R.PartialEq.eq R.is trie.now start.now r.front r.keys.items r.hung
+        → IsLeft R.PartialEq.eq R.behaviour trie.now start.now r.front r.keys.items r.hung
         key count place i) }
 {
     let hung = hung_from(trie, mark, key);
@@ -133,8 +137,8 @@ pub(crate) fn rest_to<R: Register>(
     Ok(Rest { front, keys, hung })
 }
 
-/// The keys of the segments down to one: from right behind another on, or from the first where that one isn't above it. And
-/// the one that they come behind.
+/// The keys of a branch's segments down to `key`, in order, from right after `front`, or from the
+/// branch's first if `front` is neither `key` nor above it. Also the key right above them, if any.
 pub(crate) fn keys_down_to<T: Drop>(
     alloc: Global,
     trie: &Trie<T>,
@@ -143,7 +147,7 @@ pub(crate) fn keys_down_to<T: Drop>(
 ) -> Result<(Option<SegKey>, Vec<SegKey>), AllocError>
     requires cut { IsCut trie.now }
     requires there { (i : ℕ) × (has key (keys_in trie.now.strands i) ≡ true) }
-    ensures behind { IfOk result (λ r. IsBehind trie.now key front r.0 r.1.items) }
+    ensures following { IfOk result (λ r. AreKeysAfter trie.now key front r.0 r.1.items) }
     ensures stops { IfOk result (λ r. (i f : ℕ) → has key (keys_in trie.now.strands i) ≡ true
         → front ≡ Some f → has f (keys_up_to key (keys_in trie.now.strands i)) ≡ true
         → r.0 ≡ front) }

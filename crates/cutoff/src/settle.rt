@@ -1,4 +1,5 @@
-//! Settling: the stored runs of a branch's first cells, with new ones where none fits.
+//! Settling: a place of a branch is reached by stored runs that fit. Missing ones are made and
+//! stored.
 
 ghost use Rattle.std.specs.Prelude.{◌≡◌, ◌≤◌, ◌⊎◌, ℕ, None, Some, IfOk, OnErr, MatchOption, length, map, ◌+◌};
 ghost use Rattle.std.specs.Arc.{arc_value};
@@ -6,8 +7,9 @@ ghost use Rattle.frames.specs.Recorded.{AllFit};
 ghost use Rattle.schedule_trie.specs.Forest.{step_of};
 ghost use Rattle.schedule_trie.specs.Cut.{piece_at, slots_of, note_of, keys_in, line, IsCut};
 ghost use Rattle.cutoff.specs.Fitting.{RunFits, Fits, IsSegmentSettled, steps_at, exit_of, part_of, reached, Settles, IsFilled, KeepsRuns, counted};
-ghost use Rattle.cutoff.specs.Links.{IsLinked, alone};
+ghost use Rattle.cutoff.specs.Links.{IsLinked, without_register};
 
+use crate::runs::Runs;
 use crate::stored::Stored;
 use checkpoints::run::{Run, run_of};
 use frames::config::Config;
@@ -17,19 +19,15 @@ use schedule_trie::trie::{SegKey, Trie};
 use std::alloc::{AllocError, Global};
 use std::sync::Arc;
 
-/// The length of a branch; the stored runs of its first cells, one after the other, each with how many of its steps count; and
-/// how many steps were replayed to have them.
+/// The stored runs of a branch's first cells, and how many steps were replayed to make missing
+/// ones.
 #[derive(Drop)]
 pub struct Spot<R: Register> {
-    pub len: u32,
-    pub runs: Vec<(Arc<Run<R>>, u32)>,
+    pub runs: Runs<R>,
     pub replayed: u32,
 }
 
-/// The runs of segments, each with how many of its steps count, and how many steps were replayed.
-type Runs<R> = (Vec<(Arc<Run<R>>, u32)>, u32);
-
-/// The run of a settled segment, its number if it has one, and how many steps were replayed.
+/// The run of a settled segment, the run's number if it has one, and how many steps were replayed.
 #[derive(Drop)]
 pub(crate) struct Settled<R: Register> {
     run: Arc<Run<R>>,
@@ -53,8 +51,8 @@ impl<R: Register> Settled<R> {
     }
 }
 
-/// The stored run of a segment, if it fits where a walk has come to a configuration; `above` is the number of the run that
-/// came to it, if it has one.
+/// The stored run of the segment `key`, if it fits at `config`, which a walk has reached there.
+/// `above` is the number of the run whose exit `config` is, if that run has a number.
 pub(crate) fn fitting<'a, R: Register>(
     trie: &'a Trie<Stored<R>>,
     key: SegKey,
@@ -62,7 +60,7 @@ pub(crate) fn fitting<'a, R: Register>(
     above: Option<u64>,
 ) -> Option<&'a Stored<R>>
     requires linked { (next : ℕ) × IsLinked R.PartialEq.eq config.now.register next above
-        (alone config.now) trie.now }
+        (without_register config.now) trie.now }
     ensures { MatchOption result (Fits R.PartialEq.eq trie.now config.now key → ⊥)
         (λ s. (note_of (piece_at trie.now.pieces key) ≡ Some s.now)
         × RunFits R.PartialEq.eq config.now (steps_at trie.now key) s.now.run) }
@@ -75,7 +73,7 @@ pub(crate) fn fitting<'a, R: Register>(
     }
 }
 
-/// The cells of a segment, in order; none where no segment has the key.
+/// The cells of the segment `key`, in order; empty if there is no such segment.
 pub(crate) fn segment_cells<R: Register>(trie: &Trie<Stored<R>>, key: SegKey) -> &[Slot]
     ensures { result.now ≡ slots_of (piece_at trie.now.pieces key) }
 {
@@ -85,7 +83,7 @@ pub(crate) fn segment_cells<R: Register>(trie: &Trie<Stored<R>>, key: SegKey) ->
     }
 }
 
-/// The next number, if there is one left.
+/// The next number for a run, if one is left.
 pub(crate) fn take_number(next: &mut u64) -> Option<u64>
     ensures { ((result ≡ None) × (next.new ≡ next.old))
         ⊎ ((result ≡ Some next.old) × (next.new ≡ next.old + 1)) }
@@ -98,7 +96,7 @@ pub(crate) fn take_number(next: &mut u64) -> Option<u64>
     Some(number)
 }
 
-/// Replays a segment whose stored run doesn't fit where a walk has come to, and stores the run.
+/// Replays the segment `key`, which no stored run fits at `config`, and stores the new run.
 fn replay_segment<R: Register>(
     alloc: Global,
     trie: &mut Trie<Stored<R>>,
@@ -108,16 +106,16 @@ fn replay_segment<R: Register>(
     above: Option<u64>,
 ) -> Result<Settled<R>, AllocError>
     requires linked { IsLinked R.PartialEq.eq (arc_value config.now).register next.old above
-        (alone (arc_value config.now)) trie.old }
+        (without_register (arc_value config.now)) trie.old }
     requires short { length (steps_at trie.old key) ≤ 128 }
-    requires fits { AllFit (R.is (arc_value config.now).register) (steps_at trie.old key) }
+    requires fits { AllFit (R.behaviour (arc_value config.now).register) (steps_at trie.old key) }
     requires misses { Fits R.PartialEq.eq trie.old (arc_value config.now) key → ⊥ }
     ensures settled { IfOk result
         (λ s. IsSegmentSettled R.PartialEq.eq trie.old trie.new (arc_value config.now) key
         (arc_value s.run) s.replayed) }
     ensures linked { IfOk result
         (λ s. IsLinked R.PartialEq.eq (arc_value config.now).register next.new s.id
-        (alone (arc_value s.run).exit) trie.new) }
+        (without_register (arc_value s.run).exit) trie.new) }
     ensures unchanged { OnErr result ((trie.new ≡ trie.old) × (next.new ≡ next.old)) }
 {
     let cells = segment_cells(trie, key);
@@ -129,8 +127,8 @@ fn replay_segment<R: Register>(
     Ok(Settled { run, id, replayed })
 }
 
-/// Settles a segment where a walk has come to a configuration; `above` is the number of the run that came to it, if it has
-/// one.
+/// Settles the segment `key` at `config`, which a walk has reached there. `above` is the number of
+/// the run whose exit `config` is, if that run has a number.
 pub(crate) fn settle_segment<R: Register>(
     alloc: Global,
     trie: &mut Trie<Stored<R>>,
@@ -140,15 +138,15 @@ pub(crate) fn settle_segment<R: Register>(
     above: Option<u64>,
 ) -> Result<Settled<R>, AllocError>
     requires linked { IsLinked R.PartialEq.eq (arc_value config.now).register next.old above
-        (alone (arc_value config.now)) trie.old }
+        (without_register (arc_value config.now)) trie.old }
     requires short { length (steps_at trie.old key) ≤ 128 }
-    requires fits { AllFit (R.is (arc_value config.now).register) (steps_at trie.old key) }
+    requires fits { AllFit (R.behaviour (arc_value config.now).register) (steps_at trie.old key) }
     ensures settled { IfOk result
         (λ s. IsSegmentSettled R.PartialEq.eq trie.old trie.new (arc_value config.now) key
         (arc_value s.run) s.replayed) }
     ensures linked { IfOk result
         (λ s. IsLinked R.PartialEq.eq (arc_value config.now).register next.new s.id
-        (alone (arc_value s.run).exit) trie.new) }
+        (without_register (arc_value s.run).exit) trie.new) }
     ensures unchanged { OnErr result ((trie.new ≡ trie.old) × (next.new ≡ next.old)) }
 {
     let Some(stored) = fitting(trie, key, config, above) else {
@@ -163,7 +161,7 @@ pub(crate) fn settle_segment<R: Register>(
             replayed: 0,
         });
     }
-    let again = stored.behind(above)?;
+    let again = stored.following(above)?;
     trie.set_note(key, Some(again));
     Ok(Settled {
         run,
@@ -172,8 +170,8 @@ pub(crate) fn settle_segment<R: Register>(
     })
 }
 
-/// The configuration that runs one after the other come to, from a first one on.
-fn come_to<R: Register>(
+/// The exit of the last of these consecutive runs; a copy of `start` if there are none.
+fn exit_or_start<R: Register>(
     alloc: Global,
     start: &Config<R>,
     runs: &[(Arc<Run<R>>, u32)],
@@ -187,8 +185,8 @@ fn come_to<R: Register>(
     Ok(exit)
 }
 
-/// Settles the segments with these keys, as far as they hold one of the first `place` cells: their runs, each with how many of its
-/// steps count, and how many steps were replayed.
+/// Settles the segments with these keys, in order, until they have `place` cells. Returns their
+/// runs, each with how many of its steps count, and how many steps were replayed.
 pub(crate) fn settle_along<R: Register>(
     alloc: Global,
     trie: &mut Trie<Stored<R>>,
@@ -196,23 +194,25 @@ pub(crate) fn settle_along<R: Register>(
     start: &Config<R>,
     keys: &[SegKey],
     place: u32,
-) -> Result<Runs<R>, AllocError>
+) -> Result<Spot<R>, AllocError>
     requires linked { IsLinked R.PartialEq.eq start.now.register next.old None
-        (alone start.now) trie.old }
+        (without_register start.now) trie.old }
     requires cut { IsCut trie.old }
     requires branch { (i : ℕ) × (keys.now ≡ keys_in trie.old.strands i) }
-    requires fits { AllFit (R.is start.now.register) (map step_of
+    requires fits { AllFit (R.behaviour start.now.register) (map step_of
         (line (piece_at trie.old.pieces) keys.now)) }
     requires within { place ≤ length (line (piece_at trie.old.pieces) keys.now) }
     requires few { length (line (piece_at trie.old.pieces) keys.now) ≤ 4294967295 }
     ensures settles { IfOk result
-        (λ r. Settles R.PartialEq.eq (R.is start.now.register) trie.old trie.new start.now place
-        (reached trie.old place keys.now) (map part_of r.0.items) r.1) }
-    ensures counted { IfOk result (λ r. counted (map part_of r.0.items) ≡ place) }
+        (λ s. Settles R.PartialEq.eq (R.behaviour start.now.register) trie.old trie.new start.now
+        place
+        (reached trie.old place keys.now) s.runs s.replayed) }
+    ensures counted { IfOk result (λ s. counted s.runs ≡ place) }
     ensures keeps { KeepsRuns trie.old trie.new (IsFilled R.PartialEq.eq
-        (R.is start.now.register) trie.old trie.new start.now (reached trie.old place keys.now)) }
+        (R.behaviour start.now.register) trie.old trie.new start.now
+        (reached trie.old place keys.now)) }
     ensures linked { IsLinked R.PartialEq.eq start.now.register next.new None
-        (alone start.now) trie.new }
+        (without_register start.now) trie.new }
 {
     let mut runs = Vec::new(alloc);
     let mut replayed = 0;
@@ -222,7 +222,7 @@ pub(crate) fn settle_along<R: Register>(
         if rest == 0 {
             break;
         }
-        let config = come_to(alloc, start, &runs)?;
+        let config = exit_or_start(alloc, start, &runs)?;
         let settled = settle_segment(alloc, trie, next, *key, &config, above)?;
         let count = rest.min(settled.run.steps().len() as u32);
         replayed += settled.replayed;
@@ -230,5 +230,9 @@ pub(crate) fn settle_along<R: Register>(
         above = settled.id;
         runs.push((settled.run, count))?;
     }
-    Ok((runs, replayed))
+    let parts = Runs::new(runs);
+    Ok(Spot {
+        runs: parts,
+        replayed,
+    })
 }

@@ -1,4 +1,4 @@
-//! What a plan has seen of segments.
+//! What a plan has found at segments.
 
 ghost use Rattle.std.specs.Prelude.{◌≡◌, ◌⊎◌, ℕ, Some, true, OnOk, MatchOption};
 ghost use Rattle.cutoff.specs.Sights as spec;
@@ -7,7 +7,8 @@ use crate::prefix::is_marked;
 use schedule_trie::trie::SegKey;
 use std::alloc::AllocError;
 
-/// Whether stored runs fit down to a segment, if a plan has seen it.
+/// What a plan has found at a segment: it wasn't visited yet, stored runs fit down to it, or they
+/// don't.
 #[derive(Clone, Copy, Debug, PartialEq, Eq)]
 pub(crate) enum Sight {
     Unseen,
@@ -15,14 +16,14 @@ pub(crate) enum Sight {
     Unfit,
 }
 
-/// What a plan has seen by this.
+/// What a visit has found: whether stored runs fit down to the segment.
 fn sight_of(fits: bool) -> Sight
     ensures { result ≡ spec.sight_of fits }
 {
     if fits { Sight::Fit } else { Sight::Unfit }
 }
 
-/// What a plan has seen of the segment of a key.
+/// What a plan has found at the segment with this key.
 fn sight_at(seen: &[Sight], key: SegKey) -> Sight
     ensures { result ≡ spec.sight_at seen.now key }
 {
@@ -33,7 +34,8 @@ fn sight_at(seen: &[Sight], key: SegKey) -> Sight
     }
 }
 
-/// Whether stored runs fit down to a segment, if that is known: by the mark, or since a plan has seen it.
+/// Whether stored runs fit down to the segment `key`: known if it is marked or was visited, else
+/// `None`.
 pub(crate) fn known(mark: Option<SegKey>, seen: &[Sight], key: SegKey) -> Option<bool>
     ensures { MatchOption result (spec.sight_at seen.now key ≡ spec.unseen)
         (λ fits. spec.IsKnownAt mark seen.now (Some key) fits) }
@@ -48,7 +50,7 @@ pub(crate) fn known(mark: Option<SegKey>, seen: &[Sight], key: SegKey) -> Option
     }
 }
 
-/// Keeps whether stored runs fit down to a segment.
+/// Records whether stored runs fit down to the segment `key`.
 pub(crate) fn see(seen: &mut Vec<Sight>, key: SegKey, fits: bool) -> Result<(), AllocError>
     ensures here { OnOk result (spec.sight_at seen.new.items key ≡ spec.sight_of fits) }
     ensures others { OnOk result ((k : ℕ) → (k ≡ key → ⊥)

@@ -1,11 +1,11 @@
-//! Stored runs, and the test whether one begins from a configuration.
+//! Stored runs, and the test whether one begins at a configuration.
 
 ghost use Rattle.std.specs.Prelude.{◌≡◌, ◌⊎◌, ℕ, None, Some, true, IfOk};
 ghost use Rattle.std.specs.Bool.{Decides};
 ghost use Rattle.std.specs.Arc.{arc_value};
 ghost use Rattle.checkpoints.specs.Segment.{IsRun};
 ghost use Rattle.frames.specs.Equality.{SameConfiguration};
-ghost use Rattle.cutoff.specs.Links.{alone};
+ghost use Rattle.cutoff.specs.Links.{without_register};
 ghost use Rattle.cutoff.specs.Numbers.{own_number, link_number};
 
 use checkpoints::run::Run;
@@ -15,8 +15,8 @@ use std::alloc::AllocError;
 use std::marker::Model;
 use std::sync::Arc;
 
-/// The number of a run, and of the run that it was found behind, where they have one. So a segment takes a word less than with
-/// two options, and a climb reaches it by one product.
+/// A run's number and its link, if it has them. As one enum they make a segment a word smaller than
+/// as two options, and a climb then finds a segment with one multiplication.
 #[derive(Clone, Copy)]
 pub(crate) enum Numbers {
     Neither,
@@ -25,7 +25,8 @@ pub(crate) enum Numbers {
     Both(u64, u64),
 }
 
-/// A stored run of a segment, with its number, and the number of the run that it was found behind, where they have one.
+/// A stored run of a segment, with its number and its link, if it has them. The link is the number
+/// of another run: this run was found to begin at that run's exit.
 #[derive(Drop)]
 pub(crate) struct Stored<R: Register> {
     run: Arc<Run<R>>,
@@ -43,7 +44,7 @@ impl<R: Register> Model for Stored<R> {
 }
 
 impl<R: Register> Stored<R> {
-    /// A stored run with its number, and that of the run that it was found behind.
+    /// A stored run with the number `id` and the link `link`, either of which may be missing.
     pub(crate) fn new(run: Arc<Run<R>>, id: Option<u64>, link: Option<u64>) -> Stored<R>
         ensures run { result.run ≡ arc_value run }
         ensures id { result.id ≡ id }
@@ -60,38 +61,40 @@ impl<R: Register> Stored<R> {
         &self.run
     }
 
-    /// The configuration that it comes to.
+    /// The configuration after the run.
     pub(crate) fn exit(&self) -> &Config<R>
         ensures exit { result.now ≡ self.now.run.exit }
-        ensures kept { IsRun (R.is self.now.run.entry.register) self.now.run }
+        ensures kept { IsRun (R.behaviour self.now.run.entry.register) self.now.run }
     {
         self.run.exit()
     }
 
-    /// The configuration that it begins from.
+    /// The configuration before the run.
     pub(crate) fn entry(&self) -> &Config<R>
         ensures entry { result.now ≡ self.now.run.entry }
-        ensures kept { IsRun (R.is self.now.run.entry.register) self.now.run }
+        ensures kept { IsRun (R.behaviour self.now.run.entry.register) self.now.run }
     {
         self.run.entry()
     }
 
-    /// Its number.
+    /// The run's number, if it has one.
     pub(crate) fn id(&self) -> Option<u64>
         ensures { result ≡ self.now.id }
     {
         own_number(self.numbers)
     }
 
-    /// The number of the run that it was found behind.
+    /// The run's link, if it has one: the number of the run at whose exit this one was found to
+    /// begin.
     pub(crate) fn link(&self) -> Option<u64>
         ensures { result ≡ self.now.link }
     {
         link_number(self.numbers)
     }
 
-    /// The same run, found behind the run with this number, if it has one.
-    pub(crate) fn behind(&self, above: Option<u64>) -> Result<Stored<R>, AllocError>
+    /// The same run, linked to the run with the number `above`. If `above` is `None`, it keeps its
+    /// link.
+    pub(crate) fn following(&self, above: Option<u64>) -> Result<Stored<R>, AllocError>
         ensures run { IfOk result (λ s. s.run ≡ self.now.run) }
         ensures id { IfOk result (λ s. s.id ≡ self.now.id) }
         ensures link { IfOk result (λ s. (s.link ≡ above) ⊎ (s.link ≡ self.now.link)) }
@@ -101,42 +104,44 @@ impl<R: Register> Stored<R> {
         Ok(Stored::new(run, self.id(), link))
     }
 
-    /// Whether it would have no other link where it is found behind the run with this number, if it has one.
+    /// Whether `following(above)` would change nothing, since `above` is `None` or the run's link.
     pub(crate) fn is_as_found(&self, above: Option<u64>) -> bool
         ensures { result ≡ true → (above ≡ None) ⊎ (self.now.link ≡ above) }
     {
-        above.is_none() || is_behind(self.link(), above)
+        above.is_none() || is_linked(self.link(), above)
     }
 
-    /// Whether it begins from a configuration. A run with the number `above` came to that.
+    /// Whether the run begins at `config`, the exit of a run whose number is `above`, if it has
+    /// one. If the run's link is that number, nothing is compared.
     pub(crate) fn begins(&self, config: &Config<R>, above: Option<u64>) -> bool
         requires linked { (a : ℕ) → self.now.link ≡ Some a → above ≡ Some a
             → SameConfiguration R.PartialEq.eq self.now.run.entry config.now }
         ensures { Decides result (SameConfiguration R.PartialEq.eq self.now.run.entry config.now) }
     {
-        is_behind(self.link(), above) || *self.run.entry() == *config
+        is_linked(self.link(), above) || *self.run.entry() == *config
     }
 
-    /// Whether its number is the one that a run was found behind.
+    /// Whether `link` is this run's number.
     pub(crate) fn is_before(&self, link: Option<u64>) -> bool
         ensures { Decides result ((a : ℕ) × (link ≡ Some a) × (self.now.id ≡ Some a)) }
     {
-        is_behind(link, self.id())
+        is_linked(link, self.id())
     }
 
-    /// Whether it comes to a configuration. A run that was found behind the run with the number `link` begins from that.
+    /// Whether the run's exit is `config`, at which a run with the link `link` begins. If that link
+    /// is this run's number, nothing is compared.
     pub(crate) fn ends(&self, config: &Config<R>, link: Option<u64>) -> bool
         requires linked { (a : ℕ) → link ≡ Some a → self.now.id ≡ Some a
-            → (alone config.now ≡ alone self.now.run.exit)
+            → (without_register config.now ≡ without_register self.now.run.exit)
             × (R.PartialEq.eq config.now.register self.now.run.entry.register ≡ true) }
         ensures { Decides result (SameConfiguration R.PartialEq.eq config.now self.now.run.exit) }
     {
         let exit = self.run.exit();
-        is_behind(link, self.id()) || *config == *exit
+        is_linked(link, self.id()) || *config == *exit
     }
 }
 
-/// The numbers of a run with this number, found behind a run with that one, where they have one.
+/// A run's number and its link, if it has them, as one value.
 fn numbers_of(id: Option<u64>, link: Option<u64>) -> Numbers
     ensures own { own_number result ≡ id }
     ensures link { link_number result ≡ link }
@@ -160,7 +165,7 @@ fn own_number(numbers: Numbers) -> Option<u64>
     }
 }
 
-/// The number of the run that one was found behind, if it has one.
+/// A run's link, if it has one.
 #[inline(always)]
 fn link_number(numbers: Numbers) -> Option<u64>
     ensures { result ≡ link_number numbers }
@@ -171,8 +176,8 @@ fn link_number(numbers: Numbers) -> Option<u64>
     }
 }
 
-/// Whether a link is that number.
-fn is_behind(link: Option<u64>, above: Option<u64>) -> bool
+/// Whether both are the same number; false if either is `None`.
+fn is_linked(link: Option<u64>, above: Option<u64>) -> bool
     ensures { Decides result ((a : ℕ) × (link ≡ Some a) × (above ≡ Some a)) }
 {
     match (link, above) {

@@ -1,4 +1,4 @@
--- What a legal history says of the reply to its last call.
+-- What a legal history says about the reply to its last call.
 use Rattle.std.proofs.Common.{suc, subst, ◌≡◌, ◌⊎◌, ℕ, ◌+◌, ◌≤◌, Bool, true, false, nat_le, List, [], ◌∷◌, ◌++◌, length, Option, refl, sym, ap, ◌∙◌, arith, inl, inr}
 use Rattle.schedule_trie.specs.declared.refusal.Refusal.TheVariants.{LogFull, Memory}
 use Rattle.sessions.specs.declared.command.Command.{Command}
@@ -6,7 +6,7 @@ use Rattle.sessions.specs.declared.log.Entry.{Entry}
 use Rattle.sessions.specs.declared.reply.Reply.{Reply}
 use Rattle.sessions.specs.declared.reply.Reply.TheVariants.{No}
 use Rattle.sessions.specs.World.{World}
-use Rattle.sessions.specs.Acts.{acted, is_full}
+use Rattle.sessions.specs.Acts.{command_result, is_full}
 use Rattle.sessions.specs.Logs.{IsLegal, acted_by, entry, is_logged, logged, world_after}
 use Rattle.sessions.proofs.LegalLogs.{after_more}
 use Rattle.sessions.proofs.Ordinary.{acted_logged, acted_full}
@@ -39,7 +39,7 @@ module _ {P : Type 0} where
 
   module _ (w : World P) (chair who : ℕ) (guard : Option ℕ) (command : Command) (found : List Entry) (fresh : w.logged ≡ 0) where
     answers_so : (reply : Reply) → IsLegal w found → IsLegal w (logged (entry chair who guard command reply) found) → (reply ≡ No LogFull → length found ≡ w.limits.log)
-        → (acted who guard command (world_after w found) ≡ record { world = world_after w (logged (entry chair who guard command reply) found); reply = reply }) ⊎ (reply ≡ No Memory)
+        → (command_result who guard command (world_after w found) ≡ record { world = world_after w (logged (entry chair who guard command reply) found); reply = reply }) ⊎ (reply ≡ No Memory)
     answers_so (No LogFull) before legal full =
         let count = counted_calls w found before in
         let many = count.0 in
@@ -54,8 +54,8 @@ module _ {P : Type 0} where
         let after = after_more w found e in
         inl (λ i. record { world = sym after i; reply = last i })
 
-    -- the reply is the world's after the calls that were found, or Memory
+    -- the reply is the one that the world after the found calls gives, or Memory
     pub replies_so : (reply : Reply) (after : List Entry) → after ≡ logged (entry chair who guard command reply) found → IsLegal w found → IsLegal w (logged (entry chair who guard command reply) found)
-        → (reply ≡ No LogFull → length found ≡ w.limits.log) → (acted who guard command (world_after w found) ≡ record { world = world_after w after; reply = reply }) ⊎ (reply ≡ No Memory)
+        → (reply ≡ No LogFull → length found ≡ w.limits.log) → (command_result who guard command (world_after w found) ≡ record { world = world_after w after; reply = reply }) ⊎ (reply ≡ No Memory)
     replies_so reply after is before legal full =
-        subst (λ l. (acted who guard command (world_after w found) ≡ record { world = world_after w l; reply = reply }) ⊎ (reply ≡ No Memory)) (sym is) (answers_so reply before legal full)
+        subst (λ l. (command_result who guard command (world_after w found) ≡ record { world = world_after w l; reply = reply }) ⊎ (reply ≡ No Memory)) (sym is) (answers_so reply before legal full)

@@ -1,4 +1,4 @@
--- A desk's parts may cross threads where its register may.
+-- A desk's parts may cross threads if its register may.
 use Rattle.std.proofs.Common.{◌≡◌, [], ◌∷◌}
 use denote.Builtin.{u32, bool}
 use denote.RattleType.{RattleType}
@@ -60,7 +60,7 @@ module _ (T T' : RattleType) (r : register.Ghosts T.Denot T'.Denot) (b : behaves
         (struct_sync (declared.shape (desk.the_type T T' r b c' e' c q e))
         (turns.the_field_sync (journal.the_row T T' r b e' e) (item.the_row T T' r b e' e) counts journal_send, (search crosses, tt)))
 
--- what a closure captures, or a tuple holds
+-- a tuple may be sent to another thread if its parts may; a closure's captures are such a tuple
 pub two_send : (ν : Sym) (A B : RattleType) → IsSend A → IsSend B → IsSend (TupleAt ν (A ∷ B ∷ []))
 two_send ν A B a b = declared_send (type_at ν (A ∷ B ∷ [])) (as_row_send (row_field A) a, (as_row_send (row_field B) b, tt))
 
@@ -72,13 +72,10 @@ pub five_send : (ν : Sym) (A B C D E : RattleType) → IsSend A → IsSend B �
 five_send ν A B C D E a b c d e = declared_send (type_at ν (A ∷ B ∷ C ∷ D ∷ E ∷ []))
     (as_row_send (row_field A) a, (as_row_send (row_field B) b, (as_row_send (row_field C) c, (as_row_send (row_field D) d, (as_row_send (row_field E) e, tt)))))
 
-pub number_send : IsSend u32
-number_send = search sendable
-
 pub mark_send : IsSend bool
 mark_send = search sendable
 
--- at a safe bit. How its types are cloned is no part of a desk's row
+-- at a safe bit; a desk's row doesn't depend on how its types are cloned
 abbrev as_copies : (D : Type 0) → clone.Ghosts D
 as_copies D = record { is_clone = λ x copy. copy ≡ x; is_infallible = λ x. Unit {0} }
 

@@ -1,4 +1,4 @@
--- Worked examples of the definitions by which something is there: one that holds, and a near miss.
+-- Worked examples of definitions that state an existence: one that holds, and a near miss.
 use Rattle.std.specs.Prelude.{⊤}
 use Rattle.std.proofs.Common.{◌≡◌, ◌++◌, true, false, List, [], ◌∷◌, None, Err, length, codes, replicate, ap, refl, sym, ◌∙◌, subst, inr, arith}
 use Rattle.frames.specs.declared.safe.SafePoint.{SafePoint}
@@ -20,7 +20,7 @@ use Rattle.desk.specs.declared.item.Item.{Item}
 use Rattle.desk.specs.declared.report.Report.{Report}
 use Rattle.desk.specs.Works.{NeedsBranch}
 use Rattle.desk.specs.Items.{items}
-use Rattle.desk.specs.Chairs.{Finds, Stays, Received, Reads, Filled}
+use Rattle.desk.specs.Chairs.{Finds, KeepsSeen, Received, Reads, Filled}
 
 -- each register is a safe bit
 abbrev is : ⊤ → Behaviour SafePoint
@@ -55,7 +55,7 @@ having calls = record {
   shares = replicate 16 true;
   calls = [];
   seen = items first calls;
-  told = 0;
+  reported = 0;
   holds = false;
   met = ([], []);
 }
@@ -68,7 +68,7 @@ nothing [] back e is = cc
 nothing (x ∷ front) back e is = cc
 
 found_nothing : Finds (having []) []
-found_nothing = record { begins = ([], refl); whole = λ all. refl; told = omega arith }
+found_nothing = record { begins = ([], refl); whole = λ all. refl; reported = omega arith }
 
 -- a join found no memory: it is not logged, and the history is as it was
 Received-holds : Received is first 3 None command.Join (having []) (having []) (record { at = 0; reply = No Memory })
@@ -83,7 +83,7 @@ Received-holds = record {
   full = λ is. absurd (memory_full is);
   room = λ is. omega arith;
   shares = refl;
-  told = refl;
+  reported = refl;
 }
   where
     memory_full : No Memory ≡ No LogFull → ⊥
@@ -93,7 +93,7 @@ Received-holds = record {
 Received-fails : Received is first 3 None command.Join (having []) (having []) (record { at = 0; reply = Joined }) → ⊥
 Received-fails h = nothing h.found [] _ h.sees
 
--- a reading tells the length of the history that it found, which has no call
+-- a reading answers with the length of the history that it found, which has no call
 Reads-holds : Reads is first (λ n world. n ≡ 0) (having []) (having [])
 Reads-holds = record {
   found = [];
@@ -103,15 +103,15 @@ Reads-holds = record {
   sees = refl;
   calls = refl;
   shares = refl;
-  told = refl;
+  reported = refl;
 }
 
--- the history that was found has one call, and the length told is 0
+-- the history that was found has one call, and the answer is 0
 Reads-fails : Reads is first (λ n world. n ≡ 0) (having []) (having (join ∷ [])) → ⊥
 Reads-fails h = let one : 1 ≡ length h.found = ap length h.sees in omega (arith, one, h.answers)
 
-stays : Stays (having []) (having [])
-stays = record { begins = ([], refl); whole = λ all. refl; calls = refl; shares = refl; told = refl }
+stays : KeepsSeen (having []) (having [])
+stays = record { begins = ([], refl); whole = λ all. refl; calls = refl; shares = refl; reported = refl }
 
 -- a fill finds no branch `a`
 Filled-holds : Filled is first (codes "a") (having []) (having []) (Err NoBranch)
@@ -125,7 +125,7 @@ Filled-holds = (
     sees = refl;
     calls = refl;
     shares = refl;
-    told = refl;
+    reported = refl;
   },
   stays,
 )

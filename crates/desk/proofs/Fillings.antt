@@ -3,18 +3,18 @@ use Rattle.std.proofs.Common.{◌≡◌, ◌+◌, Option, Some, None, refl, sym,
 use Rattle.cutoff.specs.declared.install.Installation.{Installation}
 use Rattle.cutoff.specs.declared.install.Installation.TheVariants.{Installed, Stale, Gone}
 use Rattle.desk.specs.declared.report.Report.{Report}
-use Rattle.desk.specs.Reports.{IsSum, both, counted, no_jobs}
+use Rattle.desk.specs.Reports.{IsSum, both, report_with, no_jobs}
 
 pub sum_none : (r : Report) → r ≡ no_jobs → IsSum r
 sum_none r none = subst IsSum (sym none) (omega arith)
 
-pub sum_more : (answer : Option Installation) (r : Report) → IsSum r → IsSum (counted answer r)
+pub sum_more : (answer : Option Installation) (r : Report) → IsSum r → IsSum (report_with answer r)
 sum_more (Some Installed) r s = omega arith
 sum_more (Some Stale) r s = omega arith
 sum_more (Some Gone) r s = omega arith
 sum_more None r s = omega arith
 
-pub planned_more : (answer : Option Installation) (r : Report) → (counted answer r).planned ≡ r.planned + 1
+pub planned_more : (answer : Option Installation) (r : Report) → (report_with answer r).planned ≡ r.planned + 1
 planned_more (Some Installed) r = refl
 planned_more (Some Stale) r = refl
 planned_more (Some Gone) r = refl

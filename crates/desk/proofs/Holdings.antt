@@ -1,4 +1,4 @@
--- What a holding of a desk's turn tells its chair.
+-- What a chair learns from holding a desk's turn.
 use Rattle.std.proofs.Common.{◌≡◌, ℕ, ◌<◌, ◌≤◌, List, [], ◌++◌, length, Option, Some, None, Result, Ok, Err, IsSome, IfOk, refl, sym, ap, subst, ◌∙◌, arith, append-nil, append_assoc}
 use Rattle.std.proofs.lemmas.List.{append_cancel_left}
 use Rattle.frames.specs.Behaviour.{Behaviour}
@@ -10,7 +10,7 @@ use Rattle.views.specs.declared.page.Page.{Page}
 use Rattle.views.specs.declared.query.Query.{Query}
 use Rattle.views.specs.Strays.{IsRegularOrAtomic, ShowsNoStray}
 use Rattle.turn.specs.declared.view.View.{View}
-use Rattle.turn.specs.Shares.{HasAll, number}
+use Rattle.turn.specs.Shares.{HasAll, chair_number}
 use Rattle.turn.specs.Histories.{StartsWith, Holding}
 use Rattle.sessions.specs.declared.command.Command.{Command}
 use Rattle.sessions.specs.declared.log.Entry.{Entry}
@@ -23,9 +23,9 @@ use Rattle.desk.specs.declared.item.Item.{Item}
 use Rattle.desk.specs.declared.receipt.Receipt.{Receipt}
 use Rattle.desk.specs.declared.report.Report.{Report}
 use Rattle.desk.specs.Items.{made_under, calls_in, items}
-use Rattle.desk.specs.Histories.{IsHistory, seen, own}
+use Rattle.desk.specs.Histories.{IsHistory, seen, own_calls}
 use Rattle.desk.specs.Works.{IsAct, IsReading, IsLook, IsAnswer, ShowsNoStrayOf, IsPaged, NeedsBranch}
-use Rattle.desk.specs.Chairs.{Finds, Stays, Received, Reads, Looked, Filled}
+use Rattle.desk.specs.Chairs.{Finds, KeepsSeen, Received, Reads, Looked, Filled}
 use Rattle.desk.proofs.Lists.{calls_as, calls_append, length_items, same_first, calls_begin}
 use Rattle.desk.proofs.Works.{paged_so, paged_no_stray}
 use Rattle.desk.proofs.Logged.{put, put_under, legal_found, logged_last}
@@ -33,13 +33,13 @@ use Rattle.desk.proofs.Answering.{replies_so}
 
 module _ {R P : Type 0} (is : R → Behaviour P) (first : Held R P) (v w : View (Item R P)) where
   -- a list of items that a chair finds
-  finds_so : (before : List (Item R P)) (found : List Entry) → StartsWith before v.seen → v.told ≤ length before → (HasAll v.shares → before ≡ v.seen) → before ≡ items first found → Finds v found
+  finds_so : (before : List (Item R P)) (found : List Entry) → StartsWith before v.seen → v.reported ≤ length before → (HasAll v.shares → before ≡ v.seen) → before ≡ items first found → Finds v found
   finds_so before found starts told whole is_found =
       let long = ap length is_found ∙ length_items first found in
       record {
         begins = calls_begin first found v.seen (subst (λ l. StartsWith l v.seen) is_found starts);
         whole = λ all. sym (calls_as R P found) ∙ ap calls_in (sym is_found ∙ whole all);
-        told = omega arith;
+        reported = omega arith;
       }
 
   history_so : (list : List (Item R P)) (calls : List Entry) → list ≡ items first calls → IsLegal (opening_of is first) calls → IsHistory is first list
@@ -55,7 +55,7 @@ module _ {R P : Type 0} (is : R → Behaviour P) (first : Held R P) (v w : View 
         let one_first : first ≡ act.first = same_first first act.first (calls_in v.seen) found v.seen h.whole (subst (λ l. StartsWith l v.seen) act.finds starts) in
         let is_found : before ≡ items first found = act.finds ∙ ap (λ o. items o found) (sym one_first) in
         let call : ℕ → Entry = λ k. entry k who guard command receipt.reply in
-        let n = number v.shares in
+        let n = chair_number v.shares in
         let t = is_logged receipt.reply in
         let put_is : items first found ++ added ≡ items first (put t (call act.chair) found) =
         ap (λ l. l ++ added) (sym is_found) ∙ (act.leaves ∙ ap (λ o. items o (logged (call act.chair) found)) (sym one_first)) in
@@ -72,13 +72,13 @@ module _ {R P : Type 0} (is : R → Behaviour P) (first : Held R P) (v w : View 
             finds = finds_so before found starts told whole is_found;
             legal = legal;
             sees = sees;
-            owns = ap (λ x. own x) after ∙ (calls_append v.calls added ∙ (ap (λ l. own v ++ calls_in l) both.0 ∙ (ap (λ l. own v ++ l) (calls_as R P (logged (call n) [])) ∙ sym (logged_last (call n) (own v)))));
+            owns = ap (λ x. own_calls x) after ∙ (calls_append v.calls added ∙ (ap (λ l. own_calls v ++ calls_in l) both.0 ∙ (ap (λ l. own_calls v ++ l) (calls_as R P (logged (call n) [])) ∙ sym (logged_last (call n) (own_calls v)))));
             replies = replies_so (opening_of is first) n who guard command found refl receipt.reply (seen w) sees (legal_found (opening_of is first) (call n) found legal) legal full;
             at = act.at ∙ (ap length both.1 ∙ ap length (sym sees));
             full = full;
             room = room;
             shares = ap (λ x. x.shares) after;
-            told = ap (λ x. x.told) after;
+            reported = ap (λ x. x.reported) after;
           },
           history_so w.seen (logged (call n) found) list legal,
         )
@@ -101,12 +101,12 @@ module _ {R P : Type 0} (is : R → Behaviour P) (first : Held R P) (v w : View 
             sees = sees;
             calls = ap (λ x. x.calls) after ∙ (ap (λ l. v.calls ++ l) nothing ∙ append-nil v.calls);
             shares = ap (λ x. x.shares) after;
-            told = ap (λ x. x.told) after;
+            reported = ap (λ x. x.reported) after;
           },
           history_so w.seen found list legal,
         )
 
-    -- what is told may be more than was asked
+    -- a weaker relation also holds of a reading
     reads_more : (more : ℕ → World P → Type 0) → ((n : ℕ) (world : World P) → tells n world → more n world) → Reads is first tells v w → Reads is first more v w
     reads_more more on r = record {
       found = r.found;
@@ -116,17 +116,17 @@ module _ {R P : Type 0} (is : R → Behaviour P) (first : Held R P) (v w : View 
       sees = r.sees;
       calls = r.calls;
       shares = r.shares;
-      told = r.told;
+      reported = r.reported;
     }
 
-    -- what was seen stays
-    pub reads_stay : Reads is first tells v w → Stays v w
+    -- a reading keeps what the chair had seen
+    pub reads_stay : Reads is first tells v w → KeepsSeen v w
     reads_stay r = record {
       begins = subst (λ l. StartsWith l (seen v)) (sym r.sees) r.finds.begins;
       whole = λ all. r.sees ∙ r.finds.whole all;
       calls = r.calls;
       shares = r.shares;
-      told = r.told;
+      reported = r.reported;
     }
 
   module _ (query : Query) (at : ℕ) (slip : Result Page Refusal) (h : IsHistory is first v.seen) (held : Holding made_under (λ before after. IsLook is query before after at slip) v w)
@@ -144,14 +144,14 @@ module _ {R P : Type 0} (is : R → Behaviour P) (first : Held R P) (v w : View 
         let reads = (reads_on asked h held).0 in
         paged_no_stray slip result paged (reads.answers.2 (subst IsRegularOrAtomic (sym (tower_after (opening_of is first) reads.found)) lawful))
 
--- what is read first needs a branch, and what was seen stays then
+-- a fill: first a reading that needs the branch, then steps that keep what the chair has seen
 pub filled_so : {R P A : Type 0} (is : R → Behaviour P) (first : Held R P) (v u w : View (Item R P)) (branch : List ℕ) (planned : Result A Refusal) (result : Result Report Refusal)
-    → ((world : World P) → NeedsBranch branch world planned → NeedsBranch branch world result) → Reads is first (λ n world. NeedsBranch branch world planned) v u → Stays u w
+    → ((world : World P) → NeedsBranch branch world planned → NeedsBranch branch world result) → Reads is first (λ n world. NeedsBranch branch world planned) v u → KeepsSeen u w
     → Filled is first branch v w result
 filled_so is first v u w branch planned result on reads stays =
     (u, reads_more is first v u (λ n world. NeedsBranch branch world planned) (λ n world. NeedsBranch branch world result) (λ n world. on world) reads, stays)
 
--- a branch that is there, though memory is wanting then
+-- work that needs a branch may be refused as Memory if the branch is there
 pub wants_memory : {P A : Type 0} (B : Type 0) (world : World P) (branch : List ℕ) (x : A) → NeedsBranch {A = A} branch world (Ok x) → NeedsBranch {A = B} branch world (Err Memory)
 wants_memory B world branch x there = by (index_of world.forest.branches branch) there
   where
@@ -160,10 +160,10 @@ wants_memory B world branch x there = by (index_of world.forest.branches branch)
     by None there = absurd (cc)
 
 module _ {R P : Type 0} where
-  pub stays_here : (v : View (Item R P)) → Stays v v
-  stays_here v = record { begins = ([], append-nil (seen v)); whole = λ all. refl; calls = refl; shares = refl; told = refl }
+  pub stays_here : (v : View (Item R P)) → KeepsSeen v v
+  stays_here v = record { begins = ([], append-nil (seen v)); whole = λ all. refl; calls = refl; shares = refl; reported = refl }
 
-  pub stays_on : (u v w : View (Item R P)) → Stays u v → Stays v w → Stays u w
+  pub stays_on : (u v w : View (Item R P)) → KeepsSeen u v → KeepsSeen v w → KeepsSeen u w
   stays_on u v w a b = record {
     begins = (
       a.begins.0 ++ b.begins.0,
@@ -172,9 +172,9 @@ module _ {R P : Type 0} where
     whole = λ all. b.whole (subst HasAll (sym a.shares) all) ∙ a.whole all;
     calls = b.calls ∙ a.calls;
     shares = b.shares ∙ a.shares;
-    told = b.told ∙ a.told;
+    reported = b.reported ∙ a.reported;
   }
 
--- what was seen before a reading stays after it
-pub stays_read : {R P : Type 0} (is : R → Behaviour P) (first : Held R P) (u v w : View (Item R P)) (tells : ℕ → World P → Type 0) → Stays u v → Reads is first tells v w → Stays u w
+-- a chair that kept what it had seen still keeps it after a reading
+pub stays_read : {R P : Type 0} (is : R → Behaviour P) (first : Held R P) (u v w : View (Item R P)) (tells : ℕ → World P → Type 0) → KeepsSeen u v → Reads is first tells v w → KeepsSeen u w
 stays_read is first u v w tells stays reads = stays_on u v w stays (reads_stay is first v w tells reads)

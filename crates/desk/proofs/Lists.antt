@@ -1,4 +1,4 @@
--- Lists of items and the calls in them.
+-- Lists of items, and the calls in them.
 use Rattle.std.proofs.Common.{◌≡◌, ◌+◌, List, [], ◌∷◌, ◌++◌, length, refl, sym, ap, ◌∙◌, arith}
 use Rattle.std.proofs.lemmas.List.{map-append, length-map}
 use Rattle.turn.specs.Histories.{StartsWith}
@@ -30,11 +30,11 @@ module _ {R P : Type 0} where
   opening_or other (Opening first ∷ rest) = first
   opening_or other (Call e ∷ rest) = other
 
-  -- what begins a list of items with its opening has the same one
+  -- a prefix that begins with an opening has the opening of the list
   pub same_first : (one other : Held R P) (xs ys : List Entry) (front : List (Item R P)) → front ≡ items one xs → StartsWith (items other ys) front → one ≡ other
   unfolding opening_or
   same_first one other xs ys front is starts = ap (opening_or one) (ap (λ l. l ++ starts.0) (sym is) ∙ starts.1)
 
-  -- and its calls begin the list's
+  -- the calls in a prefix of a list are a prefix of the calls in the list
   pub calls_begin : (first : Held R P) (calls : List Entry) (front : List (Item R P)) → StartsWith (items first calls) front → StartsWith calls (calls_in front)
   calls_begin first calls front starts = (calls_in starts.0, sym (calls_append front starts.0) ∙ (ap calls_in starts.1 ∙ calls_as R P calls))

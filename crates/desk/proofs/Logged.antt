@@ -1,4 +1,4 @@
--- Logs with a call that may be logged, and their fronts.
+-- Logs with one more call, if the call is logged, and their prefixes.
 use Rattle.std.proofs.Common.{◌≡◌, ℕ, Bool, true, false, cond, List, [], ◌∷◌, ◌++◌, refl, sym, ap, ◌∙◌, ⊎_elim, append-nil}
 use Rattle.std.proofs.lemmas.List.{append_cancel_left}
 use Rattle.turn.specs.Entries.{AtMostOne}
@@ -15,7 +15,7 @@ pub legal_front : {P : Type 0} (w : World P) (xs ys : List Entry) → IsLegal w 
 legal_front w [] ys h = tt
 legal_front w (e ∷ xs) ys h = (h.0, h.1, legal_front (acted_by e w).world xs ys h.2)
 
--- a log with a call that is logged or not
+-- a log with one more call, if the call is logged
 abbrev pub put : Bool → Entry → List Entry → List Entry
 put t e log = cond t (log ++ e ∷ []) log
 
@@ -35,7 +35,8 @@ pub logged_last : (e : Entry) (log : List Entry) → logged e log ≡ log ++ log
 logged_last e log = put_last (is_logged e.reply) e log
 
 module _ {R P : Type 0} where
-  -- What is added under a number, where a call of some chair is put or not: it is the call, made under that number
+  -- what is added under the number `n` by a call of some chair: nothing, or the call with `n` as
+  -- its chair
   pub put_under : (t : Bool) (first : Held R P) (found : List Entry) (call : ℕ → Entry) (chair n : ℕ) (added : List (Item R P)) → ((k : ℕ) → (call k).chair ≡ k)
       → items first found ++ added ≡ items first (put t (call chair) found) → AtMostOne made_under n added
       → (added ≡ as_items (put t (call n) [])) × (put t (call chair) found ≡ put t (call n) found)

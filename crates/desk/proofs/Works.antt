@@ -1,4 +1,4 @@
--- What a book's calls do to the list behind the turn.
+-- What a book's calls do to the list of its journal.
 use Rattle.std.proofs.Common.{◌≡◌, ◌⊎◌, ℕ, ◌<◌, ◌≤◌, Bool, true, false, cond, nat_le, List, [], ◌∷◌, ◌++◌, length, Option, Some, Result, Ok, Err, IsOk, IfOk, OnOk, IfErr, IsSome, refl, sym, ap, subst, ◌∙◌, arith, inl, inr}
 use Rattle.std.proofs.lemmas.Bool.Decides.{nat_tests}
 use Rattle.std.specs.Result.{IsErrAnd}
@@ -15,9 +15,9 @@ use Rattle.sessions.specs.declared.command.Command.{Command}
 use Rattle.sessions.specs.declared.log.Entry.{Entry}
 use Rattle.sessions.specs.declared.reply.Reply.TheVariants.{No}
 use Rattle.sessions.specs.World.{World}
-use Rattle.sessions.specs.Acts.{acted, is_full}
-use Rattle.sessions.specs.Looks.{looked, shown_in}
-use Rattle.sessions.specs.Held.{Held, IsHeld, Acts, TellsMemoryLast, Wants, opening_of, world_of}
+use Rattle.sessions.specs.Acts.{command_result, is_full}
+use Rattle.sessions.specs.Looks.{looked_in, shown_in}
+use Rattle.sessions.specs.Held.{Held, IsHeld, ActsOnBook, RefusesMemoryLast, LacksMemory, opening_of, world_of}
 use Rattle.sessions.specs.Logs.{IsLegal, entry, logged, is_logged, world_after}
 use Rattle.turn.specs.Entries.{AtMostOne}
 use Rattle.sessions.proofs.Ordinary.{acted_logged, acted_full}
@@ -31,12 +31,12 @@ use Rattle.desk.specs.Works.{IsAct, IsReading, IsLook, IsAnswer, ShowsNoStrayOf,
 use Rattle.desk.proofs.Lists.{items_more}
 use Rattle.desk.proofs.Logged.{put, logged_last}
 
--- a book behind the turn: it opened as the first did, and the turn has the items of its log
+-- a journal's book: it has the same opening as the first book, and its log gives the journal's list
 pub record IsBook {R P : Type 0} (is : R → Behaviour P) (first old : Held R P) (before : List (Item R P)) : Type 0 where
   pub opened : opening_of is old ≡ opening_of is first
   pub listed : items first old.log ≡ before
 
--- what is taken from a journal is its book
+-- the book that is taken out of a journal is the journal's book
 pub taken : {R P : Type 0} (is : R → Behaviour P) (first : Held R P) {old value : Held R P} {before : List (Item R P)} → old ≡ value
     → opening_of is value ≡ opening_of is first → items first value.log ≡ before → IsBook is first old before
 taken is first same opened listed = record { opened = ap (opening_of is) same ∙ opened; listed = ap (λ h. items first h.log) same ∙ listed }
@@ -44,8 +44,8 @@ taken is first same opened listed = record { opened = ap (opening_of is) same �
 reached : (a b : ℕ) (t : Bool) → nat_le a b ≡ t → t ≡ true → a ≤ b
 reached a b t e f = grind (arith, e, f)
 
-pub answer_of : {R P : Type 0} (w : World P) (query : Query) (r : Result (Slipped R) Refusal) → IfOk r (λ slip. Some slip.page ≡ shown_in w query) → OnOk r (looked w query ≡ Ok w.forest)
-    → IfErr r (IsRefused (looked w query)) → IsAnswer w query (answer_by r)
+pub answer_of : {R P : Type 0} (w : World P) (query : Query) (r : Result (Slipped R) Refusal) → IfOk r (λ slip. Some slip.page ≡ shown_in w query) → OnOk r (looked_in w query ≡ Ok w.forest)
+    → IfErr r (IsRefused (looked_in w query)) → IsAnswer w query (answer_by r)
 answer_of w query (Ok slip) shown found refused = (found, shown)
 answer_of w query (Err e) shown found refused = refused
 
@@ -53,7 +53,7 @@ answer_no_stray : {R : Type 0} (r : Result (Slipped R) Refusal) → IfOk r (λ s
 answer_no_stray (Ok slip) h = h
 answer_no_stray (Err e) h = tt
 
--- a save that is refused is refused as Memory, where its fault is
+-- a save is refused only as Memory
 pub wants_memory : {P : Type 0} (n : ℕ) (w : World P) (r : Result Saved Refusal) (Is : Refusal → Type 0) → IsErrAnd r Is → ((x : Refusal) → Is x → x ≡ Memory) → IsSaving n w r
 wants_memory n w (Ok saved) Is k same = absurd k
 wants_memory n w (Err x) Is k same = same x k
@@ -64,7 +64,7 @@ needs : {P A : Type 0} (w : World P) (branch : List ℕ) (r : Result A Refusal) 
 needs w branch (Ok x) found refused = found
 needs w branch (Err e) found refused = refused
 
--- what is made of an answer's slip is the answer too
+-- if a look's slip gives the answer, so does the page that is made of it
 pub paged_so : {P : Type 0} (w : World P) (query : Query) (slip result : Result Page Refusal) → IsPaged slip result → IsAnswer w query slip → IsAnswer w query result
 paged_so w query (Ok page) result (inl e) a = subst (IsAnswer w query) (sym e) a
 paged_so w query (Ok page) result (inr e) a = subst (IsAnswer w query) (sym e) (inr (refl, subst IsOk (sym a.0) refl))
@@ -76,9 +76,9 @@ paged_no_stray (Ok page) result (inr e) h = subst (λ r. IfOk r ShowsNoStray) (s
 paged_no_stray (Err r) result e h = subst (λ r. IfOk r ShowsNoStray) (sym e) tt
 
 module _ {R P : Type 0} (is : R → Behaviour P) where
-  -- where the reply is LogFull, the log is as long as its limit
+  -- if the reply is LogFull, the log is as long as its limit
   module _ (old new : Held R P) (who : ℕ) (guard : Option ℕ) (command : Command) (held : IsHeld is new) (same_log : new.log ≡ old.log)
-      (acts : acted who guard command (world_of is old.now) ≡ record { world = world_of is new.now; reply = No LogFull }) where
+      (acts : command_result who guard command (world_of is old.now) ≡ record { world = world_of is new.now; reply = No LogFull }) where
     by_room : (t : Bool) → is_full (world_of is old.now) ≡ t → length old.log ≡ new.now.limits.log
     by_room true full =
         let same : world_of is old.now ≡ world_of is new.now = ap (λ a. a.world) (sym (acted_full who (world_of is old.now) guard command full) ∙ acts) in
@@ -94,9 +94,10 @@ module _ {R P : Type 0} (is : R → Behaviour P) where
     pub full_log : length old.log ≡ new.now.limits.log
     full_log = by_room (is_full (world_of is old.now)) refl
 
-  -- where the log has room, a command's reply in its world isn't Memory; and where neither changes, the log is shorter than its limit
+  -- if the log isn't full, no command is answered with Memory by definition; and if log and world
+  -- stay the same, the log is shorter than its limit
   module _ (old new : Held R P) (room : is_full (world_of is old.now) ≡ false) where
-    none_wanted : (who : ℕ) (guard : Option ℕ) (command : Command) → acted who guard command (world_of is old.now) ≡ record { world = world_of is new.now; reply = No Memory } → ⊥
+    none_wanted : (who : ℕ) (guard : Option ℕ) (command : Command) → command_result who guard command (world_of is old.now) ≡ record { world = world_of is new.now; reply = No Memory } → ⊥
     none_wanted who guard command acts =
         let clash : false ≡ true = ap (λ a. is_logged a.reply) (sym acts) ∙ (acted_logged who (world_of is old.now) guard command room).0 in
         cc
@@ -115,12 +116,12 @@ module _ {R P : Type 0} (is : R → Behaviour P) where
       call : Entry
       call = entry chair who guard command receipt.reply
 
-      logs : Acts is old new call ⊎ Wants is old new receipt.reply → new.log ≡ logged call old.log
+      logs : ActsOnBook is old new call ⊎ LacksMemory is old new receipt.reply → new.log ≡ logged call old.log
       unfolding call
       logs (inl a) = a.logs
       logs (inr w) = w.log ∙ ap (λ r. cond (is_logged r) (old.log ++ call ∷ []) old.log) (sym w.replies)
 
-      full : Acts is old new call ⊎ Wants is old new receipt.reply → receipt.reply ≡ No LogFull → length old.log ≡ (opening_of is first).limits.log
+      full : ActsOnBook is old new call ⊎ LacksMemory is old new receipt.reply → receipt.reply ≡ No LogFull → length old.log ≡ (opening_of is first).limits.log
       unfolding call
       full (inl a) is_log_full =
           let same_log : new.log ≡ old.log = a.logs ∙ ap (λ r. cond (is_logged r) (old.log ++ call ∷ []) old.log) is_log_full in
@@ -128,7 +129,7 @@ module _ {R P : Type 0} (is : R → Behaviour P) where
           ∙ ap (λ w. w.limits.log) (same ∙ book.opened)
       full (inr w) is_log_full = absurd (let clash : No Memory ≡ No LogFull = sym w.replies ∙ is_log_full in cc)
 
-      shorter_log : Acts is old new call ⊎ Wants is old new receipt.reply → TellsMemoryLast is old who guard command receipt.reply
+      shorter_log : ActsOnBook is old new call ⊎ LacksMemory is old new receipt.reply → RefusesMemoryLast is old who guard command receipt.reply
           → receipt.reply ≡ No Memory → length old.log < (opening_of is first).limits.log
       unfolding call
       shorter_log (inl a) last wanting =
@@ -136,8 +137,8 @@ module _ {R P : Type 0} (is : R → Behaviour P) where
       shorter_log (inr w) last wanting =
           subst (λ (o : World P). length old.log < o.limits.log) (same ∙ book.opened) (shorter old new (last wanting).first held w.world w.log)
 
-      pub acts_so : Acts is old new (entry chair who guard command receipt.reply) ⊎ Wants is old new receipt.reply
-          → TellsMemoryLast is old who guard command receipt.reply → receipt.at ≡ length new.log
+      pub acts_so : ActsOnBook is old new (entry chair who guard command receipt.reply) ⊎ LacksMemory is old new receipt.reply
+          → RefusesMemoryLast is old who guard command receipt.reply → receipt.at ≡ length new.log
           → IsAct is who guard command before (items first new.log) receipt
       unfolding call
       acts_so did last at =
@@ -154,8 +155,8 @@ module _ {R P : Type 0} (is : R → Behaviour P) where
             room = shorter_log did last;
           }
 
-      -- the call is added, or nothing
-      pub adds_so : Acts is old new (entry chair who guard command receipt.reply) ⊎ Wants is old new receipt.reply
+      -- the call is added to the list, or nothing is
+      pub adds_so : ActsOnBook is old new (entry chair who guard command receipt.reply) ⊎ LacksMemory is old new receipt.reply
           → (added : List (Item R P)) × (items first new.log ≡ before ++ added) × AtMostOne made_under chair added
       unfolding call
       adds_so did = (
@@ -168,7 +169,7 @@ module _ {R P : Type 0} (is : R → Behaviour P) where
           one_at_most true = inr (Call call, refl, refl)
           one_at_most false = inl refl
 
-    -- what leaves world and log tells of the history that it found
+    -- work that leaves world and log answers from the history that it found
     pub reads_so : (tells : ℕ → World P → Type 0) → world_of is new.now ≡ world_of is old.now → new.log ≡ old.log → tells (length old.log) (world_of is old.now)
         → IsReading is tells before (items first new.log)
     reads_so tells world log told =
@@ -187,7 +188,7 @@ module _ {R P : Type 0} (is : R → Behaviour P) where
     world_found = world_after (opening_of is old) old.log
 
     pub looks_so : (query : Query) (at : ℕ) (r : Result (Slipped R) Refusal) → IfOk r (λ slip. Some slip.page ≡ shown_in world_found query)
-        → OnOk r (looked world_found query ≡ Ok world_found.forest) → IfErr r (IsRefused (looked world_found query))
+        → OnOk r (looked_in world_found query ≡ Ok world_found.forest) → IfErr r (IsRefused (looked_in world_found query))
         → (IsRegularOrAtomic (opening_of is old).tower → IfOk r (λ slip. ShowsNoStray slip.page))
         → world_of is new.now ≡ world_of is old.now → new.log ≡ old.log → at ≡ length new.log
         → IsLook is query before (items first new.log) at (answer_by r)
@@ -199,7 +200,7 @@ module _ {R P : Type 0} (is : R → Behaviour P) where
         λ lawful. answer_no_stray r (never (subst IsRegularOrAtomic (ap (λ w. w.tower) here ∙ tower_after (opening_of is old) old.log) lawful)) in
         reads_so (λ n w. (at ≡ n) × IsAnswer w query (answer_by r) × ShowsNoStrayOf w (answer_by r)) world log (is_at ∙ ap length log, answers, strays)
 
-  -- a work that leaves the book tells of the history that it found
+  -- work that leaves the book answers from the history that it found
   module _ (first old : Held R P) {before : List (Item R P)} (book : IsBook is first old before) (held : IsHeld is old) where
     pub stays_so : (tells : ℕ → World P → Type 0) → tells (length old.log) (world_of is old.now) → IsReading is tells before before
     stays_so tells told = subst (λ l. IsReading is tells before l) book.listed (reads_so first old old book refl held tells refl refl told)

@@ -1,4 +1,4 @@
--- Histories: the calls since a desk's opening, each with the reply that it comes to.
+-- Histories: the calls since a desk's opening, each with the reply that it gets there.
 use Rattle.std.specs.Prelude.{◌≡◌, List}
 use Rattle.frames.specs.Behaviour.{Behaviour}
 use Rattle.turn.specs.declared.view.View.{View}
@@ -9,14 +9,15 @@ use Rattle.desk.specs.declared.item.Item.{Item}
 use Rattle.desk.specs.Items.{calls_in, items}
 
 module _ {R P : Type 0} where
-  -- the history that a chair has seen, and the calls of its own
+  -- the history that a chair has seen
   abbrev pub seen : View (Item R P) → List Entry
   seen v = calls_in v.seen
 
-  abbrev pub own : View (Item R P) → List Entry
-  own v = calls_in v.calls
+  -- the calls that a chair has made
+  abbrev pub own_calls : View (Item R P) → List Entry
+  own_calls v = calls_in v.calls
 
-  -- a list is a book's opening and a legal history
+  -- a list is a book's opening, followed by a history that is legal from there
   pub record IsHistory (is : R → Behaviour P) (first : Held R P) (list : List (Item R P)) : Type 0 where
     pub whole : list ≡ items first (calls_in list)
     pub legal : IsLegal (opening_of is first) (calls_in list)

@@ -1,4 +1,4 @@
-//! A command at the turn.
+//! A command as work under the turn.
 
 use crate::journal::Journal;
 use crate::receipt::Receipt;
@@ -21,7 +21,7 @@ impl<R: Register> Work<Journal<R>> for Act<'_> {
 
     type Out = Receipt;
 
-    ghost relation = { λ work before after receipt _. IsAct R.is work.who work.if_at work.command.now before after receipt };
+    ghost relation = { λ work before after receipt _. IsAct R.behaviour work.who work.if_at work.command.now before after receipt };
 
     fn work(&mut self, journal: &mut Journal<R>, number: u32) -> Receipt {
         let book = &mut *journal.book;

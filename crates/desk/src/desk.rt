@@ -6,10 +6,10 @@ ghost use Rattle.schedule_trie.specs.Forest.{IsRefused, opened};
 ghost use Rattle.schedule_trie.specs.Forest as forests;
 ghost use Rattle.schedule_trie.specs.declared.refusal.Refusal.TheVariants.{Memory};
 ghost use Rattle.schedule_trie.specs.Cut.{AreLimits};
-ghost use Rattle.schedule_trie.specs.Limbs.{IsLawful, forest_of, loaded};
+ghost use Rattle.schedule_trie.specs.Limbs.{AreLawfulLimbs, forest_of, loaded};
 ghost use Rattle.cutoff.specs.Held.{LimbsFit};
 ghost use Rattle.turn.specs.Shares.{HasAll, count, next_least};
-ghost use Rattle.turn.specs.Histories.{IsJoined, OwnsItsCalls, first_view, told_of, kept, handed};
+ghost use Rattle.turn.specs.Histories.{IsJoined, OwnsItsCalls, first_view, with_news, kept, handed};
 ghost use Rattle.turn.specs.Chairs.{view};
 ghost use Rattle.sessions.specs.World.{opening};
 ghost use Rattle.sessions.specs.Logs.{IsLegal};
@@ -18,7 +18,7 @@ ghost use Rattle.desk.specs.Items.{items, made_under};
 ghost use Rattle.desk.specs.Histories.{seen};
 ghost use Rattle.views.specs.Strays.{IsRegularOrAtomic, ShowsNoStray};
 ghost use Rattle.desk.specs.Works.{IsPaged, answer_by};
-ghost use Rattle.desk.specs.Chairs.{IsAt, Received, Looked, book_at_first};
+ghost use Rattle.desk.specs.Chairs.{IsChairOf, Received, Looked, book_at_first};
 
 use crate::act::Act;
 use crate::journal::Journal;
@@ -41,10 +41,11 @@ use views::page::Page;
 use views::query::Query;
 use views::slip::Slip;
 
-/// Some of a desk's 16 shares, and what is known by them.
+/// Some of a desk's 16 shares, and what their holder knows of the desk's history.
 pub type Chair<R> = turn::Chair<Journal<R>>;
 
-/// A book behind one turn, which chairs share by reference. Proofs remember how it opened.
+/// A book guarded by one turn. Chairs share the desk by reference. Proofs also see the book that
+/// the desk opened with.
 #[derive(Drop)]
 pub struct Desk<R: Register> {
     pub(crate) turn: Turn<Journal<R>>,
@@ -52,12 +53,12 @@ pub struct Desk<R: Register> {
 }
 
 impl<R: Register> Desk<R> {
-    /// A desk before the first call, with one chair that holds all 16 shares: a register at a value, the limits, and steps that fit
-    /// the register.
+    /// Opens a desk, with one chair that holds all 16 shares. The desk's one branch has these
+    /// steps, which have to fit the register; `value` is the register's initial value.
     ///
     /// # Errors
     ///
-    /// Full where there are more steps than cells may be made; Memory.
+    /// Full if there are more steps than the limits allow cells; Memory.
     pub fn open(
         alloc: Global,
         register: R,
@@ -65,25 +66,25 @@ impl<R: Register> Desk<R> {
         limits: Limits,
         steps: &[Step],
     ) -> Result<(Desk<R>, Chair<R>), Refusal>
-        requires value { value < (R.is register).values }
+        requires value { value < (R.behaviour register).values }
         requires limits { AreLimits limits }
-        requires fits { AllFit (R.is register) steps.now }
-        ensures chair { IfOk result (λ r. IsAt R.is r.0 r.1) }
+        requires fits { AllFit (R.behaviour register) steps.now }
+        ensures chair { IfOk result (λ r. IsChairOf R.behaviour r.0 r.1) }
         ensures first { IfOk result (λ r. view r.1 ≡ first_view (items (book_at_first r.0) [])) }
-        ensures opening { let first = opening (R.is register) value limits
-            (forests.opening steps.now) in
-            IfOk result (λ r. opening_of R.is (book_at_first r.0) ≡ first) }
-        ensures ok { OnOk result (opened limits steps.now ≡ Ok (forests.opening steps.now)) }
+        ensures opening { let first = opening (R.behaviour register) value limits
+            (forests.opening_forest steps.now) in
+            IfOk result (λ r. opening_of R.behaviour (book_at_first r.0) ≡ first) }
+        ensures ok { OnOk result (opened limits steps.now ≡ Ok (forests.opening_forest steps.now)) }
         ensures err { IfErr result (IsRefused (opened limits steps.now)) }
     {
         let book = Book::new(alloc, register, value, limits, steps)?;
         Desk::over(alloc, book)
     }
 
-    /// A desk before the first call, with one chair that holds all 16 shares, and the book that it begins from.
+    /// Opens a desk on a book whose log is empty, with one chair that holds all 16 shares.
     fn over(alloc: Global, book: Book<R>) -> Result<(Desk<R>, Chair<R>), Refusal>
         requires { book.log ≡ [] }
-        ensures chair { IfOk result (λ r. IsAt R.is r.0 r.1) }
+        ensures chair { IfOk result (λ r. IsChairOf R.behaviour r.0 r.1) }
         ensures first { IfOk result (λ r. view r.1 ≡ first_view (items (book_at_first r.0) [])) }
         ensures book { IfOk result (λ r. book_at_first r.0 ≡ book) }
         ensures err { IfErr result (λ e. e ≡ Memory) }
@@ -96,12 +97,12 @@ impl<R: Register> Desk<R> {
         Ok((Desk { turn, first }, chair))
     }
 
-    /// A desk before the first call, with one chair that holds all 16 shares: a register at a value, the limits, and the forest that
-    /// grows from limbs, of which there is one.
+    /// Opens a desk, with one chair that holds all 16 shares. The desk has the branches of these
+    /// limbs, at least one; `value` is the register's initial value.
     ///
     /// # Errors
     ///
-    /// Full where they bring more cells than may be made; TooManyBranches; Memory.
+    /// Full if the limbs have more cells than the limits allow; TooManyBranches; Memory.
     pub fn open_limbs(
         alloc: Global,
         register: R,
@@ -109,15 +110,16 @@ impl<R: Register> Desk<R> {
         limits: Limits,
         limbs: &[Limb],
     ) -> Result<(Desk<R>, Chair<R>), Refusal>
-        requires value { value < (R.is register).values }
+        requires value { value < (R.behaviour register).values }
         requires limits { AreLimits limits }
-        requires lawful { IsLawful limbs.now }
+        requires lawful { AreLawfulLimbs limbs.now }
         requires some { 0 < length limbs.now }
-        requires fits { LimbsFit (R.is register) limbs.now }
-        ensures chair { IfOk result (λ r. IsAt R.is r.0 r.1) }
+        requires fits { LimbsFit (R.behaviour register) limbs.now }
+        ensures chair { IfOk result (λ r. IsChairOf R.behaviour r.0 r.1) }
         ensures first { IfOk result (λ r. view r.1 ≡ first_view (items (book_at_first r.0) [])) }
-        ensures opening { let first = opening (R.is register) value limits (forest_of limbs.now) in
-            IfOk result (λ r. opening_of R.is (book_at_first r.0) ≡ first) }
+        ensures opening { let first = opening (R.behaviour register) value limits
+            (forest_of limbs.now) in
+            IfOk result (λ r. opening_of R.behaviour (book_at_first r.0) ≡ first) }
         ensures ok { OnOk result (loaded limits limbs.now ≡ Ok (forest_of limbs.now)) }
         ensures err { IfErr result (IsRefused (loaded limits limbs.now)) }
     {
@@ -125,7 +127,9 @@ impl<R: Register> Desk<R> {
         Desk::over(alloc, book)
     }
 
-    /// Waits for the turn, and answers a session's command under the chair's number and its guard.
+    /// Waits for the turn, and answers a command of session `who`, which is logged under the
+    /// chair's number. If a guard `if_at` is given and differs from the edit count, the command is
+    /// refused.
     pub fn act<W: Wait>(
         &self,
         rt: &W,
@@ -135,9 +139,9 @@ impl<R: Register> Desk<R> {
         if_at: Option<u64>,
         command: &Command,
     ) -> Receipt
-        requires { IsAt R.is self.now chair.old }
-        ensures chair { IsAt R.is self.now chair.new }
-        ensures received { Received R.is (book_at_first self.now) who if_at command.now
+        requires { IsChairOf R.behaviour self.now chair.old }
+        ensures chair { IsChairOf R.behaviour self.now chair.new }
+        ensures received { Received R.behaviour (book_at_first self.now) who if_at command.now
             (view chair.old) (view chair.new) result }
         ensures owns { OwnsItsCalls made_under (view chair.new) }
     {
@@ -150,8 +154,9 @@ impl<R: Register> Desk<R> {
         self.turn.with(rt, chair, &mut act)
     }
 
-    /// Waits for the turn, and looks. The page is made while the turn is free; it is the one of the moment of the look, whatever the lens
-    /// holds. On a regular or an atomic register it shows no stray read.
+    /// Waits for the turn and looks. The page is made once the turn is free again, but shows what
+    /// was there at the time of the look, whatever the lens holds. On a regular or an atomic
+    /// register it shows no stray read.
     pub fn look<W: Wait>(
         &self,
         rt: &W,
@@ -160,11 +165,12 @@ impl<R: Register> Desk<R> {
         lens: &mut Lens<R>,
         query: Query,
     ) -> Answer
-        requires { IsAt R.is self.now chair.old }
-        ensures chair { IsAt R.is self.now chair.new }
-        ensures looked { Looked R.is (book_at_first self.now) query (view chair.old)
+        requires { IsChairOf R.behaviour self.now chair.old }
+        ensures chair { IsChairOf R.behaviour self.now chair.new }
+        ensures looked { Looked R.behaviour (book_at_first self.now) query (view chair.old)
             (view chair.new) result }
-        ensures never_stray { IsRegularOrAtomic (opening_of R.is (book_at_first self.now)).tower
+        ensures never_stray { IsRegularOrAtomic
+            (opening_of R.behaviour (book_at_first self.now)).tower
             → IfOk result.result ShowsNoStray }
         ensures owns { OwnsItsCalls made_under (view chair.new) }
     {
@@ -173,24 +179,25 @@ impl<R: Register> Desk<R> {
         Answer { at, result }
     }
 
-    /// How long the history is by now. It waits for nobody.
+    /// The length of the history by now. Never waits.
     pub fn news(&self, chair: &mut Chair<R>) -> u64
-        requires { IsAt R.is self.now chair.old }
-        ensures chair { IsAt R.is self.now chair.new }
-        ensures told { view chair.new ≡ told_of (view chair.old) (result + 1) }
+        requires { IsChairOf R.behaviour self.now chair.old }
+        ensures chair { IsChairOf R.behaviour self.now chair.new }
+        ensures reported { view chair.new ≡ with_news (view chair.old) (result + 1) }
         ensures seen { length (seen (view chair.old)) ≤ result }
-        ensures grows { (view chair.old).told ≤ result + 1 }
+        ensures grows { (view chair.old).reported ≤ result + 1 }
     {
         self.turn.news(chair) - 1
     }
 
-    /// Gives the next least shares after the chair's number, as many as asked, to a new chair, with the calls under them.
-    /// Both have then seen what the chair had.
+    /// Gives a new chair `shares` of this chair's shares, the least ones after its number, with the
+    /// calls made under them. Both chairs have then seen what this one had.
     pub fn split(&self, chair: &mut Chair<R>, shares: u32) -> Chair<R>
-        requires desk { IsAt R.is self.now chair.old }
+        requires desk { IsChairOf R.behaviour self.now chair.old }
         requires some { 0 < shares }
         requires fewer { shares < count (view chair.old).shares }
-        ensures chairs { IsAt R.is self.now chair.new × IsAt R.is self.now result }
+        ensures chairs { IsChairOf R.behaviour self.now chair.new
+            × IsChairOf R.behaviour self.now result }
         ensures kept { view chair.new ≡ kept made_under (next_least shares (view chair.old).shares)
             (view chair.old) }
         ensures given { view result ≡ handed made_under (next_least shares (view chair.old).shares)
@@ -201,23 +208,23 @@ impl<R: Register> Desk<R> {
         self.turn.split(chair, shares)
     }
 
-    /// Takes another chair's shares and calls in. What one of the two had seen begins what the other had; the chair has then seen
-    /// the longer one.
+    /// Takes over another chair's shares and calls. What one of the two chairs had seen is a prefix
+    /// of what the other had seen; this chair has then seen the longer one.
     pub fn join(&self, chair: &mut Chair<R>, other: Chair<R>)
-        requires { IsAt R.is self.now chair.old × IsAt R.is self.now other }
-        ensures chair { IsAt R.is self.now chair.new }
+        requires { IsChairOf R.behaviour self.now chair.old × IsChairOf R.behaviour self.now other }
+        ensures chair { IsChairOf R.behaviour self.now chair.new }
         ensures joined { IsJoined (view chair.old) (view other) (view chair.new) }
         ensures owns { OwnsItsCalls made_under (view chair.new) }
     {
         self.turn.join(chair, other);
     }
 
-    /// Gives the log, by a chair that holds all 16 shares: it has seen the whole history.
-    /// A chair that lacks one is refused, and desk and chair are handed back.
+    /// Closes the desk and returns its log, if the chair holds all 16 shares and so has seen the
+    /// whole history. A chair that lacks a share is refused, and gets desk and chair back.
     pub fn close(self, chair: Chair<R>) -> Result<Log, (ChairsOut, Desk<R>, Chair<R>)>
-        requires { IsAt R.is self chair }
+        requires { IsChairOf R.behaviour self chair }
         ensures { MatchResult result (λ log. HasAll (view chair).shares × (log ≡ seen (view chair))
-            × IsLegal (opening_of R.is (book_at_first self)) log)
+            × IsLegal (opening_of R.behaviour (book_at_first self)) log)
             (λ r. (¬ HasAll (view chair).shares) × (r.1 ≡ self) × (r.2 ≡ chair)) }
     {
         let Desk { turn, first } = self;
@@ -228,7 +235,7 @@ impl<R: Register> Desk<R> {
     }
 }
 
-/// The page that a slip stands for, made while the turn is free.
+/// Makes the page of a slip, once the turn is free.
 fn paged<R: Register>(
     alloc: Global,
     lens: &mut Lens<R>,

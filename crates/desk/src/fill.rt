@@ -1,11 +1,11 @@
-//! Filling: runs for the segments that lack one, made while the turn is free.
+//! Fills: segments that no stored run fits are replayed while the turn is free.
 
 ghost use Rattle.std.specs.Prelude.{◌≡◌, ◌≤◌, IfOk};
 ghost use Rattle.turn.specs.Histories.{OwnsItsCalls};
 ghost use Rattle.turn.specs.Chairs.{view};
 ghost use Rattle.desk.specs.Items.{made_under};
 ghost use Rattle.desk.specs.Works.{NeedsBranch};
-ghost use Rattle.desk.specs.Chairs.{IsAt, Reads, Stays, Filled, book_at_first};
+ghost use Rattle.desk.specs.Chairs.{IsChairOf, Reads, KeepsSeen, Filled, book_at_first};
 ghost use Rattle.desk.specs.Reports.{IsSum};
 
 use crate::desk::{Chair, Desk};
@@ -24,15 +24,16 @@ use std::sync::{Arc, Wait};
 use std::thread::Threads;
 use workers::Crew;
 use workers::gate::{Gate, NoGate};
-use workers::job::{Done, Outcome};
+use workers::job::{Done, JobOutcome};
 
-/// How many rounds a fill has at most.
+/// The most rounds of a fill.
 const MOST_ROUNDS: u32 = 64;
 
-/// What a crew gives for a job of a plan.
+/// The outcome of a job of a plan.
 type Ran<R> = Done<SegKey, Arc<Run<R>>>;
 
-/// What a fill works with: memory, the branch that goes first, and a crew with the gate that is offered each job.
+/// What a fill works with: threads and memory, the branch to plan first, and how many thieves and
+/// which gate its crew has.
 #[derive(Drop)]
 struct Filling<'a, W, G> {
     rt: &'a W,
@@ -46,14 +47,16 @@ impl<R: Register + Send + Sync> Desk<R>
 where
     R::Pending: Send + Sync,
 {
-    /// Stores runs for segments that lack one: plans for a branch and the others, has the jobs run by the caller and this many thieves
-    /// while the turn is free, and installs what they give, again and again until a plan has no job, each job of a round was
-    /// refused memory, the branch is gone, or 64 rounds are done. It adds no call.
+    /// Stores runs for segments that no stored run fits, in at most 64 rounds. In each round a plan
+    /// lists the jobs, beginning with `branch`; the caller and up to `thieves` thieves run these
+    /// jobs while the turn is free; then their runs are installed. The fill ends early when a plan
+    /// has no job, when all jobs of a round run out of memory, or when the branch is gone. Adds no
+    /// call to the history.
     ///
     /// # Errors
     ///
-    /// NoBranch if the branch isn't there at the first plan; Memory if a plan or the crew is refused it. What was installed by
-    /// then stays.
+    /// NoBranch if there is no such branch at the first plan; Memory if a plan or the crew runs out
+    /// of memory. Runs that were already installed stay.
     pub fn fill<W: Threads + Wait + Sync>(
         &self,
         rt: &W,
@@ -62,10 +65,10 @@ where
         branch: &Name,
         thieves: u32,
     ) -> Result<Report, Refusal>
-        requires at { IsAt R.is self.now chair.old }
+        requires at { IsChairOf R.behaviour self.now chair.old }
         requires thieves { thieves ≤ 4 }
-        ensures chair { IsAt R.is self.now chair.new }
-        ensures filled { Filled R.is (book_at_first self.now) branch.now (view chair.old)
+        ensures chair { IsChairOf R.behaviour self.now chair.new }
+        ensures filled { Filled R.behaviour (book_at_first self.now) branch.now (view chair.old)
             (view chair.new) result }
         ensures sum { IfOk result IsSum }
         ensures owns { OwnsItsCalls made_under (view chair.new) }
@@ -73,12 +76,12 @@ where
         self.fill_with(rt, alloc, chair, branch, thieves, &NoGate)
     }
 
-    /// Fills as `fill` does. Each job is offered to the gate by the thread that is about to run it, while the turn is free: the gate
-    /// may wait, and may take the turn by another chair.
+    /// Like `fill`, but the thread that is about to run a job first offers it to the gate, while
+    /// the turn is free. The gate may wait, and may take the turn with another chair.
     ///
     /// # Errors
     ///
-    /// As `fill`.
+    /// Those of `fill`.
     pub fn fill_with<W: Threads + Wait + Sync, G: Gate<W> + Sync>(
         &self,
         rt: &W,
@@ -88,10 +91,10 @@ where
         thieves: u32,
         gate: &G,
     ) -> Result<Report, Refusal>
-        requires at { IsAt R.is self.now chair.old }
+        requires at { IsChairOf R.behaviour self.now chair.old }
         requires thieves { thieves ≤ 4 }
-        ensures chair { IsAt R.is self.now chair.new }
-        ensures filled { Filled R.is (book_at_first self.now) branch.now (view chair.old)
+        ensures chair { IsChairOf R.behaviour self.now chair.new }
+        ensures filled { Filled R.behaviour (book_at_first self.now) branch.now (view chair.old)
             (view chair.new) result }
         ensures sum { IfOk result IsSum }
         ensures owns { OwnsItsCalls made_under (view chair.new) }
@@ -113,18 +116,18 @@ where
         }
     }
 
-    /// Makes a round of these jobs, and then those of further plans, until one is the last.
+    /// Does a round with these jobs, and further rounds with new plans, until the fill ends.
     fn rounds<W: Threads + Wait + Sync, G: Gate<W> + Sync>(
         &self,
         filling: &Filling<'_, W, G>,
         chair: &mut Chair<R>,
         jobs: Vec<Job<R>>,
     ) -> Result<Report, AllocError>
-        requires at { IsAt R.is self.now chair.old }
+        requires at { IsChairOf R.behaviour self.now chair.old }
         requires owns { OwnsItsCalls made_under (view chair.old) }
         requires thieves { filling.now.thieves ≤ 4 }
-        ensures chair { IsAt R.is self.now chair.new }
-        ensures stays { Stays (view chair.old) (view chair.new) }
+        ensures chair { IsChairOf R.behaviour self.now chair.new }
+        ensures stays { KeepsSeen (view chair.old) (view chair.new) }
         ensures owns { OwnsItsCalls made_under (view chair.new) }
         ensures sum { IfOk result IsSum }
     {
@@ -148,18 +151,18 @@ where
         Ok(report)
     }
 
-    /// Has jobs run while the turn is free, and installs what they give.
+    /// Runs these jobs while the turn is free, and then installs their runs.
     fn round<W: Threads + Wait + Sync, G: Gate<W> + Sync>(
         &self,
         filling: &Filling<'_, W, G>,
         chair: &mut Chair<R>,
         jobs: Vec<Job<R>>,
     ) -> Result<Report, AllocError>
-        requires at { IsAt R.is self.now chair.old }
+        requires at { IsChairOf R.behaviour self.now chair.old }
         requires owns { OwnsItsCalls made_under (view chair.old) }
         requires thieves { filling.now.thieves ≤ 4 }
-        ensures chair { IsAt R.is self.now chair.new }
-        ensures stays { Stays (view chair.old) (view chair.new) }
+        ensures chair { IsChairOf R.behaviour self.now chair.new }
+        ensures stays { KeepsSeen (view chair.old) (view chair.new) }
         ensures owns { OwnsItsCalls made_under (view chair.new) }
         ensures sum { IfOk result IsSum }
     {
@@ -179,16 +182,16 @@ where
 }
 
 impl<R: Register> Desk<R> {
-    /// Waits for the turn, and plans.
+    /// Waits for the turn, and plans the jobs of the next round.
     fn planned<W: Wait, G>(
         &self,
         filling: &Filling<'_, W, G>,
         chair: &mut Chair<R>,
     ) -> Result<Vec<Job<R>>, Refusal>
-        requires { IsAt R.is self.now chair.old }
-        ensures chair { IsAt R.is self.now chair.new }
+        requires { IsChairOf R.behaviour self.now chair.old }
+        ensures chair { IsChairOf R.behaviour self.now chair.new }
         ensures reads { let branch = filling.now.branch.now in
-            Reads R.is (book_at_first self.now) (λ _ world. NeedsBranch branch world result)
+            Reads R.behaviour (book_at_first self.now) (λ _ world. NeedsBranch branch world result)
             (view chair.old) (view chair.new) }
         ensures owns { OwnsItsCalls made_under (view chair.new) }
     {
@@ -199,12 +202,12 @@ impl<R: Register> Desk<R> {
         self.turn.with(filling.rt, chair, &mut plan)
     }
 
-    /// Waits for the turn for each outcome, and installs it.
+    /// Waits for the turn once for each outcome, to install its run, and counts how the jobs ended.
     fn install_all<W: Wait>(&self, rt: &W, chair: &mut Chair<R>, outcomes: Vec<Ran<R>>) -> Report
-        requires at { IsAt R.is self.now chair.old }
+        requires at { IsChairOf R.behaviour self.now chair.old }
         requires owns { OwnsItsCalls made_under (view chair.old) }
-        ensures chair { IsAt R.is self.now chair.new }
-        ensures stays { Stays (view chair.old) (view chair.new) }
+        ensures chair { IsChairOf R.behaviour self.now chair.new }
+        ensures stays { KeepsSeen (view chair.old) (view chair.new) }
         ensures owns { OwnsItsCalls made_under (view chair.new) }
         ensures sum { IsSum result }
     {
@@ -216,17 +219,17 @@ impl<R: Register> Desk<R> {
         report
     }
 
-    /// Waits for the turn, and installs what a job gave.
+    /// Waits for the turn, and installs the run of a job; `None` if the job ran out of memory.
     fn install<W: Wait>(&self, rt: &W, chair: &mut Chair<R>, done: Ran<R>) -> Option<Installation>
-        requires { IsAt R.is self.now chair.old }
-        ensures chair { IsAt R.is self.now chair.new }
-        ensures stays { Stays (view chair.old) (view chair.new) }
+        requires { IsChairOf R.behaviour self.now chair.old }
+        ensures chair { IsChairOf R.behaviour self.now chair.new }
+        ensures stays { KeepsSeen (view chair.old) (view chair.new) }
         ensures owns { OwnsItsCalls made_under (view chair.new) }
     {
         let Done { key, outcome } = done;
         let run = match outcome {
-            Outcome::Ran(run) => Some(run),
-            Outcome::NoMemory => None,
+            JobOutcome::Ran(run) => Some(run),
+            JobOutcome::NoMemory => None,
         };
         self.turn.with(rt, chair, &mut Install { key, run })
     }

@@ -1,4 +1,4 @@
-//! An install at the turn.
+//! An install as work under the turn.
 
 ghost use Rattle.std.specs.Prelude.{◌≡◌};
 ghost use Rattle.std.specs.Arc.{arc_value};
@@ -14,7 +14,7 @@ use sessions::book::Book;
 use std::sync::Arc;
 use turn::Work;
 
-/// Offers a job's run to the segment of a key; none where the run was refused memory.
+/// Offers a job's run to the segment with this key; `run` is `None` if the job ran out of memory.
 #[derive(Drop)]
 pub(crate) struct Install<R: Register> {
     pub(crate) key: SegKey,
@@ -26,7 +26,7 @@ impl<R: Register> Work<Journal<R>> for Install<R> {
 
     type Out = Option<Installation>;
 
-    ghost relation = { λ _ before after _ _. IsReading R.is (λ _ _. Unit {0}) before after };
+    ghost relation = { λ _ before after _ _. IsReading R.behaviour (λ _ _. Unit {0}) before after };
 
     fn work(&mut self, journal: &mut Journal<R>, _number: u32) -> Option<Installation> {
         let book = &mut *journal.book;
@@ -38,13 +38,13 @@ impl<R: Register> Work<Journal<R>> for Install<R> {
     }
 }
 
-/// Offers a run to the segment of a key in a book.
+/// Offers a run to the segment of the book with this key.
 fn offer<R: Register>(book: &mut Book<R>, key: SegKey, run: Arc<Run<R>>) -> Installation
     ensures installs { let old = book.old.now.chart in
-        Installs R.PartialEq.eq (R.is old.start.register) old book.new.now.chart key
+        Installs R.PartialEq.eq (R.behaviour old.start.register) old book.new.now.chart key
         (arc_value run) result }
-    ensures world { world_of R.is book.new.now ≡ world_of R.is book.old.now }
-    ensures opening { opening_of R.is book.new ≡ opening_of R.is book.old }
+    ensures world { world_of R.behaviour book.new.now ≡ world_of R.behaviour book.old.now }
+    ensures opening { opening_of R.behaviour book.new ≡ opening_of R.behaviour book.old }
     ensures log { book.new.log ≡ book.old.log }
 {
     book.install(key, run)

@@ -1,4 +1,4 @@
-//! The book behind a desk's turn.
+//! The journal: the value that a desk's turn guards.
 
 ghost use Rattle.std.specs.Prelude.{◌≡◌, ◌+◌, [], length, ◌↔◌, IfOk};
 ghost use Rattle.sessions.specs.Logs.{IsLegal};
@@ -14,8 +14,9 @@ use std::marker::Model;
 use std::snapshot::Snapshot;
 use turn::Counted;
 
-/// A book, and how it opened. Contracts see it as the list of its items: the opening, and the logged calls. The book lies in a box,
-/// since each holding of the turn moves the journal out and back.
+/// A book, and for proofs the book that the journal opened with. In contracts a journal is a list:
+/// the opening, then the logged calls. The book is boxed, since whoever takes the turn moves the
+/// journal out and back.
 #[derive(Drop)]
 pub struct Journal<R: Register> {
     first: Snapshot<Book<R>>,
@@ -32,11 +33,11 @@ impl<R: Register> Model for Journal<R> {
 
     ghost view = { λ j. items j.first.value j.book.value.log };
 
-    ghost invariant = { λ j. opening_of R.is j.book.value ≡ opening_of R.is j.first.value };
+    ghost invariant = { λ j. opening_of R.behaviour j.book.value ≡ opening_of R.behaviour j.first.value };
 }
 
 impl<R: Register> Journal<R> {
-    /// A book as it opens.
+    /// A journal that opens with this book.
     pub(crate) fn new(alloc: Global, book: Book<R>) -> Result<Journal<R>, AllocError>
         ensures { IfOk result (λ journal. journal ≡ items book book.log) }
     {
@@ -45,7 +46,7 @@ impl<R: Register> Journal<R> {
         Ok(Journal { first, book })
     }
 
-    /// The log of its book.
+    /// The log of the journal's book.
     pub(crate) fn into_log(self) -> Log
         ensures { result ≡ calls_in self }
     {

@@ -1,7 +1,9 @@
-//! The desk: one book behind one turn, and chairs that bring it their sessions' commands and looks.
+//! The desk: one book guarded by one turn, and chairs that bring it their sessions' commands and
+//! looks.
 //!
-//! Every call of a chair stands in one history, which is legal from the desk's opening on. What a chair has seen is a beginning of it;
-//! a chair with all 16 shares has seen it whole. Pages are made while the turn is free.
+//! The calls of all chairs make one history, which is legal from the desk's opening. What a chair
+//! has seen is a prefix of this history; a chair with all 16 shares has seen all of it. Pages are
+//! made while the turn is free.
 #![tactic(auto)]
 
 mod act;

@@ -1,4 +1,4 @@
-//! A look at the turn.
+//! A look as work under the turn.
 
 use crate::journal::Journal;
 use frames::register::Register;
@@ -8,7 +8,7 @@ use turn::Work;
 use views::query::Query;
 use views::slip::Slip;
 
-/// Looks. Its page is made later, from the slip.
+/// A look. The page is made later, from the slip.
 #[derive(Drop)]
 pub(crate) struct Look {
     pub(crate) alloc: Global,
@@ -20,7 +20,7 @@ impl<R: Register> Work<Journal<R>> for Look {
 
     type Out = (u64, Result<Slip<R>, Refusal>);
 
-    ghost relation = { λ work before after out _. IsLook R.is work.query before after out.0 (answer_by out.1) };
+    ghost relation = { λ work before after out _. IsLook R.behaviour work.query before after out.0 (answer_by out.1) };
 
     fn work(&mut self, journal: &mut Journal<R>, _number: u32) -> (u64, Result<Slip<R>, Refusal>) {
         let book = &mut *journal.book;

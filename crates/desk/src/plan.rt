@@ -1,4 +1,4 @@
-//! A plan at the turn.
+//! A plan as work under the turn.
 
 ghost use Rattle.std.specs.Prelude.{◌≡◌, IsSome, IfOk, IfErr, OnOk};
 ghost use Rattle.schedule_trie.specs.Forest.{index_of};
@@ -14,7 +14,7 @@ use sessions::book::Book;
 use std::alloc::Global;
 use turn::Work;
 
-/// Plans the jobs that a branch and the others have left.
+/// Plans the jobs of a round: first that of `branch`, then those of the other branches.
 #[derive(Drop)]
 pub(crate) struct Plan<'a> {
     pub(crate) alloc: Global,
@@ -26,7 +26,7 @@ impl<R: Register> Work<Journal<R>> for Plan<'_> {
 
     type Out = Result<Vec<Job<R>>, Refusal>;
 
-    ghost relation = { λ work before after out _. IsReading R.is (λ _ world. NeedsBranch work.branch.now world out) before after };
+    ghost relation = { λ work before after out _. IsReading R.behaviour (λ _ world. NeedsBranch work.branch.now world out) before after };
 
     fn work(&mut self, journal: &mut Journal<R>, _number: u32) -> Result<Vec<Job<R>>, Refusal> {
         let book = &*journal.book;
@@ -35,14 +35,16 @@ impl<R: Register> Work<Journal<R>> for Plan<'_> {
     }
 }
 
-/// The jobs that a branch and the others have left in a book.
+/// For each branch of a book, its first segment that no stored run fits, as a job. The branch
+/// called `branch` comes first, and no segment appears twice.
 fn jobs_left<R: Register>(
     alloc: Global,
     book: &Book<R>,
     branch: &Name,
 ) -> Result<Vec<Job<R>>, Refusal>
     ensures ok { let chart = book.now.now.chart in IfOk result
-        (λ jobs. IsPlan R.PartialEq.eq (R.is chart.start.register) chart branch.now jobs.items) }
+        (λ jobs. IsPlan R.PartialEq.eq (R.behaviour chart.start.register) chart branch.now
+        jobs.items) }
     ensures found { OnOk result
         (IsSome (index_of (forest book.now.now.chart.cut).branches branch.now)) }
     ensures err { IfErr result

@@ -1,27 +1,29 @@
-//! What a desk answers.
+//! What a desk's calls return.
 
-use schedule_trie::limb::Limb;
+use schedule_trie::Limbs;
 use schedule_trie::refusal::Refusal;
 use sessions::reply::Reply;
 use views::page::Page;
 
-/// The answer to a command: its reply, and how long the history was as the turn was given back.
+/// The answer to a command. `at` is the length of the history when the turn was given back.
 #[derive(Clone, Copy, Debug, PartialEq, Eq)]
 pub struct Receipt {
     pub at: u64,
     pub reply: Reply,
 }
 
-/// The answer to a look: its page or why it is refused, and how long the history was as the turn was given back.
+/// The answer to a look: its page, or why the look is refused. `at` is the length of the history
+/// when the turn was given back.
 #[derive(Drop)]
 pub struct Answer {
     pub at: u64,
     pub result: Result<Page, Refusal>,
 }
 
-/// What is saved: the limbs of the branches, in order of making, and how long the history was as the turn was given back.
+/// What a save gives: the limbs of the branches, in the order the branches were made. `at` is the
+/// length of the history when the turn was given back.
 #[derive(Debug, Drop)]
 pub struct Saved {
     pub at: u64,
-    pub limbs: Vec<Limb>,
+    pub limbs: Limbs,
 }

@@ -1,23 +1,23 @@
-//! What a fill comes to.
+//! The report of a fill.
 
 ghost use Rattle.std.specs.Prelude.{◌≡◌, ◌<◌, ◌≤◌, ◌+◌, ◌^◌, MatchOption};
 ghost use Rattle.std.specs.Bool.{Decides};
-ghost use Rattle.desk.specs.Reports.{IsIdle, IsSum, both, counted, no_jobs};
+ghost use Rattle.desk.specs.Reports.{IsIdle, IsSum, both, report_with, no_jobs};
 
 use cutoff::install::Installation;
 
-/// What became of the jobs of a fill.
+/// How the jobs of a fill ended.
 #[derive(Clone, Copy, Debug, PartialEq, Eq)]
 pub struct Report {
-    /// How many were planned, which is the sum of the others.
+    /// How many jobs were planned: the sum of the other counts.
     pub planned: u64,
     /// How many runs were installed.
     pub installed: u64,
-    /// How many runs were stale as they came.
+    /// How many runs no longer fitted their segments.
     pub stale: u64,
-    /// How many runs came when their segment was gone.
+    /// How many runs were of segments that no longer existed.
     pub gone: u64,
-    /// How many runs were refused memory.
+    /// How many jobs ran out of memory.
     pub memory: u64,
 }
 
@@ -35,18 +35,18 @@ impl Report {
         }
     }
 
-    /// Whether no job was run: there was none, or each was refused memory.
+    /// Whether no job ran: there was none, or each ran out of memory.
     pub(crate) fn is_idle(&self) -> bool
         ensures { Decides result (IsIdle self.now) }
     {
         self.memory == self.planned
     }
 
-    /// Counts a job by what installing its run answered, or as one whose run was refused memory.
+    /// Counts one more job by what became of its run; `None` means that the job ran out of memory.
     pub(crate) fn count(&mut self, answer: Option<Installation>)
         requires sum { IsSum self.old }
         requires room { self.old.planned + 1 < 2 ^ 64 }
-        ensures { self.new ≡ counted answer self.old }
+        ensures { self.new ≡ report_with answer self.old }
     {
         self.planned += 1;
         match answer {
@@ -57,7 +57,7 @@ impl Report {
         }
     }
 
-    /// Both reports together; none where a count would pass 64 bits.
+    /// The sum of two reports; `None` if the number of planned jobs overflows 64 bits.
     pub(crate) fn plus(self, other: Report) -> Option<Report>
         requires { IsSum self × IsSum other }
         ensures { MatchOption result (2 ^ 64 ≤ self.planned + other.planned)

@@ -3,18 +3,19 @@
 ghost use Rattle.turn.specs.Histories.{OwnsItsCalls};
 ghost use Rattle.turn.specs.Chairs.{view};
 ghost use Rattle.desk.specs.Items.{made_under};
-ghost use Rattle.desk.specs.Chairs.{IsAt, SavedFrom, book_at_first};
+ghost use Rattle.desk.specs.Chairs.{IsChairOf, SavedFrom, book_at_first};
 
 use crate::desk::{Chair, Desk};
 use crate::journal::Journal;
 use crate::receipt::Saved;
 use frames::register::Register;
+use schedule_trie::Limbs;
 use schedule_trie::refusal::Refusal;
 use std::alloc::Global;
 use std::sync::Wait;
 use turn::Work;
 
-/// Tells the limbs of the branches.
+/// Lists the limbs of the branches.
 #[derive(Drop)]
 struct Save {
     alloc: Global,
@@ -25,18 +26,20 @@ impl<R: Register> Work<Journal<R>> for Save {
 
     type Out = Result<Saved, Refusal>;
 
-    ghost relation = { λ work before after out _. IsReading R.is (λ n world. IsSaving n world out) before after };
+    ghost relation = { λ work before after out _. IsReading R.behaviour (λ n world. IsSaving n world out) before after };
 
     fn work(&mut self, journal: &mut Journal<R>, _number: u32) -> Result<Saved, Refusal> {
         let book = &*journal.book;
         let at = u64::from(book.len());
         let limbs = book.limbs(self.alloc)?;
+        let limbs = Limbs::new(limbs);
         Ok(Saved { at, limbs })
     }
 }
 
 impl<R: Register> Desk<R> {
-    /// Waits for the turn, and tells the limbs of the branches, from which a desk can be opened with them.
+    /// Waits for the turn and lists the limbs of the branches. `open_limbs` opens a desk with such
+    /// limbs.
     ///
     /// # Errors
     ///
@@ -47,9 +50,10 @@ impl<R: Register> Desk<R> {
         alloc: Global,
         chair: &mut Chair<R>,
     ) -> Result<Saved, Refusal>
-        requires { IsAt R.is self.now chair.old }
-        ensures chair { IsAt R.is self.now chair.new }
-        ensures saved { SavedFrom R.is (book_at_first self.now) (view chair.old) (view chair.new)
+        requires { IsChairOf R.behaviour self.now chair.old }
+        ensures chair { IsChairOf R.behaviour self.now chair.new }
+        ensures saved { SavedFrom R.behaviour (book_at_first self.now) (view chair.old)
+            (view chair.new)
             result }
         ensures owns { OwnsItsCalls made_under (view chair.new) }
     {

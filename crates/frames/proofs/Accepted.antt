@@ -1,4 +1,4 @@
--- A history that refuses nothing is all accepted.
+-- A history that refuses nothing is accepted whole.
 use Rattle.std.proofs.Common.{◌≡◌, ℕ, Bool, true, false, List, [], ◌∷◌, refl, ap, ◌∙◌}
 use Rattle.std.specs.Prelude.{if◌then◌else◌}
 use Rattle.std.specs.List.{list_any}
@@ -9,7 +9,7 @@ use Rattle.frames.specs.declared.types.Event.TheVariants.{Invoke, Got, Wrote, Re
 use Rattle.frames.specs.Verdicts.{refused_by, is_refused, counts, accepted}
 use Rattle.frames.specs.Regularity.{is_refusal, NoneRefused}
 
--- an event that counts, where the write in progress after it isn't refused
+-- an event that counts is accepted, if the write in progress after it isn't refused
 pub accepted_one : (i : ℕ) (e : Event) (rest : List (ℕ × Event)) → is_refused rest ≡ false → counts e false ≡ true → accepted ((i, e) ∷ rest) ≡ (i, e) ∷ accepted rest
 accepted_one i e rest none c = ap (λ b. if counts e b then (i, e) ∷ accepted rest else accepted rest) none ∙ ap (λ b. if b then (i, e) ∷ accepted rest else accepted rest) c
 

@@ -1,4 +1,4 @@
--- The two folds over what a register with one writer records agree: what is known by events (`Known`), and what is seen by steps (`Seen`).
+-- Two folds over a history of one writer agree: `Known`, by events, and `Seen`, by steps.
 use Rattle.std.proofs.Common.{◌≡◌, ℕ, ◌≤◌, Bool, true, false, ◌||◌, cond, List, [], ◌∷◌, ◌++◌, length, drop, Option, Some, None, inl, inr, refl, sym, ap, subst, ◌∙◌, arith, eq-eqb, append-nil, length-append}
 use Rattle.std.specs.Prelude.{◌==◌, reverse, if◌then◌else◌}
 use Rattle.std.specs.List.{find}
@@ -17,7 +17,7 @@ use Rattle.frames.specs.Regularity.{in_progress, overlapped, FreshAlone, NotStra
 use Rattle.frames.proofs.Seen.{Seen, Returned, among, verdict, now_last, sees, IsFreshAlone, IsNotStray}
 use Rattle.frames.proofs.Pointwise.{put, put_same, put_other}
 
--- a process's read in progress, as both folds have it
+-- process p's read in progress is the same in both folds
 pub record ReadAgrees (p : ℕ) (k : Known) (s : Seen) : Type 0 where
   pub read : Reading
   pub last : last_read p k ≡ Some read
@@ -25,7 +25,7 @@ pub record ReadAgrees (p : ℕ) (k : Known) (s : Seen) : Type 0 where
   pub since : read.since ≤ length k.returned
   pub over : s.overlaps p ≡ reverse (drop read.since k.returned ++ in_progress k.writing)
 
--- both folds, where each process has this pending
+-- the two folds agree, if the processes have the operations `ops` pending
 pub record Agrees (ops : ℕ → Option Op) (k : Known) (s : Seen) : Type 0 where
   pub last : k.fresh ≡ s.last
   pub writing : k.writing ≡ s.writing
@@ -35,14 +35,14 @@ pub record Agrees (ops : ℕ → Option Op) (k : Known) (s : Seen) : Type 0 wher
 pub agrees_same : (from to : ℕ → Option Op) (k : Known) (s : Seen) → ((p : ℕ) → from p ≡ to p) → Agrees from k s → Agrees to k s
 agrees_same from to k s same a = record { last = a.last; writing = a.writing; idle = λ e. a.idle (same 0 ∙ e); reads = λ p e. a.reads p (same p ∙ e) }
 
--- the last of some
+-- the last match in a list to which one item was appended
 pub found_last : (p : ℕ) (r : Reading) (rs : List Reading) → find (λ x. x.process == p) (reverse (rs ++ r ∷ [])) ≡ cond (r.process == p) (Some r) (find (λ x. x.process == p) (reverse rs))
 found_last p r rs = ap (find (λ (x : Reading). x.process == p)) (reverse-append rs (r ∷ []))
 
 reverse_last : (xs : List ℕ) (x : ℕ) → reverse (xs ++ x ∷ []) ≡ x ∷ reverse xs
 reverse_last xs x = reverse-append xs (x ∷ [])
 
--- what both say of a read's value
+-- a value is in a list exactly if it is in the reversed list
 among_reverse : (x : ℕ) (xs : List ℕ) → among x (reverse xs) ≡ among x xs
 among_reverse x [] = refl
 among_reverse x (y ∷ xs) =
@@ -96,7 +96,7 @@ none_reversed (x ∷ xs) e = absurd (never (reverse xs) (sym (reverse-append (x 
 no_overlapped : (p : ℕ) (k : Known) (s : Seen) → ReadAgrees p k s → s.overlaps p ≡ [] → overlapped p k ≡ []
 no_overlapped p k s a e = none_reversed (overlapped p k) (sym (over_is p k s a) ∙ e)
 
--- what is said of a read by what is known, and by what is seen
+-- a claim about a read in terms of `Known`, `Says`, is the same as one in terms of `Seen`, `Good`
 pub record Alike (Says : Known → ℕ → ℕ → Type 0) (Good : Returned → Type 0) : Type 0 where
   pub seen : (p v : ℕ) (k : Known) (s : Seen) → ReadAgrees p k s → Says k p v → Good (returned_of p v s)
   pub known : (p v : ℕ) (k : Known) (s : Seen) → ReadAgrees p k s → Good (returned_of p v s) → Says k p v
@@ -113,7 +113,7 @@ stray_alike = record {
   known = λ p v k s a h e. h (sym (judged_is p v k s a) ∙ e);
 }
 
--- a write is invoked
+-- the folds still agree after a write is invoked
 pub agrees_write : (v : ℕ) (ops : ℕ → Option Op) (k : Known) (s : Seen) → ops 0 ≡ None → Agrees ops k s
     → Agrees (put 0 (Some (op.Write v)) ops) (after k (Invoke 0 (op.Write v))) (sees (Some (Invoke 0 (op.Write v))) s)
 agrees_write v ops k s free a = record {
@@ -139,7 +139,7 @@ one_reversed : (w : Option ℕ) → in_progress w ≡ reverse (in_progress w)
 one_reversed None = refl
 one_reversed (Some v) = refl
 
--- a read is invoked
+-- the folds still agree after a read is invoked
 pub agrees_read : (p : ℕ) (ops : ℕ → Option Op) (k : Known) (s : Seen) → ops p ≡ None → Agrees ops k s
     → Agrees (put p (Some op.Read) ops) (after k (Invoke p op.Read)) (sees (Some (Invoke p op.Read)) s)
 agrees_read p ops k s free a =
@@ -173,7 +173,7 @@ agrees_read p ops k s free a =
       ];
     }
 
--- an operation ends: nobody else's changes
+-- the folds still agree after process p's operation has ended
 pub agrees_ended : (p : ℕ) (ops : ℕ → Option Op) (k : Known) (s : Seen) → (p ≡ 0 → k.writing ≡ None) → Agrees ops k s → Agrees (put p None ops) k s
 agrees_ended p ops k s quiet a = record {
   last = a.last;
@@ -188,7 +188,7 @@ agrees_ended p ops k s quiet a = record {
   ];
 }
 
--- the write in progress returns
+-- the folds still agree after the write in progress has returned
 returning_agrees : (w : Option ℕ) (ops : ℕ → Option Op) (k : Known) (s : Seen) → k.writing ≡ w → Agrees ops k s
     → Agrees ops (returning w k) (record s { last = now_last w s.last; writing = None })
 returning_agrees None ops k s e a = record {

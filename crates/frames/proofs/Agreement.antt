@@ -1,4 +1,4 @@
--- What is promised of a register with one writer by what is known, event by event, is what is promised by what is seen, step by step.
+-- What a register with one writer promises is the same in terms of `Known` as in terms of `Seen`.
 use Rattle.std.proofs.Common.{◌≡◌, ℕ, ◌+◌, ◌<◌, Bool, true, false, ◌||◌, List, [], ◌∷◌, ◌++◌, length, Option, Some, None, refl, sym, ap, subst, ◌∙◌, arith, IsTrue, append_assoc}
 use Rattle.std.specs.Prelude.{◌==◌, ⊤, if◌then◌else◌}
 use Rattle.std.specs.List.{list_any, AllByRecursion}
@@ -17,7 +17,7 @@ use Rattle.frames.specs.declared.types.Event.{Event}
 use Rattle.frames.specs.declared.types.Event.TheVariants.{Invoke, Got, Wrote, Refused, Void, Stop, Chosen}
 use Rattle.frames.specs.declared.types.StepEvents.{StepEvents}
 use Rattle.frames.specs.declared.running.Running.{Running}
-use Rattle.frames.specs.Behaviour.{Behaviour, IsLawful, StandsWell, Answers}
+use Rattle.frames.specs.Behaviour.{Behaviour, IsLawful, ReachedOrAnswered, Answers}
 use Rattle.frames.specs.Fitting.{process_of}
 use Rattle.frames.specs.OneWriter.{HasOneWriter}
 use Rattle.frames.specs.Configuration.{running_at, is_stopped, fits_step, stepped, history, events_of, acted_on, acting, acting_unless, invoking, going, return_of, still_running, chosen_of, in_order}
@@ -34,12 +34,12 @@ use Rattle.frames.proofs.Halves.{all_left, all_right, all_both, two_false}
 use Rattle.frames.proofs.Pending.{op_of, ops_of, ops_after, none_at, first_well}
 use Rattle.frames.proofs.Pointwise.{put, put_same, put_is, put_put}
 
--- what an event, or none, makes of what is known
+-- what is known after an event, if there is one
 abbrev pub afters : Option Event → Known → Known
 afters None k = k
 afters (Some e) k = after k e
 
--- the read that returns is in progress in both folds
+-- if the event is the return of a read, that read is the same in both folds
 abbrev pub ReadsAgree : Option Event → Known → Seen → Type 0
 ReadsAgree None k s = ⊤
 ReadsAgree (Some (Got p v)) k s = ReadAgrees p k s
@@ -64,9 +64,9 @@ abbrev pub PlaysRole : ℕ → Op → Type 0
 PlaysRole p (op.Write v) = p ≡ 0
 PlaysRole p op.Read = p ≡ 0 → ⊥
 
--- an operation's end, or that it goes on
+-- the folds still agree after an operation ends or goes on
 end_agrees : {P : Type 0} (Reached : P → Type 0) (values p : ℕ) (o : Op) (next : Next P) (ops : ℕ → Option Op) (k : Known) (s : Seen) → ops p ≡ Some o → PlaysRole p o
-    → StandsWell Reached (Answers values o) next → refuses (return_of p next) ≡ false → Agrees ops k s → EventAgrees (put p (op_of (still_running o next)) ops) (return_of p next) k s
+    → ReachedOrAnswered Reached (Answers values o) next → refuses (return_of p next) ≡ false → Agrees ops k s → EventAgrees (put p (op_of (still_running o next)) ops) (return_of p next) k s
 end_agrees Reached values p o (Pending q) ops k s there role well fine a = record { reads = tt; after = agrees_same ops (put p (Some o) ops) k s (λ i. put_is p i (Some o) ops there) a }
 end_agrees Reached values p (op.Write v) (Done (Value x)) ops k s there role well fine a = absurd well
 end_agrees Reached values p op.Read (Done (Value x)) ops k s there role well fine a =
@@ -83,9 +83,9 @@ begin_agrees p (op.Write v) ops k s free role a =
     (agrees_write v ops k s (sym (ap ops role) ∙ free) a)
 begin_agrees p op.Read ops k s free role a = agrees_read p ops k s free a
 
--- an operation begins
+-- the folds still agree after an operation begins
 begun_agrees : {P : Type 0} (Reached : P → Type 0) (values p : ℕ) (o : Op) (next : Next P) (ops : ℕ → Option Op) (k : Known) (s : Seen) → ops p ≡ None → PlaysRole p o
-    → StandsWell Reached (Answers values o) next → refuses (return_of p next) ≡ false → Agrees ops k s
+    → ReachedOrAnswered Reached (Answers values o) next → refuses (return_of p next) ≡ false → Agrees ops k s
     → StepAgrees (put p (op_of (still_running o next)) ops) (in_order (Some (Invoke p o)) (return_of p next)) k s
 begun_agrees Reached values p o next ops k s free role well fine a =
     let k1 : Known = after k (Invoke p o) in
@@ -99,9 +99,9 @@ begun_agrees Reached values p o next ops k s free role well fine a =
           (agrees_same (put p x (put p (Some o) ops)) (put p x ops) (afters (return_of p next) k1) (sees (return_of p next) s1) (λ i. put_put p i (Some o) x ops) e.after);
     }
 
--- an operation goes on
+-- the folds still agree after a bit action of an operation
 gone_agrees : {P : Type 0} (Reached : P → Type 0) (values p : ℕ) (o : Op) (chosen : Option (ℕ × Bool)) (next : Next P) (ops : ℕ → Option Op) (k : Known) (s : Seen) → ops p ≡ Some o → PlaysRole p o
-    → StandsWell Reached (Answers values o) next → refuses (return_of p next) ≡ false → Agrees ops k s
+    → ReachedOrAnswered Reached (Answers values o) next → refuses (return_of p next) ≡ false → Agrees ops k s
     → StepAgrees (put p (op_of (still_running o next)) ops) (in_order (chosen_of p chosen) (return_of p next)) k s
 gone_agrees Reached values p o None next ops k s there role well fine a =
     let e = end_agrees Reached values p o next ops k s there role well fine a in record { first = e.reads; second = tt; after = e.after }
@@ -113,7 +113,7 @@ gone_agrees Reached values p o (Some c) next ops k s there role well fine a =
       after = subst (λ z. Agrees (put p (op_of (still_running o next)) ops) (afters (return_of p next) k) z) (sym (ap (λ c. if c then s else sees (return_of p next) s) fine)) e.after;
     }
 
--- the end's refusal, where a step refuses nothing
+-- the end of an operation isn't a refusal if no event of the step is one
 gone_fine : (p : ℕ) (chosen : Option (ℕ × Bool)) (end : Option Event) → refuses (in_order (chosen_of p chosen) end).first ≡ false → refuses (in_order (chosen_of p chosen) end).second ≡ false → refuses end ≡ false
 gone_fine p None end f s = f
 gone_fine p (Some c) end f s = s
@@ -126,7 +126,7 @@ module _ {P : Type 0} (b : Behaviour P) (one : HasOneWriter b) (Holds : Memory �
   invoking_agrees : (p : ℕ) (o : Op) (x : Option (Running P)) (m : Memory) (ops : ℕ → Option Op) (k : Known) (s : Seen) → Holds m → b.suits p o ≡ true → ops p ≡ op_of x
       → refuses (invoking b p o x m).events.second ≡ false → Agrees ops k s → StepAgrees (put p (op_of (invoking b p o x m).running) ops) (invoking b p o x m).events k s
   invoking_agrees p o None m ops k s h fits there fine a =
-      begun_agrees (Reaches p o) b.values p o (b.begins p o m).next ops k s there (role_of p o fits) (lawful.begins_well p o m h fits).stands fine a
+      begun_agrees (Reaches p o) b.values p o (b.begins p o m).next ops k s there (role_of p o fits) (lawful.begins_well p o m h fits).may_be_at fine a
   invoking_agrees p o (Some r) m ops k s h fits there fine a =
       record { first = tt; second = tt; after = agrees_same ops (put p (Some r.op) ops) k s (λ i. put_is p i (Some r.op) ops there) a }
 
@@ -137,7 +137,7 @@ module _ {P : Type 0} (b : Behaviour P) (one : HasOneWriter b) (Holds : Memory �
   going_agrees p choice (Some r) m ops k s h reached there f1 f2 a =
       let moved = b.goes r.point choice m in
       gone_agrees (Reaches p r.op) b.values p r.op moved.chosen moved.next ops k s there (role_of p r.op (lawful.reached_suits p r.op r.point reached))
-      (lawful.goes_well p r.op r.point choice m h reached).stands (gone_fine p moved.chosen (return_of p moved.next) f1 f2) a
+      (lawful.goes_well p r.op r.point choice m h reached).may_be_at (gone_fine p moved.chosen (return_of p moved.next) f1 f2) a
 
   acting_agrees : (z : Step) (x : Option (Running P)) (m : Memory) (ops : ℕ → Option Op) (k : Known) (s : Seen) → fits_step b z ≡ true → Holds m → IsReached Reaches (process_of z) x → ops (process_of z) ≡ op_of x
       → refuses (acting b z x m).events.first ≡ false → refuses (acting b z x m).events.second ≡ false → Agrees ops k s → StepAgrees (put (process_of z) (op_of (acting b z x m).running) ops) (acting b z x m).events k s
@@ -174,7 +174,7 @@ module _ {P : Type 0} (b : Behaviour P) (one : HasOneWriter b) (Holds : Memory �
     reads = λ p e. absurd (let n = ap (λ (r : Option (Running P)). op_of r) (none_at b.processes p) in cc);
   }
 
--- refusals, by events and by steps
+-- a history has the same refusals event by event and step by step
 refusal_at : (i : ℕ) (e : Option Event) → list_any (λ x. is_refusal x.1) (at_index i e) ≡ refuses e
 refusal_at i None = refl
 refusal_at i (Some (Invoke p o)) = refl
@@ -218,7 +218,7 @@ none_seen i (e ∷ es) h =
     rw (t.0, t.1.0) k
 
 module _ (Says : Known → ℕ → ℕ → Type 0) (Good : Returned → Type 0) (alike : Alike Says Good) where
-  -- what is said of a read, if the event is its return
+  -- the claim about a read, if the event is the read's return
   abbrev SaysOf : Option Event → Known → Type 0
   SaysOf None k = ⊤
   SaysOf (Some e) k = OnReturn Says k e
@@ -270,7 +270,7 @@ module _ (Says : Known → ℕ → ℕ → Type 0) (Good : Returned → Type 0) 
         (all_both Good (got e.first s) (got e.second (sees e.first s)) (event_seen e.first k s g.first h1.0) (event_seen e.second (afters e.first k) (sees e.first s) g.second h2.0))
         (seen_from (stepped b c z) steps (i + 1) (afters e.second (afters e.first k)) (after_step e s) (step_keeps b Holds Reaches lawful c z is fits) (All-tail (λ x. fits_step b x ≡ true) z steps fit) g.after t.1.1 h2.1)
 
-    -- the promise, by what is known, is that by what is seen; and the other way
+    -- the promise in terms of `Known` follows from the promise in terms of `Seen`, and the converse
     pub always_known : Always Good b → AlwaysReads b Says
     always_known h = record {
       one_writer = one;

@@ -1,4 +1,4 @@
--- The derived tests of operations and frames are those of the definitions.
+-- The derived `==` of operations and of frames' layers are the tests that the definitions name.
 use Rattle.std.proofs.Common.{◌≡◌, refl}
 use Rattle.frames.specs.declared.types.Op.{Op}
 use Rattle.frames.specs.declared.types.Op.TheVariants.{Write, Read}

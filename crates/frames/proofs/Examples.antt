@@ -1,4 +1,4 @@
--- Worked examples of the definitions by which something is there: one that holds, and a near miss.
+-- Worked examples of definitions that claim that something exists: a case, and a near miss.
 use Rattle.std.specs.Prelude.{⊤}
 use Rattle.std.proofs.Common.{ℕ, zero, suc, ◌≡◌, ◌≤◌, ◌<◌, true, true≢false, List, [], ◌∷◌, Option, Some, None, is_some, unwrap_or, slice_index_or, ap, refl, sym, subst, arith}
 use Rattle.frames.specs.declared.types.Event.TheVariants.{Invoke, Got}
@@ -15,7 +15,7 @@ use Rattle.frames.specs.declared.types.Reason.TheVariants.{Idle}
 use Rattle.frames.specs.declared.safe.SafePoint.{SafePoint}
 use Rattle.frames.specs.declared.safe.SafePoint.TheVariants as at
 use Rattle.frames.specs.Behaviour.{Answers}
-use Rattle.frames.specs.Flat.{StandsOn, StandsAt, IsReached, stack_of, outermost}
+use Rattle.frames.specs.Flat.{HasFramesFrom, HasReached, IsReached, stack_of, outermost}
 use Rattle.frames.specs.SafeBit.{safe_behaviour, SafeReaches}
 use Rattle.frames.specs.Configuration.{Configuration, initial_configuration, running_at}
 use Rattle.frames.specs.Verdicts.{initially}
@@ -30,7 +30,7 @@ Numbered-holds : Numbered 0 0 (initially 0) ((0, Invoke 0 (Write 1)) ∷ (1, Inv
 Numbered-holds =
     (0, (omega arith, (tt, (0, (omega arith, (tt, (1, (omega arith, (record { low = omega arith; high = omega arith; value_of = refl }, tt)))))))))
 
--- the values of the writes while 1 is being written
+-- the values of the writes, the initial one first, while 1 is being written
 abbrev values : List ℕ
 values = 0 ∷ 1 ∷ []
 
@@ -43,7 +43,7 @@ is_first zero few e = refl
 is_first (suc zero) few e = absurd (omega (arith, e))
 is_first (suc (suc n)) few e = absurd (omega (arith, few))
 
--- two reads within a write of 1: the first gives 1, and the second 0, which was there before
+-- two reads within a write of 1: the first gives 1, and the second the older 0
 Numbered-fails : Numbered 0 0 (initially 0) ((0, Invoke 0 (Write 1)) ∷ (1, Invoke 1 Read) ∷ (2, Got 1 1) ∷ (3, Invoke 1 Read) ∷ (4, Got 1 0) ∷ []) → ⊥
 Numbered-fails h =
     let new = h.1.1.1.1.1.1 in
@@ -53,15 +53,15 @@ Numbered-fails h =
     let none : old.0 ≡ 0 = is_first old.0 old.1.1.0.high old.1.1.0.value_of in
     omega (arith, one, none, next.1.0, old.1.0)
 
--- a bit action of a process that has nothing pending
+-- a bit action of a process that has nothing pending is void
 IsVoid-holds : IsVoid safe_behaviour start (step.Go 0 0)
-IsVoid-holds = record { leaves = refl; why = Idle; told = refl }
+IsVoid-holds = record { leaves = refl; why = Idle; reported = refl }
 
--- an invocation, after which the read is pending
+-- an invocation of a read isn't void: the read is pending after it
 IsVoid-fails : IsVoid safe_behaviour start (step.Read 1) → ⊥
 IsVoid-fails h = true≢false (ap (λ c. is_some (running_at 1 c)) h.leaves)
 
--- the frames of process 0 that begins to write 1
+-- the frames of process 0 as it begins to write 1
 abbrev writing : List Frame
 writing = safe_behaviour.frames (at.WriteStart true)
 
@@ -71,7 +71,7 @@ other_op e = cc
 some_frames : {A : Type 0} (x : A) (xs : List A) → x ∷ xs ≡ [] → ⊥
 some_frames x xs e = cc
 
--- process 1, which reads, can't stand there
+-- process 1, a reader, can't be at the point that these frames describe
 not_writing : (o : Op) (p : SafePoint) → SafeReaches 1 o p → writing ≡ safe_behaviour.frames p → ⊥
 not_writing (Write v) (at.WriteStart bit) r e = omega (arith, r.0)
 not_writing (Write v) (at.WriteEnd bit) r e = omega (arith, r.0)
@@ -82,19 +82,19 @@ not_writing Read (at.WriteEnd bit) r e = r
 not_writing Read at.ReadStart r e = other_op (ap outermost e)
 not_writing Read at.ReadEnd r e = other_op (ap outermost e)
 
--- process 0 stands where the frames say
-go_own-holds : (o : Op) × ((p : SafePoint) × StandsOn safe_behaviour.frames SafeReaches 0 0 writing o p)
+-- process 0 is at the point that the frames describe
+go_own-holds : (o : Op) × ((p : SafePoint) × HasFramesFrom safe_behaviour.frames SafeReaches 0 0 writing o p)
 go_own-holds = (Write 1, (at.WriteStart true, record { reached = (refl, omega arith, refl); there = refl }))
 
--- process 1 doesn't
-go_own-fails : (o : Op) × ((p : SafePoint) × StandsOn safe_behaviour.frames SafeReaches 1 0 writing o p) → ⊥
+-- process 1 isn't at a point that the frames describe
+go_own-fails : (o : Op) × ((p : SafePoint) × HasFramesFrom safe_behaviour.frames SafeReaches 1 0 writing o p) → ⊥
 go_own-fails h = not_writing h.0 h.1.0 h.1.1.reached h.1.1.there
 
 -- process 1 has nothing pending, and no frames
 proceed-holds : (slot : Option (Running SafePoint)) × (IsReached SafeReaches 1 slot × ([] ≡ stack_of safe_behaviour slot))
 proceed-holds = (None, (tt, refl))
 
--- process 1 has the frames of process 0
+-- process 1 can't have the frames of process 0
 proceed-fails : (slot : Option (Running SafePoint)) × (IsReached SafeReaches 1 slot × (writing ≡ stack_of safe_behaviour slot)) → ⊥
 proceed-fails h = by h.0 h.1.0 h.1.1
   where
@@ -109,7 +109,7 @@ lay-holds = (0, (Write 1, (refl, omega arith, refl)))
 abbrev Reads : ℕ → Op → SafePoint → Type 0
 Reads who o p = SafeReaches who o p × (who ≡ 1)
 
--- where only process 1 takes part, nobody can
+-- if only process 1 takes part, no process can begin to write 1
 lay-fails : (who : ℕ) × ((o : Op) × Reads who o (at.WriteStart true)) → ⊥
 lay-fails h = by h.0 h.1.0 h.1.1
   where
@@ -118,12 +118,12 @@ lay-fails h = by h.0 h.1.0 h.1.1
     by who Read r = r.0
 
 -- the read of process 1 has ended with 1, and no frames are left
-come_to-holds : (o : Op) × ((next : Next SafePoint) × StandsAt safe_behaviour SafeReaches 1 o (Some (Value 1)) [] next)
-come_to-holds = (Read, (Done (Value 1), record { stands = omega arith; answer = refl; there = refl }))
+reached_next-holds : (o : Op) × ((next : Next SafePoint) × HasReached safe_behaviour SafeReaches 1 o (Some (Value 1)) [] next)
+reached_next-holds = (Read, (Done (Value 1), record { may_be_at = omega arith; answer = refl; there = refl }))
 
 -- no operation of a bit ends with 7
-come_to-fails : (o : Op) × ((next : Next SafePoint) × StandsAt safe_behaviour SafeReaches 1 o (Some (Value 7)) [] next) → ⊥
-come_to-fails h = by h.0 h.1.0 h.1.1
+reached_next-fails : (o : Op) × ((next : Next SafePoint) × HasReached safe_behaviour SafeReaches 1 o (Some (Value 7)) [] next) → ⊥
+reached_next-fails h = by h.0 h.1.0 h.1.1
   where
     none : (outcome : Outcome) → Some outcome ≡ None → ⊥
     none outcome e = cc
@@ -132,15 +132,15 @@ come_to-fails h = by h.0 h.1.0 h.1.1
     answers (Write v) a = a
     answers Read a = omega (arith, a)
 
-    by : (o : Op) (next : Next SafePoint) → StandsAt safe_behaviour SafeReaches 1 o (Some (Value 7)) [] next → ⊥
+    by : (o : Op) (next : Next SafePoint) → HasReached safe_behaviour SafeReaches 1 o (Some (Value 7)) [] next → ⊥
     by o (Pending p) s = none _ s.answer
-    by o (Done outcome) s = answers o (subst (λ outcome. Answers 2 o outcome) (sym (ap (λ o. unwrap_or o Written) s.answer)) s.stands)
+    by o (Done outcome) s = answers o (subst (λ outcome. Answers 2 o outcome) (sym (ap (λ o. unwrap_or o Written) s.answer)) s.may_be_at)
 
--- process 1 can stand before a read's end
+-- process 1 can be at the point before a read's end
 process-holds : (o : Op) × SafeReaches 1 o at.ReadEnd
 process-holds = (Read, refl)
 
--- and process 0 can't
+-- process 0 can't be at that point
 process-fails : (o : Op) × SafeReaches 0 o at.ReadEnd → ⊥
 process-fails h = by h.0 h.1
   where

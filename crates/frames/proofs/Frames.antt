@@ -1,4 +1,4 @@
--- What the frames of a pending operation tell, and what they don't.
+-- What the frames of a pending operation determine, and what they don't.
 use Rattle.std.proofs.Common.{◌≡◌, ℕ, ◌+◌, ◌-◌, ◌<◌, Bool, true, false, List, [], ◌∷◌, length, drop, Some, None, refl, ap, ◌∙◌, arith, length-drop}
 use Rattle.std.specs.Prelude.{◌≢◌, ◌==◌, if◌then◌else◌}
 use Rattle.std.proofs.lemmas.Bool.Decides.{nat_tests}
@@ -7,10 +7,10 @@ use Rattle.frames.specs.declared.types.Op.{Op}
 use Rattle.frames.specs.declared.types.Op.TheVariants as op
 use Rattle.frames.specs.declared.types.Frame.{Frame}
 use Rattle.frames.specs.declared.safe.SafePoint.TheVariants as at
-use Rattle.frames.specs.Flat.{IsTold}
+use Rattle.frames.specs.Flat.{IsPointByFrames}
 use Rattle.frames.specs.SafeBit.{safe_behaviour, SafeReaches, safe_suits, safe_frame, point_at, bit_of}
 
--- a safe bit's process stands at the point that a frame of an operation that fits it tells
+-- a safe bit's process can be at the point of a frame whose operation fits it
 reaches_at : (who i : ℕ) (o : Op) → safe_suits who o ≡ true → SafeReaches who o (point_at o i)
 reaches_at who i (op.Write v) fits =
     let zero : who ≡ 0 = grind (arith, nat_tests) in
@@ -27,13 +27,13 @@ reaches_at who i op.Read fits = at_test (i == 0)
     at_test false = grind (arith, nat_tests)
 
 module _ (who first : ℕ) (stack : List Frame) where
-  -- as many frames as an operation of a safe bit has
-  pub not_one : length (drop first stack) ≢ 1 → IsTold safe_behaviour.frames SafeReaches who (drop first stack) None
+  -- a safe bit's operation has exactly one frame
+  pub not_one : length (drop first stack) ≢ 1 → IsPointByFrames safe_behaviour.frames SafeReaches who (drop first stack) None
   not_one other o p there e = other (ap length e)
 
   module _ (frame : Frame) (found : drop first stack ≡ frame ∷ drop (first + 1) stack) where
     pub one_frame : length stack - first ≡ 1 → safe_suits who frame.op ≡ true → frame ≡ safe_frame (point_at frame.op frame.i)
-        → IsTold safe_behaviour.frames SafeReaches who (drop first stack) (Some (point_at frame.op frame.i))
+        → IsPointByFrames safe_behaviour.frames SafeReaches who (drop first stack) (Some (point_at frame.op frame.i))
     one_frame one fits same =
         let none : drop (first + 1) stack ≡ [] = nil_from_length (drop (first + 1) stack) (length-drop (first + 1) stack ∙ omega (arith, one)) in
         (frame.op, (reaches_at who frame.i frame.op fits, found ∙ ap (λ xs. frame ∷ xs) none ∙ ap (λ x. x ∷ []) same))

@@ -1,4 +1,5 @@
--- What holds of two lists one after the other, or of two tests, holds of each.
+-- What holds of all items of two joined lists holds of each list's items; and what a joint test
+-- says of both its parts.
 use Rattle.std.proofs.Common.{◌≡◌, Bool, true, false, List, [], ◌∷◌, ◌++◌, IsTrue, rules}
 use Rattle.std.specs.Prelude.{◌&&◌, if◌then◌else◌}
 use Rattle.std.specs.List.{AllByRecursion}

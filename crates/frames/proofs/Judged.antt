@@ -1,4 +1,4 @@
--- What the verdict on a returned read says of its value, and what no write in progress says.
+-- What a verdict says about a read's value, and what follows if no write is in progress.
 use Rattle.std.proofs.Common.{◌≡◌, ℕ, Bool, true, false, [], Option, Some, None, refl, ap, inl, inr, IsTrue, eq-eqb}
 use Rattle.std.specs.Prelude.{◌==◌, ◌⊎◌, if◌then◌else◌}
 use Rattle.std.proofs.lemmas.Bool.{eqb-true}
@@ -24,7 +24,7 @@ fresh_value x h = go (x.value == x.fresh) refl h
     go true e k = eqb-true x.value x.fresh e
     go false e k = absurd (late (among x.value x.overlaps) k)
 
--- what a read gives, where it is not stray
+-- a read that isn't stray gives the fresh value, or that of a write that it overlaps
 pub not_stray_is : (x : Returned) → IsNotStray x → (x.value ≡ x.fresh) ⊎ IsTrue (among x.value x.overlaps)
 not_stray_is x h = go (x.value == x.fresh) refl (among x.value x.overlaps) refl h
   where

@@ -1,4 +1,5 @@
--- No returned read of an atomic register is stray: its number is that of the write last returned before it, or of one that it overlaps.
+-- No returned read of an atomic register is stray: the read's number is that of the last write
+-- before it, or of a write that it overlaps.
 use Rattle.std.proofs.Common.{◌≡◌, ℕ, zero, suc, ◌+◌, ◌<◌, ◌≤◌, ◌-◌, Bool, true, false, ◌||◌, cond, List, [], ◌∷◌, ◌++◌, length, drop, Option, Some, None, inl, inr, refl, sym, ap, subst, ◌∙◌, arith, get_or, eq-eqb, length-append}
 use Rattle.std.specs.Prelude.{◌==◌, if◌then◌else◌}
 use Rattle.std.specs.List.{list_any}
@@ -16,12 +17,13 @@ use Rattle.frames.specs.Verdicts.{Known, initially, after, returning, invoked_no
 use Rattle.frames.specs.Regularity.{in_progress, OnReturn, EachRead, NotStray, NeverStray, IsRegular, IsAtomic, by_number, IsNumber, Numbered}
 use Rattle.frames.proofs.Agreed.{found_last, is_among}
 
--- a read as it was noted: no more writes had returned than have by now, and the last of them, or the initial value, was fresh
+-- a read's record is right: by its invocation no more writes had returned than by now, and what was
+-- fresh was the value of the last of them, or the initial value if none had
 record IsNoted (value : ℕ) (returned : List ℕ) (r : Reading) : Type 0 where
   since : r.since ≤ length returned
   fresh : get_or (value ∷ returned) r.since value ≡ r.fresh
 
--- what is known after any events
+-- what is known is right, whichever events have been recorded
 record IsKnown (value : ℕ) (k : Known) : Type 0 where
   fresh : get_or (value ∷ k.returned) (length k.returned) value ≡ k.fresh
   reads : (p : ℕ) (r : Reading) → last_read p k ≡ Some r → IsNoted value k.returned r
@@ -36,7 +38,7 @@ reading_noted value p k h = go (last_read p k) refl
     go None e = noted_now value p k h
     go (Some r) e = h.reads p r e
 
--- one more write has returned
+-- a read's record is still right after one more write has returned
 noted_more : (value v : ℕ) (returned : List ℕ) (r : Reading) → IsNoted value returned r → IsNoted value (returned ++ v ∷ []) r
 noted_more value v returned r h =
     let since : r.since ≤ length returned = h.since in
@@ -72,13 +74,13 @@ known_after value k (Void p reason) h = h
 known_after value k (Stop p) h = h
 known_after value k (Chosen p bit v) h = h
 
--- a value that stands behind the first i is among those from there on
+-- an item after the first i is among those after them
 among_later : (v d : ℕ) (xs : List ℕ) (i n : ℕ) → i ≤ n → n < length xs → get_or xs n d ≡ v → list_any (λ u. u == v) (drop i xs) ≡ true
 among_later v d xs i n low high there =
     let at : get_or (drop i xs) (n - i) d ≡ v = get_or-drop i xs (n - i) d ∙ ap (λ j. get_or xs j d) (let e : i + (n - i) ≡ n = omega (arith, low) in e) ∙ there in
     list_any_at (λ u. u == v) (drop i xs) (n - i) d (let l = length-drop i xs in omega (arith, low, high, l)) (eq-eqb (get_or (drop i xs) (n - i) d) v at)
 
--- the write with a later number overlaps the read
+-- the write overlaps the read, if its number is above the number of writes returned before the read
 number_overlaps : (value n p v : ℕ) (k : Known) → IsNoted value k.returned (reading p k) → (reading p k).since < n → IsNumber value k p v n → overlaps (reading p k) v k ≡ true
 number_overlaps value zero p v k noted later is = let f : ⊥ = omega (arith, later) in absurd f
 number_overlaps value (suc m) p v k noted later is =
@@ -89,7 +91,7 @@ number_overlaps value (suc m) p v k noted later is =
     ∙ ap (list_any (λ u. u == v)) (sym (drop-append-le r.since k.returned (in_progress k.writing) noted.since))
     ∙ among_later v value (k.returned ++ in_progress k.writing) r.since m (omega (arith, later)) (omega (arith, high)) is.value_of
 
--- the write with the number of those returned before the read is fresh
+-- the write is fresh, if its number is that of the writes returned before the read
 number_fresh : (value n p v : ℕ) (k : Known) → IsNoted value k.returned (reading p k) → n ≡ (reading p k).since → IsNumber value k p v n → v ≡ (reading p k).fresh
 number_fresh value n p v k noted e is =
     let since : (reading p k).since ≤ length k.returned = noted.since in

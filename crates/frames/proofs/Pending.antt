@@ -1,4 +1,4 @@
--- What each process of a register alone has pending, and what it has at first.
+-- The pending operation of each process of a register alone; at first there is none.
 use Rattle.std.proofs.Common.{◌≡◌, ℕ, zero, suc, ◌<◌, false, Option, None, inl, inr, refl, sym, ap, ◌∙◌, length, get_or, set, replicate}
 use Rattle.std.specs.Option.{option_map}
 use Rattle.std.proofs.lemmas.Bool.{cases_eq}
@@ -19,7 +19,7 @@ op_of slot = option_map (λ r. r.op) slot
 abbrev pub ops_of : {P : Type 0} → Alone P → ℕ → Option Op
 ops_of c q = op_of (running_at q c)
 
--- where process p comes to have this pending
+-- the pending operations after the operation of process p has changed
 pub ops_after : {P : Type 0} (p : ℕ) (x : Option (Running P)) (c : Alone P) → p < length c.running → (q : ℕ) → put p (op_of x) (ops_of c) q ≡ op_of (get_or (set c.running p x) q None)
 ops_after p x c there q = elim (cases_eq q p) as (λ _. put p (op_of x) (ops_of c) q ≡ op_of (get_or (set c.running p x) q None)) [
   | inl same ↦ ap (put p (op_of x) (ops_of c)) same ∙ put_same p (op_of x) (ops_of c)
@@ -27,7 +27,7 @@ ops_after p x c there q = elim (cases_eq q p) as (λ _. put p (op_of x) (ops_of 
   | inr other ↦ put_other p q (op_of x) (ops_of c) other ∙ sym (ap op_of (get_or-set_other c.running p q x None other))
 ]
 
--- at first nothing is pending, and nobody has stopped
+-- at first nothing is pending, and no process has stopped
 pub none_at : {A : Type 0} (n p : ℕ) → ◌≡◌ {A = Option A} (get_or (replicate n None) p None) None
 none_at zero p = refl
 none_at (suc n) zero = refl

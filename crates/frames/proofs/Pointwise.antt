@@ -1,9 +1,9 @@
--- A function, and the same changed at one place.
+-- A function changed at one argument.
 use Rattle.std.proofs.Common.{◌≡◌, ℕ, refl, sym, ap, subst, ◌∙◌, inl, inr, eq-eqb}
 use Rattle.std.specs.Prelude.{◌==◌, if◌then◌else◌}
 use Rattle.std.proofs.lemmas.Bool.{cases_eq, ne_eqb}
 
--- f, but for x at i
+-- the function f with its value at i changed to x
 abbrev pub put : {A : Type 0} → ℕ → A → (ℕ → A) → ℕ → A
 put i x f k = if k == i then x else f k
 
@@ -16,7 +16,7 @@ put_other i k x f ne = ap (λ c. if c then x else f k) (ne_eqb k i ne)
 pub put_zero : {A : Type 0} (i : ℕ) (x : A) (f : ℕ → A) → i ≡ 0 → put i x f 0 ≡ x
 put_zero i x f e = sym (ap (put i x f) e) ∙ put_same i x f
 
--- put there what was there
+-- putting a value back changes nothing
 pub put_again : {A : Type 0} (i k : ℕ) (f : ℕ → A) → f k ≡ put i (f i) f k
 put_again i k f =
     elim (cases_eq k i) [
@@ -30,7 +30,7 @@ put_back i f = λ d k. put_again i k f d
 pub put_is : {A : Type 0} (i k : ℕ) (x : A) (f : ℕ → A) → f i ≡ x → f k ≡ put i x f k
 put_is i k x f e = subst (λ y. f k ≡ put i y f k) e (put_again i k f)
 
--- put twice at one place
+-- the second of two values put at one argument replaces the first
 pub put_put : {A : Type 0} (i k : ℕ) (x y : A) (f : ℕ → A) → put i y (put i x f) k ≡ put i y f k
 put_put i k x y f = elim (cases_eq k i) as (λ _. put i y (put i x f) k ≡ put i y f k) [
   | inl same ↦ ap (put i y (put i x f)) same ∙ put_same i y (put i x f) ∙ sym (ap (put i y f) same ∙ put_same i y f)
@@ -40,7 +40,7 @@ put_put i k x y f = elim (cases_eq k i) as (λ _. put i y (put i x f) k ≡ put 
 pub put_over : {A : Type 0} (i : ℕ) (x y : A) (f : ℕ → A) → put i y (put i x f) ≡ put i y f
 put_over i x y f = λ d k. put_put i k x y f d
 
--- what holds of each place but for i, and of the item put at i, holds of each place after
+-- a property holds of the changed function if it holds of x at i, and of f at all other arguments
 pub put_all : {A : Type 0} (Q : ℕ → A → Type 0) (i : ℕ) (x : A) (f : ℕ → A) → Q i x → ((k : ℕ) → (k ≡ i → ⊥) → Q k (f k)) → (k : ℕ) → Q k (put i x f k)
 put_all Q i x f here there k =
     elim (cases_eq k i) [

@@ -1,4 +1,4 @@
--- A register alone that a list of fitting steps has led to a configuration, with what its history tells; and one fitting step more.
+-- A register alone after a list of fitting steps, with what its history shows; and one more step.
 use Rattle.std.proofs.Common.{◌≡◌, ℕ, ◌<◌, List, [], ◌∷◌, ◌++◌, refl, ap, ◌∙◌, subst, arith, true, false, IsTrue}
 use Rattle.std.specs.List.{AllByRecursion}
 use Rattle.std.proofs.lemmas.List.Elements.{All-append, All-cons}
@@ -10,12 +10,12 @@ use Rattle.frames.specs.Recorded.{AllFit, Alone, first_configuration}
 use Rattle.frames.proofs.Seen.{Seen, Returned, opening, after_step, read_in, reads, seen, refuses, refuses_none, Always}
 use Rattle.frames.proofs.Halves.{all_left, all_right, two_false}
 
--- a list of fitting steps of the register alone leads to the configuration, and its history tells this
+-- a list of fitting steps leads the register alone to c, and its history shows s
 pub record Reached {P : Type 0} (b : Behaviour P) (v : ℕ) (c : Alone P) (s : Seen) : Type 0 where
   pub steps : List Step
   pub fit : AllFit b steps
   pub leads : replayed b (first_configuration b v) steps ≡ c
-  pub tells : seen (opening v) (history b (first_configuration b v) steps) ≡ s
+  pub reports : seen (opening v) (history b (first_configuration b v) steps) ≡ s
 
 pub record IsFine (Good : Returned → Type 0) (s : Seen) (e : StepEvents) : Type 0 where
   pub first : refuses e.first ≡ false
@@ -51,11 +51,11 @@ one_fits b s f = All-cons (λ s. fits_step b s ≡ true) s [] f (λ k d lt. absu
 fit-append : {P : Type 0} (b : Behaviour P) (xs : List Step) (s : Step) → AllFit b xs → fits_step b s ≡ true → AllFit b (xs ++ s ∷ [])
 fit-append b xs s h f = All-append (λ s. fits_step b s ≡ true) xs (s ∷ []) h (one_fits b s f)
 
--- no step
+-- no steps lead to the first configuration
 pub reached_first : {P : Type 0} (b : Behaviour P) (v : ℕ) → Reached b v (first_configuration b v) (opening v)
-reached_first b v = record { steps = []; fit = λ k d lt. absurd (omega (arith, lt)); leads = refl; tells = refl }
+reached_first b v = record { steps = []; fit = λ k d lt. absurd (omega (arith, lt)); leads = refl; reports = refl }
 
--- one fitting step more
+-- one more fitting step leads to the configuration after the step
 pub reached_more : {P : Type 0} (b : Behaviour P) (v : ℕ) (c : Alone P) (s : Seen) (step : Step) → Reached b v c s → fits_step b step ≡ true
     → Reached b v (stepped b c step) (after_step (events_of b c step) s)
 reached_more b v c s step h f =
@@ -64,13 +64,13 @@ reached_more b v c s step h f =
       steps = h.steps ++ step ∷ [];
       fit = fit-append b h.steps step h.fit f;
       leads = replayed-append b h.steps step first ∙ ap (λ x. stepped b x step) h.leads;
-      tells = ap (seen (opening v)) (history-append b h.steps step first)
+      reports = ap (seen (opening v)) (history-append b h.steps step first)
           ∙ seen-append (opening v) (history b first h.steps) (events_of b (replayed b first h.steps) step)
           ∙ ap (λ x. after_step (events_of b x step) (seen (opening v) (history b first h.steps))) h.leads
-          ∙ ap (after_step (events_of b c step)) h.tells;
+          ∙ ap (after_step (events_of b c step)) h.reports;
     }
 
--- what such a step records is as the register promises
+-- the events of one more fitting step are as the register promises
 pub reached_fine : {P : Type 0} (Good : Returned → Type 0) (b : Behaviour P) (v : ℕ) (c : Alone P) (s : Seen) (step : Step) → Always Good b → v < b.values
     → Reached b v c s → fits_step b step ≡ true → IsFine Good s (events_of b c step)
 reached_fine Good b v c s step all l h f =
@@ -81,4 +81,4 @@ reached_fine Good b v c s step all l h f =
     let w : IsFine Good (seen (opening v) (history b first h.steps)) e =
     last_fine Good (opening v) (history b first h.steps) e (subst (λ es. IsTrue (refuses_none es)) k a.0) (subst (λ es. AllByRecursion Good (reads (opening v) es)) k a.1) in
     subst (λ x. IsFine Good s (events_of b x step)) h.leads
-    (subst (λ z. IsFine Good z e) h.tells w)
+    (subst (λ z. IsFine Good z e) h.reports w)

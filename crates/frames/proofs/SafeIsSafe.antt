@@ -107,7 +107,7 @@ begun_write v u cell (Some r) h = at r.point h
     at ReadStart h = λ k. let f : ⊥ = cc in absurd f
     at ReadEnd h = λ k. let f : ⊥ = cc in absurd f
 
--- where no write is in progress, none of the cell is
+-- if no write of the register is in progress, no write of its cell is
 quiet_cell : (r : Option (Running SafePoint)) (u : Seen) (cell : Cell) → WriterSays r u cell → u.writing ≡ None → is_some cell.writing ≡ false
 quiet_cell None u cell h e = ap is_some h.1
 quiet_cell (Some r) u cell h e = at r.point h
@@ -145,13 +145,13 @@ ended_write v cell e = ap (λ o. unwrap_or o cell.value) e
 abbrev Good : C → Seen → Step → Type 0
 Good c u s = (z : Seen) × (Told IsFreshAlone u (events_of safe_behaviour c s) z × SafeInv (stepped safe_behaviour c s) z)
 
--- by what the step comes to
+-- a step is good if its effect keeps the invariant
 to_good : (c : C) (u z : Seen) (s : Step) (who : ℕ) (o : Op) (event : Option Event) (next : Next SafePoint) (m : Memory) → StepsTo safe_behaviour c s who o event next m
     → Told IsFreshAlone u (in_order event (return_of who next)) z → SafeInv (moves who o next m c) z → Good c u s
 to_good c u z s who o event next m to told inv = (z, (subst (λ e. Told IsFreshAlone u e z) (sym to.events) told, subst (λ d. SafeInv d z) (sym to.after) inv))
 
 void_good : (c : C) (u : Seen) (s : Step) → IsVoid safe_behaviour c s → SafeInv c u → Good c u s
-void_good c u s v h = (u, (subst (λ e. Told IsFreshAlone u e u) (sym v.told) (told_void IsFreshAlone u (process_of s) v.why), subst (λ d. SafeInv d u) (sym v.leaves) h))
+void_good c u s v h = (u, (subst (λ e. Told IsFreshAlone u e u) (sym v.reported) (told_void IsFreshAlone u (process_of s) v.why), subst (λ d. SafeInv d u) (sym v.leaves) h))
 
 begin_write : (v : ℕ) (c : C) (u : Seen) → running_at 0 c ≡ None → is_stopped 0 c ≡ false → v < 2 → SafeInv c u → Good c u (step.Write 0 v)
 begin_write v c u e awake l h =

@@ -1,5 +1,5 @@
--- What a history tells, step by step, as functions of the reader: the fold over which the laws of layers are proved. That it says what
--- `Known` says is shown in `Agreement`.
+-- What a history shows, step by step: the fold over which the laws of layers are proved.
+-- `Agreement` shows that this fold and `Known` agree.
 use Rattle.std.specs.Prelude.{◌≡◌, ◌≢◌, ℕ, ◌<◌, Bool, true, false, Option, Some, None, List, [], ◌∷◌, ◌++◌, ◌==◌, ◌&&◌, if◌then◌else◌, IsTrue}
 use Rattle.std.specs.List.{list_any, AllByRecursion}
 use Rattle.frames.specs.declared.types.Op.TheVariants.{Read, Write}
@@ -17,22 +17,24 @@ use Rattle.frames.specs.Recorded.{AllFit, first_configuration}
 use Rattle.frames.specs.Regularity.{in_progress}
 use Rattle.frames.proofs.Pointwise.{put}
 
--- a read that returned: whose, its value, the value that was fresh as it was invoked, and those of the writes that it overlaps
+-- a returned read: its process, its value, the value that was fresh at its invocation, and the
+-- values of the writes that it overlaps
 pub record Returned : Type 0 where
   pub reader : ℕ
   pub value : ℕ
   pub fresh : ℕ
   pub overlaps : List ℕ
 
--- x is one of them
+-- whether x is one of these values
 abbrev pub among : ℕ → List ℕ → Bool
 among x vs = list_any (λ v. v == x) vs
 
 abbrev pub verdict : Returned → Verdict
 verdict x = if x.value == x.fresh then Fresh else if among x.value x.overlaps then Overlap else Stray
 
--- what a history tells: the value of the last write that returned, or the initial one; that of the write in progress; and
--- for each process the value that was last as its last read was invoked, and those of the writes in progress then or since
+-- What a history shows: `last` is the last value written, at first the initial one; `writing` is
+-- the value being written, if any. For each process's last read, `fresh` is the value fresh at its
+-- invocation, and `overlaps` has the values of the writes in progress then or invoked since.
 pub record Seen : Type 0 where
   pub last : ℕ
   pub writing : Option ℕ
@@ -67,7 +69,7 @@ refuses (Some (Void _ _)) = false
 refuses (Some (Chosen _ _ _)) = false
 refuses (Some (Stop _)) = false
 
--- a write that is refused in the step that invokes it counts for nothing
+-- a write refused in the step that invokes it counts for nothing
 abbrev pub after_step : StepEvents → Seen → Seen
 after_step e s = if refuses e.second then s else sees e.second (sees e.first s)
 
@@ -84,7 +86,7 @@ got (Some (Stop p)) s = []
 abbrev pub read_in : StepEvents → Seen → List Returned
 read_in e s = got e.first s ++ got e.second (sees e.first s)
 
--- the returned reads, in order
+-- the returned reads of a history, in the order they returned
 abbrev pub reads : Seen → List StepEvents → List Returned
 reads s [] = []
 reads s (e ∷ es) = read_in e s ++ reads (after_step e s) es
@@ -97,20 +99,21 @@ abbrev pub refuses_none : List StepEvents → Bool
 refuses_none [] = true
 refuses_none (e ∷ es) = (if refuses e.first then false else if refuses e.second then false else true) && refuses_none es
 
--- on every list of fitting steps from every initial configuration, no operation is refused, and what is said holds of each returned read
+-- on every list of fitting steps from every initial value, no operation is refused, and each
+-- returned read is good
 abbrev pub Always : {P : Type 0} → (Returned → Type 0) → Behaviour P → Type 0
 Always Good b =
     (v : ℕ) (steps : List Step) → v < b.values → AllFit b steps
     → IsTrue (refuses_none (history b (first_configuration b v) steps)) × AllByRecursion Good (reads (opening v) (history b (first_configuration b v) steps))
 
--- where it overlaps no write it is fresh
+-- a read that overlaps no write is fresh
 abbrev pub IsFreshAlone : Returned → Type 0
 IsFreshAlone x = x.overlaps ≡ [] → verdict x ≡ Fresh
 
 abbrev pub IsNotStray : Returned → Type 0
 IsNotStray x = verdict x ≢ Stray
 
--- each step's events are ones that what is known allows
+-- `Up` allows each step's events, given what is known before it, and says what is known next
 abbrev pub Allowed : {U : Type 0} → (U → StepEvents → U → Type 0) → U → List StepEvents → Type 0
 Allowed Up u [] = Unit {0}
 Allowed {U = U} Up u (e ∷ es) = (z : U) × (Up u e z × Allowed Up z es)

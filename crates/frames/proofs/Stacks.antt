@@ -20,23 +20,23 @@ use Rattle.frames.specs.declared.config.Parked.{Parked}
 use Rattle.frames.specs.declared.running.Running.{Running}
 use Rattle.frames.specs.Behaviour.{Behaviour, IsLawful}
 use Rattle.frames.specs.Configuration.{Acted, initial_configuration, running_at, put_acted}
-use Rattle.frames.specs.Parked.{IsConfiguration, IsFlat, idle, marks_of, shown, stacks_of}
-use Rattle.frames.specs.Flat.{FramesTell, Acts, IsReached, running_from, running_of, stack_of}
+use Rattle.frames.specs.Parked.{IsConfiguration, IsFlat, idle, marks_of, parked_configuration, stacks_of}
+use Rattle.frames.specs.Flat.{FramesGivePoint, Acts, IsReached, running_from, running_of, stack_of}
 use Rattle.frames.specs.laws.Steps.{initial_keeps, put_keeps}
 use Rattle.frames.specs.laws.Flat.{set_running, length_running, none_running, slot_point, parked_eq, parked_decides, tells_slot}
 
 module _ {R P : Type 0} (b : Behaviour P) (Holds : Memory → Type 0) (Reaches : ℕ → Op → P → Type 0) (find : ℕ → List Frame → Option P)
-    (lawful : IsLawful b Holds Reaches) (tell : FramesTell b Reaches find)
-    (r : R) (m : Memory) (stacks : List (List Frame)) (stopped : List Bool) (was : IsFlat b Holds Reaches (shown find r m stacks stopped) stacks) where
-  -- a process that is there has a stack
+    (lawful : IsLawful b Holds Reaches) (tell : FramesGivePoint b Reaches find)
+    (r : R) (m : Memory) (stacks : List (List Frame)) (stopped : List Bool) (was : IsFlat b Holds Reaches (parked_configuration find r m stacks stopped) stacks) where
+  -- each process has a stack
   stack_there : (who : ℕ) → who < b.processes → who < length stacks
   stack_there who lt = let e = was.configuration.each in omega (arith, lt, e, length_running find 0 stacks)
 
-  -- and on it the frames of what the process has pending
-  pub found_there : (who : ℕ) (x : List Frame) → who < b.processes → x ≡ get_or stacks who x → x ≡ stack_of b (running_at who (shown find r m stacks stopped))
+  -- a process's stack has the frames of its pending operation
+  pub found_there : (who : ℕ) (x : List Frame) → who < b.processes → x ≡ get_or stacks who x → x ≡ stack_of b (running_at who (parked_configuration find r m stacks stopped))
   found_there who x lt is = is ∙ sym (get_or_default stacks who [] x (stack_there who lt)) ∙ was.flat who
 
-  -- a stack that is put in tells what its process has pending
+  -- a stack that is put in describes its process's pending operation
   put_running : (who : ℕ) (slot : Option (Running P)) (stack : List Frame) → IsReached Reaches who slot → stack ≡ stack_of b slot
       → running_from find 0 (set stacks who stack) ≡ set (running_from find 0 stacks) who slot
   put_running who slot stack there is =
@@ -46,14 +46,14 @@ module _ {R P : Type 0} (b : Behaviour P) (Holds : Memory → Type 0) (Reaches :
       ∙ ap (λ x. set (running_from find 0 stacks) who x) (tells_slot b Reaches find tell who slot there)
 
   module _ (who : ℕ) (done : Acted P) (told : StepEvents) (stack : List Frame) (m' : Memory) (acts : Acts b done told stack m') (there : IsReached Reaches who done.running) where
-    -- the configuration behind what the step did
-    pub put_shown : shown find r m' (set stacks who stack) stopped ≡ put_acted who done (shown find r m stacks stopped)
+    -- putting in the new stack and memory gives the configuration after the step's effect
+    pub put_shown : parked_configuration find r m' (set stacks who stack) stopped ≡ put_acted who done (parked_configuration find r m stacks stopped)
     put_shown = λ i. record { register = r; memory = acts.memory i; running = put_running who done.running stack there acts.stack i; stopped = stopped }
 
-    pub put_flat : who < b.processes → Holds done.memory → IsFlat b Holds Reaches (shown find r m' (set stacks who stack) stopped) (set stacks who stack)
+    pub put_flat : who < b.processes → Holds done.memory → IsFlat b Holds Reaches (parked_configuration find r m' (set stacks who stack) stopped) (set stacks who stack)
     put_flat lt holds = record {
-      configuration = subst (IsConfiguration b Holds Reaches) (sym put_shown) (put_keeps b Holds Reaches lawful (shown find r m stacks stopped) who done was.configuration lt holds there);
-      flat = λ q. elim (cases_eq q who) as (λ _. get_or (set stacks who stack) q [] ≡ stack_of b (running_at q (shown find r m' (set stacks who stack) stopped))) [
+      configuration = subst (IsConfiguration b Holds Reaches) (sym put_shown) (put_keeps b Holds Reaches lawful (parked_configuration find r m stacks stopped) who done was.configuration lt holds there);
+      flat = λ q. elim (cases_eq q who) as (λ _. get_or (set stacks who stack) q [] ≡ stack_of b (running_at q (parked_configuration find r m' (set stacks who stack) stopped))) [
         | inl same ↦ rw (same, get_or-set_same stacks who stack [] (stack_there who lt))
             (acts.stack ∙ ap (stack_of b) (sym (ap (λ l. get_or l who None) (put_running who done.running stack there acts.stack)
             ∙ get_or-set_same (running_from find 0 stacks) who done.running None (subst (λ n. who < n) (sym was.configuration.each) lt))))
@@ -63,7 +63,7 @@ module _ {R P : Type 0} (b : Behaviour P) (Holds : Memory → Type 0) (Reaches :
       ];
     }
 
--- at first nobody has a frame
+-- the initial configuration, in which no process has a frame
 module _ {R P : Type 0} (b : Behaviour P) (Holds : Memory → Type 0) (Reaches : ℕ → Op → P → Type 0) (find : ℕ → List Frame → Option P)
     (lawful : IsLawful b Holds Reaches) (r : R) (v : ℕ) (lt : v < b.values) (m : Memory) (processes : List Parked)
     (at_m : m ≡ b.initial v) (at_rest : processes ≡ replicate b.processes idle) where
@@ -84,7 +84,7 @@ module _ {R P : Type 0} (b : Behaviour P) (Holds : Memory → Type 0) (Reaches :
   first_running : running_from find 0 (stacks_of processes) ≡ replicate b.processes None
   first_running = ap (running_from find 0) at_stacks ∙ none_running find 0 b.processes
 
-  pub first_shown : shown find r m (stacks_of processes) (marks_of processes) ≡ initial_configuration b r v
+  pub first_shown : parked_configuration find r m (stacks_of processes) (marks_of processes) ≡ initial_configuration b r v
   first_shown = λ i. record { register = r; memory = at_m i; running = first_running i; stopped = at_stopped i }
 
   nobody : (n p : ℕ) → get_or (replicate n []) p [] ≡ stack_of b (get_or (replicate n None) p None)
@@ -92,14 +92,14 @@ module _ {R P : Type 0} (b : Behaviour P) (Holds : Memory → Type 0) (Reaches :
   nobody (suc n) zero = refl
   nobody (suc n) (suc p) = nobody n p
 
-  pub first_flat : IsFlat b Holds Reaches (shown find r m (stacks_of processes) (marks_of processes)) (stacks_of processes)
+  pub first_flat : IsFlat b Holds Reaches (parked_configuration find r m (stacks_of processes) (marks_of processes)) (stacks_of processes)
   first_flat = record {
     configuration = initial_keeps b Holds Reaches lawful r v m (running_from find 0 (stacks_of processes)) (marks_of processes) lt at_m first_running at_stopped;
     flat = λ p. ap (λ l. get_or l p []) at_stacks ∙ nobody b.processes p ∙ sym (ap (λ l. stack_of b (get_or l p None)) first_running);
   }
 
--- what a stack tells is what its process has pending
-pub pointed : {P : Type 0} (b : Behaviour P) (Reaches : ℕ → Op → P → Type 0) (find : ℕ → List Frame → Option P) → FramesTell b Reaches find
+-- the point that a stack describes is the point of its process's pending operation
+pub pointed : {P : Type 0} (b : Behaviour P) (Reaches : ℕ → Op → P → Type 0) (find : ℕ → List Frame → Option P) → FramesGivePoint b Reaches find
     → (who : ℕ) (slot : Option (Running P)) (stack : List Frame) (p : P) → IsReached Reaches who slot → stack ≡ stack_of b slot → find who stack ≡ Some p
     → ((o : Op) × Reaches who o p) × (option_map (λ r. r.point) slot ≡ Some p)
 pointed {P} b Reaches find tell who slot stack p there is found =
@@ -109,12 +109,12 @@ pointed {P} b Reaches find tell who slot stack p there is found =
     reached_at None h e = cc
     reached_at (Some r) h e = let same : r.point ≡ p = cc in (r.op, subst (Reaches who r.op) same h)
 
--- what is asked of the point of what is pending
+-- a function of the point that was found is the function of the pending operation's point
 pub of_point : {P X : Type 0} (slot : Option (Running P)) (p : P) (f : P → X) → option_map (λ r. r.point) slot ≡ Some p → option_map (λ r. f r.point) slot ≡ Some (f p)
 of_point None p f e = cc
 of_point (Some r) p f e = let same : r.point ≡ p = cc in ap (λ q. Some (f q)) same
 
--- an action at the first of all places
+-- an action's cell has the same number in a store in which the register lies at the first place
 pub at_origin : (a : Action) → placed_action origin a ≡ a
 at_origin a = λ i. record a { cell = zero-add a.cell i }
 
@@ -122,7 +122,7 @@ pub bit_at_origin : (bit : Option (ℕ × Bool)) → placed_bit origin bit ≡ b
 bit_at_origin None = refl
 bit_at_origin (Some bit) = ap (λ n. Some (n, bit.1)) (zero-add bit.0)
 
--- processes are the same where their stacks and marks are
+-- processes are equal if their stacks and marks are
 same_parked : (xs ys : List Parked) → stacks_of xs ≡ stacks_of ys → marks_of xs ≡ marks_of ys → xs ≡ ys
 same_parked [] [] s t = refl
 same_parked [] (y ∷ ys) s t = cc
@@ -135,10 +135,10 @@ same_parked (x ∷ xs) (y ∷ ys) s t =
     let rest = same_parked xs ys stacks marks in
     λ i. record { stack = stack i; stopped = stopped i } ∷ rest i
 
--- stacks are the same where what is pending is
+-- two configurations have equal stacks if their pending operations are equal
 module _ {R P : Type 0} (is : R → Behaviour P) (Holds : R → Memory → Type 0) (Reaches : R → ℕ → Op → P → Type 0) (find : R → ℕ → List Frame → Option P)
     (r r' : R) (alike : is r ≡ is r') (m m' : Memory) (stacks stacks' : List (List Frame)) (stopped stopped' : List Bool)
-    (was : IsFlat (is r) (Holds r) (Reaches r) (shown (find r) r m stacks stopped) stacks) (was' : IsFlat (is r') (Holds r') (Reaches r') (shown (find r') r' m' stacks' stopped') stacks')
+    (was : IsFlat (is r) (Holds r) (Reaches r) (parked_configuration (find r) r m stacks stopped) stacks) (was' : IsFlat (is r') (Holds r') (Reaches r') (parked_configuration (find r') r' m' stacks' stopped') stacks')
     (s : running_from (find r) 0 stacks ≡ running_from (find r') 0 stacks') where
   at_place : length stacks ≡ length stacks' → (k : ℕ) (x : List Frame) → k < length stacks → get_or stacks k x ≡ get_or stacks' k x
   at_place as_many k x lt =
@@ -153,14 +153,14 @@ module _ {R P : Type 0} (is : R → Behaviour P) (Holds : R → Memory → Type 
       let as_many : length stacks ≡ length stacks' = omega (arith, long, each, each') in
       same_lists stacks stacks' as_many (λ k x lt. at_place as_many k x lt)
 
--- configurations are equal where their processes are
+-- configurations are equal exactly if their registers, memories, stacks and stop marks are
 pub same_flat : {R P : Type 0} (is : R → Behaviour P) (Holds : R → Memory → Type 0) (Reaches : R → ℕ → Op → P → Type 0) (find : R → ℕ → List Frame → Option P)
     (E : R → R → Bool) (alike : (a b : R) → E a b ≡ true → is a ≡ is b) (finds_alike : (a b : R) → E a b ≡ true → find a ≡ find b)
     (r r' : R) (m m' : Memory) (ps ps' : List Parked)
-    → IsFlat (is r) (Holds r) (Reaches r) (shown (find r) r m (stacks_of ps) (marks_of ps)) (stacks_of ps)
-    → IsFlat (is r') (Holds r') (Reaches r') (shown (find r') r' m' (stacks_of ps') (marks_of ps')) (stacks_of ps')
+    → IsFlat (is r) (Holds r) (Reaches r) (parked_configuration (find r) r m (stacks_of ps) (marks_of ps)) (stacks_of ps)
+    → IsFlat (is r') (Holds r') (Reaches r') (parked_configuration (find r') r' m' (stacks_of ps') (marks_of ps')) (stacks_of ps')
     → Decides (E r r' && (memory_eq m m' && pointwise parked_eq ps ps'))
-    (SameConfiguration E (shown (find r) r m (stacks_of ps) (marks_of ps)) (shown (find r') r' m' (stacks_of ps') (marks_of ps')))
+    (SameConfiguration E (parked_configuration (find r) r m (stacks_of ps) (marks_of ps)) (parked_configuration (find r') r' m' (stacks_of ps') (marks_of ps')))
 same_flat is Holds Reaches find E alike finds_alike r r' m m' ps ps' was was' =
     Decides-like _
     (λ p. record { register = p.0; memory = p.1.0; running = λ i. running_from (finds_alike r r' p.0 i) 0 (stacks_of (p.1.1 i)); stopped = ap marks_of p.1.1 })
@@ -168,17 +168,17 @@ same_flat is Holds Reaches find E alike finds_alike r r' m m' ps ps' was was' =
     (Decides-and (E r r') _ (λ h. h, λ h. h)
     (Decides-and (memory_eq m m') _ (memory_decides m m') (slice_eq-Decides parked_decides ps ps' _ refl)))
   where
-    stacks_from : SameConfiguration E (shown (find r) r m (stacks_of ps) (marks_of ps)) (shown (find r') r' m' (stacks_of ps') (marks_of ps')) → stacks_of ps ≡ stacks_of ps'
+    stacks_from : SameConfiguration E (parked_configuration (find r) r m (stacks_of ps) (marks_of ps)) (parked_configuration (find r') r' m' (stacks_of ps') (marks_of ps')) → stacks_of ps ≡ stacks_of ps'
     stacks_from s =
         same_stacks is Holds Reaches find r r' (alike r r' s.register) m m' (stacks_of ps) (stacks_of ps') (marks_of ps) (marks_of ps') was was' s.running
 
--- a test that is theirs
+-- a test that agrees with these comparisons decides equality of configurations
 pub same_tested : {R P : Type 0} {is : R → Behaviour P} (Holds : R → Memory → Type 0) (Reaches : R → ℕ → Op → P → Type 0) {find : R → ℕ → List Frame → Option P}
     {E : R → R → Bool} (alike : (a b : R) → E a b ≡ true → is a ≡ is b) (finds_alike : (a b : R) → E a b ≡ true → find a ≡ find b)
     {r r' : R} {m m' : Memory} (ps ps' : List Parked)
-    → IsFlat (is r) (Holds r) (Reaches r) (shown (find r) r m (stacks_of ps) (marks_of ps)) (stacks_of ps)
-    → IsFlat (is r') (Holds r') (Reaches r') (shown (find r') r' m' (stacks_of ps') (marks_of ps')) (stacks_of ps')
+    → IsFlat (is r) (Holds r) (Reaches r) (parked_configuration (find r) r m (stacks_of ps) (marks_of ps)) (stacks_of ps)
+    → IsFlat (is r') (Holds r') (Reaches r') (parked_configuration (find r') r' m' (stacks_of ps') (marks_of ps')) (stacks_of ps')
     → (t : Bool) → t ≡ (E r r' && (memory_eq m m' && pointwise parked_eq ps ps'))
-    → Decides t (SameConfiguration E (shown (find r) r m (stacks_of ps) (marks_of ps)) (shown (find r') r' m' (stacks_of ps') (marks_of ps')))
+    → Decides t (SameConfiguration E (parked_configuration (find r) r m (stacks_of ps) (marks_of ps)) (parked_configuration (find r') r' m' (stacks_of ps') (marks_of ps')))
 same_tested {is = is} Holds Reaches {find = find} {E = E} alike finds_alike {r} {r'} {m} {m'} ps ps' was was' t e =
     Decides-at _ _ e (same_flat is Holds Reaches find E alike finds_alike r r' m m' ps ps' was was')

@@ -1,4 +1,4 @@
--- What a step of one process leaves of a configuration, by what was done on the process's stack.
+-- A configuration after a step of one process, found from the change of that process's stack.
 use Rattle.std.proofs.Common.{◌≡◌, ℕ, ◌<◌, Bool, true, false, List, length, length-set, get_or, set, Option, None, sym, ap, subst, ◌∙◌}
 use Rattle.std.proofs.Math.ListN.{get_or-map}
 use Rattle.std.proofs.Math.Seq.{map-set_same}
@@ -12,32 +12,32 @@ use Rattle.frames.specs.declared.config.Parked.{Parked}
 use Rattle.frames.specs.declared.running.Running.{Running}
 use Rattle.frames.specs.Behaviour.{Behaviour, IsLawful}
 use Rattle.frames.specs.Configuration.{Acted, Configuration, running_at, put_acted, only_records, going, invoking}
-use Rattle.frames.specs.Parked.{IsFlat, marks_of, shown, stacks_of}
-use Rattle.frames.specs.Flat.{FramesTell, Acts, IsReached, running_from, stack_of}
+use Rattle.frames.specs.Parked.{IsFlat, marks_of, parked_configuration, stacks_of}
+use Rattle.frames.specs.Flat.{FramesGivePoint, Acts, IsReached, running_from, stack_of}
 use Rattle.frames.specs.laws.Steps.{LeavesWell, going_well, invoking_well}
 use Rattle.frames.proofs.Stacks.{found_there, put_shown, put_flat}
 
 module _ {R P : Type 0} {b : Behaviour P} {Holds : Memory → Type 0} {Reaches : ℕ → Op → P → Type 0} {find : ℕ → List Frame → Option P}
-    (lawful : IsLawful b Holds Reaches) (tell : FramesTell b Reaches find)
-    {r : R} {m : Memory} (ps : List Parked) (was : IsFlat b Holds Reaches (shown find r m (stacks_of ps) (marks_of ps)) (stacks_of ps))
+    (lawful : IsLawful b Holds Reaches) (tell : FramesGivePoint b Reaches find)
+    {r : R} {m : Memory} (ps : List Parked) (was : IsFlat b Holds Reaches (parked_configuration find r m (stacks_of ps) (marks_of ps)) (stacks_of ps))
     (who : ℕ) (lt : who < b.processes) where
   abbrev before : Configuration R P
-  before = shown find r m (stacks_of ps) (marks_of ps)
+  before = parked_configuration find r m (stacks_of ps) (marks_of ps)
 
   abbrev slot : Option (Running P)
   slot = running_at who before
 
-  -- the step's events, and the configuration behind it
+  -- a step has the effect `done`: these events, and the configuration that `now` and m' give
   pub record Leaves (done : Acted P) (told : StepEvents) (now : List Parked) (m' : Memory) : Type 0 where
     pub events : told ≡ done.events
-    pub flat : IsFlat b Holds Reaches (shown find r m' (stacks_of now) (marks_of now)) (stacks_of now)
-    pub after : shown find r m' (stacks_of now) (marks_of now) ≡ put_acted who done before
+    pub flat : IsFlat b Holds Reaches (parked_configuration find r m' (stacks_of now) (marks_of now)) (stacks_of now)
+    pub after : parked_configuration find r m' (stacks_of now) (marks_of now) ≡ put_acted who done before
 
-  -- marks alone have changed
+  -- a configuration is still flat after only stop marks have changed
   pub marked_flat : (now : List Parked) → stacks_of now ≡ stacks_of ps → marks_of now ≡ set (marks_of ps) who true
-      → IsFlat b Holds Reaches (shown find r m (stacks_of now) (marks_of now)) (stacks_of now)
+      → IsFlat b Holds Reaches (parked_configuration find r m (stacks_of now) (marks_of now)) (stacks_of now)
   marked_flat now stacks marks =
-      subst (λ l. IsFlat b Holds Reaches (shown find r m l (marks_of now)) l) (sym stacks)
+      subst (λ l. IsFlat b Holds Reaches (parked_configuration find r m l (marks_of now)) l) (sym stacks)
       (record {
         configuration = record {
           holds = was.configuration.holds;
@@ -50,7 +50,7 @@ module _ {R P : Type 0} {b : Behaviour P} {Holds : Memory → Type 0} {Reaches :
 
   pub marked_shown : (event : Event) (now : List Parked) → stacks_of now ≡ stacks_of ps
       → marks_of now ≡ set (marks_of ps) who true
-      → shown find r m (stacks_of now) (marks_of now) ≡ put_acted who (only_records event slot m)
+      → parked_configuration find r m (stacks_of now) (marks_of now) ≡ put_acted who (only_records event slot m)
       (record before { stopped = set before.stopped who true })
   marked_shown event now stacks marks =
       let same = ap (running_from find 0) stacks ∙ sym (set-get_or (running_from find 0 (stacks_of ps)) who None) in
@@ -70,17 +70,17 @@ module _ {R P : Type 0} {b : Behaviour P} {Holds : Memory → Type 0} {Reaches :
         → Leaves done told (with_stack stack) m'
     leaves done told stack m' acts well = record {
       events = acts.events;
-      flat = subst (λ k. IsFlat b Holds Reaches (shown find r m' (stacks_of (with_stack stack)) k) (stacks_of (with_stack stack))) (sym (marks_stay stack))
-          (subst (λ l. IsFlat b Holds Reaches (shown find r m' l (marks_of ps)) l) (sym (stacks_put stack))
+      flat = subst (λ k. IsFlat b Holds Reaches (parked_configuration find r m' (stacks_of (with_stack stack)) k) (stacks_of (with_stack stack))) (sym (marks_stay stack))
+          (subst (λ l. IsFlat b Holds Reaches (parked_configuration find r m' l (marks_of ps)) l) (sym (stacks_put stack))
           (put_flat b Holds Reaches find lawful tell r m (stacks_of ps) (marks_of ps) was who done told stack m' acts well.reached lt well.holds));
-      after = (λ i. shown find r m' (stacks_put stack i) (marks_stay stack i))
+      after = (λ i. parked_configuration find r m' (stacks_put stack i) (marks_stay stack i))
           ∙ put_shown b Holds Reaches find lawful tell r m (stacks_of ps) (marks_of ps) was who done told stack m' acts well.reached;
     }
 
     abbrev x : List Frame
     x = p.stack
 
-    -- its mark
+    -- the stop mark of process `who`
     pub mark_there : get_or (marks_of ps) who false ≡ p.stopped
     mark_there =
         get_or_default (marks_of ps) who false p.stopped (subst (λ n. who < n) (sym was.configuration.each_mark) lt)
@@ -90,19 +90,19 @@ module _ {R P : Type 0} {b : Behaviour P} {Holds : Memory → Type 0} {Reaches :
     found = found_there b Holds Reaches find lawful tell r m (stacks_of ps) (marks_of ps) was who x lt
         (ap (λ q. q.stack) is ∙ sym (get_or-map (λ q. q.stack) ps who p))
 
-    -- where the process stands
+    -- the process is idle or at a point that it can reach, and its stack has the frames
     pub stands : (s : Option (Running P)) × (IsReached Reaches who s × (x ≡ stack_of b s))
     stands = (slot, (was.configuration.reached who, found))
 
     module _ (told : StepEvents) (stack : List Frame) (m' : Memory) where
-      -- a step of what it has pending
+      -- a bit action that has the defined effect on stack and memory has it on the configuration
       pub proceeds : (choice : Bool) → ((s : Option (Running P)) → IsReached Reaches who s → x ≡ stack_of b s → Acts b (going b who choice s m) told stack m')
           → Leaves (going b who choice slot m) told (with_stack stack) m'
       proceeds choice acts =
           leaves (going b who choice slot m) told stack m' (acts slot (was.configuration.reached who) found)
           (going_well b Holds Reaches lawful who choice slot m was.configuration.holds (was.configuration.reached who))
 
-      -- or an invocation
+      -- an invocation that has the defined effect on stack and memory has it on the configuration
       pub invokes : (o : Op) → b.suits who o ≡ true → ((s : Option (Running P)) → IsReached Reaches who s → x ≡ stack_of b s → Acts b (invoking b who o s m) told stack m')
           → Leaves (invoking b who o slot m) told (with_stack stack) m'
       invokes o fits acts =

@@ -1,4 +1,4 @@
--- What a history tells of a register that refuses nothing, and whose returned reads are good.
+-- What a history shows of a register that refuses nothing, and whose returned reads are good.
 use Rattle.std.proofs.Common.{◌≡◌, ℕ, List, [], ◌∷◌, refl, ap, sym, subst, Bool, false, Option, Some, None, IsTrue, append-nil}
 use Rattle.std.specs.Prelude.{if◌then◌else◌}
 use Rattle.std.specs.List.{AllByRecursion}
@@ -12,12 +12,12 @@ use Rattle.frames.proofs.Seen.{Seen, Returned, after_step, read_in, reads, sees,
 use Rattle.frames.proofs.Reached.{IsFine}
 use Rattle.frames.proofs.Halves.{all_both}
 
--- what an operation's beginning on a part tells
+-- what is seen after the invocation of an operation, unless it is refused at once
 pub begun_seen : (who : ℕ) (o : Op) (end : Option Event) (s : Seen) → refuses end ≡ false
     → after_step (in_order (Some (Invoke who o)) end) s ≡ sees end (sees (Some (Invoke who o)) s)
 begun_seen who o end s e = ap (λ c. if c then s else sees end (sees (Some (Invoke who o)) s)) e
 
--- and its going on
+-- what is seen after a bit action of a pending operation, unless it ends in a refusal
 pub gone_seen : (who : ℕ) (chosen : Option (ℕ × Bool)) (end : Option Event) (s : Seen) → refuses end ≡ false
     → after_step (in_order (chosen_of who chosen) end) s ≡ sees end s
 gone_seen who None end s e = refl
@@ -28,16 +28,16 @@ pub gone_reads : (Good : Returned → Type 0) (who : ℕ) (chosen : Option (ℕ 
 gone_reads Good who None end s h = (h.first, subst (AllByRecursion Good) (append-nil (got end s)) h.reads)
 gone_reads Good who (Some c) end s h = (h.second, h.reads)
 
--- what a history tells, where each step's reads are good and nothing is refused
+-- a step's events take `Seen` from s to z, refuse nothing, and return only good reads
 abbrev pub Told : (Returned → Type 0) → Seen → StepEvents → Seen → Type 0
 Told Good s e z = IsFine Good s e × (z ≡ after_step e s)
 
--- an operation of a layer has begun, and has ended or has not
+-- this holds when a layer's operation has begun, and may have ended at once
 pub told_begun : (Good : Returned → Type 0) (p : ℕ) (o : Op) (end : Option Event) (s : Seen) → refuses end ≡ false → AllByRecursion Good (got end (sees (Some (Invoke p o)) s))
     → Told Good s (in_order (Some (Invoke p o)) end) (sees end (sees (Some (Invoke p o)) s))
 told_begun Good p o end s f g = (record { first = refl; second = f; reads = g }, sym (begun_seen p o end s f))
 
--- an operation of a layer has gone on, and has ended or has not
+-- this holds when a layer's operation has made a bit action, and may have ended
 pub told_gone : (Good : Returned → Type 0) (p : ℕ) (chosen : Option (ℕ × Bool)) (end : Option Event) (s : Seen) → refuses end ≡ false → AllByRecursion Good (got end s)
     → Told Good s (in_order (chosen_of p chosen) end) (sees end s)
 told_gone Good p None end s f g = (record { first = f; second = refl; reads = all_both Good (got end s) [] g tt }, refl)

@@ -1,4 +1,4 @@
--- Equality of configurations: equal registers, and the same cells, words, pending operations and stopped marks.
+-- Equality of configurations: of registers, cells, words, pending operations and stop marks.
 use Rattle.std.proofs.Common.{◌≡◌, Bool, true, false, nat_eq, List, Option, refl, ap}
 use mathlib.Core.Bool.{◌&&◌, beq}
 use Rattle.std.specs.Bool.{Decides}
@@ -14,14 +14,14 @@ use Rattle.frames.specs.declared.types.Op.TheVariants as op
 use Rattle.frames.specs.declared.running.Running.{Running}
 use Rattle.frames.specs.Configuration.{Configuration}
 
--- two configurations are equal: E compares registers
+-- two configurations are equal; the test E compares their registers
 pub record SameConfiguration {R P : Type 0} (E : R → R → Bool) (a b : Configuration R P) : Type 0 where
   pub register : E a.register b.register ≡ true
   pub memory : a.memory ≡ b.memory
   pub running : a.running ≡ b.running
   pub stopped : a.stopped ≡ b.stopped
 
--- the test of two operations
+-- compares two operations
 abbrev pub op_eq : Op → Op → Bool
 op_eq (op.Write v) (op.Write w) = nat_eq v w
 op_eq op.Read op.Read = true
@@ -33,7 +33,7 @@ op_decides op.Read op.Read = (λ h. refl, λ h. refl)
 op_decides (op.Write v) op.Read = (λ h. cc, λ h. cc)
 op_decides op.Read (op.Write w) = (λ h. cc, λ h. cc)
 
--- the test of two pending operations: F compares points
+-- compares two pending operations; the test F compares their points
 abbrev pub running_eq : {P : Type 0} → (P → P → Bool) → Running P → Running P → Bool
 running_eq F a b = op_eq a.op b.op && F a.point b.point
 
@@ -42,7 +42,7 @@ running_decides F d a b =
     Decides-like (running_eq F a b) (λ p. λ i. record { op = p.0 i; point = p.1 i }) (λ p. (ap (λ r. r.op) p, ap (λ r. r.point) p))
     (Decides-and (op_eq a.op b.op) (F a.point b.point) (op_decides a.op b.op) (d a.point b.point))
 
--- the test of two configurations
+-- compares two configurations; E compares their registers, and F compares points
 abbrev pub configuration_eq : {R P : Type 0} → (R → R → Bool) → (P → P → Bool) → Configuration R P → Configuration R P → Bool
 configuration_eq E F = eq_of_both (on (λ c. c.register) E) (eq_of_both (on (λ c. c.memory) memory_eq) (eq_of_both (on (λ c. c.running) (pointwise (option_eq (running_eq F)))) (on (λ c. c.stopped) (pointwise beq))))
 

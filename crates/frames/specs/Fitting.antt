@@ -1,4 +1,5 @@
--- Which steps fit: by how many processes there are, and which operations fit each.
+-- Which steps fit a register. This depends on the number of processes, and on the operations that
+-- fit each.
 use Rattle.std.specs.Prelude.{ℕ, Bool, ◌&&◌, nat_lt}
 use Rattle.frames.specs.declared.types.Op.{Op}
 use Rattle.frames.specs.declared.types.Op.TheVariants as op
@@ -6,12 +7,12 @@ use Rattle.frames.specs.declared.types.Step.{Step}
 use Rattle.frames.specs.declared.types.Step.TheVariants as step
 use Rattle.frames.specs.Behaviour.{Behaviour}
 
--- how many processes there are, from 0 on, and which operations fit each
+-- the number of processes, and which operations fit each
 pub record Roles : Type 0 where
   pub processes : ℕ
   pub suits : ℕ → Op → Bool
 
--- those of a register
+-- the roles of a register
 abbrev pub roles_of : {P : Type 0} → Behaviour P → Roles
 roles_of b = record { processes = b.processes; suits = b.suits }
 
@@ -22,7 +23,8 @@ process_of (step.Read p) = p
 process_of (step.Go p c) = p
 process_of (step.Stop p) = p
 
--- an operation that fits its process, a bit action of a process with a choice of 0 or 1, or a stop of a process
+-- Whether a step fits. An invocation fits if its operation fits its process. A bit action fits if
+-- its process exists and the choice is 0 or 1. A stop fits if its process exists.
 abbrev pub step_fits : Roles → Step → Bool
 step_fits roles (step.Write p v) = roles.suits p (op.Write v)
 step_fits roles (step.Read p) = roles.suits p op.Read

@@ -1,4 +1,4 @@
--- What a configuration keeps.
+-- The invariant of a configuration.
 use Rattle.std.specs.Prelude.{◌≡◌, ℕ, Bool, false, List, [], length, map, slice_index_or, Option, MatchOption, ⊤}
 use Rattle.safe_bit.specs.Memory.{Memory}
 use Rattle.frames.specs.declared.types.Op.{Op}
@@ -8,29 +8,30 @@ use Rattle.frames.specs.Behaviour.{Behaviour}
 use Rattle.frames.specs.Configuration.{Configuration, running_at}
 use Rattle.frames.specs.Flat.{running_from, stack_of}
 
--- a process that has nothing pending and hasn't stopped
+-- a process that has no operation pending and hasn't stopped
 abbrev pub idle : Parked
 idle = record { stack = []; stopped = false }
 
--- the stacks of processes, and their marks
+-- the processes' stacks, and their stop marks
 abbrev pub stacks_of : List Parked → List (List Frame)
 stacks_of = map (λ p. p.stack)
 
 abbrev pub marks_of : List Parked → List Bool
 marks_of = map (λ p. p.stopped)
 
--- the configuration that a register, a memory, stacks and marks show; `find` is the point whose frames lie on a stack
-abbrev pub shown : {R P : Type 0} → (ℕ → List Frame → Option P) → R → Memory → List (List Frame) → List Bool → Configuration R P
-shown find r m stacks stopped = record { register = r; memory = m; running = running_from find 0 stacks; stopped = stopped }
+-- the configuration of a register, a memory, stacks and stop marks; `find` reads points from stacks
+abbrev pub parked_configuration : {R P : Type 0} → (ℕ → List Frame → Option P) → R → Memory → List (List Frame) → List Bool → Configuration R P
+parked_configuration find r m stacks stopped = record { register = r; memory = m; running = running_from find 0 stacks; stopped = stopped }
 
--- the register's memory holds, and each process stands at a point that it can reach, and is marked or not
+-- the register's memory satisfies `Holds`; each process has a stop mark, and is idle or at a point
+-- that it can reach
 pub record IsConfiguration {R P : Type 0} (b : Behaviour P) (Holds : Memory → Type 0) (Reaches : ℕ → Op → P → Type 0) (c : Configuration R P) : Type 0 where
   pub holds : Holds c.memory
   pub each : length c.running ≡ b.processes
   pub each_mark : length c.stopped ≡ b.processes
   pub reached : (p : ℕ) → MatchOption (running_at p c) ⊤ (λ r. Reaches p r.op r.point)
 
--- each process's stack has the frames of what it has pending
+-- a configuration in which each process's stack has just the frames of its pending operation
 pub record IsFlat {R P : Type 0} (b : Behaviour P) (Holds : Memory → Type 0) (Reaches : ℕ → Op → P → Type 0) (c : Configuration R P) (stacks : List (List Frame)) : Type 0 where
   pub configuration : IsConfiguration b Holds Reaches c
   pub flat : (p : ℕ) → slice_index_or stacks p [] ≡ stack_of b (running_at p c)

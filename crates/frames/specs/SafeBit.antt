@@ -1,4 +1,4 @@
--- The register of one safe bit: its programs are the two actions of a write and of a read (Lamport 1986).
+-- The register of one safe bit, in which a write takes two actions and a read two (Lamport 1986).
 use Rattle.std.specs.Prelude.{◌≡◌, ℕ, ◌<◌, Bool, ◌&&◌, ◌==◌, nat_lt, List, [], ◌∷◌, Option, Some, None, if◌then◌else◌}
 use Rattle.safe_bit.specs.Memory.{Memory, cell_at, on_cell}
 use Rattle.safe_bit.specs.Actions.{idle_cell, start_write, end_write, start_read, end_read, read_gives}
@@ -21,7 +21,7 @@ bit_of v = v == 1
 abbrev pub value_of : Bool → ℕ
 value_of b = if b then 1 else 0
 
--- process 0 writes 0 and 1, process 1 reads
+-- process 0 writes 0 or 1, and process 1 reads
 abbrev pub safe_suits : ℕ → Op → Bool
 safe_suits who (op.Write v) = who == 0 && nat_lt v 2
 safe_suits who op.Read = who == 1
@@ -29,12 +29,12 @@ safe_suits who op.Read = who == 1
 abbrev pub safe_initial : ℕ → Memory
 safe_initial v = record { cells = idle_cell (bit_of v) ∷ []; words = [] }
 
--- an invocation makes no action
+-- an invocation makes no action on the cell yet
 abbrev pub safe_begins : ℕ → Op → Memory → Begun SafePoint
 safe_begins who (op.Write v) m = record { next = Pending (at.WriteStart (bit_of v)); memory = m }
 safe_begins who op.Read m = record { next = Pending at.ReadStart; memory = m }
 
--- a write is its start and its end, and so is a read
+-- a write makes two actions, a start and an end, and so does a read
 abbrev pub safe_goes : SafePoint → Bool → Memory → Moved SafePoint
 safe_goes (at.WriteStart v) choice m = record { next = Pending (at.WriteEnd v); chosen = None; memory = on_cell 0 (start_write v) m }
 safe_goes (at.WriteEnd v) choice m = record { next = Done Written; chosen = None; memory = on_cell 0 end_write m }
@@ -45,14 +45,14 @@ safe_goes at.ReadEnd choice m = record {
   memory = on_cell 0 end_read m;
 }
 
--- one frame, which tells whether the start is made
+-- the one frame of an operation; its i is 0 before the operation's start, and 1 after it
 abbrev pub safe_frame : SafePoint → Frame
 safe_frame (at.WriteStart v) = record { layer = layer.Safe; op = op.Write (value_of v); i = 0; x = 0 }
 safe_frame (at.WriteEnd v) = record { layer = layer.Safe; op = op.Write (value_of v); i = 1; x = 0 }
 safe_frame at.ReadStart = record { layer = layer.Safe; op = op.Read; i = 0; x = 0 }
 safe_frame at.ReadEnd = record { layer = layer.Safe; op = op.Read; i = 1; x = 0 }
 
--- the point that a frame tells, and that of the frames of an operation
+-- the point that a frame's operation and i describe; and the point that a one-frame stack describes
 abbrev pub point_at : Op → ℕ → SafePoint
 point_at (op.Write v) i = if i == 0 then at.WriteStart (bit_of v) else at.WriteEnd (bit_of v)
 point_at op.Read i = if i == 0 then at.ReadStart else at.ReadEnd
@@ -67,7 +67,7 @@ safe_acts (at.WriteEnd v) = record { kind = WriteEnd; cell = 0 }
 safe_acts at.ReadStart = record { kind = ReadStart; cell = 0 }
 safe_acts at.ReadEnd = record { kind = ReadEnd; cell = 0 }
 
--- the safe bit as a register of its one bit
+-- what the register of one safe bit does
 abbrev pub safe_behaviour : Behaviour SafePoint
 safe_behaviour = record {
   size = record { cell = 1; word = 0 };
@@ -82,7 +82,7 @@ safe_behaviour = record {
   acts = safe_acts;
 }
 
--- process 0 stands in the write of a bit, process 1 in its read
+-- the points of each process: process 0 can be in a write of 0 or 1, and process 1 in a read
 abbrev pub SafeReaches : ℕ → Op → SafePoint → Type 0
 SafeReaches who (op.Write v) (at.WriteStart bit) = (who ≡ 0) × (v < 2) × (bit ≡ bit_of v)
 SafeReaches who (op.Write v) (at.WriteEnd bit) = (who ≡ 0) × (v < 2) × (bit ≡ bit_of v)

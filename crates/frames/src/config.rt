@@ -4,7 +4,7 @@ ghost use Rattle.std.specs.Prelude.{◌≡◌, ℕ, ◌<◌, ◌+◌, Bool, true
 ghost use Rattle.std.specs.Bool.{Decides};
 ghost use Rattle.std.specs.Option.{option_map};
 ghost use Rattle.safe_bit.specs.Memory.{Memory};
-ghost use Rattle.frames.specs.Configuration.{running_at, is_stopped, initial_configuration, fits_step, events_of, stepped, mark, only_records, acting, invoking, going, Did};
+ghost use Rattle.frames.specs.Configuration.{running_at, is_stopped, initial_configuration, fits_step, events_of, stepped, with_stop_mark, only_records, acting, invoking, going, Did};
 ghost use Rattle.frames.specs.Fitting.{process_of};
 ghost use Rattle.frames.specs.Parked.{IsConfiguration, idle, stacks_of, marks_of};
 ghost use Rattle.frames.specs.Flat.{stack_of};
@@ -18,7 +18,8 @@ use safe_bit::Store;
 use std::alloc::{AllocError, Global};
 use std::marker::Model;
 
-/// A register, its cells and words, the frames of what each process has pending, and whether it has stopped.
+/// A configuration: a register, its cells and words, and for each process the frames of its pending
+/// operation and whether it has stopped.
 #[derive(Drop)]
 pub struct Config<R: Register> {
     register: R,
@@ -26,7 +27,7 @@ pub struct Config<R: Register> {
     processes: Vec<Parked>,
 }
 
-/// What a process has pending, and whether it has stopped.
+/// A process: the frames of its pending operation, and whether it has stopped.
 #[derive(Drop)]
 struct Parked {
     stack: FlatStack,
@@ -46,7 +47,7 @@ impl PartialEq for Parked {
 }
 
 impl Parked {
-    /// A process that has nothing pending and hasn't stopped.
+    /// A process that has no operation pending and hasn't stopped.
     fn idle() -> Parked
         ensures { result ≡ idle }
     {
@@ -56,7 +57,7 @@ impl Parked {
         }
     }
 
-    /// An equal process.
+    /// An equal copy.
     fn copy(&self) -> Parked
         ensures { result ≡ self.now }
     {
@@ -69,21 +70,22 @@ impl Parked {
 
 impl<R: Register> Model for Config<R> {
     ghost use Rattle.frames.specs.Configuration.{Configuration};
-    ghost use Rattle.frames.specs.Parked.{IsFlat, shown, stacks_of, marks_of};
+    ghost use Rattle.frames.specs.Parked.{IsFlat, parked_configuration, stacks_of, marks_of};
 
     ghost Value = { Configuration R R.Pending };
 
-    ghost view = { λ c. shown (R.point c.register) c.register c.store
+    ghost view = { λ c. parked_configuration (R.point c.register) c.register c.store
         (stacks_of c.processes.items) (marks_of c.processes.items) };
 
-    ghost invariant = { λ c. IsFlat (R.is c.register) (R.Holds c.register) (R.Reaches c.register)
-        (shown (R.point c.register) c.register c.store
+    ghost invariant = { λ c. IsFlat (R.behaviour c.register) (R.Holds c.register)
+        (R.Reaches c.register)
+        (parked_configuration (R.point c.register) c.register c.store
         (stacks_of c.processes.items) (marks_of c.processes.items))
         (stacks_of c.processes.items) };
 }
 
-/// Two configurations are equal where their registers are, and their cells, words, pending
-/// operations and stopped processes are the same.
+/// Two configurations are equal if they have equal registers, cells and words, and the same pending
+/// operations and stopped processes.
 impl<R: Register> PartialEq for Config<R> {
     ghost use Rattle.std.specs.Prelude.{◌≡◌};
     ghost use Rattle.std.specs.Bool.{Decides};
@@ -104,10 +106,12 @@ impl<R: Register> PartialEq for Config<R> {
 }
 
 impl<R: Register> Config<R> {
-    /// The initial configuration: the register at a value, nothing pending, and no process stopped.
+    /// The initial configuration: the register holds `value`, no process has an operation pending,
+    /// and none has stopped.
     pub fn initial(alloc: Global, register: R, value: u32) -> Result<Config<R>, AllocError>
-        requires { value < (R.is register).values }
-        ensures { IfOk result (λ c. c ≡ initial_configuration (R.is register) register value) }
+        requires { value < (R.behaviour register).values }
+        ensures { IfOk result
+            (λ c. c ≡ initial_configuration (R.behaviour register) register value) }
     {
         let store = store_of(alloc, &register, value)?;
         let processes = all_idle(alloc, register.processes())?;
@@ -118,7 +122,7 @@ impl<R: Register> Config<R> {
         })
     }
 
-    /// An equal configuration, with cells and words of its own.
+    /// An equal copy, with its own cells and words.
     pub fn copy(&self, alloc: Global) -> Result<Config<R>, AllocError>
         ensures { IfOk result (λ c. c ≡ self.now) }
     {
@@ -143,26 +147,27 @@ impl<R: Register> Config<R> {
         &self.store
     }
 
-    /// Whether the step fits: an operation that fits its process, a bit action of a process with a
-    /// choice of 0 or 1, or a stop of a process.
+    /// Whether the step fits. An invocation fits if its operation fits its process. A bit action
+    /// fits if its process exists and the choice is 0 or 1. A stop fits if its process exists.
     pub fn fits(&self, step: Step) -> bool
-        ensures { result ≡ fits_step (R.is self.now.register) step }
+        ensures { result ≡ fits_step (R.behaviour self.now.register) step }
     {
         step_fits(&self.register, step)
     }
 
-    /// The operation that a process has pending; none where it is idle or not there.
+    /// The operation that process `p` has pending; `None` if `p` is idle or doesn't exist.
     pub fn op(&self, p: u32) -> Option<Op>
         ensures { result ≡ option_map (λ r. r.op) (running_at p self.now) }
     {
         self.frames(p)?.op()
     }
 
-    /// The frames of a process's pending operation, outermost first; none where it is idle or not
-    /// there. It never asks the allocator.
+    /// The frames of process `p`'s pending operation, outermost first; `None` if `p` is idle or
+    /// doesn't exist. Never allocates.
     pub fn stack(&self, alloc: Global, p: u32) -> Option<Stack>
         ensures frames { option_map (λ s. s.items) result
-            ≡ option_map (λ r. (R.is self.now.register).frames r.point) (running_at p self.now) }
+            ≡ option_map (λ r. (R.behaviour self.now.register).frames r.point)
+            (running_at p self.now) }
         ensures inline { IfSome result (λ s. s.capacity ≡ 8) }
     {
         let frames = self.frames(p)?;
@@ -172,17 +177,18 @@ impl<R: Register> Config<R> {
         Some(frames.to_stack(alloc))
     }
 
-    /// The next bit action of a process; none where it is idle or not there.
+    /// The next bit action of process `p`; `None` if `p` is idle or doesn't exist.
     pub fn action(&self, p: u32) -> Option<Action>
-        ensures { result ≡ option_map (λ r. (R.is self.now.register).acts r.point)
+        ensures { result ≡ option_map (λ r. (R.behaviour self.now.register).acts r.point)
             (running_at p self.now) }
     {
         let frames = self.frames(p)?;
-        let point = self.register.pending(frames, 0, p)?;
+        let stack = frames.to_stack(self.store.allocator());
+        let point = self.register.pending(&stack, 0, p)?;
         Some(self.register.action(&point, ORIGIN))
     }
 
-    /// Whether a process has stopped; false where it isn't there.
+    /// Whether process `p` has stopped; false if `p` doesn't exist.
     pub fn stopped(&self, p: u32) -> bool
         ensures { result ≡ is_stopped p self.now }
     {
@@ -192,10 +198,11 @@ impl<R: Register> Config<R> {
         }
     }
 
-    /// The frames of what a process has pending; none where it isn't there.
+    /// The frames of process `p`'s pending operation, none if `p` is idle; `None` if `p` doesn't
+    /// exist.
     fn frames(&self, p: u32) -> Option<&FlatStack>
         ensures there { IfSome result
-            (λ s. s.now ≡ stack_of (R.is self.now.register) (running_at p self.now)) }
+            (λ s. s.now ≡ stack_of (R.behaviour self.now.register) (running_at p self.now)) }
         ensures beyond { IfNone result (running_at p self.now ≡ None) }
         ensures reached { MatchOption (running_at p self.now) ⊤
             (λ r. R.Reaches self.now.register p r.op r.point) }
@@ -203,12 +210,12 @@ impl<R: Register> Config<R> {
         Some(&self.processes.get(p as usize)?.stack)
     }
 
-    /// Makes the step, and tells its events, at most two.
+    /// Makes the step, and returns its events, at most two.
     #[inline(always)]
     pub fn step(&mut self, step: Step) -> StepEvents
-        requires { fits_step (R.is self.old.register) step ≡ true }
-        ensures events { result ≡ events_of (R.is self.old.register) self.old step }
-        ensures after { self.new ≡ stepped (R.is self.old.register) self.old step }
+        requires { fits_step (R.behaviour self.old.register) step ≡ true }
+        ensures events { result ≡ events_of (R.behaviour self.old.register) self.old step }
+        ensures after { self.new ≡ stepped (R.behaviour self.old.register) self.old step }
     {
         let who = step.process();
         if self.has_stopped(who) {
@@ -217,22 +224,23 @@ impl<R: Register> Config<R> {
         self.act(step)
     }
 
-    /// Whether a process that is there has stopped.
+    /// Whether process `who` has stopped.
     #[inline(always)]
     fn has_stopped(&self, who: u32) -> bool
-        requires { who < (R.is self.now.register).processes }
+        requires { who < (R.behaviour self.now.register).processes }
         ensures { result ≡ is_stopped who self.now }
     {
         self.processes[who as usize].stopped
     }
 
-    /// Makes the step of a process that hasn't stopped.
+    /// Makes the step, whose process hasn't stopped.
     #[inline(always)]
     fn act(&mut self, step: Step) -> StepEvents
-        requires { fits_step (R.is self.old.register) step ≡ true }
+        requires { fits_step (R.behaviour self.old.register) step ≡ true }
         ensures { let p = process_of step in
-            Did p (acting (R.is self.old.register) step (running_at p self.old) self.old.memory)
-            (mark step self.old) result self.new }
+            Did p (acting (R.behaviour self.old.register) step (running_at p self.old)
+            self.old.memory)
+            (with_stop_mark step self.old) result self.new }
     {
         match step {
             Step::Write { p, v } => self.invoke(p, Op::Write(v)),
@@ -242,9 +250,9 @@ impl<R: Register> Config<R> {
         }
     }
 
-    /// A process stops. Its operation stays pending, and its cells stay as they are.
+    /// Process `who` stops. Its operation stays pending, and no cell or word changes.
     fn stop(&mut self, who: u32) -> StepEvents
-        requires { who < (R.is self.old.register).processes }
+        requires { who < (R.behaviour self.old.register).processes }
         ensures { Did who (only_records (Event.Stop who) (running_at who self.old) self.old.memory)
             (record self.old { stopped = slice_set self.old.stopped who true }) result self.new }
     {
@@ -252,22 +260,22 @@ impl<R: Register> Config<R> {
         alone(Event::Stop(who))
     }
 
-    /// A process invokes an operation, if it has none pending.
+    /// Process `who` invokes `op`; its step is void if it has an operation pending.
     #[inline(always)]
     fn invoke(&mut self, who: u32, op: Op) -> StepEvents
-        requires { (R.is self.old.register).suits who op ≡ true }
-        ensures { Did who (invoking (R.is self.old.register) who op
+        requires { (R.behaviour self.old.register).suits who op ≡ true }
+        ensures { Did who (invoking (R.behaviour self.old.register) who op
             (running_at who self.old) self.old.memory) self.old result self.new }
     {
         let stack = &mut self.processes[who as usize].stack;
         invoke(&self.register, &mut self.store, who, op, stack)
     }
 
-    /// A process makes its next bit action, if it has an operation pending.
+    /// Process `who` makes its next bit action; its step is void if it has nothing pending.
     #[inline(always)]
     fn proceed(&mut self, who: u32, choice: bool) -> StepEvents
-        requires { who < (R.is self.old.register).processes }
-        ensures { Did who (going (R.is self.old.register) who choice
+        requires { who < (R.behaviour self.old.register).processes }
+        ensures { Did who (going (R.behaviour self.old.register) who choice
             (running_at who self.old) self.old.memory) self.old result self.new }
     {
         let stack = &mut self.processes[who as usize].stack;
@@ -275,7 +283,7 @@ impl<R: Register> Config<R> {
     }
 }
 
-/// Marks a process as stopped, and leaves what it has pending.
+/// Marks process `who` as stopped; its operation stays pending.
 fn mark_stopped(processes: &mut [Parked], who: u32)
     requires { who < length processes.old }
     ensures stacks { stacks_of processes.new ≡ stacks_of processes.old }
@@ -284,7 +292,7 @@ fn mark_stopped(processes: &mut [Parked], who: u32)
     processes[who as usize].stopped = true;
 }
 
-/// So many processes that have nothing pending, none of them stopped.
+/// A list of `processes` processes. None has an operation pending, and none has stopped.
 fn all_idle(alloc: Global, processes: u32) -> Result<Vec<Parked>, AllocError>
     ensures { IfOk result (λ all. all.items ≡ replicate processes idle) }
 {
@@ -295,7 +303,7 @@ fn all_idle(alloc: Global, processes: u32) -> Result<Vec<Parked>, AllocError>
     Ok(all)
 }
 
-/// Equal processes.
+/// A copy of each process, in the same order.
 fn copies(alloc: Global, processes: &[Parked]) -> Result<Vec<Parked>, AllocError>
     ensures { IfOk result (λ copied. copied.items ≡ processes.now) }
 {

@@ -1,4 +1,4 @@
-//! A stack of frames that changes where it lies.
+//! A stack of frames, changed in place.
 
 ghost use Rattle.std.specs.Prelude.{◌≡◌, ◌≤◌, ◌<◌, ◌+◌, ◌==◌, [], ◌∷◌, ◌++◌, length, take, drop, slice_set};
 ghost use Rattle.frames.specs.declared.types.Frame.{Frame};
@@ -10,7 +10,15 @@ use smallvec::SmallVec;
 use std::alloc::Global;
 use std::marker::Model;
 
-/// What lies where no frame is.
+/// The frame at `index`; index 0 is the outermost frame.
+pub fn frame_at(stack: &Stack, index: usize) -> Frame
+    requires { index < length stack.now.items }
+    ensures { drop index stack.now.items ≡ result ∷ drop (index + 1) stack.now.items }
+{
+    stack.as_slice()[index]
+}
+
+/// Fills the array beyond the last frame.
 const BLANK: Frame = Frame {
     layer: FrameLayer::Safe,
     op: Op::Read,
@@ -18,8 +26,8 @@ const BLANK: Frame = Frame {
     x: 0,
 };
 
-/// The frames of what a process has pending, outermost first, at most 8: none while it is idle. A
-/// contract sees it as the list of them.
+/// A stack of at most 8 frames: those of a process's pending operation, outermost first. It is
+/// empty while the process is idle. Contracts see it as a list of frames.
 #[derive(Debug, Drop)]
 pub struct FlatStack {
     frames: [Frame; STACK_FRAMES],
@@ -51,7 +59,7 @@ impl PartialEq for FlatStack {
 }
 
 impl FlatStack {
-    /// A stack of no frame.
+    /// An empty stack.
     pub fn new() -> FlatStack
         ensures { result ≡ [] }
     {
@@ -61,7 +69,7 @@ impl FlatStack {
         }
     }
 
-    /// An equal stack.
+    /// An equal copy.
     pub fn copy(&self) -> FlatStack
         ensures { result ≡ self.now }
     {
@@ -71,7 +79,7 @@ impl FlatStack {
         }
     }
 
-    /// How many frames there are.
+    /// The number of frames.
     #[inline(always)]
     pub fn len(&self) -> usize
         ensures { result ≡ length self.now }
@@ -79,7 +87,7 @@ impl FlatStack {
         self.count
     }
 
-    /// Whether there is none.
+    /// Whether there are no frames.
     #[inline(always)]
     pub fn is_empty(&self) -> bool
         ensures { result ≡ (length self.now == 0) }
@@ -87,7 +95,7 @@ impl FlatStack {
         self.count == 0
     }
 
-    /// The frames.
+    /// The frames, outermost first.
     pub fn as_slice(&self) -> &[Frame]
         ensures items { result.now ≡ self.now }
         ensures few { length self.now ≤ STACK_FRAMES }
@@ -95,7 +103,7 @@ impl FlatStack {
         &self.frames[..self.count]
     }
 
-    /// The frames, as a list that never asks the allocator.
+    /// A `Stack` with the same frames. Never allocates.
     pub fn to_stack(&self, alloc: Global) -> Stack
         ensures items { result.items ≡ self.now }
         ensures inline { result.capacity ≡ 8 }
@@ -103,7 +111,7 @@ impl FlatStack {
         SmallVec::from_slice(alloc, self.as_slice()).unwrap()
     }
 
-    /// The operation of the outermost frame, if there is one.
+    /// The operation of the outermost frame; `None` if the stack is empty.
     pub fn op(&self) -> Option<Op>
         ensures { result ≡ outermost self.now }
     {
@@ -113,7 +121,7 @@ impl FlatStack {
         Some(self.frames[0].op)
     }
 
-    /// The frame at an index.
+    /// The frame at `index`; index 0 is the outermost frame.
     #[inline(always)]
     pub fn frame(&self, index: usize) -> Frame
         requires { index < length self.now }
@@ -123,7 +131,7 @@ impl FlatStack {
         self.frames[index]
     }
 
-    /// Puts another frame at an index.
+    /// Replaces the frame at `index`.
     #[inline(always)]
     pub fn set(&mut self, index: usize, frame: Frame)
         requires { index < length self.old }
@@ -133,25 +141,35 @@ impl FlatStack {
         self.frames[index] = frame;
     }
 
-    /// Puts a frame behind those that are there.
+    /// Pushes a frame after the others.
     #[inline(always)]
     pub fn push(&mut self, frame: Frame)
         requires { length self.old < STACK_FRAMES }
         ensures { self.new ≡ self.old ++ frame ∷ [] }
     {
-        // read once, since a store to the frames might change it as far as LLVM knows
+        // read once: LLVM has to assume that a store to the frames may change the count
         let count = self.count;
         self.frames[count] = frame;
         self.count = count + 1;
     }
 
-    /// Leaves the first frames, so many of them, and no other.
+    /// Pushes `frames` after the others, in order.
+    pub fn extend(&mut self, frames: &[Frame])
+        requires { length self.old + length frames.now ≤ STACK_FRAMES }
+        ensures { self.new ≡ self.old ++ frames.now }
+    {
+        for frame in frames {
+            self.push(*frame);
+        }
+    }
+
+    /// Keeps the first `count` frames and drops the rest.
     #[inline(always)]
     pub fn leave(&mut self, count: usize)
         requires { count ≤ length self.old }
         ensures { self.new ≡ take count self.old }
     {
-        // no test, so that what layers leave one after the other comes to one store
+        // no test at run time: so the compiler can merge the cuts of several layers into one store
         prove!(count <= self.count);
         self.count = count;
     }

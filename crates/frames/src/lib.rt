@@ -1,4 +1,4 @@
-//! Registers as nested operations, and configurations of a schedule.
+//! Registers, the safe bit, configurations, and the steps of a schedule.
 #![tactic(auto)]
 
 pub mod config;
@@ -12,3 +12,12 @@ pub mod running;
 pub mod safe;
 pub mod types;
 pub mod verdict;
+
+pub use config::Config;
+pub use flat::FlatStack;
+pub use register::{Behaves, Register};
+pub use safe::{Safe, SafePoint};
+pub use types::{
+    Action, ActionKind, Event, Frame, FrameLayer, Layer, Next, Op, Outcome, Progress, Reason,
+    Stack, Step, StepEvents, Turned,
+};

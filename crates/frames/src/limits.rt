@@ -1,19 +1,19 @@
-//! Limits of layers, and of the towers that are built of them.
+//! Limits of layers, and of the towers built from them.
 
-/// The least number of values.
+/// The least number of values that a layer can have.
 pub const LEAST_VALUES: u32 = 2;
 
-/// The most values of a unary number, and the most codes below a stamped register and a matrix.
+/// The most values of a unary number, and the most codes of a stamped register or a matrix.
 pub const MOST_VALUES: u32 = 512;
 
-/// The most readers beside one writer.
+/// The most readers that a register with one writer can have.
 pub const MOST_READERS: u32 = 4;
 
-/// The least number of processes.
+/// The least number of processes that a layer can have.
 pub const LEAST_PROCESSES: u32 = 2;
 
-/// The most processes: a writer and the most readers.
+/// The most processes that a layer can have: one writer and `MOST_READERS` readers.
 pub const MOST_PROCESSES: u32 = 5;
 
-/// The most processes of a matrix, each of which writes and reads.
+/// The most processes of a matrix; each of them both writes and reads.
 pub const MOST_WRITERS: u32 = 4;

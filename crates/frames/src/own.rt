@@ -1,11 +1,11 @@
-//! A register that has a store to itself: its calls at the first of all places.
+//! The calls of a register that has a store to itself, and so lies at `ORIGIN`.
 
 ghost use Rattle.std.specs.Prelude.{◌≡◌, ℕ, ◌<◌, [], true, Option, Some, None, IfOk};
 ghost use Rattle.frames.specs.declared.types.Op.{Op};
 ghost use Rattle.frames.specs.declared.running.Running.{Running};
 ghost use Rattle.frames.specs.Configuration as spec;
 ghost use Rattle.frames.specs.Configuration.{invoking, going};
-ghost use Rattle.frames.specs.Flat.{Acts, Comes, StandsOn, IsReached, end_of, stack_of};
+ghost use Rattle.frames.specs.Flat.{Acts, LandsAlone, HasFramesFrom, IsReached, end_of, stack_of};
 
 use crate::flat::FlatStack;
 use crate::register::Register;
@@ -13,13 +13,13 @@ use crate::types::{Event, Op, Outcome, Progress, Reason, StepEvents};
 use safe_bit::{Place, Store};
 use std::alloc::{AllocError, Global};
 
-/// The first of all places.
+/// The first place in a store: cell 0 and word 0.
 pub const ORIGIN: Place = Place { cell: 0, word: 0 };
 
-/// A store that holds the register at its initial value, and nothing else.
+/// A new store for the register alone, which holds the initial value `value`.
 pub fn store_of<R: Register>(alloc: Global, register: &R, value: u32) -> Result<Store, AllocError>
-    requires { value < (R.is register.now).values }
-    ensures { IfOk result (λ store. store ≡ (R.is register.now).initial value) }
+    requires { value < (R.behaviour register.now).values }
+    ensures { IfOk result (λ store. store ≡ (R.behaviour register.now).initial value) }
 {
     let size = register.size();
     let mut store = Store::new(alloc, size.cell, size.word)?;
@@ -27,7 +27,7 @@ pub fn store_of<R: Register>(alloc: Global, register: &R, value: u32) -> Result<
     Ok(store)
 }
 
-/// A process that has nothing pending invokes an operation.
+/// `begin_on` in the register's own store, for a process that has no operation pending.
 #[inline(always)]
 pub fn begin_own<R: Register>(
     register: &R,
@@ -37,15 +37,16 @@ pub fn begin_own<R: Register>(
     stack: &mut FlatStack,
 ) -> Option<Outcome>
     requires holds { R.Holds register.now store.old }
-    requires fits { (R.is register.now).suits who op ≡ true }
+    requires fits { (R.behaviour register.now).suits who op ≡ true }
     requires idle { stack.old ≡ [] }
-    ensures { let begun = (R.is register.now).begins who op store.old in
-        Comes (R.is register.now).frames begun.next begun.memory result stack.new store.new }
+    ensures { let begun = (R.behaviour register.now).begins who op store.old in
+        LandsAlone (R.behaviour register.now).frames begun.next begun.memory result stack.new
+        store.new }
 {
     register.begin_on(store, ORIGIN, who, op, stack)
 }
 
-/// What a process has pending makes its next bit action.
+/// `go_on` in the register's own store: the stack has the frames of process `who`'s operation.
 #[inline(always)]
 pub fn go_own<R: Register>(
     register: &R,
@@ -55,21 +56,22 @@ pub fn go_own<R: Register>(
     choice: bool,
 ) -> Progress
     requires holds { R.Holds register.now store.old }
-    requires stands { (op : Op)
-        × ((p : R.Pending) × StandsOn (R.is register.now).frames
+    requires may_be_at { (op : Op)
+        × ((p : R.Pending) × HasFramesFrom (R.behaviour register.now).frames
         (R.Reaches register.now) who 0 stack.old op p) }
-    ensures comes { (op : Op) (p : R.Pending) → StandsOn (R.is register.now).frames
+    ensures arrives { (op : Op) (p : R.Pending) → HasFramesFrom (R.behaviour register.now).frames
         (R.Reaches register.now) who 0 stack.old op p
-        → (let moved = (R.is register.now).goes p choice store.old in
-        Comes (R.is register.now).frames moved.next moved.memory result.end stack.new store.new) }
-    ensures chosen { (op : Op) (p : R.Pending) → StandsOn (R.is register.now).frames
+        → (let moved = (R.behaviour register.now).goes p choice store.old in
+        LandsAlone (R.behaviour register.now).frames moved.next moved.memory result.end stack.new
+        store.new) }
+    ensures chosen { (op : Op) (p : R.Pending) → HasFramesFrom (R.behaviour register.now).frames
         (R.Reaches register.now) who 0 stack.old op p
-        → result.chosen ≡ ((R.is register.now).goes p choice store.old).chosen }
+        → result.chosen ≡ ((R.behaviour register.now).goes p choice store.old).chosen }
 {
     register.go_on(store, ORIGIN, who, stack, 0, choice)
 }
 
-/// A process invokes an operation, if it has none pending.
+/// Process `who` invokes `op`; its step is void if it has an operation pending.
 #[inline(always)]
 pub fn invoke<R: Register>(
     register: &R,
@@ -79,10 +81,11 @@ pub fn invoke<R: Register>(
     stack: &mut FlatStack,
 ) -> StepEvents
     requires holds { R.Holds register.now store.old }
-    requires fits { (R.is register.now).suits who op ≡ true }
+    requires fits { (R.behaviour register.now).suits who op ≡ true }
     ensures { (slot : Option (Running R.Pending)) → IsReached (R.Reaches register.now) who slot
-        → stack.old ≡ stack_of (R.is register.now) slot
-        → Acts (R.is register.now) (invoking (R.is register.now) who op slot store.old) result
+        → stack.old ≡ stack_of (R.behaviour register.now) slot
+        → Acts (R.behaviour register.now)
+        (invoking (R.behaviour register.now) who op slot store.old) result
         stack.new store.new }
 {
     if !stack.is_empty() {
@@ -95,7 +98,7 @@ pub fn invoke<R: Register>(
     }
 }
 
-/// A process makes its next bit action, if it has an operation pending.
+/// Process `who` makes its next bit action; its step is void if it has nothing pending.
 #[inline(always)]
 pub fn proceed<R: Register>(
     register: &R,
@@ -105,12 +108,13 @@ pub fn proceed<R: Register>(
     choice: bool,
 ) -> StepEvents
     requires holds { R.Holds register.now store.old }
-    requires stands { (slot : Option (Running R.Pending))
+    requires may_be_at { (slot : Option (Running R.Pending))
         × (IsReached (R.Reaches register.now) who slot ×
-        (stack.old ≡ stack_of (R.is register.now) slot)) }
+        (stack.old ≡ stack_of (R.behaviour register.now) slot)) }
     ensures { (slot : Option (Running R.Pending)) → IsReached (R.Reaches register.now) who slot
-        → stack.old ≡ stack_of (R.is register.now) slot
-        → Acts (R.is register.now) (going (R.is register.now) who choice slot store.old) result
+        → stack.old ≡ stack_of (R.behaviour register.now) slot
+        → Acts (R.behaviour register.now)
+        (going (R.behaviour register.now) who choice slot store.old) result
         stack.new store.new }
 {
     if stack.is_empty() {
@@ -124,7 +128,7 @@ pub fn proceed<R: Register>(
     in_order(chosen, end_of(who, progress.end))
 }
 
-/// The event of an operation's end, if it has ended.
+/// The event of an operation's end; `None` if the operation hasn't ended.
 #[inline(always)]
 fn end_of(who: u32, end: Option<Outcome>) -> Option<Event>
     ensures { result ≡ end_of who end }
@@ -136,7 +140,7 @@ fn end_of(who: u32, end: Option<Outcome>) -> Option<Event>
     }
 }
 
-/// One event, and no other.
+/// The events of a step that records one event.
 #[inline(always)]
 pub fn alone(event: Event) -> StepEvents
     ensures { result ≡ spec.in_order (Some event) None }
@@ -147,7 +151,7 @@ pub fn alone(event: Event) -> StepEvents
     }
 }
 
-/// Two events that may be missing, in order.
+/// Two events in order, either of which may be missing.
 #[inline(always)]
 fn in_order(earlier: Option<Event>, later: Option<Event>) -> StepEvents
     ensures { result ≡ spec.in_order earlier later }

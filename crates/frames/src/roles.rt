@@ -1,4 +1,5 @@
-//! Which steps fit: by how many processes there are, and which operations fit each.
+//! Which steps fit a register. This depends on the number of processes, and on the operations that
+//! fit each.
 
 ghost use Rattle.std.specs.Prelude.{◌≡◌};
 ghost use Rattle.frames.specs.Fitting.{Roles, step_fits};
@@ -6,16 +7,16 @@ ghost use Rattle.frames.specs.Fitting.{Roles, step_fits};
 use crate::register::Register;
 use crate::types::{Op, Step};
 
-/// What processes take part in, each with its role: a register, or what describes one.
+/// A register or a description of one, with a number of processes and the operations that fit each.
 pub trait HasRoles {
-    // How many processes there are, and which operations fit each.
+    // The number of processes, and which operations fit each.
     ghost roles: { Self → Roles };
 
-    /// How many processes there are: 0 up to one less than this.
+    /// The number of processes. The processes are 0 to one less than this number.
     fn process_count(&self) -> u64
         ensures { result ≡ (roles self.now).processes };
 
-    /// Whether the operation fits the process.
+    /// Whether operation `op` fits process `who`.
     fn suits(&self, who: u32, op: Op) -> bool
         ensures { result ≡ (roles self.now).suits who op };
 }
@@ -23,7 +24,7 @@ pub trait HasRoles {
 impl<R: Register> HasRoles for R {
     ghost use Rattle.frames.specs.Fitting.{roles_of};
 
-    ghost roles = { λ r. roles_of (R.is r) };
+    ghost roles = { λ r. roles_of (R.behaviour r) };
 
     fn process_count(&self) -> u64 {
         u64::from(self.processes())
@@ -34,8 +35,8 @@ impl<R: Register> HasRoles for R {
     }
 }
 
-/// Whether a step fits: an operation that fits its process, a bit action of a process with a
-/// choice of 0 or 1, or a stop of a process.
+/// Whether a step fits. An invocation fits if its operation fits its process. A bit action fits if
+/// its process exists and the choice is 0 or 1. A stop fits if its process exists.
 pub fn step_fits<T: HasRoles>(whose: &T, step: Step) -> bool
     ensures { result ≡ step_fits (T.roles whose.now) step }
 {

@@ -1,18 +1,21 @@
 //! The register of one safe bit.
 
-ghost use Rattle.std.specs.Prelude.{◌≡◌, ℕ, ◌<◌, ◌+◌, true, Bool, Option};
+ghost use Rattle.std.specs.Prelude.{◌≡◌, ℕ, ◌<◌, ◌+◌, true, Bool, None, Option};
 ghost use Rattle.std.specs.Bool.{Decides};
 ghost use Rattle.safe_bit.specs.Memory.{Memory};
 ghost use Rattle.safe_bit.specs.Parts.{HasSize, LiesIn, IsPlaced, part, with_part};
 ghost use Rattle.frames.specs.declared.types.Op.{Op};
 ghost use Rattle.frames.specs.SafeBit.{safe_behaviour, SafeReaches, safe_frame, point_at, safe_point, bit_of, value_of};
 
-use crate::flat::FlatStack;
+use crate::flat::{FlatStack, frame_at};
 use crate::register::{Behaves, Register};
-use crate::types::{Action, ActionKind, Frame, FrameLayer, Op, Outcome, Progress};
+use crate::types::{
+    Action, ActionKind, Frame, FrameLayer, Next, Op, Outcome, Progress, Stack, Turned,
+};
 use safe_bit::{Place, Store};
+use std::alloc::Global;
 
-/// Where an operation of a safe bit stands: its next bit action, with the bit that a write writes.
+/// The point of an operation on a safe bit: its next bit action, and the bit that a write writes.
 #[derive(Clone, Copy, Debug, PartialEq, Eq)]
 pub enum SafePoint {
     WriteStart(bool),
@@ -28,7 +31,7 @@ pub struct Safe;
 impl Behaves for Safe {
     type Pending = SafePoint;
 
-    ghost is = { λ _. safe_behaviour };
+    ghost behaviour = { λ _. safe_behaviour };
 }
 
 impl Register for Safe {
@@ -67,6 +70,80 @@ impl Register for Safe {
 
     fn init(&self, store: &mut Store, at: Place, value: u32) {
         store.set_value(at.cell, value == 1);
+    }
+
+    fn begin(&self, _store: &mut Store, _at: Place, _who: u32, op: Op) -> Next<SafePoint> {
+        Next::Pending(match op {
+            Op::Write(v) => SafePoint::WriteStart(v == 1),
+            Op::Read => SafePoint::ReadStart,
+        })
+    }
+
+    fn go(
+        &self,
+        store: &mut Store,
+        at: Place,
+        pending: SafePoint,
+        choice: bool,
+    ) -> Turned<SafePoint> {
+        match pending {
+            SafePoint::WriteStart(value) => {
+                store.start_write(at.cell, value);
+                unchosen(Next::Pending(SafePoint::WriteEnd(value)))
+            }
+            SafePoint::WriteEnd(_) => {
+                store.end_write(at.cell);
+                unchosen(Next::Done(Outcome::Written))
+            }
+            SafePoint::ReadStart => {
+                store.start_read(at.cell);
+                unchosen(Next::Pending(SafePoint::ReadEnd))
+            }
+            SafePoint::ReadEnd => {
+                let was_hit = store.cell(at.cell).hit;
+                let given = store.end_read(at.cell, choice);
+                Turned {
+                    next: Next::Done(Outcome::Value(u32::from(given))),
+                    chosen: if was_hit {
+                        Some((at.cell, given))
+                    } else {
+                        None
+                    },
+                }
+            }
+        }
+    }
+
+    fn stack(&self, alloc: Global, pending: &SafePoint) -> Stack {
+        let mut stack = FlatStack::new();
+        stack.push(frame_of(*pending));
+        stack.to_stack(alloc)
+    }
+
+    fn action(&self, pending: &SafePoint, at: Place) -> Action {
+        let kind = match *pending {
+            SafePoint::WriteStart(_) => ActionKind::WriteStart,
+            SafePoint::WriteEnd(_) => ActionKind::WriteEnd,
+            SafePoint::ReadStart => ActionKind::ReadStart,
+            SafePoint::ReadEnd => ActionKind::ReadEnd,
+        };
+        Action {
+            kind,
+            cell: at.cell,
+        }
+    }
+
+    fn pending(&self, stack: &Stack, first: usize, who: u32) -> Option<SafePoint> {
+        if first >= stack.len() || stack.len() - first != 1 {
+            return None;
+        }
+        let frame = frame_at(stack, first);
+        let point = point_of(frame);
+        if self.fits(who, frame.op) && frame.is(frame_of(point)) {
+            Some(point)
+        } else {
+            None
+        }
     }
 
     #[inline(always)]
@@ -135,37 +212,7 @@ impl Register for Safe {
         }
     }
 
-    fn pending(&self, stack: &FlatStack, first: usize, who: u32) -> Option<SafePoint> {
-        if first >= stack.len() || stack.len() - first != 1 {
-            return None;
-        }
-        let frame = stack.frame(first);
-        let point = point_of(frame);
-        if self.fits(who, frame.op) && frame.is(frame_of(point)) {
-            Some(point)
-        } else {
-            None
-        }
-    }
-
-    fn lay(&self, pending: &SafePoint, stack: &mut FlatStack) {
-        stack.push(frame_of(*pending));
-    }
-
-    fn action(&self, pending: &SafePoint, at: Place) -> Action {
-        let kind = match *pending {
-            SafePoint::WriteStart(_) => ActionKind::WriteStart,
-            SafePoint::WriteEnd(_) => ActionKind::WriteEnd,
-            SafePoint::ReadStart => ActionKind::ReadStart,
-            SafePoint::ReadEnd => ActionKind::ReadEnd,
-        };
-        Action {
-            kind,
-            cell: at.cell,
-        }
-    }
-
-    ghost tells = { λ _. safe_tells };
+    ghost reports = { λ _. safe_tells };
 
     ghost lawful = { λ _. safe_lawful };
 
@@ -176,7 +223,15 @@ impl Register for Safe {
     ghost same_pending = { point_decides ⟦<SafePoint as PartialEq>⟧.eq (elim [ WriteStart _ ↦ elim [ WriteStart _ ↦ refl | WriteEnd _ ↦ refl | ReadStart ↦ refl | ReadEnd ↦ refl ] | WriteEnd _ ↦ elim [ WriteStart _ ↦ refl | WriteEnd _ ↦ refl | ReadStart ↦ refl | ReadEnd ↦ refl ] | ReadStart ↦ elim [ WriteStart _ ↦ refl | WriteEnd _ ↦ refl | ReadStart ↦ refl | ReadEnd ↦ refl ] | ReadEnd ↦ elim [ WriteStart _ ↦ refl | WriteEnd _ ↦ refl | ReadStart ↦ refl | ReadEnd ↦ refl ] ]) };
 }
 
-/// The frame of a pending operation: it tells whether the start is made.
+/// The result of an action after which the operation is at `next`, and in which no hit read ended.
+fn unchosen(next: Next<SafePoint>) -> Turned<SafePoint>
+    ensures next { result.next ≡ next }
+    ensures chosen { result.chosen ≡ None }
+{
+    Turned { next, chosen: None }
+}
+
+/// The frame of an operation at this point; its `i` is 0 before the start action, and 1 after it.
 #[inline(always)]
 fn frame_of(point: SafePoint) -> Frame
     ensures { result ≡ safe_frame point }
@@ -195,7 +250,7 @@ fn frame_of(point: SafePoint) -> Frame
     }
 }
 
-/// The point that a frame tells.
+/// The point that a frame describes.
 #[inline(always)]
 fn point_of(frame: Frame) -> SafePoint
     ensures { result ≡ point_at frame.op frame.i }

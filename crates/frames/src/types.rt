@@ -1,4 +1,4 @@
-//! The words of a schedule: steps, operations, events, actions and frames.
+//! The vocabulary of schedules: steps, operations, events, actions and frames.
 
 ghost use Rattle.std.specs.Prelude.{◌≡◌};
 ghost use Rattle.std.specs.Bool.{Decides};
@@ -32,7 +32,8 @@ pub enum Step {
     Write { p: u32, v: u32 },
     /// Process `p` invokes a read.
     Read { p: u32 },
-    /// Process `p` makes its next bit action; `c` is what a hit read of a bit gives, 0 or 1.
+    /// Process `p` makes its next bit action; a hit read of a bit that ends in it gives `c`, 0 or
+    /// 1.
     Go { p: u32, c: u32 },
     /// Process `p` stops for good: it makes no further step.
     Stop { p: u32 },
@@ -49,14 +50,14 @@ impl Step {
     }
 }
 
-/// A step, or what a schedule keeps it in.
+/// A step, or an item of a schedule that holds one.
 pub trait HasStep: Copy {
     ghost use Rattle.frames.specs.declared.types.Step.{Step};
 
-    // Its step.
+    // The step that the item holds.
     ghost step_in: { Self → Step };
 
-    /// Its step.
+    /// The step that the item holds.
     fn step(&self) -> Step
         ensures { result ≡ Self.step_in self.now };
 }
@@ -70,7 +71,7 @@ impl HasStep for Step {
     }
 }
 
-/// The layers whose operations can be spent.
+/// The layers that can run out of stamps or tags.
 #[derive(Clone, Copy, Debug, PartialEq, Eq)]
 pub enum Layer {
     Stamped,
@@ -84,27 +85,27 @@ pub enum Outcome {
     Value(u32),
     /// A write is done.
     Written,
-    /// A layer has no stamp or tag left.
+    /// The operation is refused, because a layer has no stamp or tag left.
     Spent(Layer),
 }
 
-/// Where an operation stands after a step: at a pending point, or at its end.
+/// The state of an operation after a step: still pending, at a point, or done, with its outcome.
 #[derive(Clone, Copy, Debug, PartialEq, Eq)]
 pub enum Next<P> {
     Pending(P),
     Done(Outcome),
 }
 
-/// What a step of a pending operation gives: its end, if it ends, and the bit that a hit read chose,
-/// with the value given.
+/// The result of a bit action: `end` is the operation's outcome, if the operation has ended;
+/// `chosen` is the bit of a hit read, if one has ended, and the value that the read gave.
 #[derive(Clone, Copy, Debug, PartialEq, Eq)]
 pub struct Progress {
     pub end: Option<Outcome>,
     pub chosen: Option<(u32, bool)>,
 }
 
-/// Where a pending operation stands after its next bit action, and the bit that a hit read chose, with
-/// the value given.
+/// The result of a bit action: `next` is the state of the operation after it; `chosen` is the bit
+/// of a hit read, if one has ended, and the value that the read gave.
 #[derive(Clone, Copy, Debug, PartialEq, Eq)]
 pub struct Turned<P> {
     pub next: Next<P>,
@@ -116,13 +117,13 @@ pub struct Turned<P> {
 pub enum Reason {
     /// An invocation by a process that has an operation pending.
     Busy,
-    /// A bit action of a process that has none.
+    /// A bit action of a process that has no operation pending.
     Idle,
     /// A step of a process that has stopped.
     Stopped,
 }
 
-/// What a step records, its process first.
+/// What a step records; the first number is the process.
 #[derive(Clone, Copy, Debug, PartialEq, Eq)]
 pub enum Event {
     /// An operation is invoked.
@@ -131,24 +132,24 @@ pub enum Event {
     Got(u32, u32),
     /// A write returns.
     Wrote(u32),
-    /// An operation is refused, since a layer is spent.
+    /// An operation is refused because a layer is spent.
     Refused(u32, Layer),
     /// The step wasn't enabled, and changed nothing.
     Void(u32, Reason),
     /// A process stops.
     Stop(u32),
-    /// A hit read of a bit ended: the bit and the value given.
+    /// A hit read of a bit ended: the second number is the bit, the `bool` the value that it gave.
     Chosen(u32, u32, bool),
 }
 
-/// The events of one step, in order; the second only where there is a first.
+/// The events of one step, in order; there is no second without a first.
 #[derive(Clone, Copy, Debug, PartialEq, Eq)]
 pub struct StepEvents {
     pub first: Option<Event>,
     pub second: Option<Event>,
 }
 
-/// The four actions on a cell.
+/// The four actions on a cell (a safe bit).
 #[derive(Clone, Copy, Debug, PartialEq, Eq)]
 pub enum ActionKind {
     WriteStart,
@@ -157,14 +158,14 @@ pub enum ActionKind {
     ReadEnd,
 }
 
-/// A bit action, and the cell that it reaches.
+/// A bit action, and its cell.
 #[derive(Clone, Copy, Debug, PartialEq, Eq)]
 pub struct Action {
     pub kind: ActionKind,
     pub cell: u32,
 }
 
-/// The layer that a frame is of; the matrix has one for each phase.
+/// The layer of a frame. The matrix has two: one for each phase of its operations.
 #[derive(Clone, Copy, Debug, PartialEq, Eq, Default)]
 pub enum FrameLayer {
     #[default]
@@ -177,8 +178,8 @@ pub enum FrameLayer {
     MatrixWrite,
 }
 
-/// One layer's part of a pending operation: the layer's own operation, the index of the part in
-/// work, and the code, each 0 where the layer has none.
+/// One layer's part of a pending operation: `op` is the layer's own operation, `i` is the index of
+/// the part at work, and `x` is the code. `i` or `x` is 0 in a layer that has no such number.
 #[derive(Clone, Copy, Debug, PartialEq, Eq, Default)]
 pub struct Frame {
     pub layer: FrameLayer,
@@ -196,7 +197,7 @@ impl Frame {
     }
 }
 
-/// The most frames that a pending operation has.
+/// The most frames that a pending operation can have.
 pub const STACK_FRAMES: usize = 8;
 
 /// The frames of a pending operation, outermost first.

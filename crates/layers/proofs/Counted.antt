@@ -1,4 +1,4 @@
--- How far a history has come: writes counted, and the numbers that returned reads are given.
+-- A count of a history: its writes so far, and the numbers given to its returned reads.
 use Rattle.std.specs.Prelude.{◌≡◌, ⊤, ℕ, ◌+◌, ◌≤◌, Bool, true, false, Option, Some, None}
 use Rattle.frames.specs.declared.types.Op.TheVariants.{Read, Write}
 use Rattle.frames.specs.declared.types.Event.{Event}
@@ -7,8 +7,9 @@ use Rattle.frames.specs.declared.types.StepEvents.{StepEvents}
 use Rattle.frames.proofs.Seen.{refuses}
 use Rattle.frames.proofs.Pointwise.{put}
 
--- the value of each write not refused, by its number (0 is the initial value); the numbers of the last of them invoked and returned;
--- that of the last returned as the reader's read was invoked; and that of its last read
+-- Accepted writes are numbered from 1 on, and 0 is the initial value: `value` gives the value of
+-- each. `begun` is the last write invoked, and `done` the last returned; `low` is the last returned
+-- when the reader's read was invoked; and `floor` is the number of the last returned read.
 pub record Counted : Type 0 where
   pub value : ℕ → ℕ
   pub begun : ℕ
@@ -24,7 +25,7 @@ Counts None c z = z ≡ c
 Counts (Some (Invoke p (Write v))) c z = z ≡ record c { value = put (c.begun + 1) v c.value; begun = c.begun + 1 }
 Counts (Some (Invoke p Read)) c z = z ≡ record c { low = c.done }
 Counts (Some (Wrote p)) c z = z ≡ record c { done = c.begun }
--- the read is given a number
+-- the read gets a number
 Counts (Some (Got p x)) c z = (n : ℕ) × ((c.value n ≡ x) × ((c.low ≤ n) × ((n ≤ c.begun) × ((c.floor ≤ n) × (z ≡ record c { floor = n })))))
 Counts (Some (Refused p l)) c z = z ≡ c
 Counts (Some (Void p reason)) c z = z ≡ c
@@ -41,7 +42,7 @@ Invokes (Some (Void p reason)) = ⊥
 Invokes (Some (Chosen p i b)) = ⊥
 Invokes (Some (Stop p)) = ⊥
 
--- an operation is refused in the step that invokes it alone, and then counts for nothing
+-- an operation may be refused only in the step that invokes it; it then counts for nothing
 abbrev pub NumberedIf : Bool → Counted → StepEvents → Counted → Type 0
 NumberedIf true c e z = Invokes e.first × (z ≡ c)
 NumberedIf false c e z = (mid : Counted) × (Counts e.first c mid × Counts e.second mid z)

@@ -1,8 +1,8 @@
--- What the frames of a layer's pending operation tell, and what they don't.
+-- What the frames of a layer's pending operation determine, and what they don't.
 use Rattle.std.proofs.Common.{◌≡◌, ℕ, suc, ◌+◌, false, true, ◌<◌, ◌≤◌, List, [], ◌∷◌, ◌++◌, length, drop, Option, Some, None, sym, ap, subst, ◌∙◌, arith, append_assoc}
 use Rattle.frames.specs.declared.types.Op.{Op}
 use Rattle.frames.specs.declared.types.Frame.{Frame}
-use Rattle.frames.specs.Flat.{FramesTell, IsTold, outermost}
+use Rattle.frames.specs.Flat.{FramesGivePoint, IsPointByFrames, outermost}
 use Rattle.layers.specs.declared.nested.Ask.{Ask}
 use Rattle.layers.specs.declared.nested.Nested.{Nested}
 use Rattle.layers.specs.Nested.{layered}
@@ -10,59 +10,62 @@ use Rattle.layers.specs.Sound.{LayerReaches}
 use Rattle.layers.specs.laws.Flat.{parts_there}
 use Rattle.layers.specs.laws.Over.{LayerOver}
 
--- frames that tell an operation
+-- there is at least one frame if there is an outermost operation
 some_frames : (xs : List Frame) (o : Op) → outermost xs ≡ Some o → 1 ≤ length xs
 some_frames [] o e = cc
 some_frames (x ∷ xs) o e = omega arith
 
--- the layer's own frame pushed, and those of its part's point behind it
+-- the frames are pushed in this order: the layer's own, and then those of its part's point
 pub laid : (stack pushed all below : List Frame) (own frame : Frame) → pushed ≡ stack ++ own ∷ [] → all ≡ pushed ++ below → own ≡ frame → all ≡ stack ++ frame ∷ below
 laid stack pushed all below own frame push lay same =
     lay ∙ ap (λ xs. xs ++ below) push ∙ append_assoc stack (own ∷ []) below ∙ ap (λ x. stack ++ x ∷ below) same
 
--- the layer's own frame and at least one of the part's
-pub too_few : {Task P : Type 0} (l : LayerOver Task P) (find : ℕ → List Frame → Option P) → FramesTell l.below l.Reaches find → (who first : ℕ) (stack : List Frame)
-    → length (drop first stack) < 2 → IsTold (layered l.table l.below).frames (LayerReaches l.table l.Stands l.Reaches) who (drop first stack) None
+-- a layer's operation has its own frame and at least one of its part's
+pub too_few : {Task P : Type 0} (l : LayerOver Task P) (find : ℕ → List Frame → Option P) → FramesGivePoint l.below l.Reaches find → (who first : ℕ) (stack : List Frame)
+    → length (drop first stack) < 2 → IsPointByFrames (layered l.table l.below).frames (LayerReaches l.table l.MayBeAt l.Reaches) who (drop first stack) None
 too_few l find tell who first stack few o n there e =
     let some = some_frames (l.below.frames n.below) (l.table.asks n.task).op (tell.op (l.table.asks n.task).who (l.table.asks n.task).op n.below there.below) in
     let long : length (drop first stack) ≡ suc (length (l.below.frames n.below)) = ap length e in
     omega (arith, few, some, long)
 
-module _ {Task P : Type 0} (l : LayerOver Task P) (find : ℕ → List Frame → Option P) (tell : FramesTell l.below l.Reaches find) (who first : ℕ) (stack : List Frame)
+module _ {Task P : Type 0} (l : LayerOver Task P) (find : ℕ → List Frame → Option P) (tell : FramesGivePoint l.below l.Reaches find) (who first : ℕ) (stack : List Frame)
     (own : Frame) (task : Task) (a : Ask) (there : drop first stack ≡ own ∷ drop (first + 1) stack)
-    (told : l.Stands who own.op task × (l.table.frame task ≡ own)) (asks : a ≡ l.table.asks task) where
+    (told : l.MayBeAt who own.op task × (l.table.frame task ≡ own)) (asks : a ≡ l.table.asks task) where
   abbrev Tells : Option (Nested Task P) → Type 0
-  Tells n = IsTold (layered l.table l.below).frames (LayerReaches l.table l.Stands l.Reaches) who (drop first stack) n
+  Tells n = IsPointByFrames (layered l.table l.below).frames (LayerReaches l.table l.MayBeAt l.Reaches) who (drop first stack) n
 
-  -- the layer's own frame and those behind it that tell a point of its part
+  -- the frames describe a point of the layer: its own frame comes first, and then those of its
+  -- part's point
   pub told_below : (inner : Frame) → drop (first + 1) stack ≡ inner ∷ drop (first + 1 + 1) stack → inner.op ≡ a.op → (p : P)
-      → IsTold l.below.frames l.Reaches a.who (drop (first + 1) stack) (Some p) → Tells (Some (record { task = task; below = p }))
+      → IsPointByFrames l.below.frames l.Reaches a.who (drop (first + 1) stack) (Some p) → Tells (Some (record { task = task; below = p }))
   told_below inner next op p below =
       let some : Some below.0 ≡ Some a.op = sym (tell.op a.who below.0 p below.1.0) ∙ ap outermost (sym below.1.1 ∙ next) ∙ ap Some op in
       let same : below.0 ≡ a.op = cc in
       let reached : l.Reaches a.who a.op p = subst (λ o. l.Reaches a.who o p) same below.1.0 in (
         own.op,
         (
-          record { stands = told.0; below = subst (λ b. l.Reaches b.who b.op p) asks reached },
+          record { may_be_at = told.0; below = subst (λ b. l.Reaches b.who b.op p) asks reached },
           there ∙ ap (λ x. x ∷ drop (first + 1) stack) (sym told.1) ∙ ap (λ xs. l.table.frame task ∷ xs) below.1.1,
         ),
       )
 
-  -- what else these frames could be: another point of the same task's part
-  part_of : (o : Op) (n : Nested Task P) → LayerReaches l.table l.Stands l.Reaches who o n → drop first stack ≡ (layered l.table l.below).frames n
+  -- if these frames are those of a point, the point's task asks for the same, and the rest are its
+  -- part's frames
+  part_of : (o : Op) (n : Nested Task P) → LayerReaches l.table l.MayBeAt l.Reaches who o n → drop first stack ≡ (layered l.table l.below).frames n
       → (a ≡ l.table.asks n.task) × (drop (first + 1) stack ≡ l.below.frames n.below)
   part_of o n on e =
       let parts = parts_there first stack (l.below.frames n.below) (l.table.frame n.task) own e there in
-      let same : task ≡ n.task = sym (l.sound.frame_tells who own.op task told.0).0 ∙ ap (l.table.find who) (told.1 ∙ parts.0) ∙ (l.sound.frame_tells who o n.task on.stands).0 in
+      let same : task ≡ n.task = sym (l.sound.frame_gives who own.op task told.0).0 ∙ ap (l.table.find who) (told.1 ∙ parts.0) ∙ (l.sound.frame_gives who o n.task on.may_be_at).0 in
       (asks ∙ ap l.table.asks same, parts.1)
 
-  -- frames that tell no point of the part
-  pub untold_below : IsTold l.below.frames l.Reaches a.who (drop (first + 1) stack) None → Tells None
+  -- the frames describe no point of the layer, because the part's frames describe none
+  pub untold_below : IsPointByFrames l.below.frames l.Reaches a.who (drop (first + 1) stack) None → Tells None
   untold_below below o n on e =
       let part = part_of o n on e in
       below (l.table.asks n.task).op n.below (subst (λ (b : Ask). l.Reaches b.who (l.table.asks n.task).op n.below) (sym part.0) on.below) part.1
 
-  -- frames of another operation than the task asks for
+  -- the frames describe no point of the layer, because the part's frame has another operation than
+  -- the task asks for
   pub other_op : (inner : Frame) → drop (first + 1) stack ≡ inner ∷ drop (first + 1 + 1) stack → (inner.op ≡ a.op → false ≡ true) → Tells None
   other_op inner next other o n on e =
       let part = part_of o n on e in

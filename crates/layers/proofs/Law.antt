@@ -1,4 +1,4 @@
--- What is to be shown of a layer's table, so that what its parts promise alone makes what the layer promises.
+-- What has to be shown of a layer's table, so that the layer's promise follows from its parts'.
 use Rattle.std.specs.Prelude.{◌≡◌, ℕ, ◌<◌, Bool, true, Option, Some, None}
 use Rattle.std.specs.List.{AllByRecursion}
 use Rattle.frames.specs.declared.types.Op.{Op}
@@ -14,24 +14,26 @@ use Rattle.frames.proofs.Pointwise.{put}
 use Rattle.layers.specs.Nested.{Program, Ends, Asks, Reads, Sets, Table}
 use Rattle.layers.specs.Sound.{IsNotSpent}
 
--- an operation of a layer and the task in which it stands
+-- an operation of a layer, and the task that it is in
 pub record Standing (Task : Type 0) : Type 0 where
   pub op : Op
   pub task : Task
 
--- what the argument for a layer speaks of: the own words, where each process's operation stands, and what each part's own history tells
+-- what a proof about a layer keeps track of: its own words, each process's operation and task, and
+-- what each part's own history shows
 pub record View (Task : Type 0) : Type 0 where
   pub words : ℕ → ℕ
   pub tasks : ℕ → Option (Standing Task)
   pub parts : ℕ → Seen
 
--- what is given: what holds of each returned read of a part, and what is to be kept; a U is what is known of the layer's own history
+-- `Good` is what is assumed of each returned read of a part, and `Inv` the invariant; U is the type
+-- of what is known of the layer's own history
 pub record Watch (Task U : Type 0) : Type 1 where
   pub Good : Returned → Type 0
   pub Inv : U → View Task → Type 0
 
--- the program of p's operation runs on from a view, up to its next bit action or its end, and keeps what is to be kept; Out says what
--- the step's last event, or none, makes of what is known
+-- The program of p's operation runs from a view to its next bit action or its end, and keeps the
+-- invariant. `Out` says how the step's last event, if there is one, changes what is known.
 abbrev pub Runs : {Task U : Type 0} → Table Task → Watch Task U → ℕ → Op → (Option Event → U → Type 0) → Program Task → View Task → Type 0
 Runs {U = U} t w p op Out (Ends o) j = (u : U) × (Out (Some (ended p o)) u × w.Inv u (record j { tasks = put p None j.tasks }))
 Runs t w p op Out (Reads i rest) j = Runs t w p op Out (rest (j.words i)) j
@@ -43,8 +45,9 @@ Runs {U = U} t w p op Out (Asks task rest) j =
     × ((o : Outcome) → Answers t.inner_values ask.op o → IsNotSpent o → AllByRecursion w.Good (got (Some (ended ask.who o)) s)
     → Runs t w p op Out (rest o) (record j { parts = put ask.part (sees (Some (ended ask.who o)) s) j.parts }))
 
--- what is to be kept holds at first, and every beginning of an operation and every end of one below keeps it
-pub record IsKept {Task U : Type 0} (t : Table Task) (Stands : ℕ → Op → Task → Type 0) (w : Watch Task U) (first : ℕ → U) (Up : U → StepEvents → U → Type 0) : Type 0 where
+-- the invariant holds at first; each operation that starts keeps it, and so does each operation of
+-- a part that ends
+pub record IsKept {Task U : Type 0} (t : Table Task) (MayBeAt : ℕ → Op → Task → Type 0) (w : Watch Task U) (first : ℕ → U) (Up : U → StepEvents → U → Type 0) : Type 0 where
   pub initial : (v : ℕ) → v < t.values → (j : View Task) → ((i : ℕ) → i < t.words → j.words i ≡ t.first_word v i)
       → ((p : ℕ) → j.tasks p ≡ None) → ((k : ℕ) → k < t.parts → j.parts k ≡ opening (t.first v k)) → w.Inv (first v) j
   pub void : (u : U) (p : ℕ) (reason : Reason) → Up u (in_order (Some (Void p reason)) None) u
@@ -53,12 +56,12 @@ pub record IsKept {Task U : Type 0} (t : Table Task) (Stands : ℕ → Op → Ta
       → Runs t w p op (λ e. Up u (in_order (Some (Invoke p op)) e)) (t.program p op) j
   pub still : (u : U) (j : View Task) (p : ℕ) (chosen : Option (ℕ × Bool)) → w.Inv u j → (z : U) × (Up u (in_order (chosen_of p chosen) None) z × w.Inv z j)
   pub goes : (u : U) (j : View Task) (p : ℕ) (n : Standing Task) (chosen : Option (ℕ × Bool)) (o : Outcome)
-      → w.Inv u j → j.tasks p ≡ Some n → Stands p n.op n.task
+      → w.Inv u j → j.tasks p ≡ Some n → MayBeAt p n.op n.task
       → Answers t.inner_values (t.asks n.task).op o → IsNotSpent o
       → AllByRecursion w.Good (got (Some (ended (t.asks n.task).who o)) (j.parts (t.asks n.task).part))
       → Runs t w p n.op (λ e. Up u (in_order (chosen_of p chosen) e)) (t.rest n.task o)
       (record j { parts = put (t.asks n.task).part (sees (Some (ended (t.asks n.task).who o)) (j.parts (t.asks n.task).part)) j.parts })
 
--- which process of the layer alone acts as process q of part k: that is user k q
+-- process `user k q` is the only process of the layer that acts as process q of part k
 abbrev pub IsUser : {Task : Type 0} → Table Task → (ℕ → Op → Task → Type 0) → (ℕ → ℕ → ℕ) → Type 0
-IsUser {Task = Task} t Stands user = (p : ℕ) (op : Op) (task : Task) → Stands p op task → user (t.asks task).part (t.asks task).who ≡ p
+IsUser {Task = Task} t MayBeAt user = (p : ℕ) (op : Op) (task : Task) → MayBeAt p op task → user (t.asks task).part (t.asks task).who ≡ p

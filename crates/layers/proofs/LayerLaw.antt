@@ -1,4 +1,5 @@
--- The law of layers: what every turn of a layer's programs keeps, where each part alone does as it promises, holds of each history of the layer.
+-- The law of layers: if each turn of a layer's programs keeps an invariant, and each part does as
+-- it promises, the invariant holds in each history of the layer.
 use Rattle.std.proofs.Common.{◌≡◌, ℕ, ◌+◌, ◌*◌, ◌<◌, List, [], ◌∷◌, ◌++◌, length, get_or, refl, ap, sym, ◌∙◌, arith, None}
 use Rattle.std.proofs.lemmas.List.{get_or-append-add}
 use Rattle.safe_bit.specs.Memory.{word_at}
@@ -30,11 +31,11 @@ use Rattle.frames.proofs.Pending.{none_at, awake_at, first_well}
 use Rattle.layers.proofs.Turns.{standing_of}
 use Rattle.layers.proofs.LayerSteps.{steps_joint}
 
-module _ {Task P : Type 0} (l : LayerOver Task P) (user : ℕ → ℕ → ℕ) (is_user : IsUser l.table l.Stands user) where
+module _ {Task P : Type 0} (l : LayerOver Task P) (user : ℕ → ℕ → ℕ) (is_user : IsUser l.table l.MayBeAt user) where
   first_value : (v k : ℕ) → v < l.table.values → k < l.table.parts → l.table.first v k < l.below.values
   first_value v k lt lk = rw l.fit.same_values (l.sound.first_fits v k lt lk)
 
-  -- part k at first
+  -- part k of the layer's initial memory is at its initial value
   first_part : (v k : ℕ) → v < l.table.values → k < l.table.parts → l.below.initial (l.table.first v k) ≡ part (part_place l.below.size k) l.below.size (layer_initial l.table l.below v)
   first_part v k lt lk =
       let size : (j : ℕ) → j < l.table.parts → HasSize l.below.size (l.below.initial (l.table.first v j)) = λ j lj. l.lawful.size_holds _ (l.lawful.initial_holds (l.table.first v j) (first_value v j lt lj)) in
@@ -56,7 +57,7 @@ module _ {Task P : Type 0} (l : LayerOver Task P) (user : ℕ → ℕ → ℕ) (
       ∙ get_or-append-add (gathered (λ j. (l.below.initial (l.table.first v j)).words) l.table.parts) (gathered (λ k. l.table.first_word v k ∷ []) l.table.words) i 0
       ∙ get_or-gathered (l.table.first_word v) l.table.words i li
 
-  pub layer_law : {U : Type 0} (w : Watch Task U) (first : ℕ → U) (Up : U → StepEvents → U → Type 0) → Always w.Good l.below → IsKept l.table l.Stands w first Up
+  pub layer_law : {U : Type 0} (w : Watch Task U) (first : ℕ → U) (Up : U → StepEvents → U → Type 0) → Always w.Good l.below → IsKept l.table l.MayBeAt w first Up
       → (v : ℕ) (steps : List Step) → v < l.table.values → AllFit (layered l.table l.below) steps
       → Allowed Up (first v) (history (layered l.table l.below) (first_configuration (layered l.table l.below) v) steps)
   layer_law w first Up all K v steps lt f =
@@ -66,7 +67,7 @@ module _ {Task P : Type 0} (l : LayerOver Task P) (user : ℕ → ℕ → ℕ) (
       let j : View Task = record { words = λ i. word_at (own_words l.table l.below.size + i) c.memory; tasks = λ p. standing_of (running_at p c); parts = λ k. opening (value k) } in
       steps_joint l user is_user value w first Up K all (λ k lk. first_value v k lt lk) steps c (first v) f
       (record {
-        well = first_well (layered l.table l.below) (LayerHolds l.table l.below l.Holds) (LayerReaches l.table l.Stands l.Reaches) (layer_lawful l) v lt;
+        well = first_well (layered l.table l.below) (LayerHolds l.table l.below l.Holds) (LayerReaches l.table l.MayBeAt l.Reaches) (layer_lawful l) v lt;
         j = j;
         inv = K.initial v lt j (λ i li. first_word v i lt li) idle (λ k lk. refl);
         words = λ i li. refl;
@@ -81,15 +82,16 @@ module _ {Task P : Type 0} (l : LayerOver Task P) (user : ℕ → ℕ → ℕ) (
         };
       })
 
-  -- the same for what is said of reads
-  pub layer_always : (Good : Returned → Type 0) (w : Watch Task Seen) → Always w.Good l.below → IsKept l.table l.Stands w opening (Told Good) → Always Good (layered l.table l.below)
+  -- the law of layers for a claim about reads
+  pub layer_always : (Good : Returned → Type 0) (w : Watch Task Seen) → Always w.Good l.below → IsKept l.table l.MayBeAt w opening (Told Good) → Always Good (layered l.table l.below)
   layer_always Good w all K v steps lt f =
       let allowed = layer_law w opening (Told Good) all K v steps lt f in
       (told_none Good (opening v) _ allowed, told_reads Good (opening v) _ allowed)
 
-  -- the same by what is known: what a layer with one writer promises of its reads, where its parts promise theirs
+  -- the law in terms of `Known`: what a layer of one writer promises of its reads, if its parts
+  -- keep their own promises
   pub layer_promises : {Below Says : Known → ℕ → ℕ → Type 0} (Good : Returned → Type 0) (w : Watch Task Seen) → Alike Below w.Good → Alike Says Good → HasOneWriter (layered l.table l.below)
-      → AlwaysReads l.below Below → IsKept l.table l.Stands w opening (Told Good) → AlwaysReads (layered l.table l.below) Says
+      → AlwaysReads l.below Below → IsKept l.table l.MayBeAt w opening (Told Good) → AlwaysReads (layered l.table l.below) Says
   layer_promises {Below} {Says} Good w below here one promised K =
-      always_known Says Good here (layered l.table l.below) one (LayerHolds l.table l.below l.Holds) (LayerReaches l.table l.Stands l.Reaches) (layer_lawful l)
+      always_known Says Good here (layered l.table l.below) one (LayerHolds l.table l.below l.Holds) (LayerReaches l.table l.MayBeAt l.Reaches) (layer_lawful l)
       (layer_always Good w (always_seen Below w.Good below l.below promised.one_writer l.Holds l.Reaches l.lawful promised) K)

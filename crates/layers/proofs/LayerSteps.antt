@@ -1,4 +1,4 @@
--- Every step of a layer keeps what is to be kept, and links each part to its own list.
+-- Each step of a layer keeps the invariant, and links each part to its own list of steps.
 use Rattle.std.proofs.Common.{zero, suc, ◌≡◌, ℕ, ◌+◌, ◌<◌, ◌≤◌, ◌==◌, List, [], ◌∷◌, length, get_or, set, refl, ap, sym, ◌∙◌, subst, arith, inl, inr, Bool, true, false, Option, Some, None}
 use Rattle.std.specs.Prelude.{nat_lt, ◌&&◌, is_none, is_some, not}
 use Rattle.std.proofs.lemmas.Bool.{cases_eq, and_parts, ltb-true}
@@ -27,7 +27,7 @@ use Rattle.frames.specs.laws.Steps.{IsVoid, void_unless_enabled, stopped_is_void
 use Rattle.frames.proofs.Seen.{Seen, after_step, sees, Always, Allowed, ended}
 use Rattle.frames.proofs.Reached.{Reached, IsFine, reached_more, reached_fine}
 use Rattle.frames.proofs.Pointwise.{put, put_same, put_again, put_is}
-use Rattle.layers.specs.Nested.{part_place, own_words, behind_part, advance, resume, layered}
+use Rattle.layers.specs.Nested.{part_place, own_words, after_part, advance, resume, layered}
 use Rattle.layers.specs.Sound.{LayerHolds, LayerReaches}
 use Rattle.layers.specs.laws.Nested.{asks_fit, holds_with_part}
 use Rattle.layers.specs.laws.Layered.{layer_lawful}
@@ -36,16 +36,16 @@ use Rattle.layers.proofs.Law.{Standing, View, Watch, IsKept, IsUser}
 use Rattle.layers.proofs.Links.{moves, StepsTo, step_begins, step_goes, step_stops, step_of, nested, below_of, below_of-same, below_of-other, Linked, word_behind, links_move, link_same, gone_seen, gone_reads}
 use Rattle.layers.proofs.Turns.{standing_of, Ran, run_on, behind_ran, stands_here}
 
--- what links a configuration of the layer, its view, and each part alone
+-- a configuration of the layer, its view, and each part alone agree, and the invariant holds
 pub record Joint {Task P U : Type 0} (l : LayerOver Task P) (user : ℕ → ℕ → ℕ) (value : ℕ → ℕ) (w : Watch Task U) (c : Alone (Nested Task P)) (u : U) : Type 0 where
-  pub well : IsConfiguration (layered l.table l.below) (LayerHolds l.table l.below l.Holds) (LayerReaches l.table l.Stands l.Reaches) c
+  pub well : IsConfiguration (layered l.table l.below) (LayerHolds l.table l.below l.Holds) (LayerReaches l.table l.MayBeAt l.Reaches) c
   pub j : View Task
   pub inv : w.Inv u j
   pub words : (i : ℕ) → i < l.table.words → j.words i ≡ word_at (own_words l.table l.below.size + i) c.memory
   pub tasks : (q : ℕ) → j.tasks q ≡ standing_of (running_at q c)
   pub links : (k : ℕ) → k < l.table.parts → Linked l user value (λ q. is_stopped q c) c.memory (λ q. running_at q c) k (j.parts k)
 
--- part k alone where those of its first n processes that p serves have stopped
+-- part k alone, after those of its first n processes for which p acts have stopped
 pub record Halting {Task P : Type 0} (l : LayerOver Task P) (user : ℕ → ℕ → ℕ) (value : ℕ → ℕ) (p : ℕ) (c : Alone (Nested Task P)) (k : ℕ) (s : Seen) (n : ℕ) : Type 0 where
   pub d : Alone P
   pub well : IsConfiguration l.below l.Holds l.Reaches d
@@ -55,15 +55,15 @@ pub record Halting {Task P : Type 0} (l : LayerOver Task P) (user : ℕ → ℕ 
   pub stops : (q : ℕ) → q < n → q < l.below.processes → user k q ≡ p → is_stopped q d ≡ true
   pub others : (q : ℕ) → q < l.below.processes → (q < n → user k q ≡ p → ⊥) → is_stopped q d ≡ is_stopped (user k q) c
 
--- a step that fits a process that is there
+-- a bit action of an existing process fits
 pub go_fits : {P : Type 0} (b : Behaviour P) (who choice : ℕ) → who < b.processes → choice < 2 → fits_step b (step.Go who choice) ≡ true
 go_fits b who choice lw lc = grind (arith, nat_tests)
 
 pub stop_fits : {P : Type 0} (b : Behaviour P) (who : ℕ) → who < b.processes → fits_step b (step.Stop who) ≡ true
 stop_fits b who lw = grind (arith, nat_tests)
 
-module _ {Task P U : Type 0} (l : LayerOver Task P) (user : ℕ → ℕ → ℕ) (is_user : IsUser l.table l.Stands user) (value : ℕ → ℕ) (w : Watch Task U) (first : ℕ → U) (Up : U → StepEvents → U → Type 0)
-    (K : IsKept l.table l.Stands w first Up) (all : Always w.Good l.below) (vals : (k : ℕ) → k < l.table.parts → value k < l.below.values) where
+module _ {Task P U : Type 0} (l : LayerOver Task P) (user : ℕ → ℕ → ℕ) (is_user : IsUser l.table l.MayBeAt user) (value : ℕ → ℕ) (w : Watch Task U) (first : ℕ → U) (Up : U → StepEvents → U → Type 0)
+    (K : IsKept l.table l.MayBeAt w first Up) (all : Always w.Good l.below) (vals : (k : ℕ) → k < l.table.parts → value k < l.below.values) where
   abbrev N : Type 0
   N = Nested Task P
 
@@ -76,14 +76,14 @@ module _ {Task P U : Type 0} (l : LayerOver Task P) (user : ℕ → ℕ → ℕ)
   abbrev Next_joint : Alone N → U → Step → Type 0
   Next_joint c u s = (z : U) × (Up u (events_of L c s) z × J (stepped L c s) z)
 
-  -- a step that is void
+  -- a void step keeps the links
   void_joint : (s : Step) (c : Alone N) (u : U) → IsVoid L c s → J c u → Next_joint c u s
-  void_joint s c u v h = (u, (subst (λ e. Up u e u) (sym v.told) (K.void u (process_of s) v.why), subst (λ d. J d u) (sym v.leaves) h))
+  void_joint s c u v h = (u, (subst (λ e. Up u e u) (sym v.reported) (K.void u (process_of s) v.why), subst (λ d. J d u) (sym v.leaves) h))
 
-  -- p's turn has ended
+  -- the links hold again after p's turn has ended
   joined_ran : (p : ℕ) (o : Op) (s : Step) (event : Option Event) (begun : Begun N) (c : Alone N) (u : U)
       → p < length c.running → StepsTo L c s p o event begun.next begun.memory
-      → IsConfiguration L (LayerHolds l.table l.below l.Holds) (LayerReaches l.table l.Stands l.Reaches) (stepped L c s)
+      → IsConfiguration L (LayerHolds l.table l.below l.Holds) (LayerReaches l.table l.MayBeAt l.Reaches) (stepped L c s)
       → Ran l user value (λ q. is_stopped q c) w p o (λ e. Up u (in_order event e)) begun (λ q. running_at q c) → Next_joint c u s
   joined_ran p o s event begun c u lp to well r =
       let d = moves p o begun.next begun.memory c in
@@ -96,7 +96,7 @@ module _ {Task P U : Type 0} (l : LayerOver Task P) (user : ℕ → ℕ → ℕ)
         (
           subst (λ e. Up u e r.u) (sym to.events) r.out,
           subst (λ x. J x r.u) (sym to.after) (record {
-            well = subst (IsConfiguration L (LayerHolds l.table l.below l.Holds) (LayerReaches l.table l.Stands l.Reaches)) to.after well;
+            well = subst (IsConfiguration L (LayerHolds l.table l.below l.Holds) (LayerReaches l.table l.MayBeAt l.Reaches)) to.after well;
             j = r.j;
             inv = r.inv;
             words = r.words;
@@ -106,10 +106,10 @@ module _ {Task P U : Type 0} (l : LayerOver Task P) (user : ℕ → ℕ → ℕ)
         ),
       )
 
-  keeps : (c : Alone N) (s : Step) (u : U) → fits_step L s ≡ true → J c u → IsConfiguration L (LayerHolds l.table l.below l.Holds) (LayerReaches l.table l.Stands l.Reaches) (stepped L c s)
-  keeps c s u f h = step_keeps L (LayerHolds l.table l.below l.Holds) (LayerReaches l.table l.Stands l.Reaches) (layer_lawful l) c s h.well f
+  keeps : (c : Alone N) (s : Step) (u : U) → fits_step L s ≡ true → J c u → IsConfiguration L (LayerHolds l.table l.below l.Holds) (LayerReaches l.table l.MayBeAt l.Reaches) (stepped L c s)
+  keeps c s u f h = step_keeps L (LayerHolds l.table l.below l.Holds) (LayerReaches l.table l.MayBeAt l.Reaches) (layer_lawful l) c s h.well f
 
-  -- a process that has nothing pending invokes an operation
+  -- a process with nothing pending invokes an operation
   invoke_joint : (p : ℕ) (o : Op) (c : Alone N) (u : U) → running_at p c ≡ None → is_stopped p c ≡ false → l.table.suits p o ≡ true → fits_step L (step_of p o) ≡ true → J c u → Next_joint c u (step_of p o)
   invoke_joint p o c u e awake s f h =
       let begun : Begun N = advance l.table l.below (l.table.program p o) c.memory in
@@ -120,7 +120,7 @@ module _ {Task P U : Type 0} (l : LayerOver Task P) (user : ℕ → ℕ → ℕ)
       let lp : p < l.table.processes = l.sound.nobody_else p o s in
       joined_ran p o (step_of p o) (Some (Invoke p o)) begun c u (omega (arith, lp, h.well.each)) (step_begins L p o c c.memory e awake refl) (keeps c (step_of p o) u f h) r
 
-  -- a process that has something pending makes its next bit action
+  -- a process with an operation pending makes its next bit action
   go_joint : (p choice : ℕ) (c : Alone N) (u : U) (r : Running N) → running_at p c ≡ Some r → is_stopped p c ≡ false → p < l.table.processes → choice < 2 → fits_step L (step.Go p choice) ≡ true → J c u
       → Next_joint c u (step.Go p choice)
   go_joint p choice c u r e awake lp lc f h =
@@ -131,11 +131,11 @@ module _ {Task P U : Type 0} (l : LayerOver Task P) (user : ℕ → ℕ → ℕ)
       let aop : Op = (l.table.asks task).op in
       let m : Memory = c.memory in
       let at : ℕ → Option (Running N) = λ q. running_at q c in
-      let can : LayerReaches l.table l.Stands l.Reaches p o r.point = subst (IsReached (LayerReaches l.table l.Stands l.Reaches) p) e (h.well.reached p) in
-      let fit = asks_fit l p o task can.stands in
+      let can : LayerReaches l.table l.MayBeAt l.Reaches p o r.point = subst (IsReached (LayerReaches l.table l.MayBeAt l.Reaches) p) e (h.well.reached p) in
+      let fit = asks_fit l p o task can.may_be_at in
       let la : a < l.table.parts = fit.0 in
       let lw : who < l.below.processes = l.lawful.nobody_else who aop fit.1 in
-      let us : user a who ≡ p = is_user p o task can.stands in
+      let us : user a who ≡ p = is_user p o task can.may_be_at in
       let link = h.links a la in
       let standing : Running P = record { op = aop; point = r.point.below } in
       let runs_it : running_at who link.c ≡ Some standing =
@@ -170,18 +170,18 @@ module _ {Task P U : Type 0} (l : LayerOver Task P) (user : ℕ → ℕ → ℕ)
       (λ k q ne. ap (below_of l.table k q) e ∙ below_of-other l.table o task (Rattle.frames.specs.declared.types.Next.TheVariants.Pending r.point.below) k q ne) link fb to hs k lk))
       fine.0
       fine.1
-      (stands_here l user value (λ q. is_stopped q c) w task moved.next g.stands)
+      (stands_here l user value (λ q. is_stopped q c) w task moved.next g.may_be_at)
       still
       (λ i. refl) tasks_same parts_same
       (λ outcome ans pass good mid.
       run_on l user value (λ q. is_stopped q c) w is_user all vals p o Out (l.table.rest task outcome) new (put p None at)
       (record h.j { parts = put a (sees (Some (ended who outcome)) (h.j.parts a)) h.j.parts })
-      awake (put_same p None at) (l.sound.rest_sound p o task outcome can.stands ans pass) mid
-      (K.goes u h.j p n chosen outcome h.inv mine can.stands ans pass good)) in
-      joined_ran p o (step.Go p choice) (chosen_of p chosen) (behind_part (λ outcome m'. advance l.table l.below (l.table.rest task outcome) m') task moved.next new) c u
+      awake (put_same p None at) (l.sound.rest_sound p o task outcome can.may_be_at ans pass) mid
+      (K.goes u h.j p n chosen outcome h.inv mine can.may_be_at ans pass good)) in
+      joined_ran p o (step.Go p choice) (chosen_of p chosen) (after_part (λ outcome m'. advance l.table l.below (l.table.rest task outcome) m') task moved.next new) c u
       (omega (arith, lp, h.well.each)) whole (keeps c (step.Go p choice) u f h) ran
 
-  -- those of the part's processes below n that p serves stop
+  -- the part's processes below n for which p acts stop
   stops_upto : (p : ℕ) (c : Alone N) (k : ℕ) (s : Seen) → is_stopped p c ≡ false → (n : ℕ) → n ≤ l.below.processes → Linked l user value (λ q. is_stopped q c) c.memory (λ q. running_at q c) k s
       → Halting l user value p c k s n
   stops_upto p c k s awake zero ln h = record {
@@ -235,7 +235,7 @@ module _ {Task P U : Type 0} (l : LayerOver Task P) (user : ℕ → ℕ → ℕ)
         (
           subst (λ e. Up u e u) (sym is.events) (K.stop u p),
           subst (λ d. J d u) (sym is.after) (record {
-            well = subst (IsConfiguration L (LayerHolds l.table l.below l.Holds) (LayerReaches l.table l.Stands l.Reaches)) is.after (keeps c (step.Stop p) u f h);
+            well = subst (IsConfiguration L (LayerHolds l.table l.below l.Holds) (LayerReaches l.table l.MayBeAt l.Reaches)) is.after (keeps c (step.Stop p) u f h);
             j = h.j;
             inv = h.inv;
             words = h.words;
@@ -257,7 +257,7 @@ module _ {Task P U : Type 0} (l : LayerOver Task P) (user : ℕ → ℕ → ℕ)
         ),
       )
 
-  -- where a process has something pending or not
+  -- p invokes an operation, whether or not p has one pending
   invoking_joint : (p : ℕ) (o : Op) (c : Alone N) (u : U) (x : Option (Running N)) → running_at p c ≡ x → is_stopped p c ≡ false → l.table.suits p o ≡ true → fits_step L (step_of p o) ≡ true
       → ((r : Running N) → x ≡ Some r → IsVoid L c (step_of p o)) → J c u → Next_joint c u (step_of p o)
   invoking_joint p o c u None e awake s f void h = invoke_joint p o c u e awake s f h

@@ -1,4 +1,4 @@
--- Each part of a layer alone, after its own list of steps, and what a step of one part makes of all.
+-- Each part of a layer alone, after its own list of steps; and what a step of one part changes.
 use Rattle.std.proofs.Common.{◌≡◌, ℕ, ◌+◌, ◌*◌, ◌<◌, ◌==◌, refl, ap, sym, ◌∙◌, subst, arith, inl, inr, Bool, true, false, Option, Some, None, eq-eqb}
 use Rattle.std.specs.Prelude.{if◌then◌else◌}
 use Rattle.std.proofs.lemmas.Bool.{ne_eqb, cases_eq}
@@ -29,12 +29,12 @@ use Rattle.layers.specs.Sound.{LayerHolds}
 use Rattle.layers.specs.laws.Nested.{row_fits, part_within, parts_apart}
 use Rattle.layers.specs.laws.Over.{LayerOver}
 
--- a part's operation, pending in a task
+-- the state of a layer's operation in a task, given the state of the part's operation
 abbrev pub nested : {Task P : Type 0} → Task → Next P → Next (Nested Task P)
 nested task (Pending p) = Pending (record { task = task; below = p })
 nested task (Done o) = Done o
 
--- what process q of part k has pending where a process of the layer has this
+-- the pending operation of process q of part k, if this is that of the layer's process acting as q
 abbrev pub below_of : {Task P : Type 0} → Table Task → ℕ → ℕ → Option (Running (Nested Task P)) → Option (Running P)
 below_of t k q None = None
 below_of t k q (Some r) =
@@ -66,7 +66,8 @@ below_of-other {P = P} t o task (Pending p) k q ne =
           ∙ none_either ((t.asks task).part == k)
     ]
 
--- part k alone, after its own list of steps: the layer's memory is m, its processes have `at` pending and are `halted` or not
+-- part k alone, after its own list of steps. The layer's memory is m, `at` is what the layer's
+-- processes have pending, and `halted` says which of them have stopped.
 pub record Linked {Task P : Type 0} (l : LayerOver Task P) (user : ℕ → ℕ → ℕ) (value : ℕ → ℕ) (halted : ℕ → Bool)
     (m : Memory) (at : ℕ → Option (Running (Nested Task P))) (k : ℕ) (s : Seen) : Type 0 where
   pub c : Alone P
@@ -76,7 +77,7 @@ pub record Linked {Task P : Type 0} (l : LayerOver Task P) (user : ℕ → ℕ �
   pub running : (q : ℕ) → q < l.below.processes → running_at q c ≡ below_of l.table k q (at (user k q))
   pub stopped : (q : ℕ) → q < l.below.processes → is_stopped q c ≡ halted (user k q)
 
--- who has what pending, where the operation of p has moved on in its task
+-- another process of a part has the same pending after p's operation has moved on in its task
 put_below : {Task P : Type 0} (t : Table Task) (user : ℕ → ℕ → ℕ) (at : ℕ → Option (Running (Nested Task P))) (p : ℕ) (o : Op) (task : Task) (next : Next P) (k q : ℕ)
     → (k ≡ (t.asks task).part → q ≡ (t.asks task).who → ⊥) → below_of t k q (at p) ≡ None
     → below_of t k q (at (user k q)) ≡ below_of t k q (put p (still_running o (nested task next)) at (user k q))
@@ -124,7 +125,7 @@ module _ {Task P : Type 0} (l : LayerOver Task P) where
     abbrev At : Type 0
     At = ℕ → Option (Running (Nested Task P))
 
-    -- the links to all parts where one of them has made a step
+    -- the links to all parts hold again after one part has made a step
     pub links_move : (m : Memory) (at : At) (parts : ℕ → Seen) (p : ℕ) (o : Op) (task : Task) (event : Option Event) (next : Next P) (inner : Memory) (s : Step)
         → LayerHolds l.table l.below l.Holds m
         → ((k : ℕ) → k < l.table.parts → Linked l user value halted m at k (parts k))
@@ -178,7 +179,7 @@ module _ {Task P : Type 0} (l : LayerOver Task P) where
               }))
         ]
 
-    -- the same processes, told otherwise
+    -- a link still holds if the processes have the same pending, and the part's memory is the same
     pub link_same : (m n : Memory) (at to : At) (k : ℕ) (s z : Seen)
         → ((q : ℕ) → at q ≡ to q) → part (part_place l.below.size k) l.below.size m ≡ part (part_place l.below.size k) l.below.size n → s ≡ z
         → Linked l user value halted m at k s → Linked l user value halted n to k z

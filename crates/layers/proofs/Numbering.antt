@@ -1,4 +1,5 @@
--- Where reads can be numbered step by step, they can be by what is known: a register with one writer and one reader is atomic then.
+-- If reads can be numbered step by step, they can be numbered in terms of `Known`. A register with
+-- one writer and one reader is then atomic.
 use Rattle.std.proofs.Common.{◌≡◌, ℕ, ◌+◌, ◌<◌, ◌≤◌, Bool, true, false, List, [], ◌∷◌, ◌++◌, length, Option, Some, None, inl, inr, refl, sym, ap, subst, ◌∙◌, arith, get_or, append-nil, append_assoc, length-append}
 use Rattle.std.specs.Prelude.{◌==◌}
 use Rattle.std.specs.Option.{unwrap_or}
@@ -20,7 +21,7 @@ use Rattle.frames.specs.declared.types.StepEvents.{StepEvents}
 use Rattle.frames.specs.declared.types.Reason.TheVariants.{Busy, Idle, Stopped}
 use Rattle.frames.specs.declared.running.Running.{Running}
 use Rattle.frames.specs.declared.verdict.Reading.{Reading}
-use Rattle.frames.specs.Behaviour.{Behaviour, IsLawful, StandsWell, Answers}
+use Rattle.frames.specs.Behaviour.{Behaviour, IsLawful, ReachedOrAnswered, Answers}
 use Rattle.frames.specs.Fitting.{process_of}
 use Rattle.frames.specs.OneWriter.{HasOneWriter}
 use Rattle.frames.specs.Configuration.{running_at, is_stopped, fits_step, stepped, history, events_of, acted_on, acting, acting_unless, invoking, going, return_of, still_running, chosen_of, in_order}
@@ -43,7 +44,7 @@ pub record ReadSince (k : Known) (c : Counted) : Type 0 where
   pub last : last_read 1 k ≡ Some read
   pub since : read.since ≡ c.low
 
--- what is known, and what is counted
+-- `Known` and `Counted` agree
 pub record CountAgrees (v : ℕ) (ops : ℕ → Option Op) (k : Known) (c : Counted) : Type 0 where
   pub values : (n : ℕ) → n ≤ c.begun → get_or (by_number v k) n v ≡ c.value n
   pub begun : length k.returned + length (in_progress k.writing) ≡ c.begun
@@ -57,7 +58,7 @@ OneEach p (op.Write v) = p ≡ 0
 OneEach p op.Read = p ≡ 1
 
 module _ (v : ℕ) where
-  -- the reads of events that refuse no write from before them can be numbered, from a floor on
+  -- these events don't refuse the write in progress, and their reads have numbers from `floor` on
   abbrev pub Goes : ℕ → Known → List (ℕ × Event) → Type 0
   Goes floor k events = (is_refused events ≡ false) × Numbered v floor k (accepted events)
 
@@ -65,7 +66,7 @@ module _ (v : ℕ) where
     pub agrees : CountAgrees v ops (afters e k) z
     pub join : (i : ℕ) (rest : List (ℕ × Event)) → Goes z.floor (afters e k) rest → Goes c.floor k (at_index i e ++ rest)
 
-  -- `next` is known after a step
+  -- `next` is known after a step, agrees with the count, and continues the numbering
   pub record StepNumbers (ops : ℕ → Option Op) (e : StepEvents) (k : Known) (c z : Counted) : Type 0 where
     pub next : Known
     pub agrees : CountAgrees v ops next z
@@ -90,7 +91,7 @@ module _ (v : ℕ) where
         (ap (refused_by e) h.0 ∙ kept, subst (Numbered v c.floor k) (sym (accepted_one i e rest h.0 counted)) (z.floor, (rises, (says, h.1))));
   }
 
-  -- where no write is in progress
+  -- if no write is in progress, the numbered values are those of the returned writes
   quiet_values : (k : Known) (c : Counted) (ops : ℕ → Option Op) → CountAgrees v ops k c → k.writing ≡ None → (n : ℕ) → n ≤ c.begun → get_or (v ∷ k.returned) n v ≡ c.value n
   quiet_values k c ops a none n l =
       ap (λ (xs : List ℕ). get_or (v ∷ xs) n v) (sym (append-nil k.returned)) ∙ ap (λ w. get_or (v ∷ (k.returned ++ in_progress w)) n v) (sym none) ∙ a.values n l
@@ -99,7 +100,7 @@ module _ (v : ℕ) where
   quiet_begun k c ops a none =
       let e : length k.returned + length (in_progress None) ≡ c.begun = ap (λ w. length k.returned + length (in_progress w)) (sym none) ∙ a.begun in omega (arith, e)
 
-  -- a write is invoked
+  -- `Known` and `Counted` still agree after a write is invoked
   write_begins : (x : ℕ) (ops : ℕ → Option Op) (k : Known) (c : Counted) → ops 0 ≡ None → CountAgrees v ops k c
       → CountAgrees v (put 0 (Some (op.Write x)) ops) (after k (Invoke 0 (op.Write x))) (record c { value = put (c.begun + 1) x c.value; begun = c.begun + 1 })
   write_begins x ops k c free a =
@@ -118,7 +119,7 @@ module _ (v : ℕ) where
         low = λ e. let r = a.low e in record { read = r.read; last = r.last; since = r.since };
       }
 
-  -- a read is invoked
+  -- `Known` and `Counted` still agree after a read is invoked
   read_begins : (ops : ℕ → Option Op) (k : Known) (c : Counted) → CountAgrees v ops k c
       → CountAgrees v (put 1 (Some op.Read) ops) (after k (Invoke 1 op.Read)) (record c { low = c.done })
   read_begins ops k c a = record {
@@ -129,7 +130,7 @@ module _ (v : ℕ) where
     low = λ e. record { read = invoked_now 1 k; last = found_last 1 (invoked_now 1 k) k.reads; since = a.done };
   }
 
-  -- the write in progress returns
+  -- `Known` and `Counted` still agree after the write in progress has returned
   returns_count : (w : Option ℕ) (ops : ℕ → Option Op) (k : Known) (c : Counted) → k.writing ≡ w → CountAgrees v ops k c → CountAgrees v (put 0 None ops) (returning w k) (record c { done = c.begun })
   returns_count None ops k c e a = record {
     values = a.values;
@@ -151,7 +152,7 @@ module _ (v : ℕ) where
 
   -- an operation ends, or goes on
   end_numbers : {P : Type 0} (Reached : P → Type 0) (values p : ℕ) (o : Op) (next : Next P) (ops : ℕ → Option Op) (k : Known) (c z : Counted) → ops p ≡ Some o → OneEach p o
-      → StandsWell Reached (Answers values o) next → refuses (return_of p next) ≡ false → Counts (return_of p next) c z → CountAgrees v ops k c
+      → ReachedOrAnswered Reached (Answers values o) next → refuses (return_of p next) ≡ false → Counts (return_of p next) c z → CountAgrees v ops k c
       → EventNumbers (put p (op_of (still_running o next)) ops) (return_of p next) k c z
   end_numbers Reached values p o (Pending q) ops k c z there role well fine counts a =
       no_event (put p (Some o) ops) k c z counts (same_ops ops (put p (Some o) ops) k c (λ i. put_is p i (Some o) ops there) a)
@@ -191,7 +192,7 @@ module _ (v : ℕ) where
       (an_event (put 1 (Some op.Read) ops) (Invoke 1 op.Read) k c mid refl refl (let e = ap (λ (y : Counted). y.floor) counts in omega (arith, e)) tt
       (subst (CountAgrees v (put 1 (Some op.Read) ops) (after k (Invoke 1 op.Read))) (sym counts) (read_begins ops k c a)))
 
-  -- an operation that is refused in the step that invokes it counts for nothing
+  -- an operation refused in the step that invokes it counts for nothing
   refused_numbers : (p : ℕ) (o : Op) (layer : Layer) (ops : ℕ → Option Op) (k : Known) (c : Counted) → ops p ≡ None → OneEach p o → CountAgrees v ops k c
       → StepNumbers (put p None ops) (record { first = Some (Invoke p o); second = Some (Refused p layer) }) k c c
   refused_numbers p (op.Write x) layer ops k c free role a =
@@ -211,7 +212,7 @@ module _ (v : ℕ) where
   step_same from to e k c z same s = record { next = s.next; agrees = same_ops from to s.next z same s.agrees; join = s.join }
 
   begun_numbers : {P : Type 0} (Reached : P → Type 0) (values p : ℕ) (o : Op) (next : Next P) (ops : ℕ → Option Op) (k : Known) (c z : Counted) → ops p ≡ None → OneEach p o
-      → StandsWell Reached (Answers values o) next → NumberedStep c (in_order (Some (Invoke p o)) (return_of p next)) z → CountAgrees v ops k c
+      → ReachedOrAnswered Reached (Answers values o) next → NumberedStep c (in_order (Some (Invoke p o)) (return_of p next)) z → CountAgrees v ops k c
       → StepNumbers (put p (op_of (still_running o next)) ops) (in_order (Some (Invoke p o)) (return_of p next)) k c z
   begun_numbers {P} Reached values p o next ops k c z free role well numbered a = go (refuses (return_of p next)) refl numbered.1
     where
@@ -235,7 +236,7 @@ module _ (v : ℕ) where
           (both_events (put p x (put p (Some o) ops)) (put p (Some o) ops) (Some (Invoke p o)) (return_of p next) k c n.0 z first second)
 
   gone_numbers : {P : Type 0} (Reached : P → Type 0) (values p : ℕ) (o : Op) (chosen : Option (ℕ × Bool)) (next : Next P) (ops : ℕ → Option Op) (k : Known) (c z : Counted) → ops p ≡ Some o → OneEach p o
-      → StandsWell Reached (Answers values o) next → NumberedStep c (in_order (chosen_of p chosen) (return_of p next)) z → CountAgrees v ops k c
+      → ReachedOrAnswered Reached (Answers values o) next → NumberedStep c (in_order (chosen_of p chosen) (return_of p next)) z → CountAgrees v ops k c
       → StepNumbers (put p (op_of (still_running o next)) ops) (in_order (chosen_of p chosen) (return_of p next)) k c z
   gone_numbers Reached values p o None next ops k c z there role well numbered a =
       let n = numbered.1 in
@@ -271,7 +272,7 @@ module _ (v : ℕ) where
     invoking_numbers : (p : ℕ) (o : Op) (x : Option (Running P)) (m : Memory) (ops : ℕ → Option Op) (k : Known) (c z : Counted) → Holds m → b.suits p o ≡ true → ops p ≡ op_of x
         → NumberedStep c (invoking b p o x m).events z → CountAgrees v ops k c → StepNumbers (put p (op_of (invoking b p o x m).running) ops) (invoking b p o x m).events k c z
     invoking_numbers p o None m ops k c z h fits there n a =
-        begun_numbers (Reaches p o) b.values p o (b.begins p o m).next ops k c z there (role_of p o fits) (lawful.begins_well p o m h fits).stands n a
+        begun_numbers (Reaches p o) b.values p o (b.begins p o m).next ops k c z there (role_of p o fits) (lawful.begins_well p o m h fits).may_be_at n a
     invoking_numbers p o (Some r) m ops k c z h fits there n a =
         step_same ops (put p (Some r.op) ops) _ k c z (λ i. put_is p i (Some r.op) ops there) (quiet_step ops (Void p Busy) k c n.1.0 z refl refl n.1.1.0 n.1.1.1 tt a)
 
@@ -282,7 +283,7 @@ module _ (v : ℕ) where
     going_numbers p choice (Some r) m ops k c z h reached there n a =
         let moved = b.goes r.point choice m in
         gone_numbers (Reaches p r.op) b.values p r.op moved.chosen moved.next ops k c z there (role_of p r.op (lawful.reached_suits p r.op r.point reached))
-        (lawful.goes_well p r.op r.point choice m h reached).stands n a
+        (lawful.goes_well p r.op r.point choice m h reached).may_be_at n a
 
     acting_numbers : (s : Step) (x : Option (Running P)) (m : Memory) (ops : ℕ → Option Op) (k : Known) (c z : Counted) → fits_step b s ≡ true → Holds m → IsReached Reaches (process_of s) x → ops (process_of s) ≡ op_of x
         → NumberedStep c (acting b s x m).events z → CountAgrees v ops k c → StepNumbers (put (process_of s) (op_of (acting b s x m).running) ops) (acting b s x m).events k c z
@@ -330,7 +331,7 @@ module _ (v : ℕ) where
       low = λ e. absurd (let n = ap (λ (r : Option (Running P)). op_of r) (none_at b.processes 1) in cc);
     }
 
--- a register of one writer and one reader whose returned reads can be numbered step by step is atomic
+-- a register of one writer and one reader is atomic, if its reads can be numbered step by step
 pub numbered_atomic : {P : Type 0} (b : Behaviour P) (one : HasOneWriter b) (two : b.processes ≡ 2) (Holds : Memory → Type 0) (Reaches : ℕ → Op → P → Type 0) (lawful : IsLawful b Holds Reaches)
     → ((v : ℕ) (steps : List Step) → v < b.values → AllFit b steps → Allowed NumberedStep (uncounted v) (history b (first_configuration b v) steps)) → IsAtomic b
 numbered_atomic b one two Holds Reaches lawful numbered = record {

@@ -1,15 +1,15 @@
--- A step of a task's part, in a store and on a stack: what it is to the layer that the part is of.
+-- A step of a task's part, in a store and on a stack, as a step of the part's layer.
 use Rattle.std.proofs.Common.{◌≡◌, ℕ, Bool, true, ◌+◌, ◌<◌, ◌≤◌, List, [], ◌∷◌, ◌++◌, length, take, Option, sym, ap, subst, ◌∙◌, arith, append-nil, length-take, length-append}
 use Rattle.std.specs.Prelude.{IfSome}
 use Rattle.safe_bit.specs.declared.Place.{Place}
 use Rattle.safe_bit.specs.Memory.{Memory}
-use Rattle.safe_bit.specs.Parts.{LiesIn, behind, part, with_part}
+use Rattle.safe_bit.specs.Parts.{LiesIn, place_after, part, with_part}
 use Rattle.frames.specs.declared.types.Op.{Op}
 use Rattle.frames.specs.declared.types.Outcome.{Outcome}
 use Rattle.frames.specs.declared.types.Frame.{Frame}
 use Rattle.frames.specs.declared.types.Next.{Next}
 use Rattle.frames.specs.declared.types.Next.TheVariants.{Pending, Done}
-use Rattle.frames.specs.Flat.{Lands, StandsOn, ended, left_frames}
+use Rattle.frames.specs.Flat.{Lands, HasFramesFrom, ended, left_frames}
 use Rattle.frames.specs.Placed.{placed_bit}
 use Rattle.layers.specs.declared.nested.Ask.{Ask}
 use Rattle.layers.specs.Nested.{part_place, asked, pushed, layered}
@@ -21,27 +21,27 @@ use Rattle.layers.specs.laws.Flat.{part_leaves, index_there, behind_there, front
 use Rattle.layers.specs.laws.InPlace.{part_holds, part_inside, asked_next, asked_memory, pushed_next, pushed_chosen, pushed_memory}
 use Rattle.layers.specs.laws.Over.{LayerOver}
 
--- an operation that has ended leaves what stood in front of it
+-- an operation that has ended leaves only the frames that were below its own
 own_left : {P : Type 0} (frames : P → List Frame) (next : Next P) (front : List Frame) (given : Option Outcome) (left : List Frame) → given ≡ ended next
     → left ≡ front ++ left_frames frames next → IfSome given (λ _. left ≡ front)
 own_left frames (Pending p) front given left is leaves = subst (λ g. IfSome g (λ _. left ≡ front)) (sym is) tt
 own_left frames (Done o) front given left is leaves = subst (λ g. IfSome g (λ _. left ≡ front)) (sym is) (leaves ∙ append-nil front)
 
--- behind a layer's own frame the stack is no shorter than in front of it
+-- a stack has at least `first` frames after a layer's own frame was pushed at that index
 pub behind_long : (stack rest behind_own left : List Frame) (frame : Frame) (first : ℕ) → behind_own ≡ stack ++ frame ∷ [] → length stack ≡ first → left ≡ behind_own ++ rest → first ≤ length left
 behind_long stack rest behind_own left frame first owns long leaves =
     let whole = ap length leaves in
     let own = ap length owns in
     omega (arith, long, whole, own, length-append behind_own rest, length-append stack (frame ∷ []))
 
--- `a` is what the task asks, and `q` where the part lies
+-- `a` is what the task asks, and `q` is the part's place
 module _ {Task P : Type 0} (l : LayerOver Task P) (at : Place) (m : Memory) (lies : LayerLies l.table l.below l.Holds at m)
-    (task : Task) (a : Ask) (e : a ≡ l.table.asks task) (q : Place) (is : q ≡ behind at (part_place l.below.size a.part)) where
-  module _ (who : ℕ) (o : Op) (stands : l.Stands who o task) where
+    (task : Task) (a : Ask) (e : a ≡ l.table.asks task) (q : Place) (is : q ≡ place_after at (part_place l.below.size a.part)) where
+  module _ (who : ℕ) (o : Op) (stands : l.MayBeAt who o task) where
     part_there : a.part < l.table.parts
     part_there = rw e (asks_fit l who o task stands).0
 
-    -- what the part's memory keeps
+    -- the part's memory satisfies `Holds`
     pub part_keeps : l.Holds (part q l.below.size m)
     part_keeps = subst (λ x. l.Holds (part x l.below.size m)) (sym is) (part_holds l at m lies a.part part_there)
 
@@ -49,7 +49,8 @@ module _ {Task P : Type 0} (l : LayerOver Task P) (at : Place) (m : Memory) (lie
     pub part_lies : LiesIn q l.below.size m
     part_lies = subst (λ x. LiesIn x l.below.size m) (sym is) (part_inside l at m lies a.part part_there)
 
-    -- the part is asked behind the layer's own frame, which goes where the part has ended
+    -- the part is asked after the layer's own frame is pushed; that frame is dropped if the part
+    -- has ended
     pub part_asked : (stack behind_own left closed : List Frame) (first : ℕ) (given : Option Outcome) (after : Memory)
         → behind_own ≡ stack ++ l.table.frame task ∷ [] → length stack ≡ first
         → Lands l.below.frames q (l.below.begins a.who a.op (part q l.below.size m)).next (l.below.begins a.who a.op (part q l.below.size m)).memory behind_own m given left after
@@ -70,21 +71,21 @@ module _ {Task P : Type 0} (l : LayerOver Task P) (at : Place) (m : Memory) (lie
         }
 
   module _ (choice : Bool) (first : ℕ) (stack : List Frame) (who : ℕ) (o : Op) (p : P)
-      (on : StandsOn (layered l.table l.below).frames (LayerReaches l.table l.Stands l.Reaches) who first stack o (record { task = task; below = p })) where
-    -- the part's frames stand behind the layer's own
-    pub part_stands : StandsOn l.below.frames l.Reaches a.who (first + 1) stack a.op p
+      (on : HasFramesFrom (layered l.table l.below).frames (LayerReaches l.table l.MayBeAt l.Reaches) who first stack o (record { task = task; below = p })) where
+    -- the part's frames follow the layer's own
+    pub part_stands : HasFramesFrom l.below.frames l.Reaches a.who (first + 1) stack a.op p
     part_stands = record { reached = rw e on.reached.below; there = behind_there first stack (l.below.frames p) (l.table.frame task) on.there }
 
-    -- it makes its next bit action there
-    pub part_chooses : (chosen : Option (ℕ × Bool)) → (StandsOn l.below.frames l.Reaches a.who (first + 1) stack a.op p → chosen ≡ placed_bit q (l.below.goes p choice (part q l.below.size m)).chosen)
+    -- the bit that the part's bit action chooses is the layer's
+    pub part_chooses : (chosen : Option (ℕ × Bool)) → (HasFramesFrom l.below.frames l.Reaches a.who (first + 1) stack a.op p → chosen ≡ placed_bit q (l.below.goes p choice (part q l.below.size m)).chosen)
         → chosen ≡ placed_bit at (pushed l.below (l.table.asks task).part p choice (own l.table l.below at m)).chosen
     part_chooses chosen chooses =
         chooses part_stands ∙ ap (λ x. placed_bit x (l.below.goes p choice (part x l.below.size m)).chosen) is
-        ∙ pushed_chosen l at m lies a.part p choice (part_there who o on.reached.stands)
+        ∙ pushed_chosen l at m lies a.part p choice (part_there who o on.reached.may_be_at)
         ∙ ap (λ x. placed_bit at (pushed l.below x.part p choice (own l.table l.below at m)).chosen) e
 
     pub part_moved : (given : Option Outcome) (left closed : List Frame) (after : Memory)
-        → (StandsOn l.below.frames l.Reaches a.who (first + 1) stack a.op p
+        → (HasFramesFrom l.below.frames l.Reaches a.who (first + 1) stack a.op p
         → Lands l.below.frames q (l.below.goes p choice (part q l.below.size m)).next (l.below.goes p choice (part q l.below.size m)).memory (take (first + 1) stack) m given left after)
         → closed ≡ cut_where_ended first given left
         → Lands (task_frames l.table l.below task) at (pushed l.below (l.table.asks task).part p choice (own l.table l.below at m)).next
@@ -93,7 +94,7 @@ module _ {Task P : Type 0} (l : LayerOver Task P) (at : Place) (m : Memory) (lie
         let b = l.below in
         let lands = lands_there part_stands in
         let here = own l.table b at m in
-        let lt = part_there who o on.reached.stands in
+        let lt = part_there who o on.reached.may_be_at in
         let next = ap (λ x. (b.goes p choice (part x b.size m)).next) is ∙ pushed_next l at m lies a.part p choice lt ∙ ap (λ x. (pushed b x.part p choice here).next) e in
         let answer = lands.answer ∙ ap ended next in
         let there = index_there first stack (b.frames p) (l.table.frame task) on.there in
@@ -107,9 +108,9 @@ module _ {Task P : Type 0} (l : LayerOver Task P) (at : Place) (m : Memory) (lie
               ∙ ap (λ x. with_part at (pushed b x.part p choice here).memory m) e;
         }
 
-    -- and where it has ended, the layer's own frame is the last one
+    -- if the part has ended, the layer's own frame is the last one on the stack
     pub part_ended : (given : Option Outcome) (left : List Frame) (after : Memory)
-        → (StandsOn l.below.frames l.Reaches a.who (first + 1) stack a.op p
+        → (HasFramesFrom l.below.frames l.Reaches a.who (first + 1) stack a.op p
         → Lands l.below.frames q (l.below.goes p choice (part q l.below.size m)).next (l.below.goes p choice (part q l.below.size m)).memory (take (first + 1) stack) m given left after)
         → IfSome given (λ _. left ≡ take (first + 1) stack)
     part_ended given left after lands_there =

@@ -1,4 +1,4 @@
--- A layer that runs on a flat stack, from one part to the next.
+-- A layer running on a flat stack, from one part to the next.
 use Rattle.std.proofs.Common.{◌≡◌, ℕ, Bool, ◌+◌, ◌≤◌, List, ◌∷◌, ◌++◌, arith, Option, Some, None, refl, sym, ap, subst, ◌∙◌, append-nil, length-take}
 use Rattle.std.specs.Prelude.{⊤, ◌<◌, [], length, drop, take, IfSome}
 use Rattle.std.proofs.lemmas.List.{drop-take}
@@ -16,11 +16,11 @@ use Rattle.layers.specs.declared.nested.Nested.{Nested}
 use Rattle.layers.specs.declared.nested.Continuation.{Continuation}
 use Rattle.layers.specs.declared.nested.Continuation.TheVariants as continuation
 use Rattle.frames.specs.Placed.{placed_bit}
-use Rattle.frames.specs.Behaviour.{Behaviour, Begun, Moved, Answers, StandsWell}
-use Rattle.frames.specs.Flat.{Lands, StandsOn, ended, left_frames}
+use Rattle.frames.specs.Behaviour.{Behaviour, Begun, Moved, Answers, ReachedOrAnswered}
+use Rattle.frames.specs.Flat.{Lands, HasFramesFrom, ended, left_frames}
 use Rattle.layers.specs.Nested.{Program, Table, layer_size, own_words, asked, pushed, advance, resume, layered}
 use Rattle.layers.specs.Sound.{IsSound, IsNotSpent, IsSpent, LayerHolds, LayerReaches}
-use Rattle.layers.specs.Settled.{settled, ContinuationStands, run_on, follow_on}
+use Rattle.layers.specs.Settled.{settled, ContinuationIsSound, run_on, follow_on}
 use Rattle.layers.specs.InPlace.{own, LayerLies}
 use Rattle.layers.specs.Flat.{task_frames, cut_where_ended}
 use Rattle.layers.specs.laws.Flat.{parts_there, index_there}
@@ -30,40 +30,40 @@ use Rattle.layers.specs.laws.Nested.{rest_sound}
 use Rattle.layers.specs.laws.Running.{push_holds, push_stands, follow_well, ask_holds, ask_stands, run_well, put_again, lies_after}
 use Rattle.layers.specs.laws.Over.{LayerOver}
 
--- an end at which no program goes on: the part waits, or is spent
+-- an outcome, or none, after which no program goes on: the part waits, or is spent
 abbrev pub Stops : Option Outcome → Type 0
 Stops None = ⊤
 Stops (Some outcome) = IsSpent outcome
 
--- work has come to c and m, from where it was to come to a register's `aim`
-pub record ComesTo {Task P : Type 0} (t : Table Task) (b : Behaviour P) (Holds : Memory → Type 0) (Stands : ℕ → Op → Task → Type 0) (at : Place) (aim : Begun (Nested Task P)) (before : Memory)
+-- the layer has reached the continuation c and the memory m; run on from there, it reaches `aim`
+pub record ComesTo {Task P : Type 0} (t : Table Task) (b : Behaviour P) (Holds : Memory → Type 0) (MayBeAt : ℕ → Op → Task → Type 0) (at : Place) (aim : Begun (Nested Task P)) (before : Memory)
     (c : Continuation Task) (m : Memory) : Type 0 where
   pub who : ℕ
   pub op : Op
-  pub stands : ContinuationStands (Stands who op) (Answers t.values op) c
+  pub may_be_at : ContinuationIsSound (MayBeAt who op) (Answers t.values op) c
   pub lies : LayerLies t b Holds at m
   pub aims : run_on t b c (own t b at m) ≡ aim
   pub puts : (late : Memory) → LayerHolds t b Holds late → with_part at late m ≡ with_part at late before
 
--- an operation that has ended so
+-- an operation that gives an outcome has ended with it
 pub done_of : {P : Type 0} (next : Next P) (outcome : Outcome) → ended next ≡ Some outcome → next ≡ Done outcome
 done_of (Pending p) outcome e = cc
 done_of (Done o) outcome e = let same : o ≡ outcome = cc in ap Done same
 
--- a part that has ended leaves the stack in front of it
+-- a part that has ended leaves the frames that were below its own
 pub ended_leaves : {P : Type 0} (frames : P → List Frame) (next : Next P) (given : Option Outcome) (outcome : Outcome) (front left : List Frame) → given ≡ ended next → given ≡ Some outcome
     → left ≡ front ++ left_frames frames next → left ≡ front
 ended_leaves frames next given outcome front left answer e leaves = leaves ∙ ap (λ n. front ++ left_frames frames n) (done_of next outcome (sym answer ∙ e)) ∙ append-nil front
 
 module _ {Task P : Type 0} (l : LayerOver Task P) where
-  -- the task that is found by a frame is that in which a process stands
+  -- the task found from a frame is the one that the process is in
   pub found_task : (who first : ℕ) (stack : List Frame) (frame : Frame) → drop first stack ≡ frame ∷ drop (first + 1) stack
-      → (o : Op) (n : Nested Task P) → StandsOn (layered l.table l.below).frames (LayerReaches l.table l.Stands l.Reaches) who first stack o n → l.table.find who frame ≡ n.task
+      → (o : Op) (n : Nested Task P) → HasFramesFrom (layered l.table l.below).frames (LayerReaches l.table l.MayBeAt l.Reaches) who first stack o n → l.table.find who frame ≡ n.task
   found_task who first stack frame found o n on =
-      ap (l.table.find who) (parts_there first stack (l.below.frames n.below) (l.table.frame n.task) frame on.there found).0 ∙ (l.sound.frame_tells who o n.task on.reached.stands).0
+      ap (l.table.find who) (parts_there first stack (l.below.frames n.below) (l.table.frame n.task) frame on.there found).0 ∙ (l.sound.frame_gives who o n.task on.reached.may_be_at).0
 
 module _ {Task P : Type 0} (l : LayerOver Task P) (at : Place) where
-  -- an operation that stops where its part does
+  -- an operation waits if its part does, and is refused if its part is spent
   stops : (task : Task) (next : Next P) (inner : Memory) (given : Option Outcome) (front left : List Frame) (before after : Memory)
       → Lands (task_frames l.table l.below task) at next inner front before given left after → Stops given
       → Lands (layered l.table l.below).frames at (follow_on l.table l.below task next inner).next (follow_on l.table l.below task next inner).memory front before given left after
@@ -72,14 +72,14 @@ module _ {Task P : Type 0} (l : LayerOver Task P) (at : Place) where
   stops task (Done Written) inner given front left before after lands h = absurd (subst Stops lands.answer h)
   stops task (Done (Value v)) inner given front left before after lands h = absurd (subst Stops lands.answer h)
 
-  -- the same, for a stack and a memory that were there before
+  -- the layer's operation reaches its aim if the part waits or is spent
   pub stops_there : (task : Task) (next : Next P) (inner : Memory) (given : Option Outcome) (front left : List Frame) (before after : Memory)
       → Lands (task_frames l.table l.below task) at next inner front before given left after → Stops given → (aim : Begun (Nested Task P)) → follow_on l.table l.below task next inner ≡ aim
       → Lands (layered l.table l.below).frames at aim.next aim.memory front before given left after
   stops_there task next inner given front left before after lands h aim e =
       subst (λ a. Lands (layered l.table l.below).frames at a.next a.memory front before given left after) e (stops task next inner given front left before after lands h)
 
-  -- what lands behind a first stretch of work lands behind the whole
+  -- the effect of the rest of the work, after a first stretch of it, is the effect of the whole
   pub again : (m : Memory) → LayerLies l.table l.below l.Holds at m → (mid m1 : Memory) → m1 ≡ with_part at mid m → LayerHolds l.table l.below l.Holds mid
       → (r aim : Begun (Nested Task P)) → r ≡ aim → LayerHolds l.table l.below l.Holds r.memory → (front : List Frame) (given : Option Outcome) (left : List Frame) (m2 : Memory)
       → Lands (layered l.table l.below).frames at r.next r.memory front m1 given left m2 → Lands (layered l.table l.below).frames at aim.next aim.memory front m given left m2
@@ -91,34 +91,36 @@ module _ {Task P : Type 0} (l : LayerOver Task P) (at : Place) where
         memory = lands.memory ∙ ap (with_part at r.memory) e ∙ put_again l at m lies mid r.memory well late;
       })
 
-  -- a program that settles in a store, where `base` is the first own word, settles so in the own memory that lies there
+  -- settling a program in a store, in which the layer's own words begin at word `base`, is the same
+  -- as settling it in the layer's memory there
   pub settles_there : (who : ℕ) (o : Op) (p : Program Task) (m : Memory) → LayerLies l.table l.below l.Holds at m
-      → IsSound l.table (l.Stands who o) (Answers l.table.values o) p
+      → IsSound l.table (l.MayBeAt who o) (Answers l.table.values o) p
       → (base : ℕ) → base ≡ at.word + own_words l.table l.below.size → (c1 : Continuation Task) (m1 : Memory)
       → c1 ≡ (settled base p m).continuation → m1 ≡ (settled base p m).memory
       → (c1 ≡ (settled (own_words l.table l.below.size) p (own l.table l.below at m)).continuation)
       × (m1 ≡ with_part at (settled (own_words l.table l.below.size) p (own l.table l.below at m)).memory m)
   settles_there who o p m lies sound base is c1 m1 ec em =
-      let there = settled_in_place l.table (l.Stands who o) (Answers l.table.values o) at (layer_size l.table l.below.size) (own_words l.table l.below.size) p m sound lies.inside (omega arith) lies.holds.words in (
+      let there = settled_in_place l.table (l.MayBeAt who o) (Answers l.table.values o) at (layer_size l.table l.below.size) (own_words l.table l.below.size) p m sound lies.inside (omega arith) lies.holds.words in (
         ec ∙ ap (λ b. (settled b p m).continuation) is ∙ there.0,
         em ∙ ap (λ b. (settled b p m).memory) is ∙ there.1,
       )
 
   module _ (who : ℕ) (o : Op) (p : Program Task) (m : Memory) (lies : LayerLies l.table l.below l.Holds at m)
-      (sound : IsSound l.table (l.Stands who o) (Answers l.table.values o) p) (c1 : Continuation Task) (m1 : Memory)
+      (sound : IsSound l.table (l.MayBeAt who o) (Answers l.table.values o) p) (c1 : Continuation Task) (m1 : Memory)
       (ec : c1 ≡ (settled (own_words l.table l.below.size) p (own l.table l.below at m)).continuation)
       (em : m1 ≡ with_part at (settled (own_words l.table l.below.size) p (own l.table l.below at m)).memory m) where
     words_inside : own_words l.table l.below.size + l.table.words ≤ length (own l.table l.below at m).words
     words_inside = let w = lies.holds.size.words in omega arith
 
     pub settled_well : LayerHolds l.table l.below l.Holds (settled (own_words l.table l.below.size) p (own l.table l.below at m)).memory
-    settled_well = settled_holds l (l.Stands who o) (Answers l.table.values o) p (own l.table l.below at m) sound lies.holds
+    settled_well = settled_holds l (l.MayBeAt who o) (Answers l.table.values o) p (own l.table l.below at m) sound lies.holds
 
-    -- what a program settles on stands, the layer lies there, and it runs on as the program advances
-    pub settles_stands : ContinuationStands (l.Stands who o) (Answers l.table.values o) c1
+    -- a settled program is at a task or an end that suits; the layer lies at its place; and running
+    -- on from there is the same as running the program
+    pub settles_stands : ContinuationIsSound (l.MayBeAt who o) (Answers l.table.values o) c1
     settles_stands =
-        subst (ContinuationStands (l.Stands who o) (Answers l.table.values o)) (sym ec)
-        (settled_stands l.table (l.Stands who o) (Answers l.table.values o) (own_words l.table l.below.size) p (own l.table l.below at m) sound words_inside lies.holds.words)
+        subst (ContinuationIsSound (l.MayBeAt who o) (Answers l.table.values o)) (sym ec)
+        (settled_stands l.table (l.MayBeAt who o) (Answers l.table.values o) (own_words l.table l.below.size) p (own l.table l.below at m) sound words_inside lies.holds.words)
 
     pub settles_lies : LayerLies l.table l.below l.Holds at m1
     settles_lies = lies_after l at m lies _ m1 em settled_well
@@ -128,7 +130,7 @@ module _ {Task P : Type 0} (l : LayerOver Task P) (at : Place) where
         let here = own l.table l.below at m in
         let own_1 : own l.table l.below at m1 ≡ (settled (own_words l.table l.below.size) p here).memory = ap (own l.table l.below at) em ∙ own_with l at m lies _ settled_well in
         (λ i. run_on l.table l.below (ec i) (own_1 i))
-        ∙ sym (advance_settled l.table (l.Stands who o) (Answers l.table.values o) l.below p here sound words_inside lies.holds.words)
+        ∙ sym (advance_settled l.table (l.MayBeAt who o) (Answers l.table.values o) l.below p here sound words_inside lies.holds.words)
 
     pub settles : (aim : Begun (Nested Task P)) → advance l.table l.below p (own l.table l.below at m) ≡ aim → (stack : List Frame) (given : Option Outcome) (left : List Frame) (m2 : Memory)
         → Lands (layered l.table l.below).frames at (run_on l.table l.below c1 (own l.table l.below at m1)).next (run_on l.table l.below c1 (own l.table l.below at m1)).memory stack m1 given left m2
@@ -138,14 +140,14 @@ module _ {Task P : Type 0} (l : LayerOver Task P) (at : Place) where
         again m lies mid m1 em settled_well (run_on l.table l.below c1 (own l.table l.below at m1)) aim (settles_on ∙ aims)
         (run_well l who o c1 (own l.table l.below at m1) settles_stands settles_lies.holds).holds stack given left m2 lands
 
-  -- behind a part that has ended, and isn't spent, the program advances
+  -- after a part that has ended and isn't spent, the program runs on
   pub advances : (task : Task) (outcome : Outcome) (m : Memory) → IsNotSpent outcome → advance l.table l.below (l.table.rest task outcome) m ≡ follow_on l.table l.below task (Done outcome) m
   advances task (Spent layer) m goes_on = absurd goes_on
   advances task Written m goes_on = refl
   advances task (Value v) m goes_on = refl
 
-  module _ (aim : Begun (Nested Task P)) (before : Memory) (c : Continuation Task) (m : Memory) (come : ComesTo l.table l.below l.Holds l.Stands at aim before c m) where
-    -- a program that ends
+  module _ (aim : Begun (Nested Task P)) (before : Memory) (c : Continuation Task) (m : Memory) (come : ComesTo l.table l.below l.Holds l.MayBeAt at aim before c m) where
+    -- a program that ends gives its outcome
     pub ends : (outcome : Outcome) (stack : List Frame) → c ≡ continuation.Ends outcome → Lands (layered l.table l.below).frames at aim.next aim.memory stack before (Some outcome) stack m
     ends outcome stack is =
         let here = own l.table l.below at m in
@@ -159,8 +161,8 @@ module _ {Task P : Type 0} (l : LayerOver Task P) (at : Place) where
 
     module _ (task : Task) (is : c ≡ continuation.Asks task) (given : Option Outcome) (stack left : List Frame) (m1 : Memory)
         (lands : Lands (task_frames l.table l.below task) at (asked l.below (l.table.asks task) (own l.table l.below at m)).next (asked l.below (l.table.asks task) (own l.table l.below at m)).memory stack m given left m1) where
-      task_stands : l.Stands come.who come.op task
-      task_stands = subst (ContinuationStands (l.Stands come.who come.op) (Answers l.table.values come.op)) is come.stands
+      task_stands : l.MayBeAt come.who come.op task
+      task_stands = subst (ContinuationIsSound (l.MayBeAt come.who come.op) (Answers l.table.values come.op)) is come.may_be_at
 
       asked_well : LayerHolds l.table l.below l.Holds (asked l.below (l.table.asks task) (own l.table l.below at m)).memory
       asked_well = ask_holds l come.who come.op task (own l.table l.below at m) come.lies.holds task_stands
@@ -171,31 +173,31 @@ module _ {Task P : Type 0} (l : LayerOver Task P) (at : Place) where
       asked_puts : m1 ≡ with_part at (asked l.below (l.table.asks task) (own l.table l.below at m)).memory before
       asked_puts = lands.memory ∙ come.puts _ asked_well
 
-      -- a part that is asked, and waits or is spent
+      -- the layer's operation reaches its aim if the part that is asked waits or is spent
       pub asks_and_stops : Stops given → Lands (layered l.table l.below).frames at aim.next aim.memory stack before given left m1
       asks_and_stops h =
           stops_there task _ _ given stack left before m1 (record { answer = lands.answer; stack = lands.stack; memory = asked_puts }) h aim asked_aims
 
-      -- the layer lies there behind it
+      -- the layer still lies at its place
       pub asked_lies : LayerLies l.table l.below l.Holds at m1
       asked_lies = lies_after l at m come.lies _ m1 lands.memory asked_well
 
-      -- and a part that has ended has left its answer
+      -- the outcome of a part that has ended suits
       pub asked_answers : (outcome : Outcome) → given ≡ Some outcome → Answers l.below.values (l.table.asks task).op outcome
       asked_answers outcome e =
-          subst (StandsWell (l.Reaches (l.table.asks task).who (l.table.asks task).op) (Answers l.below.values (l.table.asks task).op)) (done_of _ outcome (sym lands.answer ∙ e))
+          subst (ReachedOrAnswered (l.Reaches (l.table.asks task).who (l.table.asks task).op) (Answers l.below.values (l.table.asks task).op)) (done_of _ outcome (sym lands.answer ∙ e))
           (ask_stands l come.who come.op task (own l.table l.below at m) come.lies.holds task_stands)
 
-      -- and the stack in front of it
+      -- a part that has ended leaves the frames that were below its own
       pub asked_leaves : (outcome : Outcome) → given ≡ Some outcome → left ≡ stack
       asked_leaves outcome e =
           ended_leaves (task_frames l.table l.below task) (asked l.below (l.table.asks task) (own l.table l.below at m)).next given outcome stack left lands.answer e lands.stack
 
-      -- the program goes on behind it
+      -- the program goes on after a part that has ended
       pub turns : (outcome : Outcome) → given ≡ Some outcome → IsNotSpent outcome → (c2 : Continuation Task) (m2 : Memory)
           → c2 ≡ (settled (own_words l.table l.below.size) (l.table.rest task outcome) (own l.table l.below at m1)).continuation
           → m2 ≡ with_part at (settled (own_words l.table l.below.size) (l.table.rest task outcome) (own l.table l.below at m1)).memory m1
-          → ComesTo l.table l.below l.Holds l.Stands at aim before c2 m2
+          → ComesTo l.table l.below l.Holds l.MayBeAt at aim before c2 m2
       turns outcome e goes_on c2 m2 ec em =
           let here = own l.table l.below at m1 in
           let asked_memory = (asked l.below (l.table.asks task) (own l.table l.below at m)).memory in
@@ -206,7 +208,7 @@ module _ {Task P : Type 0} (l : LayerOver Task P) (at : Place) where
           record {
             who = come.who;
             op = come.op;
-            stands = settles_stands come.who come.op rest m1 asked_lies sound c2 m2 ec em;
+            may_be_at = settles_stands come.who come.op rest m1 asked_lies sound c2 m2 ec em;
             lies = settles_lies come.who come.op rest m1 asked_lies sound c2 m2 ec em;
             aims = settles_on come.who come.op rest m1 asked_lies sound c2 m2 ec em ∙ advances task outcome here goes_on
                 ∙ (λ i. follow_on l.table l.below task (done i) (own_1 i)) ∙ asked_aims;
@@ -214,7 +216,7 @@ module _ {Task P : Type 0} (l : LayerOver Task P) (at : Place) where
                 ∙ ap (with_part at late) lands.memory ∙ put_again l at m come.lies asked_memory late asked_well h ∙ come.puts late h;
           }
 
-  -- a spent part ends the whole
+  -- a spent part ends the layer's operation
   pub follows_spent : (task : Task) (outcome : Outcome) (stack : List Frame) (m : Memory) → LayerLies l.table l.below l.Holds at m → IsSpent outcome
       → Lands (layered l.table l.below).frames at (follow_on l.table l.below task (Done outcome) (own l.table l.below at m)).next (follow_on l.table l.below task (Done outcome) (own l.table l.below at m)).memory stack m (Some outcome) stack m
   follows_spent task (Spent layer) stack m lies h =
@@ -222,20 +224,20 @@ module _ {Task P : Type 0} (l : LayerOver Task P) (at : Place) where
   follows_spent task Written stack m lies h = absurd h
   follows_spent task (Value v) stack m lies h = absurd h
 
--- a layer whose operation goes on: its frame tells the task in which it stands, and its part makes a bit action
+-- a layer's operation makes a bit action: its frame gives its task, and its part makes the action
 module _ {Task P : Type 0} (l : LayerOver Task P) {at : Place} {m : Memory} (lies : LayerLies l.table l.below l.Holds at m) (who first : ℕ) (stack : List Frame) (choice : Bool)
     {frame : Frame} (found : drop first stack ≡ frame ∷ drop (first + 1) stack) {task : Task} (finds : task ≡ l.table.find who frame) where
-  -- what the part's action comes to
+  -- the effect of the part's action
   abbrev moved : P → Moved P
   moved p = pushed l.below (l.table.asks task).part p choice (own l.table l.below at m)
 
   abbrev StandsAt : Op → Nested Task P → Type 0
-  StandsAt o n = StandsOn (layered l.table l.below).frames (LayerReaches l.table l.Stands l.Reaches) who first stack o n
+  StandsAt o n = HasFramesFrom (layered l.table l.below).frames (LayerReaches l.table l.MayBeAt l.Reaches) who first stack o n
 
   in_task : (o : Op) (n : Nested Task P) → StandsAt o n → task ≡ n.task
   in_task o n on = finds ∙ found_task l who first stack frame found o n on
 
-  -- where the part has ended, the layer's own frame stands there still, and tells the same task
+  -- if the part has ended, the layer's own frame is still there, and gives the same task
   module _ (left : List Frame) {end : Option Outcome} {outcome : Outcome} (is : end ≡ Some outcome) (still : IfSome end (λ _. left ≡ take (first + 1) stack)) where
     left_is : left ≡ take (first + 1) stack
     left_is = subst (λ e. IfSome e (λ _. left ≡ take (first + 1) stack)) is still
@@ -263,14 +265,14 @@ module _ {Task P : Type 0} (l : LayerOver Task P) {at : Place} {m : Memory} (lie
       (pushes : (o : Op) (p : P) → StandsAt o (record { task = task; below = p })
       → Lands (task_frames l.table l.below task) at (moved p).next (moved p).memory (take first stack) m end (cut_where_ended first end still) m1)
       {o : Op} {n : Nested Task P} (on : StandsAt o n) where
-    -- the stack without the frames of a part that has ended
+    -- the stack, without the layer's frames if the part has ended
     abbrev left : List Frame
     left = cut_where_ended first end still
 
     lands : Lands (task_frames l.table l.below task) at (moved n.below).next (moved n.below).memory (take first stack) m end left m1
     lands = pushes o n.below (stands_at o n on)
 
-    -- what lands for the task that is found lands for that in which the process stands
+    -- the effect for the task found is that for the task that the process is in
     for_task : (front : List Frame) (given : Option Outcome) (after : List Frame) (m2 : Memory)
         → Lands (layered l.table l.below).frames at (follow_on l.table l.below task (moved n.below).next (moved n.below).memory).next (follow_on l.table l.below task (moved n.below).next (moved n.below).memory).memory front m given after m2
         → Lands (layered l.table l.below).frames at (resume l.table l.below n choice (own l.table l.below at m)).next (resume l.table l.below n choice (own l.table l.below at m)).memory front m given after m2
@@ -278,7 +280,7 @@ module _ {Task P : Type 0} (l : LayerOver Task P) {at : Place} {m : Memory} (lie
         subst (λ x. Lands (layered l.table l.below).frames at (resume l.table l.below (record { task = x; below = n.below }) choice (own l.table l.below at m)).next
         (resume l.table l.below (record { task = x; below = n.below }) choice (own l.table l.below at m)).memory front m given after m2) (in_task o n on) it
 
-    -- a part that waits
+    -- the layer waits if the part waits
     pub waits : end ≡ None → Lands (layered l.table l.below).frames at (resume l.table l.below n choice (own l.table l.below at m)).next (resume l.table l.below n choice (own l.table l.below at m)).memory
         (take first stack) m end still m1
     waits none =
@@ -290,21 +292,21 @@ module _ {Task P : Type 0} (l : LayerOver Task P) {at : Place} {m : Memory} (lie
 
     module _ {outcome : Outcome} (is : end ≡ Some outcome) where
       pushed_well : LayerHolds l.table l.below l.Holds (moved n.below).memory
-      pushed_well = let there = stands_at o n on in push_holds l who o task n.below choice (own l.table l.below at m) lies.holds there.reached.stands there.reached.below
+      pushed_well = let there = stands_at o n on in push_holds l who o task n.below choice (own l.table l.below at m) lies.holds there.reached.may_be_at there.reached.below
 
       ended_so : (moved n.below).next ≡ Done outcome
       ended_so = done_of (moved n.below).next outcome (sym lands.answer ∙ is)
 
-      -- a part that has ended: the layer lies there, the part has answered, and the stack is that in front of it
+      -- if the part has ended, the layer lies at its place, the outcome suits, and the stack is cut
       pub ended_lies : LayerLies l.table l.below l.Holds at m1
       ended_lies = lies_after l at m lies (moved n.below).memory m1 lands.memory pushed_well
 
-      ended_stands : l.Stands who o task × Answers l.below.values (l.table.asks task).op outcome
+      ended_stands : l.MayBeAt who o task × Answers l.below.values (l.table.asks task).op outcome
       ended_stands =
           let there = stands_at o n on in (
-            there.reached.stands,
-            subst (StandsWell (l.Reaches (l.table.asks task).who (l.table.asks task).op) (Answers l.below.values (l.table.asks task).op)) ended_so
-                (push_stands l who o task n.below choice (own l.table l.below at m) lies.holds there.reached.stands there.reached.below),
+            there.reached.may_be_at,
+            subst (ReachedOrAnswered (l.Reaches (l.table.asks task).who (l.table.asks task).op) (Answers l.below.values (l.table.asks task).op)) ended_so
+                (push_stands l who o task n.below choice (own l.table l.below at m) lies.holds there.reached.may_be_at there.reached.below),
           )
 
       ended_left : take first still ≡ take first stack
@@ -312,11 +314,11 @@ module _ {Task P : Type 0} (l : LayerOver Task P) {at : Place} {m : Memory} (lie
           sym (ap (λ e. cut_where_ended first e still) is)
           ∙ ended_leaves (task_frames l.table l.below task) (moved n.below).next end outcome (take first stack) left lands.answer is lands.stack
 
-      -- the same for the task that is found again
-      pub again_stands : (back : Task) → back ≡ task → l.Stands who o back × Answers l.below.values (l.table.asks back).op outcome
-      again_stands back same = subst (λ t. l.Stands who o t × Answers l.below.values (l.table.asks t).op outcome) (sym same) ended_stands
+      -- the outcome also suits the task that is found again, since it is the same
+      pub again_stands : (back : Task) → back ≡ task → l.MayBeAt who o back × Answers l.below.values (l.table.asks back).op outcome
+      again_stands back same = subst (λ t. l.MayBeAt who o t × Answers l.below.values (l.table.asks t).op outcome) (sym same) ended_stands
 
-      -- and the program runs on behind it
+      -- the program runs on after the part has ended
       pub ended_goes_on : (back : Task) → back ≡ task → (front : List Frame) → front ≡ take first still → (given : Option Outcome) (after : List Frame) (m2 : Memory)
           → Lands (layered l.table l.below).frames at (follow_on l.table l.below back (Done outcome) (own l.table l.below at m1)).next (follow_on l.table l.below back (Done outcome) (own l.table l.below at m1)).memory front m1 given after m2
           → Lands (layered l.table l.below).frames at (resume l.table l.below n choice (own l.table l.below at m)).next (resume l.table l.below n choice (own l.table l.below at m)).memory (take first stack) m given after m2

@@ -1,4 +1,5 @@
--- A process's program runs on, up to its next bit action or its end: what is to be kept is kept, and each part stays linked to its own list.
+-- A process's program runs to its next bit action or its end: the invariant is kept, and each part
+-- stays linked to its own list of steps.
 use Rattle.std.proofs.Common.{◌≡◌, ℕ, ◌+◌, ◌<◌, length, refl, ap, sym, ◌∙◌, subst, arith, inl, inr, Bool, true, false, Option, Some, None}
 use Rattle.std.specs.List.{AllByRecursion}
 use Rattle.std.proofs.lemmas.Bool.{cases_eq}
@@ -14,12 +15,12 @@ use Rattle.frames.specs.declared.types.Event.{Event}
 use Rattle.frames.specs.declared.types.Event.TheVariants.{Invoke}
 use Rattle.frames.specs.declared.running.Running.{Running}
 use Rattle.layers.specs.declared.nested.Nested.{Nested}
-use Rattle.frames.specs.Behaviour.{Begun, StandsWell, Answers}
+use Rattle.frames.specs.Behaviour.{Begun, ReachedOrAnswered, Answers}
 use Rattle.frames.specs.Configuration.{running_at, return_of, still_running, in_order, fits_step}
 use Rattle.frames.proofs.Seen.{Seen, sees, got, refuses, Always, ended, after_step}
 use Rattle.frames.proofs.Reached.{IsFine, reached_fine}
 use Rattle.frames.proofs.Pointwise.{put, put_same, put_other, put_is}
-use Rattle.layers.specs.Nested.{Program, Ends, Asks, Reads, Sets, part_place, own_words, behind_part, advance}
+use Rattle.layers.specs.Nested.{Program, Ends, Asks, Reads, Sets, part_place, own_words, after_part, advance}
 use Rattle.layers.specs.Sound.{LayerHolds, IsSound, IsNotSpent}
 use Rattle.layers.specs.laws.Nested.{asks_fit, holds_with_part, holds_with_word}
 use Rattle.layers.specs.laws.Over.{LayerOver}
@@ -30,13 +31,14 @@ abbrev pub standing_of : {Task P : Type 0} → Option (Running (Nested Task P)) 
 standing_of None = None
 standing_of (Some r) = Some (record { op = r.op; task = r.point.task })
 
--- the event of an end
+-- the event of an operation's end is that of its outcome
 pub return_done : (P : Type 0) (p : ℕ) (o : Outcome) → return_of {P = P} p (Done o) ≡ Some (ended p o)
 return_done P p (Value v) = refl
 return_done P p Written = refl
 return_done P p (Spent layer) = refl
 
--- what the view has of the memory, of the processes other than p, and of the parts
+-- in the middle of p's turn the view agrees with the memory, with the processes other than p, and
+-- with the parts
 pub record Mid {Task P U : Type 0} (l : LayerOver Task P) (user : ℕ → ℕ → ℕ) (value : ℕ → ℕ) (halted : ℕ → Bool) (w : Watch Task U)
     (m : Memory) (at : ℕ → Option (Running (Nested Task P))) (p : ℕ) (j : View Task) : Type 0 where
   pub holds : LayerHolds l.table l.below l.Holds m
@@ -44,7 +46,7 @@ pub record Mid {Task P U : Type 0} (l : LayerOver Task P) (user : ℕ → ℕ �
   pub tasks : (q : ℕ) → (q ≡ p → ⊥) → j.tasks q ≡ standing_of (at q)
   pub links : (k : ℕ) → k < l.table.parts → Linked l user value halted m at k (j.parts k)
 
--- what holds where p's turn has ended
+-- what holds after p's turn has ended
 pub record Ran {Task P U : Type 0} (l : LayerOver Task P) (user : ℕ → ℕ → ℕ) (value : ℕ → ℕ) (halted : ℕ → Bool) (w : Watch Task U)
     (p : ℕ) (o : Op) (Out : Option Event → U → Type 0) (begun : Begun (Nested Task P)) (at : ℕ → Option (Running (Nested Task P))) : Type 0 where
   pub u : U
@@ -73,7 +75,7 @@ module _ {Task P U : Type 0} (l : LayerOver Task P) (user : ℕ → ℕ → ℕ)
   abbrev RanTo : ℕ → Op → (Option Event → U → Type 0) → Begun (Nested Task P) → At → Type 0
   RanTo p o Out begun at = Ran l user value halted w p o Out begun at
 
-  -- where others' operations were set aside for the turn
+  -- what holds after p's turn doesn't depend on what p had pending before it
   ran_from : (p : ℕ) (o : Op) (Out : Option Event → U → Type 0) (begun : Begun (Nested Task P)) (at : At) → RanTo p o Out begun (put p None at) → RanTo p o Out begun at
   ran_from p o Out begun at r = record {
     u = r.u;
@@ -88,7 +90,7 @@ module _ {Task P U : Type 0} (l : LayerOver Task P) (user : ℕ → ℕ → ℕ)
     links = r.links;
   }
 
-  -- a part's turn has ended
+  -- the turn of p goes on after a part's step
   pub behind_ran : (p : ℕ) (o : Op) (task : Task) (m : Memory) (at : At) (j c : View Task) (s : Seen) (next : Next P) (Out : Option Event → U → Type 0) (go_on : Outcome → Memory → Begun (Nested Task P))
       → LayerHolds l.table l.below l.Holds m
       → ((i : ℕ) → i < l.table.words → j.words i ≡ word_at (own_words l.table l.below.size + i) m)
@@ -97,13 +99,13 @@ module _ {Task P U : Type 0} (l : LayerOver Task P) (user : ℕ → ℕ → ℕ)
       (put (l.table.asks task).part (sees (return_of (l.table.asks task).who next) s) j.parts k))
       → refuses (return_of (l.table.asks task).who next) ≡ false
       → AllByRecursion w.Good (got (return_of (l.table.asks task).who next) s)
-      → StandsWell (l.Reaches (l.table.asks task).who (l.table.asks task).op) (Answers l.table.inner_values (l.table.asks task).op) next
+      → ReachedOrAnswered (l.Reaches (l.table.asks task).who (l.table.asks task).op) (Answers l.table.inner_values (l.table.asks task).op) next
       → ((u : U) × (Out None u × w.Inv u c))
       → ((i : ℕ) → c.words i ≡ j.words i) → ((q : ℕ) → c.tasks q ≡ put p (Some (record { op = o; task = task })) j.tasks q) → ((k : ℕ) → c.parts k ≡ put (l.table.asks task).part s j.parts k)
       → ((outcome : Outcome) → Answers l.table.inner_values (l.table.asks task).op outcome → IsNotSpent outcome → AllByRecursion w.Good (got (Some (ended (l.table.asks task).who outcome)) s)
       → Mid l user value halted w m (put p None at) p (record j { parts = put (l.table.asks task).part (sees (Some (ended (l.table.asks task).who outcome)) s) j.parts })
       → RanTo p o Out (go_on outcome m) (put p None at))
-      → RanTo p o Out (behind_part go_on task next m) at
+      → RanTo p o Out (after_part go_on task next m) at
   behind_ran p o task m at j c s (Pending q) Out go_on lh words tasks links fine good ans inv cw ct cp more =
       let x : Option (Running (Nested Task P)) = Some (record { op = o; point = record { task = task; below = q } }) in
       record {
@@ -125,15 +127,15 @@ module _ {Task P U : Type 0} (l : LayerOver Task P) (user : ℕ → ℕ → ℕ)
   behind_ran p o task m at j c s (Done (Spent layer)) Out go_on lh words tasks links fine good ans inv cw ct cp more =
       let never : ⊥ = cc in absurd never
 
-  -- what a part's next step leads to, with the answers as the table has them
-  pub stands_here : (task : Task) (next : Next P) → StandsWell (l.Reaches (l.table.asks task).who (l.table.asks task).op) (Answers l.below.values (l.table.asks task).op) next
-      → StandsWell (l.Reaches (l.table.asks task).who (l.table.asks task).op) (Answers l.table.inner_values (l.table.asks task).op) next
-  stands_here task next h = subst (λ n. StandsWell (l.Reaches (l.table.asks task).who (l.table.asks task).op) (Answers n (l.table.asks task).op) next) l.fit.same_values h
+  -- a part's next point or end suits in terms of the table's numbers of values too
+  pub stands_here : (task : Task) (next : Next P) → ReachedOrAnswered (l.Reaches (l.table.asks task).who (l.table.asks task).op) (Answers l.below.values (l.table.asks task).op) next
+      → ReachedOrAnswered (l.Reaches (l.table.asks task).who (l.table.asks task).op) (Answers l.table.inner_values (l.table.asks task).op) next
+  stands_here task next h = subst (λ n. ReachedOrAnswered (l.Reaches (l.table.asks task).who (l.table.asks task).op) (Answers n (l.table.asks task).op) next) l.fit.same_values h
 
-  -- a program runs on
-  pub run_on : IsUser l.table l.Stands user → Always w.Good l.below → ((k : ℕ) → k < l.table.parts → value k < l.below.values)
+  -- a turn of p that runs this program keeps the invariant and the links
+  pub run_on : IsUser l.table l.MayBeAt user → Always w.Good l.below → ((k : ℕ) → k < l.table.parts → value k < l.below.values)
       → (p : ℕ) (o : Op) (Out : Option Event → U → Type 0) (prog : Program Task) (m : Memory) (at : At) (j : View Task)
-      → halted p ≡ false → at p ≡ None → IsSound l.table (l.Stands p o) (Answers l.table.values o) prog
+      → halted p ≡ false → at p ≡ None → IsSound l.table (l.MayBeAt p o) (Answers l.table.values o) prog
       → Mid l user value halted w m at p j → Runs l.table w p o Out prog j
       → RanTo p o Out (advance l.table l.below prog m) at
   run_on is_user all vals p o Out (Ends outcome) m at j awake idle sound mid r = record {
@@ -201,11 +203,11 @@ module _ {Task P U : Type 0} (l : LayerOver Task P) (user : ℕ → ℕ → ℕ)
       (λ k q ne. ap (below_of l.table k q) idle) link f to hs k lk))
       fine.second
       fine.reads
-      (stands_here task begun.next g.stands)
+      (stands_here task begun.next g.may_be_at)
       r.0
       (λ i. refl) (λ q. refl) (λ k. refl)
       (λ outcome ans pass good mid2.
       run_on is_user all vals p o Out (rest outcome) new (put p None at) (record j { parts = put a (sees (Some (ended who outcome)) z) j.parts })
       awake (put_same p None at)
-      (subst (λ q. IsSound l.table (l.Stands p o) (Answers l.table.values o) q) (sym (sound.1 outcome)) (l.sound.rest_sound p o task outcome sound.0 ans pass))
+      (subst (λ q. IsSound l.table (l.MayBeAt p o) (Answers l.table.values o) q) (sym (sound.1 outcome)) (l.sound.rest_sound p o task outcome sound.0 ans pass))
       mid2 (r.1 outcome ans pass good))

@@ -1,4 +1,4 @@
--- Which registers a layer can stand on, and why not.
+-- Which registers a layer can be built on, and why not.
 use Rattle.std.specs.Prelude.{ℕ, ◌+◌, ◌*◌, Bool, ◌&&◌, ◌==◌, nat_le, nat_lt, Option, Some, None, if◌then◌else◌}
 use Rattle.layers.specs.declared.fit.LayerError.{LayerError}
 use Rattle.layers.specs.declared.fit.LayerError.TheVariants.{BadSize, TooManyBits}
@@ -8,23 +8,24 @@ use Rattle.frames.specs.declared.register.TheConstants.{MOST_CELLS, MOST_WORDS}
 use Rattle.frames.specs.declared.limits.TheConstants.{LEAST_VALUES, LEAST_PROCESSES, MOST_PROCESSES}
 use Rattle.layers.specs.Nested.{Table}
 
--- every layer has at least 2 values, and 2 to 5 processes
+-- the layer has at least 2 values, and 2 to 5 processes
 abbrev pub limits_hold : {Task : Type 0} → Table Task → Bool
 limits_hold t = nat_le LEAST_VALUES t.values && (nat_le LEAST_PROCESSES t.processes && nat_le t.processes MOST_PROCESSES)
 
--- the parts' values and processes, and room for one more frame
+-- the register below has the values and processes that the parts need, and its depth leaves a frame
+-- for the layer
 abbrev pub kind_fits : {Task P : Type 0} → Table Task → Behaviour P → Bool
 kind_fits t b = b.values == t.inner_values && (b.processes == t.inner_processes && nat_lt b.depth STACK_FRAMES)
 
--- no more cells and words than a register has
+-- the layer has at most as many cells and words as a register can have
 abbrev pub size_fits : {Task P : Type 0} → Table Task → Behaviour P → Bool
 size_fits t b = nat_le (t.parts * b.size.cell) MOST_CELLS && nat_le (t.parts * b.size.word + t.words) MOST_WORDS
 
--- the first that is wrong, if something is
+-- the first reason why the layer can't be built on the register; `None` if it can
 abbrev pub refusal_below : {Task P : Type 0} → Table Task → Behaviour P → Option LayerError
 refusal_below t b = if limits_hold t && kind_fits t b then (if size_fits t b then None else Some TooManyBits) else Some BadSize
 
--- a refusal's number
-abbrev pub number_of : LayerError → ℕ
-number_of BadSize = 1
-number_of TooManyBits = 2
+-- the number of a refusal
+abbrev pub layer_error_number : LayerError → ℕ
+layer_error_number BadSize = 1
+layer_error_number TooManyBits = 2

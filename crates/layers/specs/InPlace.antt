@@ -1,4 +1,4 @@
--- A layer that lies at a place in a store: its parts and own words, found there and put back.
+-- A layer at a place in a store: how its parts and its own words are read there, and put back.
 use Rattle.safe_bit.specs.declared.Place.{Place}
 use Rattle.safe_bit.specs.Memory.{Memory}
 use Rattle.safe_bit.specs.Parts.{LiesIn, IsPlaced, part}
@@ -10,7 +10,8 @@ use Rattle.layers.specs.Sound.{LayerHolds}
 abbrev pub own : {Task P : Type 0} → Table Task → Behaviour P → Place → Memory → Memory
 own t b at m = part at (layer_size t b.size) m
 
--- a layer lies at a place: it is inside, can be numbered, and its memory holds
+-- a layer lies at a place: its memory there is inside the store, ends below 2^32, and satisfies
+-- `LayerHolds`
 pub record LayerLies {Task P : Type 0} (t : Table Task) (b : Behaviour P) (Holds : Memory → Type 0) (at : Place) (m : Memory) : Type 0 where
   pub inside : LiesIn at (layer_size t b.size) m
   pub placed : IsPlaced at (layer_size t b.size)

@@ -1,2 +1,2 @@
--- Registers of one writer: which operations fit a process is a definition of `frames`.
+-- Registers of one writer: `frames` defines which operations fit a process.
 pub use Rattle.frames.specs.OneWriter.{one_writer}

@@ -1,4 +1,5 @@
--- A program up to its next task or its end: what a layer does between two operations of its parts, on its own words alone.
+-- A program that runs to its next task or its end: what a layer does between two operations of its
+-- parts, on its own words alone.
 use Rattle.std.proofs.Common.{ℕ, ◌+◌}
 use Rattle.safe_bit.specs.Memory.{Memory, word_at, with_word}
 use Rattle.frames.specs.declared.types.Outcome.{Outcome}
@@ -8,35 +9,36 @@ use Rattle.layers.specs.declared.nested.Nested.{Nested}
 use Rattle.layers.specs.declared.nested.Continuation.{Continuation}
 use Rattle.layers.specs.declared.nested.Continuation.TheVariants as continuation
 use Rattle.frames.specs.Behaviour.{Behaviour, Begun}
-use Rattle.layers.specs.Nested.{Program, Ends, Asks, Reads, Sets, Table, asked, behind_part, advance}
+use Rattle.layers.specs.Nested.{Program, Ends, Asks, Reads, Sets, Table, asked, after_part, advance}
 
--- the next task or the end, and the memory by then
+-- the next task or the end that a program has run to, and the memory then
 pub record Settled (Task : Type 0) : Type 0 where
   pub continuation : Continuation Task
   pub memory : Memory
 
--- a program's accesses to the own words, of which base is the first
+-- runs a program to its next task or its end; the layer's own words begin at word `base`
 abbrev pub settled : {Task : Type 0} → ℕ → Program Task → Memory → Settled Task
 settled base (Ends o) m = record { continuation = continuation.Ends o; memory = m }
 settled base (Asks task k) m = record { continuation = continuation.Asks task; memory = m }
 settled base (Reads i k) m = settled base (k (word_at (base + i) m)) m
 settled base (Sets i x k) m = settled base k (with_word (base + i) x m)
 
--- a continuation stands well
-abbrev pub ContinuationStands : {Task : Type 0} → (Task → Type 0) → (Outcome → Type 0) → Continuation Task → Type 0
-ContinuationStands Stands Answer (continuation.Asks task) = Stands task
-ContinuationStands Stands Answer (continuation.Ends o) = Answer o
+-- a continuation is a task that the process can be in, or an end that suits the operation
+abbrev pub ContinuationIsSound : {Task : Type 0} → (Task → Type 0) → (Outcome → Type 0) → Continuation Task → Type 0
+ContinuationIsSound MayBeAt Answer (continuation.Asks task) = MayBeAt task
+ContinuationIsSound MayBeAt Answer (continuation.Ends o) = Answer o
 
--- how many tasks follow a continuation, the next one included: `left` counts those that can follow a task
+-- at most how many tasks are left, the continuation's own one included; `left` bounds those that
+-- follow a task
 abbrev pub tasks_left : {Task : Type 0} → (Task → ℕ) → Continuation Task → ℕ
 tasks_left left (continuation.Asks task) = left task + 1
 tasks_left left (continuation.Ends o) = 0
 
--- the layer behind a step of a task's part
+-- the layer runs on after a step of a task's part
 abbrev pub follow_on : {Task P : Type 0} → Table Task → Behaviour P → Task → Next P → Memory → Begun (Nested Task P)
-follow_on t b task next m = behind_part (λ o n. advance t b (t.rest task o) n) task next m
+follow_on t b task next m = after_part (λ o n. advance t b (t.rest task o) n) task next m
 
--- the layer from a continuation on
+-- the layer runs on from a continuation
 abbrev pub run_on : {Task P : Type 0} → Table Task → Behaviour P → Continuation Task → Memory → Begun (Nested Task P)
 run_on t b (continuation.Ends o) m = record { next = Done o; memory = m }
 run_on t b (continuation.Asks task) m = follow_on t b task (asked b (t.asks task) m).next (asked b (t.asks task) m).memory

@@ -1,91 +1,94 @@
-//! How a layer runs where it lies: each call runs the layer's program, part by part.
+//! Runs a layer in place: each call runs the layer's program, part by part.
 
 ghost use Rattle.std.specs.Prelude.{◌≡◌, ℕ, ◌++◌, ◌<◌, ◌≤◌, ◌+◌, true, false, Option, IfSome, length, take, drop};
-ghost use Rattle.safe_bit.specs.Parts.{behind, with_part, IsPlaced, LiesIn};
+ghost use Rattle.safe_bit.specs.Parts.{place_after, with_part, IsPlaced, LiesIn};
 ghost use Rattle.safe_bit.specs.Windows.{splice};
 ghost use Rattle.frames.specs.declared.types.Op.{Op};
 ghost use Rattle.frames.specs.declared.types.TheConstants.{STACK_FRAMES};
-ghost use Rattle.frames.specs.Flat.{Lands, IsTold};
+ghost use Rattle.frames.specs.Flat.{Lands, IsPointByFrames};
 ghost use Rattle.frames.specs.Placed.{placed_bit};
 ghost use Rattle.layers.specs.Nested as nested;
 ghost use Rattle.layers.specs.Nested.{layered};
 ghost use Rattle.layers.specs.Sound.{FitsBelow, IsNotSpent, IsSpent, LayerReaches};
 ghost use Rattle.layers.specs.Settled.{tasks_left};
-ghost use Rattle.layers.specs.Flat.{IsToldTask, cut_where_ended};
-ghost use Rattle.layers.specs.Driver.{table_of, below_of, behaviour, own_memory, own_words, Holds, Lies, StandsIn, ContinuesWell, EndsTask, task_frames, first_parts, first_words, asked_part, moved_part, started, settled_behind, run_from, run_behind};
+ghost use Rattle.layers.specs.Flat.{IsTaskByFrame, cut_where_ended};
+ghost use Rattle.layers.specs.Driver.{table_of, below_of, behaviour, own_memory, first_own_word, Holds, Lies, IsInTask, ContinuesWell, EndsTask, frames_in_task, all_first_parts, first_words, asked_part, moved_part, started, settled_after, run_from, run_after};
 
 use crate::construction::Construction;
 use crate::layered::Layered;
 use crate::nested::{Continuation, Nested};
-use frames::flat::FlatStack;
+use frames::flat::{FlatStack, frame_at};
 use frames::register::Register;
-use frames::types::{Frame, Op, Outcome, Progress};
+use frames::types::{Frame, Op, Outcome, Progress, Stack};
 use safe_bit::{Place, Store};
+use std::alloc::Global;
 
-/// What `who` has pending, by the frames from index `first` on: the first tells the task, the others
-/// the point of its part. None where these aren't the frames of an operation that it can have pending.
+/// The pending operation of process `who`, read from the frames from index `first` on: the first of
+/// them gives the task, and the others give the point of the task's part. `None` if `who` can't
+/// have an operation with these frames pending.
 pub(crate) fn pending<L: Construction, S: Register>(
     layer: &L,
     below: &S,
-    stack: &FlatStack,
+    stack: &Stack,
     first: usize,
     who: u32,
 ) -> Option<Nested<L::Task, S::Pending>>
-    requires fit { FitsBelow (L.table layer.now) (S.is below.now) }
-    ensures { IsTold (layered (L.table layer.now) (S.is below.now)).frames
-        (LayerReaches (L.table layer.now) (L.Stands layer.now) (S.Reaches below.now)) who
-        (drop first stack.now) result }
+    requires fit { FitsBelow (L.table layer.now) (S.behaviour below.now) }
+    ensures { IsPointByFrames (layered (L.table layer.now) (S.behaviour below.now)).frames
+        (LayerReaches (L.table layer.now) (L.MayBeAt layer.now) (S.Reaches below.now)) who
+        (drop first stack.now.items) result }
 {
     if first >= stack.len() || stack.len() - first < 2 {
         return None;
     }
-    let task = standing(layer, who, stack.frame(first))?;
+    let task = task_at(layer, who, frame_at(stack, first))?;
     let ask = layer.asks(task);
-    if !stack.frame(first + 1).op.is(ask.op) {
+    if !frame_at(stack, first + 1).op.is(ask.op) {
         return None;
     }
     let point = below.pending(stack, first + 1, ask.who)?;
     Some(Nested { task, below: point })
 }
 
-/// The task that a layer's own frame tells, if the process can stand in it.
-fn standing<L: Construction>(layer: &L, who: u32, frame: Frame) -> Option<L::Task>
-    ensures { IsToldTask (L.table layer.now) (L.Stands layer.now) who frame result }
+/// The task that the layer's own frame describes; `None` if process `who` can't be in it.
+fn task_at<L: Construction>(layer: &L, who: u32, frame: Frame) -> Option<L::Task>
+    ensures { IsTaskByFrame (L.table layer.now) (L.MayBeAt layer.now) who frame result }
 {
     let task = layer.find(who, frame);
-    if layer.stands(who, frame.op, task) && layer.frame(task).is(frame) {
+    if layer.may_be_at(who, frame.op, task) && layer.frame(task).is(frame) {
         Some(task)
     } else {
         None
     }
 }
 
-/// Puts the frames of a pending operation behind those on the stack: the layer's own, and then its part's.
+/// Pushes the frames of a pending operation onto the stack: the layer's own, then its part's.
 pub(crate) fn lay<L: Construction, S: Register>(
     layer: &L,
     below: &S,
+    alloc: Global,
     pending: &Nested<L::Task, S::Pending>,
     stack: &mut FlatStack,
 )
-    requires fit { FitsBelow (L.table layer.now) (S.is below.now) }
+    requires fit { FitsBelow (L.table layer.now) (S.behaviour below.now) }
     requires reached { (who : ℕ)
-        × ((op : Op) × LayerReaches (L.table layer.now) (L.Stands layer.now)
+        × ((op : Op) × LayerReaches (L.table layer.now) (L.MayBeAt layer.now)
         (S.Reaches below.now) who op pending.now) }
-    requires room { length stack.old + 1 + (S.is below.now).depth ≤ STACK_FRAMES }
+    requires room { length stack.old + 1 + (S.behaviour below.now).depth ≤ STACK_FRAMES }
     ensures { stack.new
-        ≡ stack.old ++ (layered (L.table layer.now) (S.is below.now)).frames pending.now }
+        ≡ stack.old ++ (layered (L.table layer.now) (S.behaviour below.now)).frames pending.now }
 {
     stack.push(layer.frame(pending.task));
-    below.lay(&pending.below, stack);
+    below.lay(alloc, &pending.below, stack);
 }
 
 impl<L: Construction, S: Register> Layered<L, S> {
-    /// Sets each part's memory at first.
+    /// Sets each part to its initial value, given the layer's initial value `value`.
     pub(crate) fn init_parts(&self, store: &mut Store, at: Place, value: u32)
         requires inside { LiesIn at (behaviour self.now).size store.old }
         requires placed { IsPlaced at (behaviour self.now).size }
         requires value { value < (behaviour self.now).values }
-        ensures { store.new ≡ with_part at (first_parts self.now value) store.old }
+        ensures { store.new ≡ with_part at (all_first_parts self.now value) store.old }
     {
         for part in 0..self.layer.shape().parts {
             let place = self.part_place(at, part);
@@ -93,7 +96,7 @@ impl<L: Construction, S: Register> Layered<L, S> {
         }
     }
 
-    /// Sets the layer's own words at first; `base` is the first of them.
+    /// Sets the layer's own words, which begin at word `base`, to their initial values.
     pub(crate) fn init_words(&self, store: &mut Store, base: u32, value: u32)
         requires inside { base + (table_of self.now).words ≤ length store.old.words }
         requires value { value < (behaviour self.now).values }
@@ -106,7 +109,7 @@ impl<L: Construction, S: Register> Layered<L, S> {
         }
     }
 
-    /// A layer that lies in a store can be numbered there.
+    /// Does nothing. Its contract states that the layer's cells and words end below 2^32.
     #[inline]
     pub(crate) fn placed(&self, store: &Store, at: Place)
         requires inside { LiesIn at (behaviour self.now).size store.now }
@@ -115,7 +118,8 @@ impl<L: Construction, S: Register> Layered<L, S> {
         store.numbered();
     }
 
-    /// What lies in a store and holds is a layer that lies there.
+    /// Does nothing. Its contract states that the layer lies at `at`, if its memory there satisfies
+    /// `Holds`.
     #[inline]
     pub(crate) fn lies(&self, store: &Store, at: Place)
         requires inside { LiesIn at (behaviour self.now).size store.now }
@@ -126,12 +130,12 @@ impl<L: Construction, S: Register> Layered<L, S> {
         self.placed(store, at);
     }
 
-    /// Where part `part` of a layer lies.
+    /// The place of part `part`, if the layer lies at `at`.
     #[inline]
     pub(crate) fn part_place(&self, at: Place, part: u32) -> Place
         requires placed { IsPlaced at (behaviour self.now).size }
         requires part { part < (table_of self.now).parts }
-        ensures { result ≡ behind at (nested.part_place (below_of self.now).size part) }
+        ensures { result ≡ place_after at (nested.part_place (below_of self.now).size part) }
     {
         let size = self.below.size();
         Place {
@@ -140,16 +144,17 @@ impl<L: Construction, S: Register> Layered<L, S> {
         }
     }
 
-    /// The place of the layer's own words.
+    /// The index of the layer's first own word in the store, if the layer lies at `at`.
     #[inline]
     pub(crate) fn words_at(&self, at: Place) -> u32
         requires placed { IsPlaced at (behaviour self.now).size }
-        ensures { result ≡ at.word + own_words self.now }
+        ensures { result ≡ at.word + first_own_word self.now }
     {
         at.word + self.layer.shape().parts * self.below.size().word
     }
 
-    /// A task's part is asked for the task's operation, behind the layer's own frame.
+    /// Invokes the task's operation on the task's part. While it is pending, the layer's own frame
+    /// and then the part's are on the stack; if it has ended, the stack is as before.
     #[inline(always)]
     fn ask(
         &self,
@@ -159,10 +164,11 @@ impl<L: Construction, S: Register> Layered<L, S> {
         stack: &mut FlatStack,
     ) -> Option<Outcome>
         requires lies { Lies self.now (S.Holds self.now.below) at store.old }
-        requires stands { (who : ℕ) × ((op : Op) × L.Stands self.now.layer who op task) }
+        requires may_be_at { (who : ℕ) × ((op : Op) × L.MayBeAt self.now.layer who op task) }
         requires room { length stack.old + (behaviour self.now).depth ≤ STACK_FRAMES }
         ensures { let begun = asked_part self.now task (own_memory self.now at store.old) in
-            Lands (task_frames self.now task) at begun.next begun.memory stack.old store.old result
+            Lands (frames_in_task self.now task) at begun.next begun.memory stack.old store.old
+            result
             stack.new store.new }
     {
         let ask = self.layer.asks(task);
@@ -174,8 +180,8 @@ impl<L: Construction, S: Register> Layered<L, S> {
         end
     }
 
-    /// A task's part makes its next bit action, on the frames behind the layer's own, which is the one
-    /// at index `first` and is still there where the part has ended.
+    /// The task's part makes its next bit action. The layer's own frame is at index `first`, and
+    /// the part's frames follow it. The own frame stays even if the part's operation ends.
     #[inline(always)]
     pub(crate) fn push(
         &self,
@@ -188,16 +194,16 @@ impl<L: Construction, S: Register> Layered<L, S> {
     ) -> Progress
         requires lies { Lies self.now (S.Holds self.now.below) at store.old }
         requires room { first + (behaviour self.now).depth ≤ STACK_FRAMES }
-        requires stands { (who : ℕ) × ((op : Op) × ((p : S.Pending) × StandsIn self.now
-            (L.Stands self.now.layer) (S.Reaches self.now.below) who first stack.old op task p)) }
-        ensures lands { (who : ℕ) (op : Op) (p : S.Pending) → StandsIn self.now
-            (L.Stands self.now.layer) (S.Reaches self.now.below) who first stack.old op task p
+        requires may_be_at { (who : ℕ) × ((op : Op) × ((p : S.Pending) × IsInTask self.now
+            (L.MayBeAt self.now.layer) (S.Reaches self.now.below) who first stack.old op task p)) }
+        ensures lands { (who : ℕ) (op : Op) (p : S.Pending) → IsInTask self.now
+            (L.MayBeAt self.now.layer) (S.Reaches self.now.below) who first stack.old op task p
             → (let moved = moved_part self.now task p choice (own_memory self.now at store.old) in
-            Lands (task_frames self.now task) at moved.next moved.memory (take first stack.old)
+            Lands (frames_in_task self.now task) at moved.next moved.memory (take first stack.old)
             store.old result.end (cut_where_ended first result.end stack.new) store.new) }
         ensures own { IfSome result.end (λ _. stack.new ≡ take (first + 1) stack.old) }
-        ensures chosen { (who : ℕ) (op : Op) (p : S.Pending) → StandsIn self.now
-            (L.Stands self.now.layer) (S.Reaches self.now.below) who first stack.old op task p
+        ensures chosen { (who : ℕ) (op : Op) (p : S.Pending) → IsInTask self.now
+            (L.MayBeAt self.now.layer) (S.Reaches self.now.below) who first stack.old op task p
             → (let moved = moved_part self.now task p choice (own_memory self.now at store.old) in
             result.chosen ≡ placed_bit at moved.chosen) }
     {
@@ -207,7 +213,7 @@ impl<L: Construction, S: Register> Layered<L, S> {
             .go_on(store, place, ask.who, stack, first + 1, choice)
     }
 
-    /// An operation's program up to its first task or its end.
+    /// Runs the program of process `who`'s operation `op` to its first task or its end.
     #[inline(always)]
     pub(crate) fn start(
         &self,
@@ -227,7 +233,7 @@ impl<L: Construction, S: Register> Layered<L, S> {
         self.layer.start(store, base, who, op)
     }
 
-    /// The program behind a task that ended so, up to the next task or the end.
+    /// Runs the program on to its next task or its end, after task `task` has ended with `outcome`.
     #[inline]
     fn after(
         &self,
@@ -237,12 +243,12 @@ impl<L: Construction, S: Register> Layered<L, S> {
         outcome: Outcome,
     ) -> Continuation<L::Task>
         requires lies { Lies self.now (S.Holds self.now.below) at store.old }
-        requires stands { (who : ℕ) × ((op : Op) × L.Stands self.now.layer who op task) }
+        requires may_be_at { (who : ℕ) × ((op : Op) × L.MayBeAt self.now.layer who op task) }
         requires answers { EndsTask self.now task outcome }
         requires goes_on { IsNotSpent outcome }
-        ensures continuation { let settled = settled_behind self.now task outcome
+        ensures continuation { let settled = settled_after self.now task outcome
             (own_memory self.now at store.old) in result ≡ settled.continuation }
-        ensures memory { let settled = settled_behind self.now task outcome
+        ensures memory { let settled = settled_after self.now task outcome
             (own_memory self.now at store.old) in
             store.new ≡ with_part at settled.memory store.old }
         ensures fewer { tasks_left (L.left self.now.layer) result ≤ L.left self.now.layer task }
@@ -251,7 +257,7 @@ impl<L: Construction, S: Register> Layered<L, S> {
         self.layer.after(store, base, task, outcome)
     }
 
-    /// The layer goes on from a continuation, to its next bit action or its end.
+    /// Runs the layer's operation on from a continuation, until it waits for a bit action or ends.
     #[inline(always)]
     pub(crate) fn run(
         &self,
@@ -261,7 +267,7 @@ impl<L: Construction, S: Register> Layered<L, S> {
         stack: &mut FlatStack,
     ) -> Option<Outcome>
         requires lies { Lies self.now (S.Holds self.now.below) at store.old }
-        requires stands { ContinuesWell self.now (L.Stands self.now.layer) continuation }
+        requires may_be_at { ContinuesWell self.now (L.MayBeAt self.now.layer) continuation }
         requires room { length stack.old + (behaviour self.now).depth ≤ STACK_FRAMES }
         ensures { let on = run_from self.now continuation (own_memory self.now at store.old) in
             Lands (behaviour self.now).frames at on.next on.memory stack.old store.old result
@@ -281,7 +287,7 @@ impl<L: Construction, S: Register> Layered<L, S> {
         }
     }
 
-    /// The layer goes on behind a part's operation that has ended.
+    /// Runs the layer's operation on, after its part's operation has ended with `outcome`.
     #[inline(always)]
     pub(crate) fn follow(
         &self,
@@ -292,10 +298,10 @@ impl<L: Construction, S: Register> Layered<L, S> {
         stack: &mut FlatStack,
     ) -> Option<Outcome>
         requires lies { Lies self.now (S.Holds self.now.below) at store.old }
-        requires stands { (who : ℕ) × ((op : Op) × L.Stands self.now.layer who op task) }
+        requires may_be_at { (who : ℕ) × ((op : Op) × L.MayBeAt self.now.layer who op task) }
         requires answers { EndsTask self.now task outcome }
         requires room { length stack.old + (behaviour self.now).depth ≤ STACK_FRAMES }
-        ensures { let on = run_behind self.now task outcome (own_memory self.now at store.old) in
+        ensures { let on = run_after self.now task outcome (own_memory self.now at store.old) in
             Lands (behaviour self.now).frames at on.next on.memory stack.old store.old result
             stack.new store.new }
     {
@@ -307,7 +313,7 @@ impl<L: Construction, S: Register> Layered<L, S> {
     }
 }
 
-/// Where a part's operation has ended, the frames from index `first` on go.
+/// Drops the frames from index `first` on, if a part's operation has ended, as `end` says.
 #[inline]
 fn close(stack: &mut FlatStack, first: usize, end: Option<Outcome>)
     requires { first ≤ length stack.old }
@@ -318,7 +324,7 @@ fn close(stack: &mut FlatStack, first: usize, end: Option<Outcome>)
     }
 }
 
-/// Whether an end is that of a spent part, behind which no program goes on.
+/// Whether the outcome says that a part is spent. After such an outcome no program goes on.
 #[inline]
 fn is_spent(outcome: Outcome) -> bool
     ensures goes_on { result ≡ false → IsNotSpent outcome }

@@ -1,8 +1,8 @@
-//! Which registers a layer can stand on.
+//! Which registers a layer can be built on.
 
 ghost use Rattle.std.specs.Prelude.{◌≡◌, ◌*◌, ◌<◌, ◌≤◌, MatchResult, OnOk, Some, None};
 ghost use Rattle.layers.specs.Sound.{FitsBelow};
-ghost use Rattle.layers.specs.Fit.{refusal_below, number_of};
+ghost use Rattle.layers.specs.Fit.{refusal_below, layer_error_number};
 
 use crate::construction::Construction;
 use frames::limits::{LEAST_PROCESSES, LEAST_VALUES, MOST_PROCESSES};
@@ -13,8 +13,8 @@ use thiserror::Error;
 /// Why a layer can't be built.
 #[derive(Clone, Copy, Debug, PartialEq, Eq, Error)]
 pub enum LayerError {
-    /// A limit is broken, or the register below hasn't the processes, the values or the depth that
-    /// the layer needs.
+    /// A limit is broken, or the register below doesn't have the processes, the values or the depth
+    /// that the layer needs.
     #[error("1 BadSize")]
     BadSize,
     /// The layer would have more than 4,096 cells or 65,536 words.
@@ -25,7 +25,7 @@ pub enum LayerError {
 impl LayerError {
     /// The number of the refusal.
     pub fn number(self) -> u32
-        ensures { result ≡ number_of self }
+        ensures { result ≡ layer_error_number self }
     {
         match self {
             LayerError::BadSize => 1,
@@ -34,11 +34,12 @@ impl LayerError {
     }
 }
 
-/// Whether the layer can stand on the register.
+/// Whether the layer can be built on the register below, and if not, why.
 pub fn fits_below<L: Construction, S: Register>(layer: &L, below: &S) -> Result<(), LayerError>
-    ensures refusal { MatchResult result (λ _. refusal_below (L.table layer.now) (S.is below.now)
-        ≡ None) (λ e. refusal_below (L.table layer.now) (S.is below.now) ≡ Some e) }
-    ensures fit { OnOk result (FitsBelow (L.table layer.now) (S.is below.now)) }
+    ensures refusal { MatchResult result
+        (λ _. refusal_below (L.table layer.now) (S.behaviour below.now)
+        ≡ None) (λ e. refusal_below (L.table layer.now) (S.behaviour below.now) ≡ Some e) }
+    ensures fit { OnOk result (FitsBelow (L.table layer.now) (S.behaviour below.now)) }
 {
     let shape = layer.shape();
     let few = shape.values < LEAST_VALUES || shape.processes < LEAST_PROCESSES;

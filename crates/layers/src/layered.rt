@@ -1,4 +1,4 @@
-//! One register for every layer: a construction over a register below.
+//! One register type for every layer: a construction over the register below.
 
 ghost use Rattle.std.specs.Prelude.{◌≡◌, MatchResult, IfOk, Some, None};
 ghost use Rattle.layers.specs.Nested.{layered};
@@ -11,18 +11,18 @@ use crate::fit::{LayerError, fits_below};
 use crate::nested::Nested;
 use frames::flat::FlatStack;
 use frames::register::{Behaves, Register};
-use frames::types::{Action, Op, Outcome, Progress};
+use frames::types::{Action, Next, Op, Outcome, Progress, Stack, Turned};
 use safe_bit::{Place, Store};
-use std::alloc::AllocError;
+use std::alloc::{AllocError, Global};
 
-/// A construction over a register: each of its parts is the register below, at a place of its own.
+/// A construction over the register below. Each of its parts is that register, at its own place.
 #[derive(Debug, PartialEq, Eq)]
 pub struct Layered<L: Rules, S: Behaves> {
-    /// The register that each part is.
+    /// The register below. Each part is this register.
     pub below: S,
     /// The construction's own rules.
     pub layer: L,
-    ghost fit: { FitsBelow (L.table layer) (S.is below) },
+    ghost fit: { FitsBelow (L.table layer) (S.behaviour below) },
 }
 
 impl<L: Rules + Copy, S: Behaves + Copy> Clone for Layered<L, S> {
@@ -40,14 +40,15 @@ impl<L: Rules + Copy, S: Behaves + Copy> Clone for Layered<L, S> {
 impl<L: Rules + Copy, S: Behaves + Copy> Copy for Layered<L, S> {}
 
 impl<L: Construction, S: Register> Layered<L, S> {
-    /// The construction over the register below. Refused as BadSize where the register hasn't the
-    /// processes or the values that its parts need or has depth 8, else as TooManyBits where there
-    /// would be more than 4,096 cells or 65,536 words.
-    pub fn new(below: S, layer: L) -> Result<Layered<L, S>, LayerError>
-        ensures refused { MatchResult result (λ _. refusal_below (L.table layer) (S.is below)
-            ≡ None) (λ e. refusal_below (L.table layer) (S.is below) ≡ Some e) }
-        ensures built { IfOk result (λ r. ⟦<Layered<L, S> as Behaves>⟧.is r
-            ≡ layered (L.table layer) (S.is below)) }
+    /// The construction over the register below. Refused as `BadSize` if the layer has fewer than 2
+    /// values or not 2 to 5 processes, or if the register below has depth 8, or not the values and
+    /// processes that the parts need; else as `TooManyBits` if there would be more than 4,096 cells
+    /// or 65,536 words.
+    pub fn over(below: S, layer: L) -> Result<Layered<L, S>, LayerError>
+        ensures refused { MatchResult result (λ _. refusal_below (L.table layer) (S.behaviour below)
+            ≡ None) (λ e. refusal_below (L.table layer) (S.behaviour below) ≡ Some e) }
+        ensures built { IfOk result (λ r. ⟦<Layered<L, S> as Behaves>⟧.behaviour r
+            ≡ layered (L.table layer) (S.behaviour below)) }
         ensures below { IfOk result (λ r. r.below ≡ below) }
     {
         fits_below(&layer, &below)?;
@@ -65,7 +66,7 @@ impl<L: Construction, S: Register> Layered<L, S> {
 impl<L: Rules, S: Behaves> Behaves for Layered<L, S> {
     type Pending = Nested<L::Task, S::Pending>;
 
-    ghost is = { λ r. layered (L.table r.layer) (S.is r.below) };
+    ghost behaviour = { λ r. layered (L.table r.layer) (S.behaviour r.below) };
 }
 
 impl<L: Construction, S: Register> Register for Layered<L, S> {
@@ -76,9 +77,9 @@ impl<L: Construction, S: Register> Register for Layered<L, S> {
     ghost use Rattle.layers.specs.laws.Layered.{layer_lawful};
     ghost use Rattle.layers.specs.laws.Equality.{nested_decides, layered_alike, both_true};
 
-    ghost Holds = { λ r. LayerHolds (L.table r.layer) (S.is r.below) (S.Holds r.below) };
+    ghost Holds = { λ r. LayerHolds (L.table r.layer) (S.behaviour r.below) (S.Holds r.below) };
 
-    ghost Reaches = { λ r. LayerReaches (L.table r.layer) (L.Stands r.layer) (S.Reaches r.below) };
+    ghost Reaches = { λ r. LayerReaches (L.table r.layer) (L.MayBeAt r.layer) (S.Reaches r.below) };
 
     ghost point = { λ r. layered_point (L.table r.layer) (S.point r.below) };
 
@@ -114,6 +115,46 @@ impl<L: Construction, S: Register> Register for Layered<L, S> {
         self.init_words(store, base, value);
     }
 
+    fn begin(&self, store: &mut Store, at: Place, who: u32, op: Op) -> Next<Self::Pending> {
+        let mut stack = FlatStack::new();
+        let end = self.begin_on(store, at, who, op, &mut stack);
+        self.reached_next(store.allocator(), &stack, who, end)
+    }
+
+    fn go(
+        &self,
+        store: &mut Store,
+        at: Place,
+        pending: Self::Pending,
+        choice: bool,
+    ) -> Turned<Self::Pending> {
+        let alloc = store.allocator();
+        let mut stack = FlatStack::new();
+        self.lay(alloc, &pending, &mut stack);
+        let who = self.process(alloc, &stack, &pending);
+        let progress = self.go_on(store, at, who, &mut stack, 0, choice);
+        Turned {
+            next: self.reached_next(alloc, &stack, who, progress.end),
+            chosen: progress.chosen,
+        }
+    }
+
+    fn stack(&self, alloc: Global, pending: &Self::Pending) -> Stack {
+        let mut stack = FlatStack::new();
+        drive::lay(&self.layer, &self.below, alloc, pending, &mut stack);
+        stack.to_stack(alloc)
+    }
+
+    fn action(&self, pending: &Self::Pending, at: Place) -> Action {
+        let ask = self.layer.asks(pending.task);
+        let place = self.part_place(at, ask.part);
+        self.below.action(&pending.below, place)
+    }
+
+    fn pending(&self, stack: &Stack, first: usize, who: u32) -> Option<Self::Pending> {
+        drive::pending(&self.layer, &self.below, stack, first, who)
+    }
+
     #[inline]
     fn begin_on(
         &self,
@@ -144,7 +185,7 @@ impl<L: Construction, S: Register> Register for Layered<L, S> {
         let Some(outcome) = progress.end else {
             return progress;
         };
-        // found once more, so that while the part goes on no task is kept for what comes behind it
+        // the task is found a second time, so that it needn't be kept while the part goes on
         let ended = self.layer.find(who, stack.frame(first));
         stack.leave(first);
         let end = self.follow(store, at, ended, outcome, stack);
@@ -154,26 +195,12 @@ impl<L: Construction, S: Register> Register for Layered<L, S> {
         }
     }
 
-    fn pending(&self, stack: &FlatStack, first: usize, who: u32) -> Option<Self::Pending> {
-        drive::pending(&self.layer, &self.below, stack, first, who)
-    }
-
-    fn lay(&self, pending: &Self::Pending, stack: &mut FlatStack) {
-        drive::lay(&self.layer, &self.below, pending, stack);
-    }
-
-    fn action(&self, pending: &Self::Pending, at: Place) -> Action {
-        let ask = self.layer.asks(pending.task);
-        let place = self.part_place(at, ask.part);
-        self.below.action(&pending.below, place)
-    }
-
-    ghost tells = { λ r. layered_tells (over (S.lawful r.below) (L.sound r.layer) r.fit) (S.point r.below) (S.tells r.below) };
+    ghost reports = { λ r. layered_tells (over (S.lawful r.below) (L.sound r.layer) r.fit) (S.point r.below) (S.reports r.below) };
 
     ghost lawful = { λ r. layer_lawful (over (S.lawful r.below) (L.sound r.layer) r.fit) };
 
     ghost alike = { λ a b h. let both = both_true (S.PartialEq.eq a.below b.below) (L.PartialEq.eq a.layer b.layer) h in
-        layered_alike (L.table a.layer) (L.table b.layer) (S.is a.below) (S.is b.below) (L.alike a.layer b.layer both.1) (S.alike a.below b.below both.0) };
+        layered_alike (L.table a.layer) (L.table b.layer) (S.behaviour a.below) (S.behaviour b.below) (L.alike a.layer b.layer both.1) (S.alike a.below b.below both.0) };
 
     ghost finds_alike = { λ a b h. let both = both_true (S.PartialEq.eq a.below b.below) (L.PartialEq.eq a.layer b.layer) h in
         points_alike (L.table a.layer) (L.table b.layer) (S.point a.below) (S.point b.below) (L.alike a.layer b.layer both.1) (S.finds_alike a.below b.below both.0) };

@@ -1,5 +1,5 @@
-//! Constructions of registers from registers: nested operations run part by part, and one register
-//! for every construction over any register below.
+//! Constructions of registers from registers. Their operations run part by part, and one register
+//! type serves every construction over any register.
 #![tactic(auto)]
 
 pub mod construction;
@@ -7,3 +7,8 @@ mod drive;
 pub mod fit;
 pub mod layered;
 pub mod nested;
+
+pub use construction::{Construction, Rules, Shape};
+pub use fit::LayerError;
+pub use layered::Layered;
+pub use nested::{Ask, Continuation, Nested};

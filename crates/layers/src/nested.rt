@@ -1,5 +1,5 @@
-//! Nested operations: an operation of a layer stands in one task of its program, inside an operation
-//! of the part that the task asks.
+//! Nested operations: an operation of a layer is in one task of its program. The part that the task
+//! asks is then in an operation too.
 
 use frames::types::{Op, Outcome};
 
@@ -11,14 +11,14 @@ pub struct Ask {
     pub op: Op,
 }
 
-/// What a program comes to: its next task, or its end.
+/// How far a program has run: to its next task, or to its end with an outcome.
 #[derive(Clone, Copy, Debug, PartialEq, Eq)]
 pub enum Continuation<T> {
     Asks(T),
     Ends(Outcome),
 }
 
-/// A pending operation of a layer: the task in work, and the point at which its part stands.
+/// A pending operation of a layer: the task that it is in, and the point of the task's part.
 #[derive(Clone, Copy, Debug, PartialEq, Eq)]
 pub struct Nested<T, P> {
     pub task: T,

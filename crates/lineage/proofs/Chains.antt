@@ -1,16 +1,16 @@
--- A path of new items, put last.
+-- A path of new items, added last.
 use Rattle.std.proofs.Common.{◌≡◌, ◌≢◌, ℕ, ◌+◌, ◌<◌, ◌^◌, Bool, true, false, ◌||◌, List, [], ◌∷◌, ◌++◌, length, map, set, Option, Some, None, refl, sym, ◌∙◌, ap, subst, arith, inl, inr, ◌⊎◌, true≢false, append_assoc}
 use Rattle.std.specs.Prelude.{is_some}
 use Rattle.std.specs.List.{count_by}
 use Rattle.std.proofs.lemmas.List.{map_push, set_at, get_or_push, length_push, append-nil}
 use Rattle.lineage.specs.declared.node.Node.{Node}
 use Rattle.lineage.specs.Family.{has}
-use Rattle.lineage.specs.Held.{tip_at, node, node_at, item_in, path_to, IsSound, IsPutLast}
+use Rattle.lineage.specs.Held.{tip_at, node, node_at, item_in, path_to, IsSoundFamily, IsPutLast}
 use Rattle.lineage.proofs.Once.{has-append, has-head, has-tail, has_cases}
 use Rattle.lineage.proofs.Walks.{path_to_is}
 use Rattle.lineage.proofs.Pushes.{pushed_sound, pushed_last}
 
--- a function on the keys that are there
+-- functions that agree on each key of a list give the same values for it
 pub map_on : {Y : Type 0} (f g : ℕ → Y) (keys : List ℕ) → ((k : ℕ) → has k keys ≡ true → f k ≡ g k) → map f keys ≡ map g keys
 map_on f g [] h = refl
 map_on f g (k ∷ keys) h =
@@ -29,7 +29,7 @@ has_push x k (j ∷ keys) h =
     later (inl m) = inl (has-tail x j keys m)
     later (inr e) = inr e
 
--- the same, with some of the items still to come
+-- a path is being added last, and `rest` are the items still to be added
 pub record IsPutSoFar {X : Type 0} (s t : List (Option (Node X))) (tips new : List (Option ℕ)) (items rest : List X) : Type 0 where
   pub done : List X
   pub parts : done ++ rest ≡ items
@@ -39,7 +39,7 @@ module _ {X : Type 0} (s : List (Option (Node X))) (tips : List (Option ℕ)) wh
   empty : path_to s None ≡ []
   empty = path_to_is s None [] refl
 
-  pub put_none : (items rest : List X) → IsSound s (tips ++ None ∷ []) → rest ≡ items → IsPutSoFar s s tips (tips ++ None ∷ []) items rest
+  pub put_none : (items rest : List X) → IsSoundFamily s (tips ++ None ∷ []) → rest ≡ items → IsPutSoFar s s tips (tips ++ None ∷ []) items rest
   put_none items rest sound e = record {
     done = [];
     parts = e;
@@ -68,13 +68,13 @@ module _ {X : Type 0} (s : List (Option (Node X))) (tips : List (Option ℕ)) wh
     within : length tips < length now
     within = let l : length now ≡ length tips + 1 = ap length put.tips_are ∙ length_push tips put.tip in omega (arith, l)
 
-    sound_now : IsSound u new
+    sound_now : IsSoundFamily u new
     sound_now = pushed_sound t u now new (length tips) key item put.sound within vacant here others new_is len room
 
     path_now : path_to u (Some key) ≡ path_to t put.tip ++ key ∷ []
     path_now = pushed_last t u now new (length tips) key item put.sound within vacant here others new_is ∙ ap (λ o. path_to t o ++ key ∷ []) tip_here
 
-    -- what was put before stays
+    -- the items added before stay
     other : (k : ℕ) → has k (path_to t put.tip) ≡ true → k ≢ key
     other k m same = let n = put.there k m in let none : node_at t k ≡ None = ap (node_at t) same ∙ vacant in let some = n.1 in cc
 

@@ -1,4 +1,4 @@
--- Climbs: that there is one from each place, that they end, and what an edit makes of them.
+-- Climbs: at most one begins at a key, no key is twice in it, and it is kept if its links are.
 use Rattle.std.proofs.Common.{◌≡◌, ℕ, ◌<◌, ◌≤◌, zero, suc, true, false, eqb, List, [], ◌∷◌, ◌++◌, length, reverse, Option, Some, None, refl, sym, ◌∙◌, ap, subst, arith, length-append}
 use Rattle.std.specs.List.{IsDistinct}
 use Rattle.std.proofs.lemmas.Map.Keys.{IsDistinct-cons}
@@ -15,7 +15,7 @@ module _ (p : ℕ → Option (Option ℕ)) where
   climb_some : (n k : ℕ) (next : Option ℕ) → p k ≡ Some next → climb p (suc n) (Some k) ≡ k ∷ climb p n next
   climb_some n k next e = rw (e, climb) refl
 
-  -- with enough steps the climb is the keys
+  -- with enough steps, `climb` gives the keys of the climb
   pub climb_is : (n : ℕ) (at : Option ℕ) (up : List ℕ) → IsClimb p at up → length up ≤ n → climb p n at ≡ up
   climb_is n at [] h l = rw h (climb_none n)
   climb_is zero at (k ∷ up) h l = absurd (omega arith)
@@ -23,7 +23,7 @@ module _ (p : ℕ → Option (Option ℕ)) where
       let le : length up ≤ n = omega arith in
       rw h.0 (climb_some n k h.1.0 h.1.1.0 ∙ ap (λ (u : List ℕ). k ∷ u) (climb_is n h.1.0 up h.1.1.1 le))
 
-  -- there is one climb from a place
+  -- at most one climb begins at a link
   pub climb_unique : (at : Option ℕ) (u v : List ℕ) → IsClimb p at u → IsClimb p at v → u ≡ v
   climb_unique at [] [] g h = refl
   climb_unique at [] (k ∷ v) g h = let a : at ≡ None = g in let b : at ≡ Some k = h.0 in cc
@@ -38,7 +38,7 @@ module _ (p : ℕ → Option (Option ℕ)) where
       let rest : u ≡ v = climb_unique g.1.0 u v g.1.1.1 hv in
       cc
 
-  -- the climb from a key within a climb
+  -- the rest of a climb from one of its keys on is the climb from that key
   pub climb_from : (at : Option ℕ) (lower : List ℕ) (k : ℕ) (rest : List ℕ) → IsClimb p at (lower ++ k ∷ rest) → IsClimb p (Some k) (k ∷ rest)
   climb_from at [] k rest h = (refl, h.1)
   climb_from at (j ∷ lower) k rest h = climb_from h.1.0 lower k rest h.1.1.1
@@ -50,7 +50,7 @@ module _ (p : ℕ → Option (Option ℕ)) where
       let c = climb_from at s.front k s.back (subst (IsClimb p at) s.is h) in
       (c.1.0, c.1.1.0)
 
-  -- no key comes twice in a climb
+  -- no key is twice in a climb
   pub not_again : (k : ℕ) (rest : List ℕ) → IsClimb p (Some k) (k ∷ rest) → has k rest ≡ false
   not_again k rest h = has_not_from k rest (λ m.
       let s = stands k rest m in
@@ -66,18 +66,18 @@ module _ (p : ℕ → Option (Option ℕ)) where
   climb_distinct at (k ∷ up) h =
       IsDistinct-cons eqb k up (AllByRecursion-from_has k up (not_again k up (refl, h.1))) (climb_distinct h.1.0 up h.1.1.1)
 
-  -- a climb is no longer than there are keys
+  -- if all keys with an item are below n, a climb has at most n keys
   pub climb_short : (n : ℕ) → ((k : ℕ) (next : Option ℕ) → p k ≡ Some next → k < n) → (at : Option ℕ) (up : List ℕ) → IsClimb p at up → length up ≤ n
   climb_short n bound at up h =
       length-le_from_distinct_below up n (climb_distinct at up h)
       (λ q m. let t = climb_there at up q h (has_from_any q up m) in bound q t.0 t.1)
 
-  -- where a climb begins
+  -- the last key of a climb in reverse is the key at which the climb begins
   pub climb_top : (at : Option ℕ) (up : List ℕ) → IsClimb p at up → last_of (reverse up) ≡ at
   climb_top at [] h = sym h
   climb_top at (k ∷ up) h = ap last_of (reverse_cons k up) ∙ last_from-push None (reverse up) k ∙ sym h.0
 
-  -- what stands on a key of a climb, or begins it
+  -- a key of a climb is its first, or another key of the climb links to this key
   pub climb_step : (at : Option ℕ) (up : List ℕ) (k : ℕ) (P : Type 0) → IsClimb p at up → has k up ≡ true → (at ≡ Some k → P)
       → ((j : ℕ) → p j ≡ Some (Some k) → has j up ≡ true → P) → P
   climb_step at [] k P h m first later = absurd (cc)
@@ -85,7 +85,7 @@ module _ (p : ℕ → Option (Option ℕ)) where
       has_cases k j up P m (λ same. first (h.0 ∙ ap Some (sym same)))
       (λ rest. climb_step h.1.0 up k P h.1.1.1 rest (λ e. later j (h.1.1.0 ∙ ap Some e) (has-head j up)) (λ i e n. later i e (has-tail i j up n)))
 
--- what keeps the links of a climb keeps the climb
+-- a change that keeps the links of a climb keeps the climb
 pub climb_kept : (p q : ℕ → Option (Option ℕ)) (at : Option ℕ) (up : List ℕ) → ((k : ℕ) (next : Option ℕ) → has k up ≡ true → p k ≡ Some next → q k ≡ Some next)
     → IsClimb p at up → IsClimb q at up
 climb_kept p q at [] same h = h

@@ -1,4 +1,4 @@
--- How many of a list pass a test, where nothing doesn't.
+-- The number of items of a list that pass a test, if None fails the test.
 use Rattle.std.proofs.Common.{◌≡◌, ◌≢◌, ℕ, ◌+◌, ◌<◌, ◌≤◌, zero, suc, Bool, true, false, cond, List, [], ◌∷◌, length, drop, get_or, Option, None, refl, sym, ◌∙◌, ap, arith}
 use Rattle.std.specs.List.{count_by}
 use Rattle.std.proofs.lemmas.List.Sums.{sum_by-cons, count_by-le-length, sum_by-le-sum_by}
@@ -20,7 +20,7 @@ module _ {A : Type 0} (p : Option A → Bool) where
     get-tail [] j = refl
     get-tail (x ∷ xs) j = refl
 
-    -- the count goes by what passes at each place
+    -- the count depends only on which indices pass
     pub count_same : (xs ys : List (Option A)) → ((j : ℕ) → p (get_or ys j None) ≡ p (get_or xs j None)) → count_by p ys ≡ count_by p xs
     count_same [] [] h = refl
     count_same [] (y ∷ ys) h =
@@ -38,7 +38,7 @@ module _ {A : Type 0} (p : Option A → Bool) where
         let both : one (p y) + count_by p ys ≡ one (p x) + count_by p xs = omega (arith, first, rest) in
         count-cons y ys ∙ both ∙ sym (count-cons x xs)
 
-    -- and changes by what changes at one place
+    -- the count after a change at one index
     pub count_changed : (k : ℕ) (xs ys : List (Option A)) → ((j : ℕ) → j ≢ k → p (get_or ys j None) ≡ p (get_or xs j None))
         → count_by p ys + one (p (get_or xs k None)) ≡ count_by p xs + one (p (get_or ys k None))
     count_changed zero xs ys h =
@@ -57,7 +57,7 @@ module _ {A : Type 0} (p : Option A → Bool) where
     pub count_none : (xs : List (Option A)) → ((j : ℕ) → p (get_or xs j None) ≡ false) → count_by p xs ≡ 0
     count_none xs h = count_same [] xs (λ j. h j ∙ sym none)
 
-  -- where some pass, there is one
+  -- if the count isn't 0, some item passes
   pub count_some : (xs : List (Option A)) → 0 < count_by p xs → (k : ℕ) × (p (get_or xs k None) ≡ true)
   count_some [] h = absurd (omega arith)
   count_some (x ∷ xs) h = by (p x) refl (count_some xs)
@@ -72,7 +72,7 @@ module _ {A : Type 0} (p : Option A → Bool) where
           let all = count-cons x xs in
           later (rest (omega (arith, first, all, h)))
 
-  -- where none pass, none does
+  -- if the count is 0, each item fails
   pub count_no : (xs : List (Option A)) (k : ℕ) → p None ≡ false → count_by p xs ≡ 0 → p (get_or xs k None) ≡ false
   count_no [] k none h = none
   count_no (x ∷ xs) zero none h = by (p x) refl
@@ -88,7 +88,7 @@ module _ {A : Type 0} (p : Option A → Bool) where
   pub count_few : (xs : List (Option A)) → count_by p xs ≤ length xs
   count_few xs = count_by-le-length p xs
 
--- where each that passes a test passes another, no more pass it
+-- at least as many items pass a weaker test
 pub count_weaker : {B : Type 0} (p q : B → Bool) (xs : List B) → ((x : B) → p x ≡ true → q x ≡ true) → count_by p xs ≤ count_by q xs
 count_weaker p q xs h = sum_by-le-sum_by (λ x. one (p x)) (λ x. one (q x)) xs (λ x. by (p x) (q x) (h x))
   where

@@ -1,4 +1,4 @@
--- A node put right above another.
+-- Putting a node right above another.
 use Rattle.std.proofs.Common.{◌≡◌, ◌≢◌, ℕ, ◌+◌, ◌<◌, ◌^◌, Bool, true, false, cond, nat_eq, List, [], ◌∷◌, ◌++◌, length, map, reverse, set, Option, Some, None, refl, sym, ◌∙◌, ap, subst, arith, inl, inr, ◌⊎◌, eq-eqb, ne_eqb, append-nil}
 use Rattle.std.specs.Prelude.{is_some}
 use Rattle.std.specs.List.{count_by, flat_map}
@@ -8,20 +8,20 @@ use Rattle.std.proofs.lemmas.List.Concat.{flat_map-append}
 use Rattle.lineage.specs.declared.node.Node.{Node}
 use Rattle.lineage.specs.Family.{has, above_key, divided_keys, IsAdded}
 use Rattle.lineage.specs.Climbs.{IsClimb, Ends}
-use Rattle.lineage.specs.Held.{tip_at, is_key, node, node_at, item_in, above_in, above_of, path_to, stands_on, holders_of, over, under, family_on, IsOn, IsSound}
+use Rattle.lineage.specs.Held.{tip_at, is_key, node, node_at, item_in, above_in, above_node, path_to, links_to_key, holders_of, node_over, node_under, family_on, IsOn, IsSoundFamily}
 use Rattle.lineage.proofs.Once.{has-head, has-tail, has_cases, reverse_cons}
 use Rattle.lineage.proofs.Walks.{path_to_is, link_within}
 use Rattle.lineage.proofs.Counts.{one, count_changed}
 use Rattle.lineage.proofs.Kept.{map_same, map-map, absent_holders}
 use Rattle.lineage.proofs.Pushes.{added}
 
--- what comes of a node that is put right above another
+-- the nodes after a node is put right above another
 pub record IsDivided {X : Type 0} (s t : List (Option (Node X))) (tips : List (Option ℕ)) (key fresh : ℕ) (item : X) : Type 0 where
-  pub sound : IsSound t tips
+  pub sound : IsSoundFamily t tips
   pub paths : map (path_to t) tips ≡ map (divided_keys key fresh) (map (path_to s) tips)
   pub added : IsAdded (family_on s tips) (family_on t tips) fresh item
 
--- in a climb the new key comes behind the one that it is above
+-- in a climb, the new key comes right after the key that it is above
 abbrev pub cut_key : ℕ → ℕ → ℕ → List ℕ
 cut_key key fresh k = cond (nat_eq key k) (k ∷ fresh ∷ []) (k ∷ [])
 
@@ -67,7 +67,7 @@ module _ (key fresh : ℕ) where
       by false e (inl same) = let yes = eq-eqb key k same in absurd (cc)
       by false e (inr m) = ap (λ b. has fresh (cond b (k ∷ fresh ∷ []) (k ∷ []) ++ rest)) e ∙ has-tail fresh k rest m
 
--- each climb has the new key above the one that it was put above
+-- each climb that has the key also has the new key, right above it
 pub climb_divided : (p q : ℕ → Option (Option ℕ)) (key fresh : ℕ) (top : Option ℕ) → p key ≡ Some top → q fresh ≡ Some top → q key ≡ Some (Some fresh)
     → ((k : ℕ) (next : Option ℕ) → k ≢ key → p k ≡ Some next → q k ≡ Some next) → (at : Option ℕ) (up : List ℕ) → IsClimb p at up → IsClimb q at (flat_map (cut_key key fresh) up)
 climb_divided p q key fresh top was new below others at [] h = h
@@ -90,23 +90,23 @@ climb_divided p q key fresh top was new below others at (k ∷ up) h = by (nat_e
         let c : IsClimb q at (k ∷ rest) = (h.0, (h.1.0, (others k h.1.0 ne h.1.1.0, r))) in
         subst (λ b. IsClimb q at (cond b (k ∷ fresh ∷ []) (k ∷ []) ++ rest)) (sym e) c
 
-module _ {X : Type 0} (s t : List (Option (Node X))) (tips : List (Option ℕ)) (key fresh : ℕ) (item : X) (n : Node X) (sound : IsSound s tips)
-    (there : node_at s key ≡ Some n) (vacant : node_at s fresh ≡ None) (new : node_at t fresh ≡ over item (node_at s key))
-    (below : node_at t key ≡ under fresh (node_at s key)) (others : (k : ℕ) → k ≢ key → k ≢ fresh → node_at t k ≡ node_at s k) where
+module _ {X : Type 0} (s t : List (Option (Node X))) (tips : List (Option ℕ)) (key fresh : ℕ) (item : X) (n : Node X) (sound : IsSoundFamily s tips)
+    (there : node_at s key ≡ Some n) (vacant : node_at s fresh ≡ None) (new : node_at t fresh ≡ node_over item (node_at s key))
+    (below : node_at t key ≡ node_under fresh (node_at s key)) (others : (k : ℕ) → k ≢ key → k ≢ fresh → node_at t k ≡ node_at s k) where
   new_is : node_at t fresh ≡ Some (node item n.above 1)
-  new_is = new ∙ ap (over item) there
+  new_is = new ∙ ap (node_over item) there
 
   below_is : node_at t key ≡ Some (node n.item (Some fresh) n.holders)
-  below_is = below ∙ ap (under fresh) there
+  below_is = below ∙ ap (node_under fresh) there
 
   not_new : (k : ℕ) (m : Node X) → node_at s k ≡ Some m → k ≢ fresh
   not_new k m e same = let no : node_at s k ≡ None = ap (node_at s) same ∙ vacant in cc
 
-  kept : (k : ℕ) (next : Option ℕ) → k ≢ key → above_of s k ≡ Some next → above_of t k ≡ Some next
-  kept k next ne e = ap above_in (others k ne (λ same. let no : above_of s k ≡ None = ap (above_of s) same ∙ ap above_in vacant in cc)) ∙ e
+  kept : (k : ℕ) (next : Option ℕ) → k ≢ key → above_node s k ≡ Some next → above_node t k ≡ Some next
+  kept k next ne e = ap above_in (others k ne (λ same. let no : above_node s k ≡ None = ap (above_node s) same ∙ ap above_in vacant in cc)) ∙ e
 
-  climbs : (at : Option ℕ) (up : List ℕ) → IsClimb (above_of s) at up → IsClimb (above_of t) at (flat_map (cut_key key fresh) up)
-  climbs at up h = climb_divided (above_of s) (above_of t) key fresh n.above (ap above_in there) (ap above_in new_is) (ap above_in below_is) kept at up h
+  climbs : (at : Option ℕ) (up : List ℕ) → IsClimb (above_node s) at up → IsClimb (above_node t) at (flat_map (cut_key key fresh) up)
+  climbs at up h = climb_divided (above_node s) (above_node t) key fresh n.above (ap above_in there) (ap above_in new_is) (ap above_in below_is) kept at up h
 
   on_now : (k : ℕ) → IsOn s tips k → IsOn t tips k
   on_now k o = record { path = o.path; up = flat_map (cut_key key fresh) o.up; is = climbs (tip_at tips o.path) o.up o.is; on = has_cut key fresh k o.up o.on }
@@ -114,7 +114,7 @@ module _ {X : Type 0} (s t : List (Option (Node X))) (tips : List (Option ℕ)) 
   on_new : IsOn s tips key → IsOn t tips fresh
   on_new o = record { path = o.path; up = flat_map (cut_key key fresh) o.up; is = climbs (tip_at tips o.path) o.up o.is; on = has_fresh key fresh o.up o.on }
 
-  -- what each node that is there was
+  -- the former state of each node
   was : (k : ℕ) (m : Node X) → k ≢ fresh → node_at t k ≡ Some m → (k ≡ key) ⊎ (k ≢ key) → (o : Node X) × ((node_at s k ≡ Some o) × (m.holders ≡ o.holders))
   was k m nf e (inl same) =
       let is : Some m ≡ Some (node n.item (Some fresh) n.holders) = sym e ∙ ap (node_at t) same ∙ below_is in
@@ -122,7 +122,7 @@ module _ {X : Type 0} (s t : List (Option (Node X))) (tips : List (Option ℕ)) 
       (n, (ap (node_at s) same ∙ there, ap (λ (z : Node X). z.holders) node_is))
   was k m nf e (inr ne) = (m, (sym (others k ne nf) ∙ e, refl))
 
-  -- between the two steps: the new node is there, and the other stands where it stood
+  -- between the two steps: the new node is there, and the other isn't linked to it yet
   abbrev between : List (Option (Node X))
   between = set t key (node_at s key)
 
@@ -137,7 +137,7 @@ module _ {X : Type 0} (s t : List (Option (Node X))) (tips : List (Option ℕ)) 
 
   holders_now : (m : ℕ) → holders_of t tips m ≡ holders_of s tips m + one (nat_eq m fresh)
   holders_now m =
-      let p = stands_on m in
+      let p = links_to_key m in
       let a = count_changed p refl fresh s between (λ j ne. ap p (by j ne (cases_eq j key))) in
       let b = count_changed p refl key between t (λ j ne. ap p (sym (between_other j ne))) in
       let w = ap (λ o. one (p o)) vacant in
@@ -171,7 +171,7 @@ module _ {X : Type 0} (s t : List (Option (Node X))) (tips : List (Option ℕ)) 
   live_now k m e (inl same) = subst (IsOn t tips) (sym same) (on_new (sound.live key n there))
   live_now k m e (inr nf) = let o = was k m nf e (cases_eq k key) in on_now k (sound.live k o.0 o.1.0)
 
-  pub divided_sound : count_by is_some t ≡ count_by is_some s + 1 → length tips + count_by is_some s + 1 < 2 ^ 64 → IsSound t tips
+  pub divided_sound : count_by is_some t ≡ count_by is_some s + 1 → length tips + count_by is_some s + 1 < 2 ^ 64 → IsSoundFamily t tips
   divided_sound len room = record {
     ends = λ i. let e = sound.ends i in record { up = flat_map (cut_key key fresh) e.up; is = climbs (tip_at tips i) e.up e.is };
     live = λ k m e. live_now k m e (cases_eq k fresh);
@@ -179,7 +179,7 @@ module _ {X : Type 0} (s t : List (Option (Node X))) (tips : List (Option ℕ)) 
     few = omega (arith, len, room);
   }
 
-  divided_path : (at : Option ℕ) → Ends (above_of s) at → path_to t at ≡ divided_keys key fresh (path_to s at)
+  divided_path : (at : Option ℕ) → Ends (above_node s) at → path_to t at ≡ divided_keys key fresh (path_to s at)
   divided_path at e =
       path_to_is t at (flat_map (cut_key key fresh) e.up) (climbs at e.up e.is) ∙ divided-reverse key fresh e.up
       ∙ ap (divided_keys key fresh) (sym (path_to_is s at e.up e.is))
@@ -196,6 +196,6 @@ module _ {X : Type 0} (s t : List (Option (Node X))) (tips : List (Option ℕ)) 
       by k nf (inl same) = ap (λ j. item_in (node_at t j)) same ∙ ap item_in below_is ∙ sym (ap item_in there) ∙ ap (λ j. item_in (node_at s j)) (sym same)
       by k nf (inr ne) = ap item_in (others k ne nf)
 
-  -- all of it
+  -- the nodes are divided, from all facts above
   pub divided_all : count_by is_some t ≡ count_by is_some s + 1 → length tips + count_by is_some s + 1 < 2 ^ 64 → IsDivided s t tips key fresh item
   divided_all len room = record { sound = divided_sound len room; paths = divided_paths; added = divided_added }

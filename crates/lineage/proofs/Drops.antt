@@ -1,10 +1,10 @@
--- What is left where a path has gone.
+-- The nodes left after a path is dropped.
 use Rattle.std.proofs.Common.{◌≡◌, ℕ, true, false, List, ◌∷◌, reverse, drop, map, Option, Some, None, refl, sym, ◌∙◌, ap, subst, true≢false, ◌<◌, length, get_or, arith}
 use Rattle.std.specs.Prelude.{IsSome}
 use Rattle.std.specs.List.{remove}
 use Rattle.lineage.specs.declared.node.Node.{Node}
 use Rattle.lineage.specs.Family.{has, path_in, IsFamily, IsReleased}
-use Rattle.lineage.specs.Held.{tip_at, node_at, item_in, above_in, above_of, path_to, family_on, Stays, IsOn, IsSound, IsReleasing}
+use Rattle.lineage.specs.Held.{tip_at, node_at, item_in, above_in, above_node, path_to, family_on, Stays, IsOn, IsSoundFamily, IsReleasing}
 use Rattle.lineage.proofs.Once.{has-reverse}
 use Rattle.lineage.proofs.Climbs.{climb_there, climb_unique}
 use Rattle.lineage.proofs.Walks.{path_to_is, path_at, item_is, climb_at}
@@ -13,7 +13,7 @@ use Rattle.std.proofs.lemmas.List.{get_or_read, length-map, reverse-reverse}
 use Rattle.lineage.proofs.Releases.{released_first}
 use Rattle.lineage.proofs.Removed.{map-remove}
 
-module _ {X : Type 0} (s : List (Option (Node X))) (tips : List (Option ℕ)) (sound : IsSound s tips) where
+module _ {X : Type 0} (s : List (Option (Node X))) (tips : List (Option ℕ)) (sound : IsSoundFamily s tips) where
   pub on_path : (k : ℕ) (o : IsOn s tips k) → has k (path_in (family_on s tips) o.path) ≡ true
   on_path k o =
       ap (has k) (path_at s tips o.path ∙ path_to_is s (tip_at tips o.path) o.up o.is) ∙ has-reverse k o.up ∙ o.on
@@ -22,7 +22,7 @@ module _ {X : Type 0} (s : List (Option (Node X))) (tips : List (Option ℕ)) (s
   path_there i k m =
       let e = sound.ends i in
       let on : has k e.up ≡ true = sym (ap (has k) (path_at s tips i ∙ path_to_is s (tip_at tips i) e.up e.is) ∙ has-reverse k e.up) ∙ m in
-      let l = climb_there (above_of s) (tip_at tips i) e.up k e.is on in
+      let l = climb_there (above_node s) (tip_at tips i) e.up k e.is on in
       let n = node_from (node_at s k) l.0 l.1 in
       (n.0, n.1.0)
 
@@ -34,7 +34,7 @@ module _ {X : Type 0} (s : List (Option (Node X))) (tips : List (Option ℕ)) (s
     shared = λ i j k front back front2 back2 e e2.
         let a = climb_at s tips i k front back sound e in
         let b = climb_at s tips j k front2 back2 sound e2 in
-        let same = ap (drop 1) (climb_unique (above_of s) (Some k) (k ∷ reverse front) (k ∷ reverse front2) a b) in
+        let same = ap (drop 1) (climb_unique (above_node s) (Some k) (k ∷ reverse front) (k ∷ reverse front2) a b) in
         sym (reverse-reverse front) ∙ ap reverse same ∙ reverse-reverse front2;
   }
     where
@@ -42,8 +42,8 @@ module _ {X : Type 0} (s : List (Option (Node X))) (tips : List (Option ℕ)) (s
       by k None e some = absurd (true≢false (sym (subst (λ z. IsSome (item_in z)) e some)))
       by k (Some n) e some = let o = sound.live k n e in (o.path, on_path k o)
 
-module _ {X : Type 0} (s t : List (Option (Node X))) (tips : List (Option ℕ)) (path : ℕ) (now : IsSound t (remove tips path)) (stays : Stays s t) where
-  links : (k : ℕ) (next : Option ℕ) → above_of t k ≡ Some next → above_of s k ≡ Some next
+module _ {X : Type 0} (s t : List (Option (Node X))) (tips : List (Option ℕ)) (path : ℕ) (now : IsSoundFamily t (remove tips path)) (stays : Stays s t) where
+  links : (k : ℕ) (next : Option ℕ) → above_node t k ≡ Some next → above_node s k ≡ Some next
   links k next e =
       let n = node_from (node_at t k) next e in
       let m = stays k n.0 n.1.0 in
@@ -69,8 +69,8 @@ module _ {X : Type 0} (s t : List (Option (Node X))) (tips : List (Option ℕ)) 
           let o = now.live k n e in
           absurd (true≢false (sym (on_path t (remove tips path) now k o) ∙ none o.path))
 
--- the first step, as a call tells it
-pub let_go_from : {X : Type 0} (s : List (Option (Node X))) (tips : List (Option ℕ)) (path : ℕ) (tip : Option ℕ) → IsSound s tips → path < length (map (path_to s) tips)
+-- the first step of a release: the tip that was removed from the list is being released
+pub let_go_from : {X : Type 0} (s : List (Option (Node X))) (tips : List (Option ℕ)) (path : ℕ) (tip : Option ℕ) → IsSoundFamily s tips → path < length (map (path_to s) tips)
     → tip ≡ get_or tips path tip → IsReleasing s s (remove tips path) tip
 let_go_from s tips path tip sound paths value =
     let n = length-map tips (path_to s) in

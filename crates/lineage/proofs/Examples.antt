@@ -1,4 +1,4 @@
--- Worked examples of the definitions by which something is there: one that holds, and a near miss.
+-- Worked examples of definitions that claim an existence: one that holds, and a near miss.
 use Rattle.std.proofs.Common.{ℕ, zero, suc, ◌≡◌, ◌≢◌, true, false, true≢false, List, [], ◌∷◌, ◌++◌, Option, Some, None, IsSome, unwrap_or, slice_index_or, drop, ap, refl, sym, ◌∙◌, arith}
 use Rattle.lineage.specs.Family.{Family, item_at, path_in, has, last_of, IsForked, IsForkedAbove, IsExchanged, EndsAlone, IsFamily}
 use Rattle.lineage.proofs.Once.{has_cases}
@@ -34,7 +34,7 @@ down_to_0 [] back e = refl
 down_to_0 (x ∷ []) back e = let h : 1 ≡ 0 = ap (λ l. slice_index_or l 1 0) e in absurd (omega (arith, h))
 down_to_0 (x ∷ y ∷ front) back e = absurd (nothing front back 0 (ap (drop 2) e))
 
--- a path that is forked at key 0 of the path 0, 1 has key 0 alone
+-- a path forked at key 0 of the path 0, 1 has key 0 alone
 IsForked-holds : IsForked two_keys forked (Some 0)
 IsForked-holds = record { path = 0 ∷ []; paths = refl; last = refl; shared = shared; items = refl }
   where
@@ -50,7 +50,7 @@ IsForked-fails h =
     let path : 0 ∷ [] ≡ h.path = ap (λ paths. slice_index_or paths 1 []) h.paths in
     let last : 0 ≡ 1 = ap (λ o. unwrap_or o 0) (ap last_of path ∙ h.last) in omega (arith, last)
 
--- key 1 comes right above key 0 in the one path, and the new path ends with it
+-- key 1 is right above key 0 in the one path, and the new path ends with it
 IsForkedAbove-holds : IsForkedAbove one_key (family (Some 7 ∷ Some 8 ∷ []) ((1 ∷ 0 ∷ []) ∷ (1 ∷ []) ∷ [])) 0 1 8
 IsForkedAbove-holds =
     record { path = 1 ∷ []; paths = refl; shared = shared; added = record { was_vacant = refl; here = refl; others = others } }
@@ -90,12 +90,12 @@ IsExchanged-holds = record { keys = 1 ∷ []; paths = refl; items_are = refl; fr
     gone (suc zero) h = absurd (true≢false (h 0))
     gone (suc (suc k)) h = refl
 
--- item 9 stands at key 0, which had an item
+-- item 9 is at key 0, which had an item
 IsExchanged-fails : IsExchanged one_key (family (Some 9 ∷ []) ((0 ∷ []) ∷ [])) 0 (9 ∷ []) → ⊥
 IsExchanged-fails h =
     let keys : 0 ∷ [] ≡ h.keys = ap (λ paths. slice_index_or paths 0 []) h.paths in not_none 7 (h.fresh 0 (ap (has 0) (sym keys)))
 
--- of the paths 0, 1 and 0 the first ends with a key that the other doesn't have
+-- of the paths 0, 1 and 0, the first ends with a key that the other doesn't have
 EndsAlone-holds : EndsAlone forked 0
 EndsAlone-holds = record { key = 1; last = refl; own = own }
   where

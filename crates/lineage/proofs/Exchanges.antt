@@ -1,4 +1,4 @@
--- A path that takes the place of another.
+-- Replacing a path by a new one.
 use Rattle.std.proofs.Common.{◌≡◌, ◌≢◌, ℕ, ◌+◌, ◌-◌, ◌<◌, ◌^◌, zero, suc, true, false, List, [], ◌∷◌, ◌++◌, length, map, get_or, set, take, Option, Some, None, refl, sym, ◌∙◌, ap, subst, arith, inl, inr, ◌⊎◌, true≢false}
 use Rattle.std.specs.Prelude.{is_some}
 use Rattle.std.specs.List.{count_by, swap_remove}
@@ -8,7 +8,7 @@ use Rattle.std.proofs.lemmas.List.Sums.{sum_by-set, sum_by_push}
 use Rattle.lineage.specs.declared.node.Node.{Node}
 use Rattle.lineage.specs.Family.{has, item_at, path_in, IsExchanged}
 use Rattle.lineage.specs.Climbs.{IsClimb, Ends}
-use Rattle.lineage.specs.Held.{tip_at, is_key, node_at, item_in, above_in, above_of, path_to, with_holder, family_on, Stays, IsOn, IsSound, IsReleasing, IsPutLast}
+use Rattle.lineage.specs.Held.{tip_at, is_key, node_at, item_in, above_in, above_node, path_to, with_holder, family_on, Stays, IsOn, IsSoundFamily, IsReleasing, IsPutLast}
 use Rattle.lineage.proofs.Climbs.{climb_unique}
 use Rattle.lineage.proofs.Walks.{path_at, item_is}
 use Rattle.lineage.proofs.Counts.{one}
@@ -17,7 +17,7 @@ use Rattle.lineage.proofs.Forks.{forked_sound}
 use Rattle.lineage.proofs.Drops.{on_path, path_there}
 use Rattle.lineage.proofs.Chains.{map_on}
 
--- the last tip takes the place of another
+-- removing a tip after one more is added puts the added tip in its place
 pub swapped : (tips : List (Option ℕ)) (tip d : Option ℕ) (path : ℕ) → path < length tips → swap_remove (tips ++ tip ∷ []) path d ≡ set tips path tip
 swapped tips tip d path within =
     let many : length (tips ++ tip ∷ []) ≡ length tips + 1 = length_push tips tip in
@@ -38,33 +38,33 @@ tip_cases [] tip (suc i) = inr refl
 tip_cases (t ∷ tips) tip zero = inr refl
 tip_cases (t ∷ tips) tip (suc i) = tip_cases tips tip i
 
-module _ {X : Type 0} (t : List (Option (Node X))) (tips : List (Option ℕ)) (tip : Option ℕ) (path : ℕ) (sound : IsSound t (tips ++ tip ∷ [])) (within : path < length tips) where
+module _ {X : Type 0} (t : List (Option (Node X))) (tips : List (Option ℕ)) (tip : Option ℕ) (path : ℕ) (sound : IsSoundFamily t (tips ++ tip ∷ [])) (within : path < length tips) where
   tip_here : tip_at (set tips path tip) path ≡ tip
   tip_here = get_or-set_same tips path tip None within
 
   tip_other : (i : ℕ) → i ≢ path → tip_at (set tips path tip) i ≡ tip_at tips i
   tip_other i ne = get_or-set_other tips path i tip None ne
 
-  ends_tip : Ends (above_of t) tip
-  ends_tip = subst (Ends (above_of t)) (get_or_push tips tip None (length tips) refl) (sound.ends (length tips))
+  ends_tip : Ends (above_node t) tip
+  ends_tip = subst (Ends (above_node t)) (get_or_push tips tip None (length tips) refl) (sound.ends (length tips))
 
-  ends_old : (i : ℕ) → Ends (above_of t) (tip_at tips i)
-  ends_old = tips_from (Ends (above_of t)) tips tip sound.ends
+  ends_old : (i : ℕ) → Ends (above_node t) (tip_at tips i)
+  ends_old = tips_from (Ends (above_node t)) tips tip sound.ends
 
-  ends_now : (i : ℕ) → (i ≡ path) ⊎ (i ≢ path) → Ends (above_of t) (tip_at (set tips path tip) i)
-  ends_now i (inl e) = subst (Ends (above_of t)) (sym (ap (tip_at (set tips path tip)) e ∙ tip_here)) ends_tip
-  ends_now i (inr ne) = subst (Ends (above_of t)) (sym (tip_other i ne)) (ends_old i)
+  ends_now : (i : ℕ) → (i ≡ path) ⊎ (i ≢ path) → Ends (above_node t) (tip_at (set tips path tip) i)
+  ends_now i (inl e) = subst (Ends (above_node t)) (sym (ap (tip_at (set tips path tip)) e ∙ tip_here)) ends_tip
+  ends_now i (inr ne) = subst (Ends (above_node t)) (sym (tip_other i ne)) (ends_old i)
 
   live_now : (k : ℕ) (o : IsOn t (tips ++ tip ∷ []) k) → (tip_at (tips ++ tip ∷ []) o.path ≡ tip) ⊎ (tip_at (tips ++ tip ∷ []) o.path ≡ tip_at tips o.path)
       → (o.path ≡ path) ⊎ (o.path ≢ path) → IsOn t (set tips path tip) k ⊎ (has k (ends_old path).up ≡ true)
-  live_now k o (inl new) at = inl (record { path = path; up = o.up; is = subst (λ z. IsClimb (above_of t) z o.up) (new ∙ sym tip_here) o.is; on = o.on })
+  live_now k o (inl new) at = inl (record { path = path; up = o.up; is = subst (λ z. IsClimb (above_node t) z o.up) (new ∙ sym tip_here) o.is; on = o.on })
   live_now k o (inr old) (inl e) =
-      let is : IsClimb (above_of t) (tip_at tips path) o.up = subst (λ z. IsClimb (above_of t) z o.up) (old ∙ ap (tip_at tips) e) o.is in
-      let same = climb_unique (above_of t) (tip_at tips path) o.up (ends_old path).up is (ends_old path).is in
+      let is : IsClimb (above_node t) (tip_at tips path) o.up = subst (λ z. IsClimb (above_node t) z o.up) (old ∙ ap (tip_at tips) e) o.is in
+      let same = climb_unique (above_node t) (tip_at tips path) o.up (ends_old path).up is (ends_old path).is in
       inr (subst (λ u. has k u ≡ true) same o.on)
-  live_now k o (inr old) (inr ne) = inl (record { path = o.path; up = o.up; is = subst (λ z. IsClimb (above_of t) z o.up) (old ∙ sym (tip_other o.path ne)) o.is; on = o.on })
+  live_now k o (inr old) (inr ne) = inl (record { path = o.path; up = o.up; is = subst (λ z. IsClimb (above_node t) z o.up) (old ∙ sym (tip_other o.path ne)) o.is; on = o.on })
 
-  -- then the tip that was there is let go
+  -- after the new tip has replaced the old one, the old one is being released
   pub exchanged_first : IsReleasing t t (set tips path tip) (tip_at tips path)
   exchanged_first = record {
     ends = λ i. ends_now i (cases_eq i path);
@@ -82,8 +82,8 @@ module _ {X : Type 0} (t : List (Option (Node X))) (tips : List (Option ℕ)) (t
     stays = λ k n e. (n, (e, (refl, refl)));
   }
 
-module _ {X : Type 0} (s t u : List (Option (Node X))) (tips now : List (Option ℕ)) (path : ℕ) (items : List X) (before : IsSound s tips) (within : path < length tips)
-    (put : IsPutLast s t tips now items) (sound : IsSound u (set tips path put.tip)) (stays : Stays t u) where
+module _ {X : Type 0} (s t u : List (Option (Node X))) (tips now : List (Option ℕ)) (path : ℕ) (items : List X) (before : IsSoundFamily s tips) (within : path < length tips)
+    (put : IsPutLast s t tips now items) (sound : IsSoundFamily u (set tips path put.tip)) (stays : Stays t u) where
   abbrev new : List (Option ℕ)
   new = set tips path put.tip
 
@@ -93,14 +93,14 @@ module _ {X : Type 0} (s t u : List (Option (Node X))) (tips now : List (Option 
   new_here : tip_at new path ≡ put.tip
   new_here = get_or-set_same tips path put.tip None within
 
-  -- what is left stands where it stood
-  links : (k : ℕ) (next : Option ℕ) → above_of u k ≡ Some next → above_of t k ≡ Some next
+  -- the links that are left are unchanged
+  links : (k : ℕ) (next : Option ℕ) → above_node u k ≡ Some next → above_node t k ≡ Some next
   links k next e =
       let n = node_from (node_at u k) next e in
       let m = stays k n.0 n.1.0 in
       ap above_in m.1.0 ∙ ap Some (sym m.1.1.1 ∙ n.1.1)
 
-  keeps : (k : ℕ) (next : Option ℕ) → above_of s k ≡ Some next → above_of t k ≡ Some next
+  keeps : (k : ℕ) (next : Option ℕ) → above_node s k ≡ Some next → above_node t k ≡ Some next
   keeps k next e =
       let n = node_from (node_at s k) next e in
       ap above_in (put.kept k n.0 n.1.0) ∙ ap Some n.1.1
@@ -129,7 +129,7 @@ module _ {X : Type 0} (s t u : List (Option (Node X))) (tips now : List (Option 
       let lengths : length (map (path_to u) new) ≡ length (set (map (path_to s) tips) path keys) = omega (arith, a, b, c, d) in
       ext_get_or [] (map (path_to u) new) (set (map (path_to s) tips) path keys) lengths (λ i lt. each i (cases_eq i path))
 
-  -- what is left has the item that it had
+  -- the items that are left are unchanged
   item_left : (i k : ℕ) → has k (path_in (family_on u new) i) ≡ true → item_in (node_at u k) ≡ item_in (node_at t k)
   item_left i k m =
       let n = path_there u new sound i k m in
@@ -155,8 +155,8 @@ module _ {X : Type 0} (s t u : List (Option (Node X))) (tips now : List (Option 
           let o = sound.live k n e in
           absurd (true≢false (sym (on_path u new sound k o) ∙ none o.path))
 
--- an empty path goes last
-pub opened_sound : {X : Type 0} (s : List (Option (Node X))) (tips : List (Option ℕ)) → IsSound s tips → length tips + 1 + count_by is_some s < 2 ^ 64 → IsSound s (tips ++ None ∷ [])
+-- the nodes are sound also with an empty path added
+pub opened_sound : {X : Type 0} (s : List (Option (Node X))) (tips : List (Option ℕ)) → IsSoundFamily s tips → length tips + 1 + count_by is_some s < 2 ^ 64 → IsSoundFamily s (tips ++ None ∷ [])
 opened_sound {X} s tips sound room =
     forked_sound s s tips (tips ++ None ∷ []) None sound tt (λ k. same (node_at s k)) refl refl (omega (arith, room))
   where
@@ -164,8 +164,8 @@ opened_sound {X} s tips sound room =
     same None = refl
     same (Some n) = refl
 
--- all of it, from what each step tells
-module _ {X : Type 0} (s reserved t : List (Option (Node X))) (tips room now after : List (Option ℕ)) (items : List X) (path : ℕ) (tip : Option ℕ) (sound : IsSound s tips)
+-- a path is exchanged, from the effect of each step
+module _ {X : Type 0} (s reserved t : List (Option (Node X))) (tips room now after : List (Option ℕ)) (items : List X) (path : ℕ) (tip : Option ℕ) (sound : IsSoundFamily s tips)
     (paths : path < length (map (path_to s) tips)) (slots : reserved ≡ s) (tips_same : room ≡ tips) (put_there : IsPutLast reserved t room now items)
   where
     within_tips : path < length tips
@@ -191,9 +191,9 @@ module _ {X : Type 0} (s reserved t : List (Option (Node X))) (tips room now aft
       pub let_go_first : IsReleasing t t after tip
       let_go_first =
           subst (λ xs. IsReleasing t t xs tip) (sym set_tip)
-          (subst (IsReleasing t t (set tips path put_last.tip)) tip_was (exchanged_first t tips put_last.tip path (subst (IsSound t) put_last.tips_are put_last.sound) within_tips))
+          (subst (IsReleasing t t (set tips path put_last.tip)) tip_was (exchanged_first t tips put_last.tip path (subst (IsSoundFamily t) put_last.tips_are put_last.sound) within_tips))
 
-      pub all_exchanged : (u : List (Option (Node X))) → IsSound u after → Stays t u → IsExchanged (family_on s tips) (family_on u after) path items
+      pub all_exchanged : (u : List (Option (Node X))) → IsSoundFamily u after → Stays t u → IsExchanged (family_on s tips) (family_on u after) path items
       all_exchanged u done stays =
           subst (λ xs. IsExchanged (family_on s tips) (family_on u xs) path items) (sym set_tip)
-          (exchanged s t u tips now path items sound within_tips put_last (subst (IsSound u) set_tip done) stays)
+          (exchanged s t u tips now path items sound within_tips put_last (subst (IsSoundFamily u) set_tip done) stays)

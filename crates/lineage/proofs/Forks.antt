@@ -7,7 +7,7 @@ use Rattle.std.proofs.lemmas.List.Sums.{sum_by_push}
 use Rattle.lineage.specs.declared.node.Node.{Node}
 use Rattle.lineage.specs.Family.{last_of, item_at, path_in, IsForked}
 use Rattle.lineage.specs.Climbs.{IsClimb, Ends}
-use Rattle.lineage.specs.Held.{tip_at, is_key, is_above, node, node_at, item_in, above_in, above_of, path_to, stands_on, holders_of, with_holder, family_on, IsOn, IsSound}
+use Rattle.lineage.specs.Held.{tip_at, is_key, is_above, node, node_at, item_in, above_in, above_node, path_to, links_to_key, holders_of, with_holder, family_on, IsOn, IsSoundFamily}
 use Rattle.lineage.proofs.Once.{reverse_cons}
 use Rattle.lineage.proofs.Climbs.{climb_top}
 use Rattle.lineage.proofs.Walks.{path_to_is, item_is, climb_at}
@@ -56,46 +56,46 @@ module _ {X : Type 0} where
   some_there s tips None h = h
   some_there s tips (Some k) h = let n = some_node (node_at s k) (subst IsSome (item_is s tips k) h) in subst IsSome (sym n.1) refl
 
-  module _ (s t : List (Option (Node X))) (tips new : List (Option ℕ)) (key : Option ℕ) (sound : IsSound s tips)
+  module _ (s t : List (Option (Node X))) (tips new : List (Option ℕ)) (key : Option ℕ) (sound : IsSoundFamily s tips)
       (there : IfSome key (λ k. IsSome (item_at (family_on s tips) k))) (now : (k : ℕ) → node_at t k ≡ with_holder (is_key k key) (node_at s k))
       (tips_are : new ≡ tips ++ key ∷ []) where
-    same_above : (k : ℕ) → above_of t k ≡ above_of s k
+    same_above : (k : ℕ) → above_node t k ≡ above_node s k
     same_above k = ap above_in (now k) ∙ held_above (is_key k key) (node_at s k)
 
-    keeps : (k : ℕ) (next : Option ℕ) → above_of s k ≡ Some next → above_of t k ≡ Some next
+    keeps : (k : ℕ) (next : Option ℕ) → above_node s k ≡ Some next → above_node t k ≡ Some next
     keeps k next e = same_above k ∙ e
 
-    ends_key : Ends (above_of s) key
+    ends_key : Ends (above_node s) key
     ends_key = by key there
       where
-        by : (o : Option ℕ) → IfSome o (λ k. IsSome (item_at (family_on s tips) k)) → Ends (above_of s) o
+        by : (o : Option ℕ) → IfSome o (λ k. IsSome (item_at (family_on s tips) k)) → Ends (above_node s) o
         by None h = record { up = []; is = refl }
         by (Some k) h =
             let n = some_node (node_at s k) (subst IsSome (item_is s tips k) h) in
             let c = node_climb s tips sound k n.0 n.1 in
             record { up = k ∷ c.0; is = c.1 }
 
-    over_ends : (at : Option ℕ) → Ends (above_of s) at → Ends (above_of t) at
+    over_ends : (at : Option ℕ) → Ends (above_node s) at → Ends (above_node t) at
     over_ends at e = record { up = e.up; is = over_climb s t keeps at e.up e.is }
 
-    ends_now : (i : ℕ) → Ends (above_of t) (tip_at new i)
+    ends_now : (i : ℕ) → Ends (above_node t) (tip_at new i)
     ends_now i =
-        subst (λ l. Ends (above_of t) (tip_at l i)) (sym tips_are)
-        (tip_push (Ends (above_of t)) tips key (λ j. over_ends (tip_at tips j) (sound.ends j)) (over_ends key ends_key) i)
+        subst (λ l. Ends (above_node t) (tip_at l i)) (sym tips_are)
+        (tip_push (Ends (above_node t)) tips key (λ j. over_ends (tip_at tips j) (sound.ends j)) (over_ends key ends_key) i)
 
     on_now : (k : ℕ) → IsOn s tips k → IsOn t new k
     on_now k o =
         let tip : tip_at new o.path ≡ tip_at tips o.path = ap (λ l. tip_at l o.path) tips_are ∙ get_or_append_left tips (key ∷ []) None o.path (on_within s tips k o) in
-        record { path = o.path; up = o.up; is = subst (λ z. IsClimb (above_of t) z o.up) (sym tip) (over_climb s t keeps (tip_at tips o.path) o.up o.is); on = o.on }
+        record { path = o.path; up = o.up; is = subst (λ z. IsClimb (above_node t) z o.up) (sym tip) (over_climb s t keeps (tip_at tips o.path) o.up o.is); on = o.on }
 
     holders_now : (m : ℕ) → holders_of t new m ≡ holders_of s tips m + one (is_key m key)
     holders_now m =
         let a = sum_by_push (λ x. one (is_key m x)) tips key in
-        let b = count_same (stands_on m) refl s t (λ j. ap (is_above m) (same_above j)) in
+        let b = count_same (links_to_key m) refl s t (λ j. ap (is_above m) (same_above j)) in
         let c : count_by (is_key m) new ≡ count_by (is_key m) (tips ++ key ∷ []) = ap (count_by (is_key m)) tips_are in
         omega (arith, a, b, c)
 
-    pub forked_sound : count_by is_some t ≡ count_by is_some s → length tips + count_by is_some s + 1 < 2 ^ 64 → IsSound t new
+    pub forked_sound : count_by is_some t ≡ count_by is_some s → length tips + count_by is_some s + 1 < 2 ^ 64 → IsSoundFamily t new
     forked_sound len room = record {
       ends = ends_now;
       live = λ k n e. let m = held_from (is_key k key) (node_at s k) n (sym (now k) ∙ e) in on_now k (sound.live k m.0 m.1.0);
@@ -122,20 +122,20 @@ module _ {X : Type 0} where
       paths = ap (map (path_to t)) tips_are ∙ map_push (path_to t) tips key
           ∙ ap (λ l. l ++ path_to t key ∷ []) (map_same (path_to t) (path_to s) tips (λ i. over_path s t keeps (tip_at tips i) (sound.ends i)))
           ∙ ap (λ p. map (path_to s) tips ++ p ∷ []) (over_path s t keeps key ends_key);
-      last = ap last_of (path_to_is s key ends_key.up ends_key.is) ∙ climb_top (above_of s) key ends_key.up ends_key.is;
+      last = ap last_of (path_to_is s key ends_key.up ends_key.is) ∙ climb_top (above_node s) key ends_key.up ends_key.is;
       shared = shared_path;
       items = same_items s t long same_item;
     }
 
-  -- no key has more that stands on it than can be counted
-  pub few_holders : (s : List (Option (Node X))) (tips : List (Option ℕ)) (k : ℕ) (n : Node X) → IsSound s tips → node_at s k ≡ Some n
+  -- no key has more holders than a word can count
+  pub few_holders : (s : List (Option (Node X))) (tips : List (Option ℕ)) (k : ℕ) (n : Node X) → IsSoundFamily s tips → node_at s k ≡ Some n
       → length tips + count_by is_some s + 1 < 2 ^ 64 → n.holders + 1 < 2 ^ 64
   few_holders s tips k n sound e room =
       let is = sound.counted k n e in
       let a = count_few (is_key k) tips in
-      let b = count_weaker (stands_on k) is_some s (λ o. stands_some o) in
+      let b = count_weaker (links_to_key k) is_some s (λ o. stands_some o) in
       omega (arith, is, a, b, room)
     where
-      stands_some : (o : Option (Node X)) → stands_on k o ≡ true → is_some o ≡ true
+      stands_some : (o : Option (Node X)) → links_to_key k o ≡ true → is_some o ≡ true
       stands_some None h = absurd (cc)
       stands_some (Some m) h = refl

@@ -5,7 +5,7 @@ use Rattle.std.specs.List.{count_by}
 use Rattle.std.proofs.lemmas.List.Concat.{flat_map-append}
 use Rattle.lineage.specs.declared.node.Node.{Node}
 use Rattle.lineage.specs.Family.{has, path_in, item_at, above_key, divided_keys, IsForkedAbove}
-use Rattle.lineage.specs.Held.{is_key, node_at, item_in, over, under, with_holder, family_on, IsSound}
+use Rattle.lineage.specs.Held.{is_key, node_at, item_in, node_over, node_under, with_holder, family_on, IsSoundFamily}
 use Rattle.lineage.proofs.Once.{has-reverse}
 use Rattle.lineage.proofs.Climbs.{not_again}
 use Rattle.lineage.proofs.Walks.{climb_at, item_is}
@@ -13,7 +13,7 @@ use Rattle.lineage.proofs.Divisions.{divided_sound, divided_paths, divided_added
 use Rattle.lineage.proofs.Forks.{forked, forked_sound, few_holders}
 
 module _ (key fresh : ℕ) where
-  -- keys without the key are not divided
+  -- a list that doesn't have the key is not divided
   pub divided-other : (ks : List ℕ) → has key ks ≡ false → divided_keys key fresh ks ≡ ks
   divided-other [] h = refl
   divided-other (k ∷ ks) h = by (nat_eq key k) refl (divided-other ks)
@@ -35,24 +35,18 @@ module _ (key fresh : ℕ) where
   divided-get (p ∷ ps) zero = refl
   divided-get (p ∷ ps) (suc i) = divided-get ps i
 
-module _ {X : Type 0} (s t u : List (Option (Node X))) (tips new : List (Option ℕ)) (key fresh : ℕ) (item : X) (n : Node X) (sound : IsSound s tips)
-    (there : node_at s key ≡ Some n) (vacant : node_at s fresh ≡ None) (at_fresh : node_at t fresh ≡ over item (node_at s key))
-    (below : node_at t key ≡ under fresh (node_at s key)) (others : (k : ℕ) → k ≢ key → k ≢ fresh → node_at t k ≡ node_at s k)
+module _ {X : Type 0} (s t u : List (Option (Node X))) (tips new : List (Option ℕ)) (key fresh : ℕ) (item : X) (n : Node X) (sound : IsSoundFamily s tips)
+    (there : node_at s key ≡ Some n) (vacant : node_at s fresh ≡ None) (at_fresh : node_at t fresh ≡ node_over item (node_at s key))
+    (below : node_at t key ≡ node_under fresh (node_at s key)) (others : (k : ℕ) → k ≢ key → k ≢ fresh → node_at t k ≡ node_at s k)
     (more : count_by is_some t ≡ count_by is_some s + 1) (room : length tips + 1 + (count_by is_some s + 1) < 2 ^ 64) where
-  pub mid_sound : IsSound t tips
+  pub mid_sound : IsSoundFamily t tips
   mid_sound = divided_sound s t tips key fresh item n sound there vacant at_fresh below others more (omega arith)
 
-  pub mid_there : IsSome (node_at t fresh)
-  mid_there = subst IsSome (sym (at_fresh ∙ ap (over item) there)) refl
-
   mid_item : IsSome (item_at (family_on t tips) fresh)
-  mid_item = subst IsSome (sym (item_is t tips fresh ∙ ap item_in (at_fresh ∙ ap (over item) there))) refl
-
-  pub mid_few : (k : ℕ) (m : Node X) → node_at t k ≡ Some m → m.holders + 1 < 2 ^ 64
-  mid_few k m e = few_holders t tips k m mid_sound e (omega (arith, more))
+  mid_item = subst IsSome (sym (item_is t tips fresh ∙ ap item_in (at_fresh ∙ ap (node_over item) there))) refl
 
   module _ (now : (k : ℕ) → node_at u k ≡ with_holder (is_key k (Some fresh)) (node_at t k)) (tips_are : new ≡ tips ++ Some fresh ∷ []) where
-    pub above_sound : count_by is_some u ≡ count_by is_some t → IsSound u new
+    pub above_sound : count_by is_some u ≡ count_by is_some t → IsSoundFamily u new
     above_sound len = forked_sound t u tips new (Some fresh) mid_sound mid_item now tips_are len (omega (arith, more))
 
     pub forked_above : length u ≡ length t → IsForkedAbove (family_on s tips) (family_on u new) key fresh item

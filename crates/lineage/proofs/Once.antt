@@ -1,11 +1,11 @@
--- Keys among others.
+-- Membership in lists of keys.
 use Rattle.std.proofs.Common.{◌≡◌, ℕ, Bool, true, false, ◌||◌, nat_eq, eqb, List, [], ◌∷◌, ◌++◌, Option, Some, reverse, refl, sym, ap, ◌∙◌, true≢false, eq-eqb}
 use Rattle.std.proofs.lemmas.Bool.{eqb-true}
 use Rattle.std.proofs.lemmas.List.{reverse-append}
 use Rattle.std.specs.List.{AllByRecursion, list_any}
-use Rattle.lineage.specs.Family.{has, last_from, Stands}
+use Rattle.lineage.specs.Family.{has, last_from, IsOnPath}
 
--- a number that is among others is the first of them, or among the rest
+-- a number in a list is the first item, or is in the rest
 pub has_cases : (x y : ℕ) (ys : List ℕ) (P : Type 0) → has x (y ∷ ys) ≡ true → (x ≡ y → P) → (has x ys ≡ true → P) → P
 has_cases x y ys P h same rest = by (nat_eq x y) refl
   where
@@ -23,7 +23,7 @@ has-tail x y ys h = by (nat_eq x y) refl
     by true e = ap (λ c. c || has x ys) e
     by false e = ap (λ c. c || has x ys) e ∙ h
 
--- among the one or the other
+-- a number is in two joined lists exactly if it is in one of the two
 pub has-append : (x : ℕ) (ys zs : List ℕ) → has x (ys ++ zs) ≡ (has x ys || has x zs)
 has-append x [] zs = refl
 has-append x (y ∷ ys) zs = by (nat_eq x y) (has-append x ys zs)
@@ -38,7 +38,7 @@ or_false true false = refl
 or_false false true = refl
 or_false false false = refl
 
--- the last goes first
+-- reversing a list puts its first item last
 pub reverse_cons : (y : ℕ) (ys : List ℕ) → reverse (y ∷ ys) ≡ reverse ys ++ y ∷ []
 reverse_cons y ys = reverse-append (y ∷ []) ys
 
@@ -55,17 +55,13 @@ has_not_from x ys h = by (has x ys) refl
     by true e = absurd (h e)
     by false e = e
 
--- where a number stands
-pub stands : (x : ℕ) (ys : List ℕ) → has x ys ≡ true → Stands ys x
+-- a number in a list has a position there
+pub stands : (x : ℕ) (ys : List ℕ) → has x ys ≡ true → IsOnPath ys x
 stands x [] h = absurd (true≢false (sym h))
 stands x (y ∷ ys) h =
-    has_cases x y ys (Stands (y ∷ ys) x) h
+    has_cases x y ys (IsOnPath (y ∷ ys) x) h
     (λ same. record { front = []; back = ys; is = ap (λ z. z ∷ ys) (sym same) })
     (λ rest. let s = stands x ys rest in record { front = y ∷ s.front; back = s.back; is = ap (λ l. y ∷ l) s.is })
-
-pub stands_has : (x : ℕ) (front back : List ℕ) → has x (front ++ x ∷ back) ≡ true
-stands_has x [] back = has-head x back
-stands_has x (y ∷ front) back = has-tail x y (front ++ x ∷ back) (stands_has x front back)
 
 pub AllByRecursion-from_has : (x : ℕ) (ys : List ℕ) → has x ys ≡ false → AllByRecursion (λ y. eqb x y ≡ false) ys
 AllByRecursion-from_has x [] h = tt
@@ -83,7 +79,7 @@ has_from_any x (y ∷ ys) h = by (eqb x y) refl (has_from_any x ys)
     by true e rest = ap (λ c. c || has x ys) e
     by false e rest = ap (λ c. c || has x ys) e ∙ rest (sym (ap (λ c. c || list_any (eqb x) ys) e) ∙ h)
 
--- the last of keys
+-- the last key of a list is the one that was added last
 pub last_from-push : (first : Option ℕ) (ks : List ℕ) (k : ℕ) → last_from first (ks ++ k ∷ []) ≡ Some k
 last_from-push first [] k = refl
 last_from-push first (j ∷ ks) k = last_from-push (Some j) ks k

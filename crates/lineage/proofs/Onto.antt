@@ -1,4 +1,4 @@
--- Climbs that go on to a key.
+-- Climbs that pass a key.
 use Rattle.std.proofs.Common.{◌≡◌, ℕ, true, List, [], ◌∷◌, ◌++◌, length, Option, Some, sym, ◌∙◌, ap, subst, arith, length-append}
 use Rattle.lineage.specs.Family.{has}
 use Rattle.lineage.specs.Climbs.{IsClimb}
@@ -9,7 +9,7 @@ has-behind : (x : ℕ) (ys zs : List ℕ) → has x zs ≡ true → has x (ys ++
 has-behind x [] zs m = m
 has-behind x (y ∷ ys) zs m = has-tail x y (ys ++ zs) (has-behind x ys zs m)
 
--- the climb from a key, where another stands on it
+-- the climb from a key, and another key j that links to it
 module _ (p : ℕ → Option (Option ℕ)) (key : ℕ) (rest : List ℕ) (whole : IsClimb p (Some key) (key ∷ rest)) (j : ℕ) (link : p j ≡ Some (Some key)) where
   goes_on : (at : Option ℕ) (front back : List ℕ) → IsClimb p at (front ++ j ∷ back) → back ≡ key ∷ rest
   goes_on at front back h =
@@ -18,14 +18,14 @@ module _ (p : ℕ → Option (Option ℕ)) (key : ℕ) (rest : List ℕ) (whole 
       let next : c.1.0 ≡ Some key = cc in
       climb_unique p (Some key) back (key ∷ rest) (subst (λ o. IsClimb p o back) next c.1.1.1) whole
 
-  -- what has that other has the key, and all that is above it
+  -- a climb that has j has the key and all keys above it
   pub climb_on : (at : Option ℕ) (up : List ℕ) → IsClimb p at up → has j up ≡ true → (k : ℕ) → has k (key ∷ rest) ≡ true → has k up ≡ true
   climb_on at up h m k on =
       let w = stands j up m in
       let back = goes_on at w.front w.back (subst (IsClimb p at) w.is h) in
       subst (λ u. has k u ≡ true) (sym w.is) (has-behind k w.front (j ∷ w.back) (has-tail k j w.back (subst (λ b. has k b ≡ true) (sym back) on)))
 
-  -- and it isn't above the key
+  -- j isn't above the key
   pub not_above : has j (key ∷ rest) ≡ true → ⊥
   not_above m =
       let w = stands j (key ∷ rest) m in

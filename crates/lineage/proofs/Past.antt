@@ -1,4 +1,4 @@
--- Climbs and counts that go past a key.
+-- Climbs and counts when a key is skipped.
 use Rattle.std.proofs.Common.{◌≡◌, ◌≢◌, ℕ, ◌+◌, ◌<◌, ◌≤◌, zero, suc, Bool, true, false, not, cond, nat_eq, List, [], ◌∷◌, ◌++◌, length, map, reverse, get_or, Option, Some, None, refl, sym, ◌∙◌, ap, subst, arith, inl, inr, ◌⊎◌, eq-eqb, ne_eqb, append-nil}
 use Rattle.std.specs.List.{count_by}
 use Rattle.std.proofs.lemmas.Bool.{cases_eq}
@@ -65,7 +65,7 @@ module _ (key : ℕ) (top : Option ℕ) where
       by (inr nk) (inl same) = ap (has x) (kept_other k up nk) ∙ subst (λ z. has z (k ∷ keys_without key up) ≡ true) (sym same) (has-head k (keys_without key up))
       by (inr nk) (inr m) = ap (has x) (kept_other k up nk) ∙ has-tail x k (keys_without key up) m
 
--- each climb goes past the key
+-- each climb skips the key
 pub climb_past : (p q : ℕ → Option (Option ℕ)) (key : ℕ) (top : Option ℕ) → p key ≡ Some top → (top ≡ Some key → ⊥) → ((k : ℕ) → k ≢ key → q k ≡ past_link key top (p k))
     → (at : Option ℕ) (up : List ℕ) → IsClimb p at up → IsClimb q (past key top at) (keys_without key up)
 climb_past p q key top here itself links at [] h = ap (past key top) h
@@ -85,7 +85,7 @@ climb_past p q key top here itself links at (k ∷ up) h = by (cases_eq key k) (
         let c : IsClimb q (past key top at) (k ∷ keys_without key up) = (a, (past key top h.1.0, (l, ih))) in
         subst (λ l. IsClimb q (past key top at) l) (sym (kept_other key top k up ne)) c
 
--- what stood on the key stands on what is above it
+-- each link to the key becomes a link to the key above it
 pub each_past : (key m : ℕ) (top : Option ℕ) → m ≢ key → (o : Option ℕ) → one (is_key m (past key top o)) ≡ one (is_key m o) + cond (is_key m top) (one (is_key key o)) 0
 each_past key m top ne None = by (is_key m top)
   where
@@ -115,7 +115,7 @@ pub each_past_link : (key m : ℕ) (top : Option ℕ) → m ≢ key → (o : Opt
 each_past_link key m top ne None = each_past key m top ne None
 each_past_link key m top ne (Some next) = each_past key m top ne next
 
--- the sums of such
+-- if the count of each item is such a sum, so is the count of a list
 pub sum_past : {A : Type 0} (f p q : A → Bool) (b : Bool) (xs : List A) → ((x : A) → one (f x) ≡ one (p x) + cond b (one (q x)) 0) → count_by f xs ≡ count_by p xs + cond b (count_by q xs) 0
 sum_past f p q true [] h = omega arith
 sum_past f p q false [] h = omega arith
@@ -143,13 +143,14 @@ pub both : (b : Bool) (x y : ℕ) → cond b x 0 + cond b y 0 ≡ cond b (x + y)
 both true x y = refl
 both false x y = omega arith
 
--- tips, each of which is skipped past
+-- a list whose items are the tips, each past the key, is `past` applied to each tip
 pub all_past : (key : ℕ) (top : Option ℕ) (xs ys : List (Option ℕ)) → length ys ≡ length xs → ((k : ℕ) → k < length xs → tip_at ys k ≡ past key top (tip_at xs k)) → ys ≡ map (past key top) xs
 all_past key top xs ys len h =
     ext_get_or None ys (map (past key top) xs) (len ∙ sym (length-map xs (past key top)))
     (λ i lt. h i (subst (λ n. i < n) len lt) ∙ sym (map_at (past key top) xs i refl))
 
--- tests that no element passes both
+-- if each element passes at most one of two tests, and then also a third test, the counts of the
+-- two tests add up to at most that of the third
 pub sum_apart : {A : Type 0} (p q r : A → Bool) (xs : List A) → ((x : A) → one (p x) + one (q x) ≤ one (r x)) → count_by p xs + count_by q xs ≤ count_by r xs
 sum_apart p q r [] h = omega arith
 sum_apart p q r (x ∷ xs) h =

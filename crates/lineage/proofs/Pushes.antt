@@ -1,4 +1,4 @@
--- A node put behind a path.
+-- Putting a node at the end of a path.
 use Rattle.std.proofs.Common.{◌≡◌, ◌≢◌, ℕ, ◌+◌, ◌<◌, ◌^◌, nat_eq, List, [], ◌∷◌, ◌++◌, length, map, set, Option, Some, None, refl, sym, ◌∙◌, ap, subst, arith, inl, inr, ◌⊎◌, eq-eqb, ne_eqb}
 use Rattle.std.specs.Prelude.{is_some}
 use Rattle.std.specs.List.{count_by}
@@ -8,19 +8,19 @@ use Rattle.std.proofs.lemmas.List.Sums.{sum_by-set}
 use Rattle.lineage.specs.declared.node.Node.{Node}
 use Rattle.lineage.specs.Family.{path_in, IsAdded}
 use Rattle.lineage.specs.Climbs.{IsClimb, Ends}
-use Rattle.lineage.specs.Held.{tip_at, is_key, node, node_at, item_in, above_in, above_of, path_to, stands_on, holders_of, family_on, IsOn, IsSound}
+use Rattle.lineage.specs.Held.{tip_at, is_key, node, node_at, item_in, above_in, above_node, path_to, links_to_key, holders_of, family_on, IsOn, IsSoundFamily}
 use Rattle.lineage.proofs.Once.{has-head, has-tail, reverse_cons}
 use Rattle.lineage.proofs.Walks.{path_to_is, path_at, item_is}
 use Rattle.lineage.proofs.Counts.{one, count_changed}
 use Rattle.lineage.proofs.Kept.{over_climb, over_path, map_same, absent_holders}
 
--- what comes of a node that is put last in a path
+-- the nodes after a node is put at the end of a path
 pub record IsPushed {X : Type 0} (s t : List (Option (Node X))) (tips new : List (Option ℕ)) (path key : ℕ) (item : X) : Type 0 where
   pub added : IsAdded (family_on s tips) (family_on t new) key item
-  pub sound : IsSound t new
+  pub sound : IsSoundFamily t new
   pub paths : map (path_to t) new ≡ set (map (path_to s) tips) path (path_in (family_on s tips) path ++ key ∷ [])
 
--- a node that is new changes no other item
+-- a new node adds its item, and changes no other item
 pub added : {X : Type 0} (s t : List (Option (Node X))) (tips new : List (Option ℕ)) (key : ℕ) (n : Node X) → node_at s key ≡ None → node_at t key ≡ Some n
     → ((k : ℕ) → k ≢ key → item_in (node_at t k) ≡ item_in (node_at s k)) → IsAdded (family_on s tips) (family_on t new) key n.item
 added s t tips new key n vacant here others = record {
@@ -29,17 +29,17 @@ added s t tips new key n vacant here others = record {
   others = λ k ne. item_is t new k ∙ others k ne ∙ sym (item_is s tips k);
 }
 
-module _ {X : Type 0} (s t : List (Option (Node X))) (tips new : List (Option ℕ)) (path key : ℕ) (item : X) (sound : IsSound s tips) (within : path < length tips)
+module _ {X : Type 0} (s t : List (Option (Node X))) (tips new : List (Option ℕ)) (path key : ℕ) (item : X) (sound : IsSoundFamily s tips) (within : path < length tips)
     (vacant : node_at s key ≡ None) (here : node_at t key ≡ Some (node item (tip_at tips path) 1)) (others : (k : ℕ) → k ≢ key → node_at t k ≡ node_at s k)
     (now : new ≡ set tips path (Some key)) where
-  -- what was linked is as it was
-  not_new : (k : ℕ) (next : Option ℕ) → above_of s k ≡ Some next → k ≢ key
-  not_new k next e same = let no : above_of s k ≡ None = ap (above_of s) same ∙ ap above_in vacant in cc
+  -- the links that existed are unchanged
+  not_new : (k : ℕ) (next : Option ℕ) → above_node s k ≡ Some next → k ≢ key
+  not_new k next e same = let no : above_node s k ≡ None = ap (above_node s) same ∙ ap above_in vacant in cc
 
-  keeps : (k : ℕ) (next : Option ℕ) → above_of s k ≡ Some next → above_of t k ≡ Some next
+  keeps : (k : ℕ) (next : Option ℕ) → above_node s k ≡ Some next → above_node t k ≡ Some next
   keeps k next e = ap above_in (others k (not_new k next e)) ∙ e
 
-  link : above_of t key ≡ Some (tip_at tips path)
+  link : above_node t key ≡ Some (tip_at tips path)
   link = ap above_in here
 
   tip_here : tip_at new path ≡ Some key
@@ -49,43 +49,43 @@ module _ {X : Type 0} (s t : List (Option (Node X))) (tips new : List (Option �
   tip_other i ne = ap (λ l. tip_at l i) now ∙ get_or-set_other tips path i (Some key) None ne
 
   -- the climb from the new tip
-  climb_new : (up : List ℕ) → IsClimb (above_of s) (tip_at tips path) up → IsClimb (above_of t) (Some key) (key ∷ up)
+  climb_new : (up : List ℕ) → IsClimb (above_node s) (tip_at tips path) up → IsClimb (above_node t) (Some key) (key ∷ up)
   climb_new up h = (refl, (tip_at tips path, (link, over_climb s t keeps (tip_at tips path) up h)))
 
-  ends_now : (i : ℕ) → (i ≡ path) ⊎ (i ≢ path) → Ends (above_of t) (tip_at new i)
+  ends_now : (i : ℕ) → (i ≡ path) ⊎ (i ≢ path) → Ends (above_node t) (tip_at new i)
   ends_now i (inl e) =
       let old = sound.ends path in
-      record { up = key ∷ old.up; is = subst (λ o. IsClimb (above_of t) o (key ∷ old.up)) (sym (ap (tip_at new) e ∙ tip_here)) (climb_new old.up old.is) }
+      record { up = key ∷ old.up; is = subst (λ o. IsClimb (above_node t) o (key ∷ old.up)) (sym (ap (tip_at new) e ∙ tip_here)) (climb_new old.up old.is) }
   ends_now i (inr ne) =
       let old = sound.ends i in
-      record { up = old.up; is = subst (λ o. IsClimb (above_of t) o old.up) (sym (tip_other i ne)) (over_climb s t keeps (tip_at tips i) old.up old.is) }
+      record { up = old.up; is = subst (λ o. IsClimb (above_node t) o old.up) (sym (tip_other i ne)) (over_climb s t keeps (tip_at tips i) old.up old.is) }
 
   on_now : (k : ℕ) (o : IsOn s tips k) → (o.path ≡ path) ⊎ (o.path ≢ path) → IsOn t new k
   on_now k o (inl e) = record {
     path = path;
     up = key ∷ o.up;
-    is = subst (λ z. IsClimb (above_of t) z (key ∷ o.up)) (sym tip_here) (climb_new o.up (subst (λ i. IsClimb (above_of s) (tip_at tips i) o.up) e o.is));
+    is = subst (λ z. IsClimb (above_node t) z (key ∷ o.up)) (sym tip_here) (climb_new o.up (subst (λ i. IsClimb (above_node s) (tip_at tips i) o.up) e o.is));
     on = has-tail k key o.up o.on;
   }
   on_now k o (inr ne) = record {
     path = o.path;
     up = o.up;
-    is = subst (λ z. IsClimb (above_of t) z o.up) (sym (tip_other o.path ne)) (over_climb s t keeps (tip_at tips o.path) o.up o.is);
+    is = subst (λ z. IsClimb (above_node t) z o.up) (sym (tip_other o.path ne)) (over_climb s t keeps (tip_at tips o.path) o.up o.is);
     on = o.on;
   }
 
   on_new : IsOn t new key
   on_new =
       let old = sound.ends path in
-      record { path = path; up = key ∷ old.up; is = subst (λ z. IsClimb (above_of t) z (key ∷ old.up)) (sym tip_here) (climb_new old.up old.is); on = has-head key old.up }
+      record { path = path; up = key ∷ old.up; is = subst (λ z. IsClimb (above_node t) z (key ∷ old.up)) (sym tip_here) (climb_new old.up old.is); on = has-head key old.up }
 
-  -- only the new node has one more that stands on it
+  -- only the new node's link adds a holder
   holders_now : (m : ℕ) → holders_of t new m ≡ holders_of s tips m + one (nat_eq m key)
   holders_now m =
       let a = sum_by-set (λ x. one (is_key m x)) tips path (Some key) None within in
-      let b = count_changed (stands_on m) refl key s t (λ j ne. ap (stands_on m) (others j ne)) in
-      let was : one (stands_on m (node_at s key)) ≡ 0 = ap (λ o. one (stands_on m o)) vacant in
-      let is : one (stands_on m (node_at t key)) ≡ one (is_key m (tip_at tips path)) = ap (λ o. one (stands_on m o)) here in
+      let b = count_changed (links_to_key m) refl key s t (λ j ne. ap (links_to_key m) (others j ne)) in
+      let was : one (links_to_key m (node_at s key)) ≡ 0 = ap (λ o. one (links_to_key m o)) vacant in
+      let is : one (links_to_key m (node_at t key)) ≡ one (is_key m (tip_at tips path)) = ap (λ o. one (links_to_key m o)) here in
       let c : count_by (is_key m) new ≡ count_by (is_key m) (set tips path (Some key)) = ap (count_by (is_key m)) now in
       omega (arith, a, b, was, is, c)
 
@@ -107,7 +107,7 @@ module _ {X : Type 0} (s t : List (Option (Node X))) (tips new : List (Option �
   live_now k n e (inl same) = subst (IsOn t new) (sym same) on_new
   live_now k n e (inr ne) = let o = sound.live k n (sym (others k ne) ∙ e) in on_now k o (cases_eq o.path path)
 
-  pub pushed_sound : count_by is_some t ≡ count_by is_some s + 1 → length tips + count_by is_some s + 1 < 2 ^ 64 → IsSound t new
+  pub pushed_sound : count_by is_some t ≡ count_by is_some s + 1 → length tips + count_by is_some s + 1 < 2 ^ 64 → IsSoundFamily t new
   pushed_sound len room = record {
     ends = λ i. ends_now i (cases_eq i path);
     live = λ k n e. live_now k n e (cases_eq k key);
@@ -115,7 +115,7 @@ module _ {X : Type 0} (s t : List (Option (Node X))) (tips new : List (Option �
     few = let l : length new ≡ length tips = ap length now ∙ length-set tips path (Some key) in omega (arith, l, len, room);
   }
 
-  -- the path has the key last
+  -- the new key is the last of its path
   pub pushed_last : path_to t (Some key) ≡ path_to s (tip_at tips path) ++ key ∷ []
   pushed_last =
       let old = sound.ends path in

@@ -1,4 +1,4 @@
--- What goes with a path, from its tip up.
+-- Releasing a path, from its tip up.
 use Rattle.std.proofs.Common.{◌≡◌, ◌≢◌, ℕ, ◌+◌, ◌-◌, ◌<◌, ◌≤◌, true, false, nat_eq, nat_le, cond, List, [], ◌∷◌, length, Option, Some, None, refl, sym, ◌∙◌, ap, subst, arith, inl, inr, ◌⊎◌, eq-eqb, ne_eqb, true≢false}
 use Rattle.std.specs.Prelude.{is_some}
 use Rattle.std.specs.List.{count_by, remove}
@@ -9,7 +9,7 @@ use Rattle.std.proofs.lemmas.List.Sums.{sum_by-remove}
 use Rattle.lineage.specs.declared.node.Node.{Node}
 use Rattle.lineage.specs.Family.{has}
 use Rattle.lineage.specs.Climbs.{IsClimb, Ends}
-use Rattle.lineage.specs.Held.{tip_at, is_key, is_above, node, node_at, above_in, above_of, keys_up, stands_on, holders_of, next_up, less_one, IsOn, IsSound, IsReleasing}
+use Rattle.lineage.specs.Held.{tip_at, is_key, is_above, node, node_at, above_in, above_node, keys_up, links_to_key, holders_of, next_up, less_one, IsOn, IsSoundFamily, IsReleasing}
 use Rattle.lineage.proofs.Once.{has_cases, has_not_from}
 use Rattle.lineage.proofs.Climbs.{climb_unique, climb_kept, climb_step, not_again}
 use Rattle.lineage.proofs.Walks.{keys_up_is}
@@ -18,11 +18,11 @@ use Rattle.lineage.proofs.Kept.{node_from, over_climb, is_key_true}
 use Rattle.lineage.proofs.Onto.{climb_on, not_above}
 use Rattle.lineage.proofs.Removed.{removed_from, stays_at}
 
--- the first step: the tip goes
-pub released_first : {X : Type 0} (s : List (Option (Node X))) (tips : List (Option ℕ)) (path : ℕ) → IsSound s tips → path < length tips
+-- the first step: the tip is removed from the list of tips
+pub released_first : {X : Type 0} (s : List (Option (Node X))) (tips : List (Option ℕ)) (path : ℕ) → IsSoundFamily s tips → path < length tips
     → IsReleasing s s (remove tips path) (tip_at tips path)
 released_first {X} s tips path sound within = record {
-  ends = removed_from (Ends (above_of s)) tips path sound.ends;
+  ends = removed_from (Ends (above_node s)) tips path sound.ends;
   going = sound.ends path;
   live = λ k n e. on_rest k (sound.live k n e) (cases_eq (sound.live k n e).path path);
   counted = λ k n e.
@@ -35,14 +35,14 @@ released_first {X} s tips path sound within = record {
   where
     on_rest : (k : ℕ) (o : IsOn s tips k) → (o.path ≡ path) ⊎ (o.path ≢ path) → IsOn s (remove tips path) k ⊎ (has k (sound.ends path).up ≡ true)
     on_rest k o (inl same) =
-        let up : o.up ≡ (sound.ends path).up = climb_unique (above_of s) (tip_at tips path) o.up (sound.ends path).up (subst (λ i. IsClimb (above_of s) (tip_at tips i) o.up) same o.is) (sound.ends path).is in
+        let up : o.up ≡ (sound.ends path).up = climb_unique (above_node s) (tip_at tips path) o.up (sound.ends path).up (subst (λ i. IsClimb (above_node s) (tip_at tips i) o.up) same o.is) (sound.ends path).is in
         inr (subst (λ u. has k u ≡ true) up o.on)
     on_rest k o (inr ne) =
         let j = stays_at tips path o.path ne in
-        inl (record { path = j.0; up = o.up; is = subst (λ z. IsClimb (above_of s) z o.up) (sym j.1) o.is; on = o.on })
+        inl (record { path = j.0; up = o.up; is = subst (λ z. IsClimb (above_node s) z o.up) (sym j.1) o.is; on = o.on })
 
--- the last: nothing is let go any more
-pub released_last : {X : Type 0} (first s : List (Option (Node X))) (tips : List (Option ℕ)) (at : Option ℕ) → IsReleasing first s tips at → at ≡ None → IsSound s tips
+-- the last step: if there is nothing left to release, the nodes are sound
+pub released_last : {X : Type 0} (first s : List (Option (Node X))) (tips : List (Option ℕ)) (at : Option ℕ) → IsReleasing first s tips at → at ≡ None → IsSoundFamily s tips
 released_last {X} first s tips at r none = record {
   ends = r.ends;
   live = λ k n e. by k (r.live k n e);
@@ -50,7 +50,7 @@ released_last {X} first s tips at r none = record {
   few = r.few;
 }
   where
-    empty : (k : ℕ) (up : List ℕ) → IsClimb (above_of s) at up → has k up ≡ true → ⊥
+    empty : (k : ℕ) (up : List ℕ) → IsClimb (above_node s) at up → has k up ≡ true → ⊥
     empty k [] h m = true≢false (sym m)
     empty k (j ∷ up) h m = let some : at ≡ Some j = h.0 in cc
 
@@ -69,27 +69,27 @@ begins p key (k ∷ rest) h =
 
 module _ {X : Type 0} (first s t : List (Option (Node X))) (tips : List (Option ℕ)) (key : ℕ) (n : Node X) (r : IsReleasing first s tips (Some key))
     (there : node_at s key ≡ Some n) (here : node_at t key ≡ less_one (node_at s key)) (others : (k : ℕ) → k ≢ key → node_at t k ≡ node_at s k) where
-  link : above_of s key ≡ Some n.above
+  link : above_node s key ≡ Some n.above
   link = ap above_in there
 
   counted_here : n.holders ≡ holders_of s tips key + 1
   counted_here = let is = r.counted key n there in let yes : one (nat_eq key key) ≡ 1 = ap one (eq-eqb key key refl) in omega (arith, is, yes)
 
   -- the rest of the climb
-  rest_of : (rest : List ℕ) × ((r.going.up ≡ key ∷ rest) × IsClimb (above_of s) n.above rest)
+  rest_of : (rest : List ℕ) × ((r.going.up ≡ key ∷ rest) × IsClimb (above_node s) n.above rest)
   rest_of =
-      let b = begins (above_of s) key r.going.up r.going.is in
+      let b = begins (above_node s) key r.going.up r.going.is in
       let links : Some b.1.1.0 ≡ Some n.above = sym b.1.1.1.0 ∙ link in
       let next : b.1.1.0 ≡ n.above = cc in
-      (b.0, (b.1.0, subst (λ o. IsClimb (above_of s) o b.0) next b.1.1.1.1))
+      (b.0, (b.1.0, subst (λ o. IsClimb (above_node s) o b.0) next b.1.1.1.1))
 
   abbrev rest : List ℕ
   rest = rest_of.0
 
-  whole : IsClimb (above_of s) (Some key) (key ∷ rest)
+  whole : IsClimb (above_node s) (Some key) (key ∷ rest)
   whole = (refl, (n.above, (link, rest_of.1.1)))
 
-  -- where it was the last that stood on the key
+  -- if it was the key's last holder
   module _ (last : n.holders ≤ 1) where
     gone : node_at t key ≡ None
     gone =
@@ -99,17 +99,17 @@ module _ {X : Type 0} (first s t : List (Option (Node X))) (tips : List (Option 
     none_tips : count_by (is_key key) tips ≡ 0
     none_tips = omega (arith, counted_here, last)
 
-    none_nodes : count_by (stands_on key) s ≡ 0
+    none_nodes : count_by (links_to_key key) s ≡ 0
     none_nodes = omega (arith, counted_here, last)
 
-    -- no path has it
-    not_on : (i : ℕ) (up : List ℕ) → IsClimb (above_of s) (tip_at tips i) up → has key up ≡ false
-    not_on i up h = has_not_from key up (λ m. climb_step (above_of s) (tip_at tips i) up key ⊥ h m
+    -- no path has the key
+    not_on : (i : ℕ) (up : List ℕ) → IsClimb (above_node s) (tip_at tips i) up → has key up ≡ false
+    not_on i up h = has_not_from key up (λ m. climb_step (above_node s) (tip_at tips i) up key ⊥ h m
         (λ e. true≢false (sym (ap (is_key key) e ∙ eq-eqb key key refl) ∙ count_no (is_key key) tips i refl none_tips))
-        (λ j e _m. true≢false (sym (ap (is_above key) e ∙ eq-eqb key key refl) ∙ count_no (stands_on key) s j refl none_nodes)))
+        (λ j e _m. true≢false (sym (ap (is_above key) e ∙ eq-eqb key key refl) ∙ count_no (links_to_key key) s j refl none_nodes)))
 
-    over_without : (at : Option ℕ) (up : List ℕ) → has key up ≡ false → IsClimb (above_of s) at up → IsClimb (above_of t) at up
-    over_without at up lacks h = climb_kept (above_of s) (above_of t) at up
+    over_without : (at : Option ℕ) (up : List ℕ) → has key up ≡ false → IsClimb (above_node s) at up → IsClimb (above_node t) at up
+    over_without at up lacks h = climb_kept (above_node s) (above_node t) at up
         (λ k next m e. ap above_in (others k (λ same. true≢false (sym (subst (λ z. has z up ≡ true) same m) ∙ lacks))) ∙ e) h
 
     not_key : (k : ℕ) (m : Node X) → node_at t k ≡ Some m → k ≢ key
@@ -126,15 +126,15 @@ module _ {X : Type 0} (first s t : List (Option (Node X))) (tips : List (Option 
     counted_last k m e =
         let is = r.counted k m (was k m e) in
         let no : one (nat_eq k key) ≡ 0 = ap one (ne_eqb k key (not_key k m e)) in
-        let a = count_changed (stands_on k) refl key s t (λ j ne. ap (stands_on k) (others j ne)) in
-        let b : one (stands_on k (node_at s key)) ≡ one (is_key k n.above) = ap (λ o. one (stands_on k o)) there in
-        let c : one (stands_on k (node_at t key)) ≡ 0 = ap (λ o. one (stands_on k o)) gone in
+        let a = count_changed (links_to_key k) refl key s t (λ j ne. ap (links_to_key k) (others j ne)) in
+        let b : one (links_to_key k (node_at s key)) ≡ one (is_key k n.above) = ap (λ o. one (links_to_key k o)) there in
+        let c : one (links_to_key k (node_at t key)) ≡ 0 = ap (λ o. one (links_to_key k o)) gone in
         omega (arith, is, no, a, b, c)
 
     pub released_on : IsReleasing first t tips n.above
     released_on = record {
       ends = λ i. let e = r.ends i in record { up = e.up; is = over_without (tip_at tips i) e.up (not_on i e.up e.is) e.is };
-      going = record { up = rest; is = over_without n.above rest (not_again (above_of s) key rest whole) rest_of.1.1 };
+      going = record { up = rest; is = over_without n.above rest (not_again (above_node s) key rest whole) rest_of.1.1 };
       live = λ k m e. on_now k (not_key k m e) (r.live k m (was k m e));
       counted = counted_last;
       few =
@@ -147,25 +147,25 @@ module _ {X : Type 0} (first s t : List (Option (Node X))) (tips : List (Option 
 
     pub released_shorter : length (keys_up t n.above) < length (keys_up s (Some key))
     released_shorter =
-        let a = ap length (keys_up_is t n.above rest (over_without n.above rest (not_again (above_of s) key rest whole) rest_of.1.1)) in
+        let a = ap length (keys_up_is t n.above rest (over_without n.above rest (not_again (above_node s) key rest whole) rest_of.1.1)) in
         let b = ap length (keys_up_is s (Some key) (key ∷ rest) whole) in
         omega (arith, a, b)
 
-  -- where more stand on it
+  -- if the key has more holders
   module _ (more : 1 < n.holders) where
     less : node_at t key ≡ Some (node n.item n.above (n.holders - 1))
     less =
         let no : nat_le n.holders 1 ≡ false = grind (arith, nat_tests) in
         here ∙ ap less_one there ∙ ap (λ b. cond b None (Some (node n.item n.above (n.holders - 1)))) no
 
-    same_above : (k : ℕ) → (k ≡ key) ⊎ (k ≢ key) → above_of t k ≡ above_of s k
-    same_above k (inl same) = ap (above_of t) same ∙ ap above_in less ∙ sym link ∙ ap (above_of s) (sym same)
+    same_above : (k : ℕ) → (k ≡ key) ⊎ (k ≢ key) → above_node t k ≡ above_node s k
+    same_above k (inl same) = ap (above_node t) same ∙ ap above_in less ∙ sym link ∙ ap (above_node s) (sym same)
     same_above k (inr ne) = ap above_in (others k ne)
 
-    keeps : (k : ℕ) (next : Option ℕ) → above_of s k ≡ Some next → above_of t k ≡ Some next
+    keeps : (k : ℕ) (next : Option ℕ) → above_node s k ≡ Some next → above_node t k ≡ Some next
     keeps k next e = same_above k (cases_eq k key) ∙ e
 
-    -- what each node that is there was
+    -- the former state of each node
     was_more : (k : ℕ) (m : Node X) → node_at t k ≡ Some m → (k ≡ key) ⊎ (k ≢ key)
         → (o : Node X) × ((node_at s k ≡ Some o) × ((m.holders + one (nat_eq k key) ≡ o.holders) × ((m.item ≡ o.item) × (m.above ≡ o.above))))
     was_more k m e (inl same) =
@@ -182,9 +182,9 @@ module _ {X : Type 0} (first s t : List (Option (Node X))) (tips : List (Option 
     on_left : (k : ℕ) → has k (key ∷ rest) ≡ true → IsOn s tips k
     on_left k m = by (cases_lt 0 (count_by (is_key key) tips))
       where
-        from_node : (j : ℕ) → above_of s j ≡ Some (Some key) → IsOn s tips j ⊎ (has j r.going.up ≡ true) → IsOn s tips k
-        from_node j e (inl o) = record { path = o.path; up = o.up; is = o.is; on = climb_on (above_of s) key rest whole j e (tip_at tips o.path) o.up o.is o.on k m }
-        from_node j e (inr up) = absurd (not_above (above_of s) key rest whole j e (subst (λ u. has j u ≡ true) rest_of.1.0 up))
+        from_node : (j : ℕ) → above_node s j ≡ Some (Some key) → IsOn s tips j ⊎ (has j r.going.up ≡ true) → IsOn s tips k
+        from_node j e (inl o) = record { path = o.path; up = o.up; is = o.is; on = climb_on (above_node s) key rest whole j e (tip_at tips o.path) o.up o.is o.on k m }
+        from_node j e (inr up) = absurd (not_above (above_node s) key rest whole j e (subst (λ u. has j u ≡ true) rest_of.1.0 up))
 
         from_link : (o : Option (Option ℕ)) → is_above key o ≡ true → o ≡ Some (Some key)
         from_link None h = absurd (cc)
@@ -193,11 +193,11 @@ module _ {X : Type 0} (first s t : List (Option (Node X))) (tips : List (Option 
         by : (0 < count_by (is_key key) tips) ⊎ (count_by (is_key key) tips ≤ 0) → IsOn s tips k
         by (inl some) =
             let i = count_some (is_key key) tips some in
-            record { path = i.0; up = key ∷ rest; is = subst (λ o. IsClimb (above_of s) o (key ∷ rest)) (sym (is_key_true key (tip_at tips i.0) i.1)) whole; on = m }
+            record { path = i.0; up = key ∷ rest; is = subst (λ o. IsClimb (above_node s) o (key ∷ rest)) (sym (is_key_true key (tip_at tips i.0) i.1)) whole; on = m }
         by (inr none) =
-            let some : 0 < count_by (stands_on key) s = omega (arith, counted_here, more, none) in
-            let j = count_some (stands_on key) s some in
-            let e : above_of s j.0 ≡ Some (Some key) = from_link (above_of s j.0) j.1 in
+            let some : 0 < count_by (links_to_key key) s = omega (arith, counted_here, more, none) in
+            let j = count_some (links_to_key key) s some in
+            let e : above_node s j.0 ≡ Some (Some key) = from_link (above_node s j.0) j.1 in
             let w = node_from (node_at s j.0) (Some key) e in
             from_node j.0 e (r.live j.0 w.0 w.1.0)
 
@@ -215,7 +215,7 @@ module _ {X : Type 0} (first s t : List (Option (Node X))) (tips : List (Option 
       counted = λ k m e.
           let w = was_more k m e (cases_eq k key) in
           let is = r.counted k w.0 w.1.0 in
-          let a = count_same (stands_on k) refl s t (λ j. ap (is_above k) (same_above j (cases_eq j key))) in
+          let a = count_same (links_to_key k) refl s t (λ j. ap (is_above k) (same_above j (cases_eq j key))) in
           let b = w.1.1.0 in
           omega (arith, is, a, b);
       few =
@@ -229,7 +229,7 @@ module _ {X : Type 0} (first s t : List (Option (Node X))) (tips : List (Option 
           (v.0, (v.1.0, (w.1.1.1.0 ∙ v.1.1.0, w.1.1.1.1 ∙ v.1.1.1)));
     }
 
-  -- one step of the walk
+  -- one step of the release
   pub released_next : (next : Option ℕ) → next ≡ next_up (node_at s key) → IsReleasing first t tips next × (length (keys_up t next) < length (keys_up s (Some key)))
   released_next next e = by (cases_lt 1 n.holders)
     where
@@ -249,15 +249,15 @@ module _ {X : Type 0} (first s t : List (Option (Node X))) (tips : List (Option 
           let is : next ≡ n.above = e ∙ ap next_up there ∙ ap (λ b. cond b n.above None) yes in
           subst (λ o. IsReleasing first t tips o × (length (keys_up t o) < length (keys_up s (Some key)))) (sym is) (released_on last, released_shorter last)
 
--- the key that is let go is there
+-- the key to be released exists
 pub releasing_there : {X : Type 0} (first s : List (Option (Node X))) (tips : List (Option ℕ)) (at : Option ℕ) (key : ℕ) → IsReleasing first s tips at → at ≡ Some key
     → (n : Node X) × (node_at s key ≡ Some n)
 releasing_there first s tips at key r is =
-    let b = begins (above_of s) key r.going.up (subst (λ o. IsClimb (above_of s) o r.going.up) is r.going.is) in
+    let b = begins (above_node s) key r.going.up (subst (λ o. IsClimb (above_node s) o r.going.up) is r.going.is) in
     let n = node_from (node_at s key) b.1.1.0 b.1.1.1.0 in
     (n.0, n.1.0)
 
--- one step, from where the walk stands
+-- one step of the release, from the key at which it is
 pub releasing_next : {X : Type 0} (first s t : List (Option (Node X))) (tips : List (Option ℕ)) (at : Option ℕ) (key : ℕ) (next : Option ℕ) → IsReleasing first s tips at → at ≡ Some key
     → node_at t key ≡ less_one (node_at s key) → ((k : ℕ) → k ≢ key → node_at t k ≡ node_at s k) → next ≡ next_up (node_at s key)
     → IsReleasing first t tips next × (length (keys_up t next) < length (keys_up s at))

@@ -1,9 +1,9 @@
--- A tip that goes.
+-- Removing a tip.
 use Rattle.std.proofs.Common.{◌≡◌, ◌≢◌, ℕ, zero, suc, List, [], ◌∷◌, map, Option, refl, ap}
 use Rattle.std.specs.List.{remove}
 use Rattle.lineage.specs.Held.{tip_at}
 
--- each tip that is left was there
+-- each tip that is left was there before
 pub removed_from : (P : Option ℕ → Type 0) (tips : List (Option ℕ)) (path : ℕ) → ((i : ℕ) → P (tip_at tips i)) → (i : ℕ) → P (tip_at (remove tips path) i)
 removed_from P [] zero h i = h zero
 removed_from P [] (suc path) h i = h zero

@@ -1,16 +1,16 @@
--- Nodes that stand where they stood, and count as many.
+-- Nodes with unchanged links and counts.
 use Rattle.std.proofs.Common.{◌≡◌, ◌≢◌, ℕ, List, map, Option, Some, None, refl, sym, ◌∙◌, ap, arith, inl, inr, ◌⊎◌, set}
 use Rattle.std.specs.Prelude.{is_some}
 use Rattle.std.proofs.lemmas.Bool.{cases_eq}
 use Rattle.std.proofs.lemmas.List.{get_or-set_same, get_or-set_other}
 use Rattle.lineage.specs.declared.node.Node.{Node}
-use Rattle.lineage.specs.Held.{tip_at, is_above, node, node_at, above_in, above_of, path_to, stands_on, IsSound}
+use Rattle.lineage.specs.Held.{tip_at, is_above, node, node_at, above_in, above_node, path_to, links_to_key, IsSoundFamily}
 use Rattle.lineage.proofs.Walks.{link_within}
 use Rattle.lineage.proofs.Counts.{count_same}
 use Rattle.lineage.proofs.Kept.{over_climb, over_path, map_same}
 
--- a key has another item
-module _ {X : Type 0} (s : List (Option (Node X))) (tips : List (Option ℕ)) (key : ℕ) (n : Node X) (item : X) (sound : IsSound s tips) (there : node_at s key ≡ Some n) where
+-- the item at a key is replaced
+module _ {X : Type 0} (s : List (Option (Node X))) (tips : List (Option ℕ)) (key : ℕ) (n : Node X) (item : X) (sound : IsSoundFamily s tips) (there : node_at s key ≡ Some n) where
   abbrev other : Node X
   other = node item n.above n.holders
 
@@ -23,8 +23,8 @@ module _ {X : Type 0} (s : List (Option (Node X))) (tips : List (Option ℕ)) (k
   others : (k : ℕ) → k ≢ key → node_at now k ≡ node_at s k
   others k ne = get_or-set_other s key k (Some other) None ne
 
-  same_above : (k : ℕ) → (k ≡ key) ⊎ (k ≢ key) → above_of now k ≡ above_of s k
-  same_above k (inl same) = ap (above_of now) same ∙ ap above_in here ∙ sym (ap above_in there) ∙ ap (above_of s) (sym same)
+  same_above : (k : ℕ) → (k ≡ key) ⊎ (k ≢ key) → above_node now k ≡ above_node s k
+  same_above k (inl same) = ap (above_node now) same ∙ ap above_in here ∙ sym (ap above_in there) ∙ ap (above_node s) (sym same)
   same_above k (inr ne) = ap above_in (others k ne)
 
   same_some : (k : ℕ) → (k ≡ key) ⊎ (k ≢ key) → is_some (node_at now k) ≡ is_some (node_at s k)
@@ -38,10 +38,10 @@ module _ {X : Type 0} (s : List (Option (Node X))) (tips : List (Option ℕ)) (k
       (n, (ap (node_at s) same ∙ there, ap (λ (z : Node X). z.holders) node_is))
   was k m e (inr ne) = (m, (sym (others k ne) ∙ e, refl))
 
-  keeps : (k : ℕ) (next : Option ℕ) → above_of s k ≡ Some next → above_of now k ≡ Some next
+  keeps : (k : ℕ) (next : Option ℕ) → above_node s k ≡ Some next → above_node now k ≡ Some next
   keeps k next e = same_above k (cases_eq k key) ∙ e
 
-  pub replaced_sound : IsSound now tips
+  pub replaced_sound : IsSoundFamily now tips
   replaced_sound = record {
     ends = λ i. let e = sound.ends i in record { up = e.up; is = over_climb s now keeps (tip_at tips i) e.up e.is };
     live = λ k m e.
@@ -51,7 +51,7 @@ module _ {X : Type 0} (s : List (Option (Node X))) (tips : List (Option ℕ)) (k
     counted = λ k m e.
         let w = was k m e (cases_eq k key) in
         let is = sound.counted k w.0 w.1.0 in
-        let a = count_same (stands_on k) refl s now (λ j. ap (is_above k) (same_above j (cases_eq j key))) in
+        let a = count_same (links_to_key k) refl s now (λ j. ap (is_above k) (same_above j (cases_eq j key))) in
         let b = w.1.1 in
         omega (arith, is, a, b);
     few = let a = count_same is_some refl s now (λ j. same_some j (cases_eq j key)) in let few = sound.few in omega (arith, a, few);

@@ -1,4 +1,4 @@
--- A node that goes: what stood on it stands on what it stood on.
+-- Removing a node. Each link to the node becomes a link to the node above it.
 use Rattle.std.proofs.Common.{◌≡◌, ◌≢◌, ℕ, ◌+◌, ◌-◌, ◌<◌, ◌≤◌, ◌^◌, Bool, true, false, cond, nat_eq, List, [], ◌∷◌, length, map, get_or, set, Option, Some, None, refl, sym, ◌∙◌, ap, subst, arith, inl, inr, ◌⊎◌, eq-eqb, ne_eqb, true≢false}
 use Rattle.std.specs.Prelude.{is_some, IsSome, IfSome}
 use Rattle.std.specs.List.{count_by}
@@ -8,7 +8,7 @@ use Rattle.std.proofs.lemmas.List.Sums.{sum_by-set, get_or-le-sum_by}
 use Rattle.lineage.specs.declared.node.Node.{Node}
 use Rattle.lineage.specs.Family.{has, keys_without, item_at}
 use Rattle.lineage.specs.Climbs.{IsClimb}
-use Rattle.lineage.specs.Held.{tip_at, is_key, is_above, node, node_at, item_in, above_in, above_of, path_to, stands_on, holders_of, past, past_node, passed_on, family_on, IsSound}
+use Rattle.lineage.specs.Held.{tip_at, is_key, is_above, node, node_at, item_in, above_in, above_node, path_to, links_to_key, holders_of, past, past_node, passed_on, family_on, IsSoundFamily}
 use Rattle.lineage.proofs.Once.{has-head}
 use Rattle.lineage.proofs.Walks.{path_to_is, item_is, link_within}
 use Rattle.lineage.proofs.Counts.{one, count_changed, count_same, count_few}
@@ -48,21 +48,21 @@ module _ {X : Type 0} where
       let same : node w.item (past key top w.above) w.holders ≡ m = cc in
       (w, (refl, sym (ap (λ (z : Node X). z.holders) same)))
 
-  -- a node doesn't stand on itself
-  module _ (s : List (Option (Node X))) (tips : List (Option ℕ)) (key : ℕ) (n : Node X) (sound : IsSound s tips) (there : node_at s key ≡ Some n) where
+  -- a node doesn't link to itself
+  module _ (s : List (Option (Node X))) (tips : List (Option ℕ)) (key : ℕ) (n : Node X) (sound : IsSoundFamily s tips) (there : node_at s key ≡ Some n) where
     pub not_itself : n.above ≡ Some key → ⊥
     not_itself e =
         let c = node_climb s tips sound key n there in
         let links : Some c.1.1.0 ≡ Some n.above = sym c.1.1.1.0 ∙ ap above_in there in
         let next : c.1.1.0 ≡ Some key = let a : c.1.1.0 ≡ n.above = cc in a ∙ e in
-        let again : has key c.0 ≡ true = first c.0 (subst (λ o. IsClimb (above_of s) o c.0) next c.1.1.1.1) in
-        true≢false (sym again ∙ not_again (above_of s) key c.0 c.1)
+        let again : has key c.0 ≡ true = first c.0 (subst (λ o. IsClimb (above_node s) o c.0) next c.1.1.1.1) in
+        true≢false (sym again ∙ not_again (above_node s) key c.0 c.1)
       where
-        first : (up : List ℕ) → IsClimb (above_of s) (Some key) up → has key up ≡ true
+        first : (up : List ℕ) → IsClimb (above_node s) (Some key) up → has key up ≡ true
         first [] h = absurd (cc)
         first (k ∷ up) h = let a : Some key ≡ Some k = h.0 in let same : key ≡ k = cc in subst (λ z. has z (k ∷ up) ≡ true) (sym same) (has-head k up)
 
-    -- what it stands on is there without it
+    -- the node above the removed one still exists
     pub above_there : (r : List (Option (Node X))) → ((k : ℕ) → k ≢ key → node_at r k ≡ node_at s k) → IfSome n.above (λ k. IsSome (node_at r k))
     above_there r others = by n.above refl
       where
@@ -73,17 +73,17 @@ module _ {X : Type 0} where
             let w = node_from (node_at s k) l.0 l.1 in
             subst IsSome (sym (others k (λ same. not_itself (e ∙ ap Some same)) ∙ w.1.0)) refl
 
-    -- and counts few enough
+    -- the holders of the node above still fit in a word
     pub few_passed : (r : List (Option (Node X))) → ((k : ℕ) → k ≢ key → node_at r k ≡ node_at s k) → (k : ℕ) (m : Node X) → n.above ≡ Some k → node_at r k ≡ Some m
         → (1 ≤ m.holders) × (m.holders - 1 + n.holders < 2 ^ 64)
     few_passed r others k m e here =
         let ne : k ≢ key = λ same. not_itself (e ∙ ap Some same) in
         let a = sound.counted k m (sym (others k ne) ∙ here) in
         let b = sound.counted key n there in
-        let some = get_or-le-sum_by (λ o. one (stands_on k o)) s key None (link_within s key n.above (ap above_in there)) in
-        let c : one (stands_on k (node_at s key)) ≡ 1 = ap (λ o. one (stands_on k o)) there ∙ ap (λ o. one (is_key k o)) e ∙ ap one (eq-eqb k k refl) in
+        let some = get_or-le-sum_by (λ o. one (links_to_key k o)) s key None (link_within s key n.above (ap above_in there)) in
+        let c : one (links_to_key k (node_at s key)) ≡ 1 = ap (λ o. one (links_to_key k o)) there ∙ ap (λ o. one (is_key k o)) e ∙ ap one (eq-eqb k k refl) in
         let d = sum_apart (is_key k) (is_key key) (λ _. true) tips (apart_tip k ne) in
-        let f = sum_apart (stands_on k) (stands_on key) is_some s (apart_node k ne) in
+        let f = sum_apart (links_to_key k) (links_to_key key) is_some s (apart_node k ne) in
         let h = count_few (λ (_ : Option ℕ). true) tips in
         let few = sound.few in
         (omega (arith, a, some, c), omega (arith, a, b, d, f, h, few, some, c))
@@ -106,11 +106,11 @@ module _ {X : Type 0} where
         apart_tip i ne None = omega arith
         apart_tip i ne (Some j) = both_not i ne j
 
-        apart_node : (i : ℕ) → i ≢ key → (o : Option (Node X)) → one (stands_on i o) + one (stands_on key o) ≤ one (is_some o)
+        apart_node : (i : ℕ) → i ≢ key → (o : Option (Node X)) → one (links_to_key i o) + one (links_to_key key o) ≤ one (is_some o)
         apart_node i ne None = omega arith
         apart_node i ne (Some w) = apart_tip i ne w.above
 
-  -- what the steps leave, one after the other
+  -- the effect of the steps, one after the other
   none_of : (key : ℕ) (top : Option ℕ) (b : Bool) (h : ℕ) (o : Option (Node X)) → o ≡ None → past_node key top (passed_on b h o) ≡ None
   none_of key top true h o e = ap (λ z. past_node key top (passed_on true h z)) e
   none_of key top false h o e = ap (λ z. past_node key top (passed_on false h z)) e
@@ -123,21 +123,21 @@ module _ {X : Type 0} where
     pub others_from : ((k : ℕ) → k ≢ key → node_at r k ≡ node_at s k) → (k : ℕ) → k ≢ key → node_at t k ≡ past_node key top (passed_on (is_key k top) h (node_at s k))
     others_from others k ne = skipped k ∙ ap (past_node key top) (passed k ∙ ap (passed_on (is_key k top) h) (others k ne))
 
-  module _ (s t : List (Option (Node X))) (tips new : List (Option ℕ)) (key : ℕ) (n : Node X) (sound : IsSound s tips) (there : node_at s key ≡ Some n) (gone : node_at t key ≡ None)
+  module _ (s t : List (Option (Node X))) (tips new : List (Option ℕ)) (key : ℕ) (n : Node X) (sound : IsSoundFamily s tips) (there : node_at s key ≡ Some n) (gone : node_at t key ≡ None)
       (others : (k : ℕ) → k ≢ key → node_at t k ≡ past_node key n.above (passed_on (is_key k n.above) n.holders (node_at s k))) (now : new ≡ map (past key n.above) tips) where
     itself : n.above ≡ Some key → ⊥
     itself = not_itself s tips key n sound there
 
-    links_now : (k : ℕ) → k ≢ key → above_of t k ≡ past_link key n.above (above_of s k)
+    links_now : (k : ℕ) → k ≢ key → above_node t k ≡ past_link key n.above (above_node s k)
     links_now k ne = ap above_in (others k ne) ∙ link_of key n.above (is_key k n.above) n.holders (node_at s k)
 
     tip_is : (i : ℕ) → tip_at new i ≡ past key n.above (tip_at tips i)
     tip_is i = ap (λ l. tip_at l i) now ∙ map_at (past key n.above) tips i refl
 
-    climbs : (i : ℕ) (up : List ℕ) → IsClimb (above_of s) (tip_at tips i) up → IsClimb (above_of t) (tip_at new i) (keys_without key up)
+    climbs : (i : ℕ) (up : List ℕ) → IsClimb (above_node s) (tip_at tips i) up → IsClimb (above_node t) (tip_at new i) (keys_without key up)
     climbs i up h =
-        subst (λ o. IsClimb (above_of t) o (keys_without key up)) (sym (tip_is i))
-        (climb_past (above_of s) (above_of t) key n.above (ap above_in there) itself links_now (tip_at tips i) up h)
+        subst (λ o. IsClimb (above_node t) o (keys_without key up)) (sym (tip_is i))
+        (climb_past (above_node s) (above_node t) key n.above (ap above_in there) itself links_now (tip_at tips i) up h)
 
     not_key : (k : ℕ) (m : Node X) → node_at t k ≡ Some m → k ≢ key
     not_key k m e same = let none : node_at t k ≡ None = ap (node_at t) same ∙ gone in cc
@@ -157,28 +157,28 @@ module _ {X : Type 0} where
     rest_other : (k : ℕ) → k ≢ key → node_at rest k ≡ node_at s k
     rest_other k ne = get_or-set_other s key k None None ne
 
-    nodes_now : (m : ℕ) → m ≢ key → count_by (stands_on m) t + one (is_key m n.above) ≡ count_by (stands_on m) s + cond (is_key m n.above) (count_by (stands_on key) s) 0
+    nodes_now : (m : ℕ) → m ≢ key → count_by (links_to_key m) t + one (is_key m n.above) ≡ count_by (links_to_key m) s + cond (is_key m n.above) (count_by (links_to_key key) s) 0
     nodes_now m ne =
         let p = λ (o : Option (Node X)). is_above m (past_link key n.above (above_in o)) in
-        let a = count_same (stands_on m) refl (map (past_node key n.above) rest) t (λ j. each j (cases_eq j key)) in
-        let b = count_map (stands_on m) (past_node key n.above) rest in
-        let c = sum_past (λ o. stands_on m (past_node key n.above o)) p p false rest (λ o. ap one (same o) ∙ (let z : one (p o) ≡ one (p o) + 0 = omega arith in z)) in
+        let a = count_same (links_to_key m) refl (map (past_node key n.above) rest) t (λ j. each j (cases_eq j key)) in
+        let b = count_map (links_to_key m) (past_node key n.above) rest in
+        let c = sum_past (λ o. links_to_key m (past_node key n.above o)) p p false rest (λ o. ap one (same o) ∙ (let z : one (p o) ≡ one (p o) + 0 = omega arith in z)) in
         let d = sum_by-set (λ o. one (p o)) s key None None within in
-        let e = sum_past p (stands_on m) (stands_on key) (is_key m n.above) s (λ o. each_past_link key m n.above ne (above_in o)) in
+        let e = sum_past p (links_to_key m) (links_to_key key) (is_key m n.above) s (λ o. each_past_link key m n.above ne (above_in o)) in
         let f : one (p (node_at s key)) ≡ one (is_key m n.above) = ap (λ o. one (p o)) there ∙ ap (λ o. one (is_key m o)) (past_twice key n.above n.above itself) in
         omega (arith, a, b, c, d, e, f)
       where
-        same : (o : Option (Node X)) → stands_on m (past_node key n.above o) ≡ is_above m (past_link key n.above (above_in o))
+        same : (o : Option (Node X)) → links_to_key m (past_node key n.above o) ≡ is_above m (past_link key n.above (above_in o))
         same None = refl
         same (Some w) = refl
 
-        each : (j : ℕ) → (j ≡ key) ⊎ (j ≢ key) → stands_on m (node_at t j) ≡ stands_on m (get_or (map (past_node key n.above) rest) j None)
+        each : (j : ℕ) → (j ≡ key) ⊎ (j ≢ key) → links_to_key m (node_at t j) ≡ links_to_key m (get_or (map (past_node key n.above) rest) j None)
         each j (inl e) =
-            ap (λ i. stands_on m (node_at t i)) e ∙ ap (stands_on m) gone
-            ∙ sym (ap (stands_on m) (map_at (past_node key n.above) rest j refl ∙ ap (past_node key n.above) (ap (node_at rest) e ∙ rest_key)))
+            ap (λ i. links_to_key m (node_at t i)) e ∙ ap (links_to_key m) gone
+            ∙ sym (ap (links_to_key m) (map_at (past_node key n.above) rest j refl ∙ ap (past_node key n.above) (ap (node_at rest) e ∙ rest_key)))
         each j (inr ne) =
             ap (is_above m) (links_now j ne)
-            ∙ sym (same (node_at s j)) ∙ sym (ap (stands_on m) (map_at (past_node key n.above) rest j refl ∙ ap (past_node key n.above) (rest_other j ne)))
+            ∙ sym (same (node_at s j)) ∙ sym (ap (links_to_key m) (map_at (past_node key n.above) rest j refl ∙ ap (past_node key n.above) (rest_other j ne)))
 
     holders_now : (m : ℕ) → m ≢ key → holders_of t new m + one (is_key m n.above) ≡ holders_of s tips m + cond (is_key m n.above) n.holders 0
     holders_now m ne =
@@ -186,7 +186,7 @@ module _ {X : Type 0} where
         let b : count_by (is_key m) new ≡ count_by (is_key m) (map (past key n.above) tips) = ap (count_by (is_key m)) now in
         let c = count_map (is_key m) (past key n.above) tips in
         let d = sum_past (λ o. is_key m (past key n.above o)) (is_key m) (is_key key) (is_key m n.above) tips (each_past key m n.above ne) in
-        let e = both (is_key m n.above) (count_by (is_key key) tips) (count_by (stands_on key) s) in
+        let e = both (is_key m n.above) (count_by (is_key key) tips) (count_by (links_to_key key) s) in
         let f = ap (λ h. cond (is_key m n.above) h 0) (sound.counted key n there) in
         omega (arith, a, b, c, d, e, f)
 
@@ -208,12 +208,12 @@ module _ {X : Type 0} where
         by true it =
             let old = sound.counted k (was k m e).0 (was k m e).1.0 in
             let both = counted_by k m e true it in
-            let some = get_or-le-sum_by (λ o. one (stands_on k o)) s key None within in
-            let z : one (stands_on k (node_at s key)) ≡ 1 = ap (λ o. one (stands_on k o)) there ∙ ap one it in
+            let some = get_or-le-sum_by (λ o. one (links_to_key k o)) s key None within in
+            let z : one (links_to_key k (node_at s key)) ≡ 1 = ap (λ o. one (links_to_key k o)) there ∙ ap one it in
             omega (arith, old, both.0, both.1, some, z)
         by false it = let both = counted_by k m e false it in omega (arith, both.0, both.1)
 
-    pub skipped_sound : IsSound t new
+    pub skipped_sound : IsSoundFamily t new
     skipped_sound = record {
       ends = λ i. let e = sound.ends i in record { up = keys_without key e.up; is = climbs i e.up e.is };
       live = λ k m e.

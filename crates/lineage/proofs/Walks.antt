@@ -1,30 +1,30 @@
--- Climbs in the slab, and the paths that they are.
+-- Climbs in the slab, and the paths that they give.
 use Rattle.std.proofs.Common.{◌≡◌, ℕ, ◌<◌, ◌≤◌, List, [], ◌∷◌, ◌++◌, length, map, reverse, Option, Some, None, refl, sym, ◌∙◌, ap, subst, arith, inl, inr, ◌⊎◌}
 use Rattle.std.proofs.lemmas.Bool.{cases_lt}
 use Rattle.std.proofs.lemmas.List.{get_or_past, get_or-map, length-map, reverse-append, reverse-reverse, append_assoc}
 use Rattle.lineage.specs.declared.node.Node.{Node}
 use Rattle.lineage.specs.Family.{last_of, item_at, path_in}
 use Rattle.lineage.specs.Climbs.{IsClimb, Ends}
-use Rattle.lineage.specs.Held.{tip_at, node_at, item_in, above_in, above_of, keys_up, path_to, family_on, IsSound}
+use Rattle.lineage.specs.Held.{tip_at, node_at, item_in, above_in, above_node, keys_up, path_to, family_on, IsSoundFamily}
 use Rattle.lineage.proofs.Once.{reverse_cons}
 use Rattle.lineage.proofs.Climbs.{climb_is, climb_short, climb_from, climb_top}
 
 module _ {X : Type 0} (s : List (Option (Node X))) where
-  pub link_within : (k : ℕ) (next : Option ℕ) → above_of s k ≡ Some next → k < length s
+  pub link_within : (k : ℕ) (next : Option ℕ) → above_node s k ≡ Some next → k < length s
   link_within k next h = by (cases_lt k (length s))
     where
       by : (k < length s) ⊎ (length s ≤ k) → k < length s
       by (inl lt) = lt
-      by (inr le) = let n : above_of s k ≡ None = ap above_in (get_or_past s k None le) in absurd (cc)
+      by (inr le) = let n : above_node s k ≡ None = ap above_in (get_or_past s k None le) in absurd (cc)
 
-  -- the keys of a climb are those that are found
-  pub keys_up_is : (at : Option ℕ) (up : List ℕ) → IsClimb (above_of s) at up → keys_up s at ≡ up
-  keys_up_is at up h = climb_is (above_of s) (length s) at up h (climb_short (above_of s) (length s) link_within at up h)
+  -- the keys found by climbing are those of the climb
+  pub keys_up_is : (at : Option ℕ) (up : List ℕ) → IsClimb (above_node s) at up → keys_up s at ≡ up
+  keys_up_is at up h = climb_is (above_node s) (length s) at up h (climb_short (above_node s) (length s) link_within at up h)
 
-  pub path_to_is : (at : Option ℕ) (up : List ℕ) → IsClimb (above_of s) at up → path_to s at ≡ reverse up
+  pub path_to_is : (at : Option ℕ) (up : List ℕ) → IsClimb (above_node s) at up → path_to s at ≡ reverse up
   path_to_is at up h = ap reverse (keys_up_is at up h)
 
-  -- the path at an index, and the item at a key
+  -- the path at an index, from its tip
   pub path_at : (tips : List (Option ℕ)) (i : ℕ) → path_in (family_on s tips) i ≡ path_to s (tip_at tips i)
   path_at tips i = by (cases_lt i (length tips))
     where
@@ -44,25 +44,25 @@ module _ {X : Type 0} (s : List (Option (Node X))) where
           get_or_past (map item_in s) k None few ∙ ap item_in (sym (get_or_past s k None le))
 
   -- the last key of a path is its tip
-  pub last_is : (tips : List (Option ℕ)) (i : ℕ) → IsSound s tips → last_of (path_in (family_on s tips) i) ≡ tip_at tips i
+  pub last_is : (tips : List (Option ℕ)) (i : ℕ) → IsSoundFamily s tips → last_of (path_in (family_on s tips) i) ≡ tip_at tips i
   last_is tips i h =
       let e = h.ends i in
-      ap last_of (path_at tips i ∙ path_to_is (tip_at tips i) e.up e.is) ∙ climb_top (above_of s) (tip_at tips i) e.up e.is
+      ap last_of (path_at tips i ∙ path_to_is (tip_at tips i) e.up e.is) ∙ climb_top (above_node s) (tip_at tips i) e.up e.is
 
   -- one step up
   pub record Onward (at : Option ℕ) (n : Node X) : Type 0 where
-    pub ends : Ends (above_of s) n.above
+    pub ends : Ends (above_node s) n.above
     pub shorter : length (keys_up s n.above) < length (keys_up s at)
     pub keys : (k : ℕ) → at ≡ Some k → keys_up s at ≡ k ∷ keys_up s n.above
 
-  onward_at : (k : ℕ) (n : Node X) (up : List ℕ) → IsClimb (above_of s) (Some k) up → node_at s k ≡ Some n → Onward (Some k) n
+  onward_at : (k : ℕ) (n : Node X) (up : List ℕ) → IsClimb (above_node s) (Some k) up → node_at s k ≡ Some n → Onward (Some k) n
   onward_at k n [] h e = let no : Some k ≡ None = h in absurd (cc)
   onward_at k n (j ∷ up) h e =
       let same : k ≡ j = let w : Some k ≡ Some j = h.0 in cc in
-      let found : above_of s k ≡ Some n.above = ap above_in e in
-      let found2 : above_of s k ≡ Some h.1.0 = ap (above_of s) same ∙ h.1.1.0 in
+      let found : above_node s k ≡ Some n.above = ap above_in e in
+      let found2 : above_node s k ≡ Some h.1.0 = ap (above_node s) same ∙ h.1.1.0 in
       let next : h.1.0 ≡ n.above = cc in
-      let rest : IsClimb (above_of s) n.above up = subst (λ (o : Option ℕ). IsClimb (above_of s) o up) next h.1.1.1 in
+      let rest : IsClimb (above_node s) n.above up = subst (λ (o : Option ℕ). IsClimb (above_node s) o up) next h.1.1.1 in
       let ks : keys_up s (Some k) ≡ k ∷ up = keys_up_is (Some k) (k ∷ up) (refl, (n.above, (found, rest))) in
       let us : keys_up s n.above ≡ up = keys_up_is n.above up rest in
       let keys : keys_up s (Some k) ≡ k ∷ keys_up s n.above = ks ∙ ap (λ (u : List ℕ). k ∷ u) (sym us) in
@@ -72,35 +72,35 @@ module _ {X : Type 0} (s : List (Option (Node X))) where
         keys = λ i e2. let i_is : i ≡ k = let w : Some k ≡ Some i = e2 in cc in rw (i_is, keys) refl;
       }
 
-  pub onward : (at : Option ℕ) (k : ℕ) (n : Node X) → Ends (above_of s) at → at ≡ Some k → node_at s k ≡ Some n → Onward at n
+  pub onward : (at : Option ℕ) (k : ℕ) (n : Node X) → Ends (above_node s) at → at ≡ Some k → node_at s k ≡ Some n → Onward at n
   onward at k n h is e =
-      subst (λ o. Onward o n) (sym is) (onward_at k n h.up (subst (λ o. IsClimb (above_of s) o h.up) is h.is) e)
+      subst (λ o. Onward o n) (sym is) (onward_at k n h.up (subst (λ o. IsClimb (above_node s) o h.up) is h.is) e)
 
-  no_end_at : (k : ℕ) (up : List ℕ) → IsClimb (above_of s) (Some k) up → node_at s k ≡ None → ⊥
+  no_end_at : (k : ℕ) (up : List ℕ) → IsClimb (above_node s) (Some k) up → node_at s k ≡ None → ⊥
   no_end_at k [] h e = let no : Some k ≡ None = h in cc
   no_end_at k (j ∷ up) h e =
       let same : k ≡ j = let w : Some k ≡ Some j = h.0 in cc in
-      let found2 : above_of s k ≡ Some h.1.0 = ap (above_of s) same ∙ h.1.1.0 in
-      let found : above_of s k ≡ None = ap above_in e in
+      let found2 : above_node s k ≡ Some h.1.0 = ap (above_node s) same ∙ h.1.1.0 in
+      let found : above_node s k ≡ None = ap above_in e in
       cc
 
-  pub no_end : (at : Option ℕ) (k : ℕ) → Ends (above_of s) at → at ≡ Some k → node_at s k ≡ None → ⊥
-  no_end at k h is e = no_end_at k h.up (subst (λ o. IsClimb (above_of s) o h.up) is h.is) e
+  pub no_end : (at : Option ℕ) (k : ℕ) → Ends (above_node s) at → at ≡ Some k → node_at s k ≡ None → ⊥
+  no_end at k h is e = no_end_at k h.up (subst (λ o. IsClimb (above_node s) o h.up) is h.is) e
 
   -- the climb from a key of a path
-  pub climb_at : (tips : List (Option ℕ)) (i k : ℕ) (front back : List ℕ) → IsSound s tips → path_in (family_on s tips) i ≡ front ++ k ∷ back
-      → IsClimb (above_of s) (Some k) (k ∷ reverse front)
+  pub climb_at : (tips : List (Option ℕ)) (i k : ℕ) (front back : List ℕ) → IsSoundFamily s tips → path_in (family_on s tips) i ≡ front ++ k ∷ back
+      → IsClimb (above_node s) (Some k) (k ∷ reverse front)
   climb_at tips i k front back h e =
       let ends = h.ends i in
       let up : ends.up ≡ reverse back ++ k ∷ reverse front =
       sym (reverse-reverse ends.up) ∙ ap reverse (sym (path_to_is (tip_at tips i) ends.up ends.is) ∙ sym (path_at tips i) ∙ e)
       ∙ reverse-append front (k ∷ back) ∙ ap (λ l. l ++ reverse front) (reverse_cons k back) ∙ append_assoc (reverse back) (k ∷ []) (reverse front) in
-      climb_from (above_of s) (tip_at tips i) (reverse back) k (reverse front) (subst (IsClimb (above_of s) (tip_at tips i)) up ends.is)
+      climb_from (above_node s) (tip_at tips i) (reverse back) k (reverse front) (subst (IsClimb (above_node s) (tip_at tips i)) up ends.is)
 
-  -- what a key stands on comes right before it in a path
-  pub above_is : (tips : List (Option ℕ)) (i k : ℕ) (front back : List ℕ) → IsSound s tips → path_in (family_on s tips) i ≡ front ++ k ∷ back
-      → above_of s k ≡ Some (last_of front)
+  -- a key's link is to the key right before it in a path
+  pub above_is : (tips : List (Option ℕ)) (i k : ℕ) (front back : List ℕ) → IsSoundFamily s tips → path_in (family_on s tips) i ≡ front ++ k ∷ back
+      → above_node s k ≡ Some (last_of front)
   above_is tips i k front back h e =
       let c = climb_at tips i k front back h e in
-      let last : last_of front ≡ c.1.0 = ap last_of (sym (reverse-reverse front)) ∙ climb_top (above_of s) c.1.0 (reverse front) c.1.1.1 in
+      let last : last_of front ≡ c.1.0 = ap last_of (sym (reverse-reverse front)) ∙ climb_top (above_node s) c.1.0 (reverse front) c.1.1.1 in
       c.1.1.0 ∙ ap Some (sym last)

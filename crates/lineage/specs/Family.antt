@@ -1,8 +1,8 @@
--- What a contract sees of a lineage: the items, and which of them each path has.
+-- A lineage as contracts see it: the items, and the keys of each path.
 use Rattle.std.specs.Prelude.{ℕ, ◌≡◌, ◌≢◌, Bool, true, false, not, ◌||◌, nat_eq, List, [], ◌∷◌, ◌++◌, Option, Some, None, IsSome, slice_index_or, slice_set, map, filter, if◌then◌else◌}
 use Rattle.std.specs.List.{flat_map}
 
--- the item at each key if there is one, and of each path its keys from the first to the last
+-- `items` has the item at each key, if there is one; `paths` has the keys of each path, in order
 pub record Family (X : Type 0) : Type 0 where
   pub items : List (Option X)
   pub paths : List (List ℕ)
@@ -12,16 +12,16 @@ module _ {X : Type 0} where
   abbrev pub item_at : Family X → ℕ → Option X
   item_at f k = slice_index_or f.items k None
 
-  -- the keys of the path at an index; none where there is no path
+  -- the keys of the path at an index; no keys if there is no such path
   abbrev pub path_in : Family X → ℕ → List ℕ
   path_in f i = slice_index_or f.paths i []
 
--- whether a number is among others
+-- whether a number is in a list
 abbrev pub has : ℕ → List ℕ → Bool
 has x [] = false
 has x (y ∷ ys) = nat_eq x y || has x ys
 
--- the last of keys; `first` where there is none
+-- the last key of a list, or `first` if the list is empty
 abbrev pub last_from : Option ℕ → List ℕ → Option ℕ
 last_from first [] = first
 last_from first (k ∷ ks) = last_from (Some k) ks
@@ -29,20 +29,20 @@ last_from first (k ∷ ks) = last_from (Some k) ks
 abbrev pub last_of : List ℕ → Option ℕ
 last_of keys = last_from None keys
 
--- a path has a key: those before it, and those behind it
-pub record Stands (keys : List ℕ) (key : ℕ) : Type 0 where
+-- a path has a key: `front` are the keys before it, and `back` the keys after it
+pub record IsOnPath (keys : List ℕ) (key : ℕ) : Type 0 where
   pub front : List ℕ
   pub back : List ℕ
   pub is : keys ≡ front ++ key ∷ back
 
--- a path in which a new key comes right above a key
+-- what replaces one key k of a path, and the whole path, when `new` is put right above `key`
 abbrev pub above_key : ℕ → ℕ → ℕ → List ℕ
 above_key key new k = if nat_eq key k then new ∷ k ∷ [] else k ∷ []
 
 abbrev pub divided_keys : ℕ → ℕ → List ℕ → List ℕ
 divided_keys key new keys = flat_map (above_key key new) keys
 
--- a path without a key
+-- whether one key k of a path stays, and the keys that stay, when `key` is taken out
 abbrev pub other_key : ℕ → ℕ → Bool
 other_key key k = not (nat_eq key k)
 
@@ -50,17 +50,18 @@ abbrev pub keys_without : ℕ → List ℕ → List ℕ
 keys_without key keys = filter (other_key key) keys
 
 module _ {X : Type 0} where
-  -- a key has another item
+  -- a lineage with another item at a key
   abbrev pub with_item : Family X → ℕ → X → Family X
   with_item f key item = record f { items = slice_set f.items key (Some item) }
 
-  -- a new key has an item, and each other key what it had
+  -- an item is added at a new key, and each other key still has the item that it had
   pub record IsAdded (old new : Family X) (key : ℕ) (item : X) : Type 0 where
     pub was_vacant : item_at old key ≡ None
     pub here : item_at new key ≡ Some item
     pub others : (k : ℕ) → k ≢ key → item_at new k ≡ item_at old k
 
-  -- a path goes last: that of a key, which has the keys of each path down to it; or, with no key, one with no item
+  -- A path is added last. If a key is given, the new path is the beginning, down to this key, of
+  -- each path that has the key. If not, the new path is empty.
   pub record IsForked (old new : Family X) (key : Option ℕ) : Type 0 where
     pub path : List ℕ
     pub paths : new.paths ≡ old.paths ++ path ∷ []
@@ -68,19 +69,21 @@ module _ {X : Type 0} where
     pub shared : (k i : ℕ) (front back : List ℕ) → key ≡ Some k → path_in old i ≡ front ++ k ∷ back → path ≡ front ++ k ∷ []
     pub items : new.items ≡ old.items
 
-  -- a new key comes right above a key in each path, and a path that ends with it goes last
+  -- a new key is put right above a key in each path that has the key, and a path that ends with the
+  -- new key is added last
   pub record IsForkedAbove (old new : Family X) (key fresh : ℕ) (item : X) : Type 0 where
     pub path : List ℕ
     pub paths : new.paths ≡ map (divided_keys key fresh) old.paths ++ path ∷ []
     pub shared : (i : ℕ) (front back : List ℕ) → path_in old i ≡ front ++ key ∷ back → path ≡ front ++ fresh ∷ []
     pub added : IsAdded old new fresh item
 
-  -- what no path has any more is gone, and all else is as it was
+  -- each item that no path has any more is gone, and each other item is unchanged
   pub record IsReleased (old new : Family X) : Type 0 where
     pub kept : (i k : ℕ) → has k (path_in new i) ≡ true → item_at new k ≡ item_at old k
     pub gone : (k : ℕ) → ((i : ℕ) → has k (path_in new i) ≡ false) → item_at new k ≡ None
 
-  -- a path has new items alone; what no path has any more is gone, and all else is as it was
+  -- the path at an index has these new items instead of its own; each item that no path has any
+  -- more is gone, and all other items and paths are unchanged
   pub record IsExchanged (old new : Family X) (path : ℕ) (items : List X) : Type 0 where
     pub keys : List ℕ
     pub paths : new.paths ≡ slice_set old.paths path keys
@@ -89,14 +92,14 @@ module _ {X : Type 0} where
     pub kept : (i k : ℕ) → has k (path_in new i) ≡ true → has k keys ≡ false → item_at new k ≡ item_at old k
     pub gone : (k : ℕ) → ((i : ℕ) → has k (path_in new i) ≡ false) → item_at new k ≡ None
 
-  -- no other path has the last key of a path
+  -- no other path has the last key of the path at an index
   pub record EndsAlone (f : Family X) (path : ℕ) : Type 0 where
     pub key : ℕ
     pub last : last_of (path_in f path) ≡ Some key
     pub own : (j : ℕ) → j ≢ path → has key (path_in f j) ≡ false
 
-  -- what every lineage keeps: each key of a path has an item, each item is on a path, and paths that share a key share all
-  -- before it, so that no key stands twice in a path
+  -- the invariant of a lineage: each key of a path has an item, each item is on a path, and paths
+  -- that share a key share all before it, so that no key is twice in a path
   pub record IsFamily (f : Family X) : Type 0 where
     pub held : (i k : ℕ) → has k (path_in f i) ≡ true → IsSome (item_at f k)
     pub live : (k : ℕ) → IsSome (item_at f k) → (i : ℕ) × (has k (path_in f i) ≡ true)

@@ -1,4 +1,4 @@
--- What a lineage's fields hold.
+-- The meaning of a lineage's fields.
 use Rattle.std.specs.Prelude.{[], ◌∷◌, ◌++◌, ◌⊎◌, ◌≡◌, ℕ, ◌+◌, ◌-◌, ◌<◌, ◌^◌, Bool, true, false, nat_eq, nat_le, if◌then◌else◌, List, Option, Some, None, is_some, map, reverse, length, slice_index_or}
 use Rattle.std.specs.List.{count_by}
 use Rattle.lineage.specs.declared.node.Node.{Node}
@@ -10,7 +10,7 @@ use Rattle.lineage.specs.Climbs.{IsClimb, climb, Ends}
 abbrev pub tip_at : List (Option ℕ) → ℕ → Option ℕ
 tip_at tips i = slice_index_or tips i None
 
--- whether this is the key
+-- whether a link is to key k; and whether a key's link, if the key has an item, is to key k
 abbrev pub is_key : ℕ → Option ℕ → Bool
 is_key k None = false
 is_key k (Some j) = nat_eq k j
@@ -19,7 +19,7 @@ abbrev pub is_above : ℕ → Option (Option ℕ) → Bool
 is_above k None = false
 is_above k (Some next) = is_key k next
 
--- what is stood on where a key is skipped
+-- the link that replaces this one when `key` is skipped; `above` is the key above `key`
 abbrev pub past : ℕ → Option ℕ → Option ℕ → Option ℕ
 past key above None = None
 past key above (Some k) = if nat_eq key k then above else Some k
@@ -28,7 +28,7 @@ module _ {X : Type 0} where
   abbrev pub node : X → Option ℕ → ℕ → Node X
   node item above holders = record { item = item; above = above; holders = holders }
 
-  -- the node at a key, where there is one
+  -- the node at a key, if there is one
   abbrev pub node_at : List (Option (Node X)) → ℕ → Option (Node X)
   node_at s k = slice_index_or s k None
 
@@ -40,94 +40,95 @@ module _ {X : Type 0} where
   above_in None = None
   above_in (Some n) = Some n.above
 
-  -- what a key stands on, where it has an item
-  abbrev pub above_of : List (Option (Node X)) → ℕ → Option (Option ℕ)
-  above_of s k = above_in (node_at s k)
+  -- the link of a key, if the key has an item
+  abbrev pub above_node : List (Option (Node X)) → ℕ → Option (Option ℕ)
+  above_node s k = above_in (node_at s k)
 
-  -- the keys from here up
+  -- the keys from `at` up
   abbrev pub keys_up : List (Option (Node X)) → Option ℕ → List ℕ
-  keys_up s at = climb (above_of s) (length s) at
+  keys_up s at = climb (above_node s) (length s) at
 
-  -- the keys down to a tip
+  -- the keys of the path that ends with `at`, from the first down
   abbrev pub path_to : List (Option (Node X)) → Option ℕ → List ℕ
   path_to s at = reverse (keys_up s at)
 
-  -- whether a node stands right on a key
-  abbrev pub stands_on : ℕ → Option (Node X) → Bool
-  stands_on k o = is_above k (above_in o)
+  -- whether a node links to a key
+  abbrev pub links_to_key : ℕ → Option (Node X) → Bool
+  links_to_key k o = is_above k (above_in o)
 
-  -- how many tips and nodes stand right on a key
+  -- the number of tips and nodes that link to a key
   abbrev pub holders_of : List (Option (Node X)) → List (Option ℕ) → ℕ → ℕ
-  holders_of s tips k = count_by (is_key k) tips + count_by (stands_on k) s
+  holders_of s tips k = count_by (is_key k) tips + count_by (links_to_key k) s
 
-  -- a node that one more stands on, where it is the one
+  -- a node, with one more holder if the first argument is true
   abbrev pub with_holder : Bool → Option (Node X) → Option (Node X)
   with_holder b None = None
   with_holder false (Some n) = Some n
   with_holder true (Some n) = Some (node n.item n.above (n.holders + 1))
 
-  -- a node right above another, and that one below it
-  abbrev pub over : X → Option (Node X) → Option (Node X)
-  over item None = None
-  over item (Some n) = Some (node item n.above 1)
+  -- the new node that is put right above a node; and that node, linked to the new node's key
+  abbrev pub node_over : X → Option (Node X) → Option (Node X)
+  node_over item None = None
+  node_over item (Some n) = Some (node item n.above 1)
 
-  abbrev pub under : ℕ → Option (Node X) → Option (Node X)
-  under key None = None
-  under key (Some n) = Some (node n.item (Some key) n.holders)
+  abbrev pub node_under : ℕ → Option (Node X) → Option (Node X)
+  node_under key None = None
+  node_under key (Some n) = Some (node n.item (Some key) n.holders)
 
-  -- a node that one less stands on: it goes with the last one
+  -- a node with one holder less; None if it has no holder left
   abbrev pub less_one : Option (Node X) → Option (Node X)
   less_one None = None
   less_one (Some n) = if nat_le n.holders 1 then None else Some (node n.item n.above (n.holders - 1))
 
-  -- what then has one less too
+  -- the key above a node that `less_one` drops; its node then also loses a holder
   abbrev pub next_up : Option (Node X) → Option ℕ
   next_up None = None
   next_up (Some n) = if nat_le n.holders 1 then n.above else None
 
-  -- a node that stands on what is above a key, where it stood on the key
+  -- a node whose link skips `key`
   abbrev pub past_node : ℕ → Option ℕ → Option (Node X) → Option (Node X)
   past_node key above None = None
   past_node key above (Some n) = Some (node n.item (past key above n.above) n.holders)
 
-  -- a node that others stand on instead of one, where it is the one
+  -- a node; if the first argument is true, the node below it is skipped, and the holders of that
+  -- node hold this one instead
   abbrev pub passed_on : Bool → ℕ → Option (Node X) → Option (Node X)
   passed_on b others None = None
   passed_on false others (Some n) = Some n
   passed_on true others (Some n) = Some (node n.item n.above (n.holders - 1 + others))
 
-  -- each node that is there has the item and stands where it did
+  -- each node that is left has the item and the link that it had
   abbrev pub Stays : List (Option (Node X)) → List (Option (Node X)) → Type 0
   Stays old new =
       (k : ℕ) (n : Node X) → node_at new k ≡ Some n → (m : Node X) × ((node_at old k ≡ Some m) × ((n.item ≡ m.item) × (n.above ≡ m.above)))
 
-  -- a key is on the way up from a tip
+  -- a key is on a path
   pub record IsOn (s : List (Option (Node X))) (tips : List (Option ℕ)) (k : ℕ) : Type 0 where
     pub path : ℕ
     pub up : List ℕ
-    pub is : IsClimb (above_of s) (tip_at tips path) up
+    pub is : IsClimb (above_node s) (tip_at tips path) up
     pub on : has k up ≡ true
 
-  -- each climb ends; each node is on a path, and counts what stands on it
-  pub record IsSound (s : List (Option (Node X))) (tips : List (Option ℕ)) : Type 0 where
-    pub ends : (i : ℕ) → Ends (above_of s) (tip_at tips i)
+  -- each path's climb ends; each node is on a path, and has the right number of holders
+  pub record IsSoundFamily (s : List (Option (Node X))) (tips : List (Option ℕ)) : Type 0 where
+    pub ends : (i : ℕ) → Ends (above_node s) (tip_at tips i)
     pub live : (k : ℕ) (n : Node X) → node_at s k ≡ Some n → IsOn s tips k
     pub counted : (k : ℕ) (n : Node X) → node_at s k ≡ Some n → n.holders ≡ holders_of s tips k
     pub few : length tips + count_by is_some s < 2 ^ 64
 
-  -- the climb `at` is let go: its first key counts one that is gone, and what is on it may be on no path; so far each node that
-  -- is there was there at first
+  -- The climb from `at` is being released. Its first key counts one holder too many, and its keys
+  -- may be on no path. Each node that is left has the item and the link that it had at first.
   pub record IsReleasing (first s : List (Option (Node X))) (tips : List (Option ℕ)) (at : Option ℕ) : Type 0 where
-    pub ends : (i : ℕ) → Ends (above_of s) (tip_at tips i)
-    pub going : Ends (above_of s) at
+    pub ends : (i : ℕ) → Ends (above_node s) (tip_at tips i)
+    pub going : Ends (above_node s) at
     pub live : (k : ℕ) (n : Node X) → node_at s k ≡ Some n → IsOn s tips k ⊎ (has k going.up ≡ true)
     pub counted : (k : ℕ) (n : Node X) → node_at s k ≡ Some n → n.holders ≡ holders_of s tips k + (if is_key k at then 1 else 0)
     pub few : length tips + count_by is_some s < 2 ^ 64
     pub stays : Stays first s
 
-  -- a path of these items is put last; all that was there is as it was
+  -- a path of these items is added last, and all other nodes and paths are unchanged
   pub record IsPutLast (s t : List (Option (Node X))) (tips new : List (Option ℕ)) (items : List X) : Type 0 where
-    pub sound : IsSound t new
+    pub sound : IsSoundFamily t new
     pub tip : Option ℕ
     pub tips_are : new ≡ tips ++ tip ∷ []
     pub there : (k : ℕ) → has k (path_to t tip) ≡ true → (n : Node X) × (node_at t k ≡ Some n)
@@ -142,5 +143,5 @@ module _ {X : Type 0} where
   abbrev pub family_of : Inside X → Family X
   family_of t = family_on t.nodes.slots t.tips.items
 
-  abbrev pub IsHeld : Inside X → Type 0
-  IsHeld t = IsSound t.nodes.slots t.tips.items
+  abbrev pub IsHeldFamily : Inside X → Type 0
+  IsHeldFamily t = IsSoundFamily t.nodes.slots t.tips.items

@@ -1,8 +1,8 @@
--- A key or none in one word: no key is the greatest number.
+-- A key or no key, in one word. The greatest word means no key.
 use Rattle.std.specs.Prelude.{ℕ, ◌-◌, ◌^◌, nat_eq, Option, Some, None, if◌then◌else◌}
 
-abbrev pub key_of : ℕ → Option ℕ
-key_of word = if nat_eq word (2 ^ 64 - 1) then None else Some word
+abbrev pub key_of_word : ℕ → Option ℕ
+key_of_word word = if nat_eq word (2 ^ 64 - 1) then None else Some word
 
 abbrev pub word_of : Option ℕ → ℕ
 word_of None = 2 ^ 64 - 1

@@ -1,7 +1,8 @@
 //! Paths that share their beginnings.
 //!
-//! An item knows what it stands on, and a path is its last item's key: so a new path that shares the beginning of another
-//! takes one entry, and an item that comes between others is told to one of them.
+//! Each item links to the item above it, and a path is stored as the key of its last item. So a new
+//! path that shares the beginning of another takes one entry, and putting an item between two
+//! others changes one link.
 #![tactic(auto)]
 
 pub mod lineage;

@@ -4,7 +4,7 @@ ghost use Rattle.std.specs.Prelude.{ℕ, ◌≡◌, ◌≤◌, List, ◌++◌, l
 ghost use Rattle.std.specs.Option.{option_copied, option_map};
 ghost use Rattle.lineage.specs.Family.{item_at, path_in, last_of, EndsAlone, IsFamily};
 ghost use Rattle.lineage.specs.Climbs.{Ends};
-ghost use Rattle.lineage.specs.Held.{above_of, path_to, tip_at};
+ghost use Rattle.lineage.specs.Held.{above_node, path_to, tip_at};
 
 mod divide;
 mod exchange;
@@ -32,11 +32,11 @@ impl<X> Model for Lineage<X> {
 
     ghost Value = { Family X };
 
-    ghost use Rattle.lineage.specs.Held.{family_of, IsHeld};
+    ghost use Rattle.lineage.specs.Held.{family_of, IsHeldFamily};
 
     ghost view = { family_of };
 
-    ghost invariant = { IsHeld };
+    ghost invariant = { IsHeldFamily };
 }
 
 impl<X: Drop> Lineage<X> {
@@ -44,7 +44,7 @@ impl<X: Drop> Lineage<X> {
     ghost use Rattle.lineage.specs.contracts.lineage.Lineage.{the_row};
     ghost use Rattle.lineage.specs.Family.{with_item};
 
-    /// No path and no item. It takes no memory.
+    /// A lineage with no path and no item. Never allocates.
     pub fn new(alloc: Global) -> Lineage<X>
         ensures items { result.items ≡ [] }
         ensures paths { result.paths ≡ [] }
@@ -55,21 +55,21 @@ impl<X: Drop> Lineage<X> {
         }
     }
 
-    /// How many paths there are.
+    /// The number of paths.
     pub fn count(&self) -> usize
         ensures { result ≡ length self.now.paths }
     {
         self.tips.len()
     }
 
-    /// A number that is above the key of each item: for how many there is room.
+    /// The number of items that memory is reserved for. The key of each item is below this number.
     pub fn room(&self) -> usize
         ensures { (k : ℕ) → result ≤ k → item_at self.now k ≡ None }
     {
         self.nodes.capacity()
     }
 
-    /// The item at a key; none where there is none.
+    /// The item at a key; `None` if there is no such item.
     pub fn item(&self, key: Key) -> Option<&X>
         ensures { option_copied result ≡ item_at self.now key }
     {
@@ -77,21 +77,22 @@ impl<X: Drop> Lineage<X> {
         Some(&node.item)
     }
 
-    /// The last key of the path at an index; none where there is no such path, or it has no item.
+    /// The last key of the path at an index; `None` if there is no such path, or if the path has no
+    /// item.
     pub fn last(&self, path: usize) -> Option<Key>
         ensures { result ≡ last_of (path_in self.now path) }
     {
         self.tip(path).get()
     }
 
-    /// The same, as a climb has it.
+    /// The same key as `last` gives, as the start of a climb.
     pub fn tip(&self, path: usize) -> Above
         ensures { result ≡ last_of (path_in self.now path) }
     {
         tip_at(&self.tips, path)
     }
 
-    /// Gives a key another item. The one that it had. It takes no memory.
+    /// Replaces the item at a key, and returns the old one. Never allocates.
     pub fn replace(&mut self, key: Key, item: X) -> X
         requires { IsSome (item_at self.old key) }
         ensures was { item_at self.old key ≡ Some result }
@@ -101,7 +102,7 @@ impl<X: Drop> Lineage<X> {
         mem::replace(&mut self.nodes[key].item, item)
     }
 
-    /// The item at a key, for writing.
+    /// A mutable borrow of the item at a key.
     pub fn item_mut(&mut self, key: Key) -> &mut X
         requires { IsSome (item_at self.old key) }
         ensures* writes_back { sem 𝓛
@@ -112,7 +113,8 @@ impl<X: Drop> Lineage<X> {
         &mut node.item
     }
 
-    /// Whether no other path has the last item of the path at an index; not so where that has no item.
+    /// Whether no other path has the last item of the
+    /// path at an index; false if the path has no item.
     pub fn ends_alone(&self, path: usize) -> bool
         ensures yes { result ≡ true → EndsAlone self.now path }
         ensures no { result ≡ false → EndsAlone self.now path → ⊥ }
@@ -123,15 +125,15 @@ impl<X: Drop> Lineage<X> {
         self.nodes[key].holders == 1
     }
 
-    /// What a lineage keeps by its type. It does nothing: callers learn this by its contract.
+    /// Does nothing. Its contract states what the type guarantees.
     pub fn held(&self)
         ensures { IsFamily self.now }
     {
         let _count = self.tips.len();
     }
 
-    /// The key that comes before a key, the same in each path that has it; none for a path's first, and where no item has the
-    /// key.
+    /// The key above `key`, which is the same in each path that has `key`. `None` if `key` is the
+    /// first of a path, or if it has no item.
     pub fn above(&self, key: Key) -> Option<Key>
         ensures each { (i : ℕ) (front back : List ℕ) → path_in self.now i ≡ front ++ key ∷ back
             → result ≡ last_of front }
@@ -140,8 +142,7 @@ impl<X: Drop> Lineage<X> {
         self.nodes.get(key)?.above.get()
     }
 
-    /// The item at a key, and the key that comes before it, the same in each path that has it, or none for a path's first. None
-    /// where no item has the key.
+    /// The item at `key`, and the key above it as `above` gives it. `None` if `key` has no item.
     #[inline(always)]
     pub fn step_up(&self, key: Key) -> Option<(&X, Option<Key>)>
         ensures item { option_map (λ s. s.0.now) result ≡ item_at self.now key }
@@ -152,7 +153,7 @@ impl<X: Drop> Lineage<X> {
         Some((&node.item, node.above.get()))
     }
 
-    /// The item at a key that is there, and the key that comes before it, as `step_up` tells them.
+    /// The item at `key`, and the key above `key`, as `step_up` gives them. The item has to exist.
     #[inline(always)]
     pub fn step_up_from(&self, key: Key) -> (&X, Above)
         requires { IsSome (item_at self.now key) }
@@ -164,8 +165,8 @@ impl<X: Drop> Lineage<X> {
         (&node.item, node.above)
     }
 
-    /// What a climb comes to: a key, its item, and what the climb comes to behind it, the same in each path that has the key. None
-    /// where the climb is at its end, or no item has the key.
+    /// One step of a climb: a key, its item, and the rest of the climb. The rest is the same in
+    /// each path that has the key. `None` if the climb has ended, or if the key has no item.
     #[inline(always)]
     pub fn climb(&self, at: Above) -> Option<(Key, &X, Above)>
         ensures key { IfSome result (λ s. at ≡ Some s.0) }
@@ -174,13 +175,13 @@ impl<X: Drop> Lineage<X> {
             → path_in self.now i ≡ front ++ s.0 ∷ back → s.2 ≡ last_of front) }
         ensures end { IfNone result ((k : ℕ) → at ≡ Some k → item_at self.now k ≡ None) }
     {
-        // It tells the proof that there are fewer than 2^64 slots: none has the word of none, and one test finds both ends.
+        // for the proof: there are fewer than 2^64 slots, so no key has the word that means `None`
         let _most = self.nodes.capacity();
         let node = self.nodes.get(at.word)?;
         Some((at.word, &node.item, node.above))
     }
 
-    /// The keys of the path at an index, in order; none where there is no such path.
+    /// The keys of the path at an index, in order; no keys if there is no such path.
     pub fn keys(&self, alloc: Global, path: usize) -> Result<Vec<Key>, AllocError>
         ensures { IfOk result (λ keys. keys.items ≡ path_in self.now path) }
     {
@@ -188,7 +189,8 @@ impl<X: Drop> Lineage<X> {
     }
 }
 
-/// The last key of the path at an index.
+/// The last key of the path at an index; no key if there is no such path, or if the path has no
+/// item.
 fn tip_at(tips: &[Above], path: usize) -> Above
     ensures { result ≡ tip_at tips.now path }
 {
@@ -198,13 +200,13 @@ fn tip_at(tips: &[Above], path: usize) -> Above
     }
 }
 
-/// The keys down to a tip, from the first on.
+/// The keys of the path that ends with `tip`, from the first down.
 fn keys_down_to<X>(
     alloc: Global,
     nodes: &Slab<Node<X>>,
     tip: Option<Key>,
 ) -> Result<Vec<Key>, AllocError>
-    requires { Ends (above_of nodes.now.slots) tip }
+    requires { Ends (above_node nodes.now.slots) tip }
     ensures { IfOk result (λ keys. keys.items ≡ path_to nodes.now.slots tip) }
 {
     let mut keys = Vec::new(alloc);

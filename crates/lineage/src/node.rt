@@ -1,4 +1,4 @@
-//! Items, each with what it stands on.
+//! Items, each with its link.
 
 ghost use Rattle.std.specs.Prelude.{◌≡◌, ◌<◌, ◌-◌, ◌^◌, Some, None};
 
@@ -8,10 +8,10 @@ use std::marker::Model;
 /// The key of an item.
 pub type Key = usize;
 
-/// A key or none, in one word. Contracts see the key as an option.
+/// A key or no key, in one word. Contracts see an option of a key.
 #[derive(Debug, Drop)]
 pub struct Above {
-    // No slab has this many slots, so that no key is `usize::MAX`.
+    // `usize::MAX` means no key: no slab has enough slots to use it as a key
     pub(crate) word: usize,
 }
 
@@ -20,9 +20,9 @@ impl Model for Above {
 
     ghost Value = { Option ℕ };
 
-    ghost use Rattle.lineage.specs.Words.{key_of, word_of};
+    ghost use Rattle.lineage.specs.Words.{key_of_word, word_of};
 
-    ghost view = { λ a. key_of a.word };
+    ghost view = { λ a. key_of_word a.word };
 
     ghost inverse = { λ o. record { word = word_of o } };
 }
@@ -46,7 +46,7 @@ impl Above {
         Above { word: usize::MAX }
     }
 
-    /// A key.
+    /// This key.
     #[inline(always)]
     pub(crate) fn of(key: Key) -> Above
         requires { key < 2 ^ 64 - 1 }
@@ -55,7 +55,7 @@ impl Above {
         Above { word: key }
     }
 
-    /// The key, or none.
+    /// The key, or `None`.
     #[inline(always)]
     pub fn get(self) -> Option<Key>
         ensures { result ≡ self }
@@ -68,7 +68,7 @@ impl Above {
     }
 }
 
-/// An item, the key of what it stands on, and how many items and tips of paths stand right on it.
+/// An item, its link, and the number of its holders: the items and tips that link to it.
 #[derive(Debug, Drop)]
 pub(crate) struct Node<X> {
     pub(crate) item: X,

@@ -4,4 +4,4 @@
 mod rules;
 pub mod task;
 
-pub use rules::{Matrix, MatrixRules};
+pub use rules::{Matrix, MatrixRules, NewMatrix};

@@ -1,4 +1,4 @@
-//! The rules of a matrix, whatever register stands below.
+//! The rules of a matrix, over any register.
 
 ghost use Rattle.std.specs.Prelude.{◌≡◌, ℕ, ◌+◌, ◌-◌, ◌*◌, ◌<◌, ◌≤◌, ◌^◌, MatchResult, IfOk, Some, None};
 ghost use Rattle.frames.specs.declared.limits.TheConstants.{LEAST_PROCESSES, LEAST_VALUES, MOST_VALUES, MOST_WRITERS};
@@ -16,17 +16,18 @@ use layers::layered::Layered;
 use layers::nested::{Ask, Continuation};
 use safe_bit::Store;
 
-/// A register that each of n processes writes and reads, over n * n registers of tagged codes: an
-/// operation reads its column, and then writes the greatest code, or a write its own with a greater
-/// tag, to its row. It is this project's own, after an idea of Vitanyi and Awerbuch (1986).
+/// A register that each of n processes writes and reads, over n * n registers of tagged codes. In
+/// each operation a process reads its column and then writes its row. A read writes the greatest
+/// code that it has read; a write writes a code of its own value, with a greater tag. The
+/// construction is this project's own, after an idea of Vitanyi and Awerbuch (1986).
 pub type Matrix<S> = Layered<MatrixRules, S>;
 
 /// The rules of a matrix.
 #[derive(Debug, PartialEq, Eq)]
 pub struct MatrixRules {
-    /// How many processes it has; there are as many rows and columns.
+    /// The number of processes, and of rows and columns.
     pub n: u32,
-    /// How many values it has.
+    /// The number of values.
     pub values: u32,
     /// The last tag.
     pub last: u32,
@@ -46,23 +47,24 @@ impl Clone for MatrixRules {
 
 impl Copy for MatrixRules {}
 
-impl MatrixRules {
-    /// The matrix of n processes, 2 to 4, and so many values, 2 to 512, with tags up to `last_tag`,
-    /// at most 511, over a register of `(last_tag + 1) * n * values` values, at most 512, and 2
-    /// processes. Refused as BadSize where one of these is broken or the register below has depth 8,
-    /// else as TooManyBits where there would be more than 4,096 cells or 65,536 words.
-    pub fn new<S: Register>(
-        below: S,
-        n: u32,
-        values: u32,
-        last_tag: u32,
-    ) -> Result<Matrix<S>, LayerError>
-        ensures refused { MatchResult result (λ _. matrix_refusal n values last_tag (S.is below)
-            ≡ None) (λ e. matrix_refusal n values last_tag (S.is below) ≡ Some e) }
-        ensures built { IfOk result (λ r. ⟦<Layered<MatrixRules, S> as Behaves>⟧.is r
-            ≡ layered (matrix_table n values last_tag) (S.is below)) }
-        ensures below { IfOk result (λ r. r.below ≡ below) }
-    {
+/// The trait of `Matrix::new`. It has to be in scope in each module that calls `Matrix::new`.
+pub trait NewMatrix<S: Register>: Sized {
+    /// The matrix of `n` processes and `values` values, with tags up to `last_tag`, over registers
+    /// like `below`. `n` is 2 to 4, `values` is 2 to 512, and `last_tag` is at most 511. The
+    /// register below has 2 processes, and it has `(last_tag + 1) * n * values` values, at most
+    /// 512. Refused as BadSize if one of these limits is broken, or if the register below has depth
+    /// 8; otherwise refused as TooManyBits if there would be more than 4,096 cells or 65,536 words.
+    fn new(below: S, n: u32, values: u32, last_tag: u32) -> Result<Matrix<S>, LayerError>
+        ensures refused { MatchResult result
+            (λ _. matrix_refusal n values last_tag (S.behaviour below)
+            ≡ None) (λ e. matrix_refusal n values last_tag (S.behaviour below) ≡ Some e) }
+        ensures built { IfOk result (λ r. ⟦<Layered<MatrixRules, S> as Behaves>⟧.behaviour r
+            ≡ layered (matrix_table n values last_tag) (S.behaviour below)) }
+        ensures below { IfOk result (λ r. r.below ≡ below) };
+}
+
+impl<S: Register> NewMatrix<S> for Matrix<S> {
+    fn new(below: S, n: u32, values: u32, last_tag: u32) -> Result<Matrix<S>, LayerError> {
         if !(LEAST_PROCESSES..=MOST_WRITERS).contains(&n) {
             return Err(LayerError::BadSize);
         }
@@ -77,22 +79,23 @@ impl MatrixRules {
             values,
             last: last_tag,
         };
-        Layered::new(below, layer)
+        Layered::over(below, layer)
     }
 }
 
 impl MatrixRules {
-    ghost use Rattle.matrix.specs.Program.{codes, code_of, tag_of, row_from, behind_column, column_from, ValueFits, InWork, RowFits};
+    ghost use Rattle.matrix.specs.Program.{matrix_code_count, code_of, tag_of, row_from, after_column, column_from, ValueFits, InWork, RowFits};
     ghost use Rattle.std.specs.Bool.{Decides};
-    ghost use Rattle.matrix.specs.Turns.{ComesTo};
+    ghost use Rattle.matrix.specs.Turns.{Yields};
 
-    /// What a process comes to that has read its column up to part `j`.
+    /// The next task, or the end, of a process that has read the parts of its column before part
+    /// `j`.
     fn at_column(&self, who: u32, op: Op, j: u32, greatest: u32) -> Continuation<MatrixTask>
         requires process { who < self.now.n }
         requires part { j ≤ self.now.n }
         requires value { ValueFits self.now.values op }
-        requires code { greatest < codes self.now.n self.now.values self.now.last }
-        ensures { ComesTo (column_from self.now.n self.now.values self.now.last who op
+        requires code { greatest < matrix_code_count self.now.n self.now.values self.now.last }
+        ensures { Yields (column_from self.now.n self.now.values self.now.last who op
             (self.now.n - j) j greatest) result }
     {
         if j < self.n {
@@ -103,16 +106,16 @@ impl MatrixRules {
                 greatest,
             })
         } else {
-            self.behind_column(who, op, greatest)
+            self.after_column(who, op, greatest)
         }
     }
 
-    /// What a process comes to that has read its column.
-    fn behind_column(&self, who: u32, op: Op, greatest: u32) -> Continuation<MatrixTask>
+    /// The next task, or the end, of a process that has read its whole column.
+    fn after_column(&self, who: u32, op: Op, greatest: u32) -> Continuation<MatrixTask>
         requires process { who < self.now.n }
         requires value { ValueFits self.now.values op }
-        requires code { greatest < codes self.now.n self.now.values self.now.last }
-        ensures { ComesTo (behind_column self.now.n self.now.values self.now.last who op greatest)
+        requires code { greatest < matrix_code_count self.now.n self.now.values self.now.last }
+        ensures { Yields (after_column self.now.n self.now.values self.now.last who op greatest)
             result }
     {
         match op {
@@ -127,10 +130,10 @@ impl MatrixRules {
         }
     }
 
-    /// What a process comes to that is about to write its row.
+    /// The next task of a process that begins to write its row.
     fn at_row(&self, who: u32, op: Op, code: u32) -> Continuation<MatrixTask>
         requires { who < self.now.n }
-        ensures { ComesTo (row_from self.now.n self.now.values who op self.now.n 0 code) result }
+        ensures { Yields (row_from self.now.n self.now.values who op self.now.n 0 code) result }
     {
         Continuation::Asks(MatrixTask::Row {
             who,
@@ -140,11 +143,12 @@ impl MatrixRules {
         })
     }
 
-    /// What a process comes to that has written its row up to part `j`.
+    /// The next task, or the end, of a process that has written the parts of its row before part
+    /// `j`.
     fn along_row(&self, who: u32, op: Op, j: u32, code: u32) -> Continuation<MatrixTask>
         requires process { who < self.now.n }
         requires part { j ≤ self.now.n }
-        ensures { ComesTo (row_from self.now.n self.now.values who op (self.now.n - j) j code)
+        ensures { Yields (row_from self.now.n self.now.values who op (self.now.n - j) j code)
             result }
     {
         if j < self.n {
@@ -158,14 +162,14 @@ impl MatrixRules {
 
     /// The tag of a code.
     fn tag_of(&self, code: u32) -> u32
-        requires { code < codes self.now.n self.now.values self.now.last }
+        requires { code < matrix_code_count self.now.n self.now.values self.now.last }
         ensures tag { result ≡ tag_of self.now.n self.now.values code }
         ensures few { result ≤ self.now.last }
     {
         code / (self.n * self.values)
     }
 
-    /// The code of the next tag, a writer and a value.
+    /// The code of the tag after `tag`, of the writer `who`, and of the value `v`.
     fn raised(&self, tag: u32, who: u32, v: u32) -> u32
         requires tag { tag < self.now.last }
         requires process { who < self.now.n }
@@ -175,7 +179,8 @@ impl MatrixRules {
         ((tag + 1) * self.n + who) * self.values + v
     }
 
-    /// Whether a process can be at part `j` of its column or its row, in an operation, with a code.
+    /// Whether process `who` can be at part `j` of its column or its row in operation `op`, with
+    /// `code`.
     fn in_work(&self, who: u32, op: Op, j: u32, code: u32) -> bool
         ensures { Decides result (InWork self.now.n self.now.values self.now.last who op who op j
             code) }
@@ -187,12 +192,12 @@ impl MatrixRules {
         who < self.n && j < self.n && code < (self.last + 1) * self.n * self.values && fits
     }
 
-    /// Whether a process in an operation can write the code to its row.
-    #[tactic(auto, using(crate::specs::Bounds::tag_told))]
+    /// Whether process `who` can write `code` to its row in operation `op`.
+    #[tactic(auto, using(crate::specs::Bounds::tag_of_own_code))]
     fn row_fits(&self, who: u32, op: Op, code: u32) -> bool
         requires process { who < self.now.n }
         requires value { ValueFits self.now.values op }
-        requires code { code < codes self.now.n self.now.values self.now.last }
+        requires code { code < matrix_code_count self.now.n self.now.values self.now.last }
         ensures { Decides result (RowFits self.now.n self.now.values who op code) }
     {
         match op {
@@ -213,13 +218,13 @@ impl Rules for MatrixRules {
 
 impl Construction for MatrixRules {
     ghost use Rattle.std.specs.Prelude.{refl};
-    ghost use Rattle.matrix.specs.Program.{matrix_table, MatrixStands};
-    ghost use Rattle.matrix.specs.Sound.{matrix_left, matrix_sound, task_eq, task_decides, table_alike};
+    ghost use Rattle.matrix.specs.Program.{matrix_table, MatrixMayBeAt};
+    ghost use Rattle.matrix.specs.Sound.{matrix_left, matrix_sound, matrix_task_eq, matrix_task_decides, matrix_table_alike};
     ghost use Rattle.matrix.specs.declared.task.MatrixTask.TheVariants.{Column, Row};
     ghost use Rattle.frames.specs.declared.types.Op.TheVariants.{Write, Read};
     ghost use Rattle.layers.specs.laws.Equality.{decides_like};
 
-    ghost Stands = { λ l. MatrixStands l.n l.values l.last };
+    ghost MayBeAt = { λ l. MatrixMayBeAt l.n l.values l.last };
 
     ghost left = { λ l. matrix_left l.n };
 
@@ -331,7 +336,7 @@ impl Construction for MatrixRules {
         }
     }
 
-    fn stands(&self, who: u32, op: Op, task: MatrixTask) -> bool {
+    fn may_be_at(&self, who: u32, op: Op, task: MatrixTask) -> bool {
         match task {
             MatrixTask::Column {
                 who: p,
@@ -350,8 +355,8 @@ impl Construction for MatrixRules {
 
     ghost sound = { λ l. matrix_sound l.n l.values l.last l.some l.some_values };
 
-    ghost alike = { λ a b h. table_alike a.n b.n a.values b.values a.last b.last h };
+    ghost alike = { λ a b h. matrix_table_alike a.n b.n a.values b.values a.last b.last h };
 
-    ghost same_task = { decides_like ⟦<MatrixTask as PartialEq>⟧.eq (task_eq ⟦<Op as PartialEq>⟧.eq) (elim [ Column _ _ _ _ ↦ elim [ Column _ _ _ _ ↦ refl | Row _ _ _ _ ↦ refl ] | Row _ _ _ _ ↦ elim [ Column _ _ _ _ ↦ refl | Row _ _ _ _ ↦ refl ] ])
-        (task_decides ⟦<Op as PartialEq>⟧.eq (elim [ Write _ ↦ elim [ Write _ ↦ refl | Read ↦ refl ] | Read ↦ elim [ Write _ ↦ refl | Read ↦ refl ] ])) };
+    ghost same_task = { decides_like ⟦<MatrixTask as PartialEq>⟧.eq (matrix_task_eq ⟦<Op as PartialEq>⟧.eq) (elim [ Column _ _ _ _ ↦ elim [ Column _ _ _ _ ↦ refl | Row _ _ _ _ ↦ refl ] | Row _ _ _ _ ↦ elim [ Column _ _ _ _ ↦ refl | Row _ _ _ _ ↦ refl ] ])
+        (matrix_task_decides ⟦<Op as PartialEq>⟧.eq (elim [ Write _ ↦ elim [ Write _ ↦ refl | Read ↦ refl ] | Read ↦ elim [ Write _ ↦ refl | Read ↦ refl ] ])) };
 }

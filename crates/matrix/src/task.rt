@@ -2,18 +2,18 @@
 
 use frames::types::Op;
 
-/// The operation of a part that is in work: process `who` is at part `j` of its column, which it
-/// reads, or of its row, which it writes; `op` is its operation of the matrix.
+/// An operation of a part: process `who` reads part `j` of its column, or writes part `j` of its
+/// row, in its operation `op` of the matrix.
 #[derive(Clone, Copy, Debug, PartialEq, Eq)]
 pub enum MatrixTask {
-    /// The greatest code that was read before this part is `greatest`, 0 before the first.
+    /// `greatest` is the greatest code that the process has read so far; it is 0 at the first part.
     Column {
         who: u32,
         op: Op,
         j: u32,
         greatest: u32,
     },
-    /// The code that it writes is `code`.
+    /// `code` is the code that the process writes.
     Row {
         who: u32,
         op: Op,

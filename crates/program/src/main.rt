@@ -1,10 +1,10 @@
-//! The program: its words and its three standard streams, handed to the workbench.
+//! The program: it passes its words and its three standard streams to the workbench.
 #![tactic(auto)]
 
 use std::process::ExitCode;
 use std::rt::Env;
 use std::{env, io};
-use towerbench::tool::tool;
+use towerbench::tool;
 
 fn main(rt: HostRuntime) -> ExitCode {
     let words = arguments(&rt);
@@ -14,7 +14,7 @@ fn main(rt: HostRuntime) -> ExitCode {
     ExitCode::from(tool(&rt, words, &mut input, &mut output, &mut errors))
 }
 
-/// The words behind the program's name.
+/// The words of the command line after the program's name.
 fn arguments(rt: &(impl Env + AllocGlobal)) -> io::Result<Vec<String>> {
     let mut words = Vec::new(rt.alloc());
     for word in env::args(rt)?.skip(1) {

@@ -1,12 +1,11 @@
-//! Lines of words, good and bad.
+//! Tests of command lines, good and bad.
 
-use command_line::invocation::{Invocation, parse};
-use command_line::options::Options;
+use command_line::{Invocation, Options, parse_words};
 use std::alloc::Global;
 use std::process::Abort;
 use std::test::Fail;
 
-/// The words of a line, which spaces part.
+/// The words of a line, split at spaces.
 fn split(alloc: Global, line: &str) -> Result<Vec<String>, Fail> {
     let mut words = Vec::new(alloc);
     for word in line.split_ascii_whitespace() {
@@ -15,13 +14,13 @@ fn split(alloc: Global, line: &str) -> Result<Vec<String>, Fail> {
     Ok(words)
 }
 
-/// What a run has to be: its file, its options, and where it saves.
+/// What a command line asks for: the program's file, its options, and the path that it saves to.
 type Run<'a> = (Option<&'a str>, Options, Option<&'a str>);
 
-/// Asserts that a line asks for this run.
+/// Asserts that a line asks the program for this.
 fn check_run(rt: &impl Abort, alloc: Global, line: &str, wanted: Run<'_>) -> Result<(), Fail> {
     let words = split(alloc, line)?;
-    match parse(alloc, words.as_slice()) {
+    match parse_words(alloc, words.as_slice()) {
         Invocation::Run {
             file,
             options,
@@ -32,10 +31,10 @@ fn check_run(rt: &impl Abort, alloc: Global, line: &str, wanted: Run<'_>) -> Res
     Ok(())
 }
 
-/// What a line is refused with.
+/// The text with which a line is refused.
 fn refused(rt: &impl Abort, alloc: Global, line: &str) -> Result<String, Fail> {
     let words = split(alloc, line)?;
-    match parse(alloc, words.as_slice()) {
+    match parse_words(alloc, words.as_slice()) {
         Invocation::Refused(text) => Ok(text),
         _ => panic!(rt; "{line}"),
     }
@@ -103,7 +102,7 @@ fn runs(rt: HostRuntime) -> Result<(), Fail> {
     Ok(())
 }
 
-/// Lines that are refused, each on a line of its own.
+/// Lines that are refused.
 const REFUSED: &str = "\
 one two
 one -- two
@@ -173,11 +172,11 @@ Options:
       --workers <N>   Threads that help to fill, 0 to 4 [default: 0]
       --cells <N>     The most cells that are ever made, 1 to 268435456 [default: 65536]
       --branches <N>  The most branches that there are at a time, 1 to 1024 [default: 64]
-      --save <PATH>   Where the branches are saved behind the script
+      --save <PATH>   Where the branches are saved after the script
   -h, --help          Print help
 ";
 
-/// Lines that ask for it, each on a line of its own.
+/// Lines that ask for the help.
 const ASKING: &str =
     "--help\n-h\ntower --help\n--cells 4 -h\n--workers 4 --help\n--help --workers 5\n";
 
@@ -185,7 +184,7 @@ const ASKING: &str =
 fn help(rt: HostRuntime) -> Result<(), Fail> {
     for line in ASKING.lines() {
         let words = split(rt.alloc(), line)?;
-        match parse(rt.alloc(), words.as_slice()) {
+        match parse_words(rt.alloc(), words.as_slice()) {
             Invocation::Help(text) => assert_eq!(rt; text.as_str(), HELP, "{line}"),
             _ => panic!(rt; "{line}"),
         }
@@ -193,7 +192,7 @@ fn help(rt: HostRuntime) -> Result<(), Fail> {
     Ok(())
 }
 
-/// What is told names what is wrong.
+/// The text of a refusal names what is wrong.
 #[test]
 fn what_is_wrong_is_named(rt: HostRuntime) -> Result<(), Fail> {
     for (line, want) in [

@@ -1,4 +1,5 @@
-//! When answers go out and when a conversation ends, by readers and writers that count.
+//! Tests of when answers are written and when a conversation ends, by readers and writers that
+//! count.
 
 ghost use Rattle.std.specs.Prelude.{◌≡◌, ◌++◌, OnOk, codes};
 
@@ -11,7 +12,7 @@ use std::io;
 use std::io::{Read, Write};
 use std::test::Fail;
 
-/// Answers each line alike.
+/// Answers each line with `yes`.
 #[derive(Drop)]
 struct Nodding;
 
@@ -22,12 +23,14 @@ impl Answers for Nodding {
 
     ghost world = { λ _. tt };
 
+    ghost alone = { λ _. ⊤ };
+
     ghost define = { λ memory number line w. record { world = w; text = codes "yes" } };
 
     ghost reads_front = { λ memory number line w. refl };
 }
 
-/// Adds the answer to each line alike, but to that of one number, for which there is no memory.
+/// Adds the answer `yes` for a line, but has no memory for the line with the number `refused`.
 fn nod(refused: u32, number: u32, out: &mut Vec<u8>) -> Result<(), AllocError>
     ensures { OnOk result (out.new.items ≡ out.old.items ++ codes "yes") }
 {
@@ -37,7 +40,8 @@ fn nod(refused: u32, number: u32, out: &mut Vec<u8>) -> Result<(), AllocError>
     out.extend_from_slice("yes".as_bytes())
 }
 
-/// Answers a script line by line, each alike, but that of one number, for which there is no memory.
+/// Answers each line of a script with `yes`, but has no memory for the line with the number
+/// `refused`. Returns the fault; `None` if the conversation ended well.
 fn nod_to<R: Read, W: Write>(
     alloc: Global,
     refused: u32,
@@ -50,7 +54,8 @@ fn nod_to<R: Read, W: Write>(
     converse(alloc, &mut Nodding, &nodding, reader, writer).err()
 }
 
-/// How many writes there were, how many bytes came by them, and how many writes there were at the last flush.
+/// How many writes there were, how many bytes they took, and how many writes there were at the last
+/// flush.
 #[derive(Drop)]
 struct Counts {
     writes: Cell<usize>,
@@ -72,7 +77,7 @@ impl Counts {
     }
 }
 
-/// Takes all bytes, and counts.
+/// A writer that takes all bytes, and keeps these counts.
 #[derive(Drop)]
 struct Counted<'a> {
     counts: &'a Counts,
@@ -92,7 +97,8 @@ impl Write for Counted<'_> {
     }
 }
 
-/// Gives a script piece by piece, and looks at each read at what was counted before.
+/// A reader that gives a script in pieces, one for each read. At each read it records the counts so
+/// far.
 #[derive(Drop)]
 struct Watching<'a> {
     pieces: &'a [&'a str],
@@ -115,8 +121,9 @@ impl Read for Watching<'_> {
     }
 }
 
-/// The answers to the lines of one read are written at once and flushed, before the next read; a line that goes on
-/// is answered where it ends, and where nothing is answered nothing is written. The last line has no line's end.
+/// The answers to the lines of one read are written together and flushed before the next read. A
+/// line that goes on in the next read is answered when it ends, and nothing is written if there are
+/// no answers. The last line has no line end.
 #[test]
 fn answers_go_out_together(rt: HostRuntime) {
     let counts = Counts::new();
@@ -137,7 +144,7 @@ fn answers_go_out_together(rt: HostRuntime) {
     assert_eq!(rt; counts.now(), (4, 21, 4));
 }
 
-/// Short lines by the thousand are answered by one write for each read.
+/// Thousands of short lines are answered by one write for each read.
 #[test]
 fn many_short_lines(rt: HostRuntime) -> Result<(), Fail> {
     let counts = Counts::new();
@@ -151,7 +158,7 @@ fn many_short_lines(rt: HostRuntime) -> Result<(), Fail> {
     Ok(())
 }
 
-/// A line that there is no memory for ends the conversation for want of memory, also where it is the last one.
+/// If there is no memory for a line, the conversation ends with Memory, even at the last line.
 #[test]
 fn line_without_memory(rt: HostRuntime) {
     for (script, refused, bytes) in [("one\ntwo\nthree\n", 2, 0), ("one\ntwo\nlast", 3, 6)] {
@@ -164,7 +171,7 @@ fn line_without_memory(rt: HostRuntime) {
     }
 }
 
-/// Gives one byte over and over, and counts.
+/// A reader that gives one byte over and over, and counts the bytes.
 #[derive(Drop)]
 struct Endless {
     bytes: usize,
@@ -178,7 +185,7 @@ impl Read for Endless {
     }
 }
 
-/// A script is too long once it has 2^24 bytes, and not before.
+/// A script is too long once 2^24 bytes of it are read, and not before.
 #[test]
 fn endless_script(rt: HostRuntime) {
     let counts = Counts::new();

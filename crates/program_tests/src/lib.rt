@@ -1,4 +1,5 @@
-//! Tests of what the program calls, above all of it, so that nothing is proved twice.
+//! Tests of the crates that the program calls. This crate is above those, so that none of them is
+//! proved again for its tests.
 #![tactic(auto)]
 
 #[cfg(test)]

@@ -1,6 +1,7 @@
-//! What the program does with its words, its file and its streams, and readers and writers that fail on the way.
+//! Tests of what the program does with its words, its file and its streams, with readers and
+//! writers that fail on the way.
 
-ghost use Rattle.command_line.specs.Ranges.{AreLimits};
+ghost use Rattle.command_line.specs.Ranges.{AreOptionsInRange};
 
 mod cut;
 mod faults;
@@ -8,13 +9,13 @@ mod files;
 mod saving;
 mod streams;
 
-use command_line::options::Options;
+use command_line::Options;
 use std::io;
 use std::io::{ErrorKind, Read, Write};
 
-/// No worker, and room for what the scripts here make.
+/// Options without thieves, and with limits that are enough for the scripts here.
 fn options() -> Options
-    ensures { AreLimits result }
+    ensures { AreOptionsInRange result }
 {
     Options {
         workers: 0,
@@ -23,15 +24,15 @@ fn options() -> Options
     }
 }
 
-/// Gives its bytes one by one, each behind so many interrupted reads, and at the end the fault, if any. A
-/// second read behind a fault comes to the end.
+/// A reader that gives its bytes one by one, each after `interruptions` interrupted reads. After
+/// the last byte one read fails with `fault`, if there is one; later reads are at the end.
 #[derive(Drop)]
 struct Slow<'a> {
     bytes: &'a [u8],
     interruptions: u32,
     to_come: u32,
     fault: Option<ErrorKind>,
-    /// How often it was asked.
+    /// How many reads there were.
     reads: u32,
 }
 
@@ -76,15 +77,15 @@ impl Read for Slow<'_> {
 enum Way {
     /// It takes them.
     Takes,
-    /// It answers that it took none.
+    /// It takes none.
     TakesNone,
     /// It fails.
     Fails,
-    /// It takes them, and fails where they are to go on.
+    /// It takes them, and fails to flush them.
     Sticks,
 }
 
-/// Keeps the bytes that it takes.
+/// A writer that keeps the bytes that it takes.
 #[derive(Drop)]
 struct Sink {
     way: Way,

@@ -25,15 +25,17 @@ use Rattle.layers.proofs.Law.{Standing, View, Watch, Runs, IsKept, IsUser}
 use Rattle.layers.proofs.LayerLaw.{Told, told_begun, told_gone, told_void, told_stop, layer_promises}
 use Rattle.reader_copies.specs.declared.task.CopiesTask.{CopiesTask}
 use Rattle.reader_copies.specs.declared.task.CopiesTask.TheVariants.{Writing, Reading}
-use Rattle.reader_copies.specs.Program.{write_from, copies_program, copies_rest, copies_table, CopiesStands}
+use Rattle.reader_copies.specs.Program.{write_from, copies_program, copies_rest, copies_table, CopiesMayBeAt}
 
--- the copies for the readers before r have the value, and none is being written
+-- a write of v is in progress, between two copies: the copies of the readers before r hold v, and
+-- no copy is being written
 pub record Behind (m r v : ℕ) (u : Seen) (parts : ℕ → Seen) : Type 0 where
   pub writing : u.writing ≡ Some v
   pub last : (k : ℕ) → k + 1 < r → (parts k).last ≡ v
   pub quiet : (k : ℕ) → k < m → (parts k).writing ≡ None
 
--- and the copy for reader r is being written
+-- a write of v is in progress: the copies of the readers before r hold v, and only reader r's copy
+-- is being written
 pub record Within (m r v : ℕ) (u : Seen) (parts : ℕ → Seen) : Type 0 where
   pub writing : u.writing ≡ Some v
   pub here : (parts (r - 1)).writing ≡ Some v
@@ -53,7 +55,7 @@ abbrev pub CopierSays : ℕ → Option (Standing CopiesTask) → Seen → (ℕ �
 CopierSays m None u parts = Still m u parts
 CopierSays m (Some n) u parts = CopierAt m n.task u parts
 
--- a read that overlaps no write overlaps none of its copy
+-- a read that overlaps no write overlaps no write of its copy
 abbrev pub Alone : ℕ → Seen → (ℕ → Seen) → Type 0
 Alone m u parts = (r : ℕ) → 1 ≤ r → r ≤ m → u.overlaps r ≡ [] → ((parts (r - 1)).overlaps 1 ≡ []) × (((parts (r - 1)).fresh 1 ≡ u.fresh r) × (u.writing ≡ None))
 
@@ -88,7 +90,7 @@ copier_same m (Some n) u z parts to ul uw l w h = at n.task h
     at (Writing v r) h = record { writing = sym uw ∙ h.writing; here = sym (w (r - 1)) ∙ h.here; last = λ k lk. sym (l k) ∙ h.last k lk; quiet = λ k lk ne. sym (w k) ∙ h.quiet k lk ne }
     at (Reading r) h = h
 
--- which process acts on a copy: the writer, or the copy's reader
+-- the process that acts on a copy: the writer, or the copy's reader
 abbrev pub copies_user : ℕ → ℕ → ℕ
 copies_user k zero = zero
 copies_user k (suc q) = suc k
@@ -227,7 +229,7 @@ module _ (m values : ℕ) where
   begins u j p Read h free s = let lo = writer.reader_some values (m + 1) p s in let hi = writer.reader_few values (m + 1) p s in begin_read u j p h lo (omega (arith, hi))
 
   go_ends : (u : Seen) (j : View CopiesTask) (p : ℕ) (op : Op) (task : CopiesTask) (chosen : Option (ℕ × Bool)) (o : Outcome) → CopiesInv m u j → j.tasks p ≡ Some (record { op = op; task = task })
-      → CopiesStands m values p op task
+      → CopiesMayBeAt m values p op task
       → Answers values (t.asks task).op o → IsNotSpent o → AllByRecursion IsFreshAlone (got (Some (ended (t.asks task).who o)) (j.parts (t.asks task).part))
       → Runs t w p op (λ e. Told IsFreshAlone u (in_order (chosen_of p chosen) e)) (copies_rest m task o)
       (record j { parts = put (t.asks task).part (sees (Some (ended (t.asks task).who o)) (j.parts (t.asks task).part)) j.parts })
@@ -263,7 +265,7 @@ module _ (m values : ℕ) where
   go_ends u j p (Write x) (Reading r) chosen o h mine st ans pass good = absurd st
   go_ends u j p Read (Writing v r) chosen o h mine st ans pass good = absurd st
 
-  pub copies_kept : IsKept t (CopiesStands m values) w opening (Told IsFreshAlone)
+  pub copies_kept : IsKept t (CopiesMayBeAt m values) w opening (Told IsFreshAlone)
   copies_kept = record {
     initial = λ v l j ew et ep. record {
       alone = λ r lo hi o. (let f = ep (r - 1) (omega (arith, lo, hi)) in (ap (λ s. s.overlaps 1) f, (ap (λ s. s.fresh 1) f, refl)));
@@ -276,7 +278,7 @@ module _ (m values : ℕ) where
     goes = λ u j p n chosen o h mine s ans pass good. go_ends u j p n.op n.task chosen o h mine s ans pass good;
   }
 
-  pub copies_user_is : IsUser t (CopiesStands m values) copies_user
+  pub copies_user_is : IsUser t (CopiesMayBeAt m values) copies_user
   copies_user_is p (Write x) (Writing v r) s = sym s.0
   copies_user_is p Read (Reading r) s = let lo : 1 ≤ r = s.1 in let is : r ≡ p = s.0 in omega (arith, lo, is)
   copies_user_is p (Write x) (Reading r) s = absurd s
@@ -284,6 +286,6 @@ module _ (m values : ℕ) where
 
 -- copies of a safe register are safe
 pub copies_over_safe : {P : Type 0} (b : Behaviour P) (Holds : Memory → Type 0) (Reaches : ℕ → Op → P → Type 0) (readers values : ℕ) (left : CopiesTask → ℕ) → IsLawful b Holds Reaches
-    → IsSoundTable (copies_table readers values) (CopiesStands readers values) left → FitsBelow (copies_table readers values) b → IsSafe b → IsSafe (layered (copies_table readers values) b)
+    → IsSoundTable (copies_table readers values) (CopiesMayBeAt readers values) left → FitsBelow (copies_table readers values) b → IsSafe b → IsSafe (layered (copies_table readers values) b)
 copies_over_safe b Holds Reaches readers values left lawful sound fit safe =
     layer_promises (over lawful sound fit) copies_user (copies_user_is readers values) IsFreshAlone (copies_watch readers) fresh_alike fresh_alike (λ who o h. h) safe (copies_kept readers values)

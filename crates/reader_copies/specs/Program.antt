@@ -1,5 +1,5 @@
--- Copies of a register of one reader, one copy for each reader (Lamport 1986, construction 1; Herlihy and Shavit, chapter 4).
--- That a write writes the copies in the readers' order is this project's own.
+-- Copies of a register of one reader, one for each reader (Lamport 1986, construction 1; Herlihy
+-- and Shavit, chapter 4). Writing the copies in the readers' order is this project's own.
 use Rattle.std.specs.Prelude.{◌≡◌, ℕ, zero, suc, ◌+◌, ◌-◌, ◌<◌, ◌≤◌, ◌&&◌, nat_le, Option, Some, if◌then◌else◌}
 use Rattle.frames.specs.declared.types.Op.{Op}
 use Rattle.frames.specs.declared.types.Op.TheVariants as op
@@ -18,35 +18,38 @@ use Rattle.layers.specs.OneWriter.{one_writer}
 use Rattle.reader_copies.specs.declared.task.CopiesTask.{CopiesTask}
 use Rattle.reader_copies.specs.declared.task.CopiesTask.TheVariants.{Writing, Reading}
 
--- write the value to so many copies, one after the other, beginning with that for this reader
+-- the write of v to the remaining copies, one after the other, that of `reader` first; the last
+-- number is how many remain
 abbrev pub write_from : ℕ → ℕ → ℕ → Program CopiesTask
 write_from v reader zero = Ends Written
 write_from v reader (suc behind) = Asks (Writing v reader) (λ o. write_from v (reader + 1) behind)
 
--- a write writes the copies for readers 1 up to the last; a reader reads its own copy
+-- a write writes the copies of readers 1 to `readers`; a reader reads its own copy
 abbrev pub copies_program : ℕ → ℕ → Op → Program CopiesTask
 copies_program readers who (op.Write v) = write_from v 1 readers
 copies_program readers who op.Read = Asks (Reading who) Ends
 
--- behind the copy for one reader the write goes on to the copies for the readers after it
+-- after one reader's copy, a write goes on to the copies of the next readers; a read ends
 abbrev pub copies_rest : ℕ → CopiesTask → Outcome → Program CopiesTask
 copies_rest readers (Writing v reader) o = write_from v (reader + 1) (readers - reader)
 copies_rest readers (Reading reader) o = Ends o
 
--- the copy for reader 1 is the first part; in each copy process 0 writes and process 1 reads
+-- the copy of reader 1 is the first part; in each copy process 0 writes and process 1 reads
 abbrev pub copies_asks : CopiesTask → Ask
 copies_asks (Writing v reader) = record { part = reader - 1; who = 0; op = op.Write v }
 copies_asks (Reading reader) = record { part = reader - 1; who = 1; op = op.Read }
 
+-- the frame of a task
 abbrev pub copies_frame : CopiesTask → Frame
 copies_frame (Writing v reader) = record { layer = layer.Copies; op = op.Write v; i = reader; x = 0 }
 copies_frame (Reading reader) = record { layer = layer.Copies; op = op.Read; i = reader; x = 0 }
 
--- the operation tells a write from a read, and the index whose copy it is
+-- the task of a frame: the frame's operation is the write or the read, and its index is the copy's
+-- reader
 abbrev pub copies_find : ℕ → Frame → CopiesTask
 copies_find who f = elim (f.op) [ op.Write v ↦ Writing v f.i | op.Read ↦ Reading f.i ]
 
--- the layer for so many readers, over a register of so many values
+-- the layer for `readers` readers, over a register of `values` values
 abbrev pub copies_table : ℕ → ℕ → Table CopiesTask
 copies_table readers values = record {
   values = values;
@@ -66,13 +69,14 @@ copies_table readers values = record {
   find = copies_find;
 }
 
--- process 0 stands at some reader's copy, in the write of its value; a reader stands in the read of its own copy
-abbrev pub CopiesStands : ℕ → ℕ → ℕ → Op → CopiesTask → Type 0
-CopiesStands readers values who (op.Write w) (Writing v reader) = (who ≡ 0) × (v ≡ w) × (v < values) × (1 ≤ reader) × (reader ≤ readers)
-CopiesStands readers values who op.Read (Reading reader) = (reader ≡ who) × (1 ≤ reader) × (reader ≤ readers)
-CopiesStands readers values who (op.Write w) (Reading reader) = ⊥
-CopiesStands readers values who op.Read (Writing v reader) = ⊥
+-- process 0 is writing its value to some reader's copy, or a reader is reading its own copy
+abbrev pub CopiesMayBeAt : ℕ → ℕ → ℕ → Op → CopiesTask → Type 0
+CopiesMayBeAt readers values who (op.Write w) (Writing v reader) = (who ≡ 0) × (v ≡ w) × (v < values) × (1 ≤ reader) × (reader ≤ readers)
+CopiesMayBeAt readers values who op.Read (Reading reader) = (reader ≡ who) × (1 ≤ reader) × (reader ≤ readers)
+CopiesMayBeAt readers values who (op.Write w) (Reading reader) = ⊥
+CopiesMayBeAt readers values who op.Read (Writing v reader) = ⊥
 
--- why there can be no copies for so many readers: there are 1 to 4
+-- why copies of register b for `readers` readers are refused, or `None` if they aren't; there may
+-- be 1 to 4 readers
 abbrev pub copies_refusal : {P : Type 0} → ℕ → Behaviour P → Option LayerError
 copies_refusal readers b = if nat_le 1 readers && nat_le readers MOST_READERS then refusal_below (copies_table readers b.values) b else Some BadSize

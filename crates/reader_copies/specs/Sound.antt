@@ -1,4 +1,4 @@
--- The table of copies is sound, and its tasks are equal only to themselves.
+-- The table of copies is sound, and the test of two tasks decides whether they are equal.
 use Rattle.std.proofs.Common.{◌≡◌, ℕ, zero, suc, ◌+◌, ◌-◌, ◌<◌, ◌≤◌, Bool, true, false, refl, ap, arith, nat_eq}
 use mathlib.Core.Bool.{◌&&◌}
 use Rattle.std.specs.Bool.{Decides}
@@ -17,14 +17,14 @@ use Rattle.layers.specs.OneWriter.{one_writer}
 use Rattle.layers.specs.laws.OneWriter as writer
 use Rattle.reader_copies.specs.declared.task.CopiesTask.{CopiesTask}
 use Rattle.reader_copies.specs.declared.task.CopiesTask.TheVariants.{Writing, Reading}
-use Rattle.reader_copies.specs.Program.{write_from, copies_program, copies_rest, copies_table, copies_asks, copies_frame, copies_find, CopiesStands}
+use Rattle.reader_copies.specs.Program.{write_from, copies_program, copies_rest, copies_table, copies_asks, copies_frame, copies_find, CopiesMayBeAt}
 
--- how many copies are still to be written behind a task
+-- how many copies are still to be written after a task
 abbrev pub copies_left : ℕ → CopiesTask → ℕ
 copies_left readers (Writing v reader) = readers - reader
 copies_left readers (Reading reader) = 0
 
--- where copies are to be written, the next task is the first of them; where none is, the write is done
+-- the next task is the first copy still to be written; if there is none, the write is done
 pub settled_more : (base v reader copies : ℕ) (m : Memory) → 0 < copies
     → settled base (write_from v reader copies) m ≡ record { continuation = continuation.Asks (Writing v reader); memory = m }
 settled_more base v reader zero m some = absurd (omega arith)
@@ -36,9 +36,9 @@ settled_none base v reader zero m none = refl
 settled_none base v reader (suc behind) m none = absurd (omega arith)
 
 module _ (readers values : ℕ) (some : 1 ≤ readers) (few : readers ≤ MOST_READERS) where
-  -- a write that has the copies for the readers from this one on before it
+  -- the rest of a write, which still has to write the copies from that of `reader` on
   write_sound : (who w v reader copies : ℕ) → who ≡ 0 → v ≡ w → v < values → 1 ≤ reader → reader + copies ≡ readers + 1
-      → IsSound (copies_table readers values) (CopiesStands readers values who (op.Write w)) (Answers values (op.Write w)) (write_from v reader copies)
+      → IsSound (copies_table readers values) (CopiesMayBeAt readers values who (op.Write w)) (Answers values (op.Write w)) (write_from v reader copies)
   write_sound who w v reader zero writer same lt first all = tt
   write_sound who w v reader (suc behind) writer same lt first all =
       ((writer, same, lt, first, omega arith), λ o. ap (write_from v (reader + 1)) (omega arith))
@@ -48,15 +48,15 @@ module _ (readers values : ℕ) (some : 1 ≤ readers) (few : readers ≤ MOST_R
   write_falls v reader (suc behind) all = omega arith
 
   begins_sound : (who : ℕ) (o : Op) → one_writer values (readers + 1) who o ≡ true
-      → IsSound (copies_table readers values) (CopiesStands readers values who o) (Answers values o) (copies_program readers who o)
+      → IsSound (copies_table readers values) (CopiesMayBeAt readers values who o) (Answers values o) (copies_program readers who o)
   begins_sound who (op.Write v) h = write_sound who v v 1 readers (writer.writer_zero values (readers + 1) who v h) refl (writer.no_other_value values (readers + 1) who v h) (omega arith) (omega arith)
   begins_sound who op.Read h =
       let low = writer.reader_some values (readers + 1) who h in
       let high = writer.reader_few values (readers + 1) who h in
       ((refl, low, omega arith), λ o. refl)
 
-  rest_sound : (who : ℕ) (o : Op) (task : CopiesTask) (outcome : Outcome) → CopiesStands readers values who o task → Answers values (copies_asks task).op outcome → IsNotSpent outcome
-      → IsSound (copies_table readers values) (CopiesStands readers values who o) (Answers values o) (copies_rest readers task outcome)
+  rest_sound : (who : ℕ) (o : Op) (task : CopiesTask) (outcome : Outcome) → CopiesMayBeAt readers values who o task → Answers values (copies_asks task).op outcome → IsNotSpent outcome
+      → IsSound (copies_table readers values) (CopiesMayBeAt readers values who o) (Answers values o) (copies_rest readers task outcome)
   rest_sound who (op.Write w) (Writing v reader) outcome stands answers on =
       write_sound who w v (reader + 1) (readers - reader) stands.0 stands.1 stands.2 (omega arith) (omega (arith, stands.3, stands.4))
   rest_sound who op.Read (Reading reader) (Value x) stands answers on = answers
@@ -65,56 +65,59 @@ module _ (readers values : ℕ) (some : 1 ≤ readers) (few : readers ≤ MOST_R
   rest_sound who (op.Write w) (Reading reader) outcome stands answers on = absurd stands
   rest_sound who op.Read (Writing v reader) outcome stands answers on = absurd stands
 
-  rest_falls : (who : ℕ) (o : Op) (task : CopiesTask) (outcome : Outcome) → CopiesStands readers values who o task → Answers values (copies_asks task).op outcome → IsNotSpent outcome
+  rest_falls : (who : ℕ) (o : Op) (task : CopiesTask) (outcome : Outcome) → CopiesMayBeAt readers values who o task → Answers values (copies_asks task).op outcome → IsNotSpent outcome
       → Falls (copies_left readers) (copies_left readers task) (copies_rest readers task outcome)
   rest_falls who (op.Write w) (Writing v reader) outcome stands answers on = write_falls v (reader + 1) (readers - reader) (omega (arith, stands.3, stands.4))
   rest_falls who op.Read (Reading reader) outcome stands answers on = tt
   rest_falls who (op.Write w) (Reading reader) outcome stands answers on = absurd stands
   rest_falls who op.Read (Writing v reader) outcome stands answers on = absurd stands
 
-  asks_fit : (who : ℕ) (o : Op) (task : CopiesTask) → CopiesStands readers values who o task
+  asks_fit : (who : ℕ) (o : Op) (task : CopiesTask) → CopiesMayBeAt readers values who o task
       → ((copies_asks task).part < readers) × FitsPart values 2 (copies_asks task).who (copies_asks task).op
   asks_fit who (op.Write w) (Writing v reader) stands = (omega (arith, stands.3, stands.4), (refl, stands.2))
   asks_fit who op.Read (Reading reader) stands = (omega (arith, stands.1, stands.2), (omega arith, omega arith))
   asks_fit who (op.Write w) (Reading reader) stands = absurd stands
   asks_fit who op.Read (Writing v reader) stands = absurd stands
 
-  stands_suits : (who : ℕ) (o : Op) (task : CopiesTask) → CopiesStands readers values who o task → one_writer values (readers + 1) who o ≡ true
+  stands_suits : (who : ℕ) (o : Op) (task : CopiesTask) → CopiesMayBeAt readers values who o task → one_writer values (readers + 1) who o ≡ true
   stands_suits who (op.Write w) (Writing v reader) stands = writer.writer_suits values (readers + 1) who w stands.0 (omega arith) (rw stands.1 at stands.2)
   stands_suits who op.Read (Reading reader) stands = writer.others_read values (readers + 1) who (omega (arith, stands.0, stands.1)) (omega (arith, stands.0, stands.2))
   stands_suits who (op.Write w) (Reading reader) stands = absurd stands
   stands_suits who op.Read (Writing v reader) stands = absurd stands
 
-  frame_tells : (who : ℕ) (o : Op) (task : CopiesTask) → CopiesStands readers values who o task → (copies_find who (copies_frame task) ≡ task) × ((copies_frame task).op ≡ o)
+  frame_tells : (who : ℕ) (o : Op) (task : CopiesTask) → CopiesMayBeAt readers values who o task → (copies_find who (copies_frame task) ≡ task) × ((copies_frame task).op ≡ o)
   frame_tells who (op.Write w) (Writing v reader) stands = (refl, ap op.Write stands.1)
   frame_tells who op.Read (Reading reader) stands = (refl, refl)
   frame_tells who (op.Write w) (Reading reader) stands = absurd stands
   frame_tells who op.Read (Writing v reader) stands = absurd stands
 
-  pub copies_sound : IsSoundTable (copies_table readers values) (CopiesStands readers values) (copies_left readers)
-  copies_sound = writer.one_writer_sound (copies_table readers values) (CopiesStands readers values) (copies_left readers) (λ who o. refl) (omega arith)
+  -- the table of copies is sound
+  pub copies_sound : IsSoundTable (copies_table readers values) (CopiesMayBeAt readers values) (copies_left readers)
+  copies_sound = writer.one_writer_sound (copies_table readers values) (CopiesMayBeAt readers values) (copies_left readers) (λ who o. refl) (omega arith)
       (λ v j lt below. lt) (λ v k lt below. absurd (omega arith))
       asks_fit stands_suits frame_tells begins_sound rest_sound rest_falls
 
--- the test of two tasks
-abbrev pub task_eq : CopiesTask → CopiesTask → Bool
-task_eq (Writing v p) (Writing w q) = nat_eq v w && nat_eq p q
-task_eq (Reading p) (Reading q) = nat_eq p q
-task_eq (Writing v p) (Reading q) = false
-task_eq (Reading p) (Writing w q) = false
+-- the equality test of two tasks
+abbrev pub copies_task_eq : CopiesTask → CopiesTask → Bool
+copies_task_eq (Writing v p) (Writing w q) = nat_eq v w && nat_eq p q
+copies_task_eq (Reading p) (Reading q) = nat_eq p q
+copies_task_eq (Writing v p) (Reading q) = false
+copies_task_eq (Reading p) (Writing w q) = false
 
-pub task_decides : (a b : CopiesTask) → Decides (task_eq a b) (a ≡ b)
-task_decides (Writing v p) (Writing w q) =
+-- the test of two tasks decides whether they are equal
+pub copies_task_decides : (a b : CopiesTask) → Decides (copies_task_eq a b) (a ≡ b)
+copies_task_decides (Writing v p) (Writing w q) =
     Decides-like (nat_eq v w && nat_eq p q) (λ e. λ i. Writing (e.0 i) (e.1 i)) (λ e. (cc, cc)) (Decides-and (nat_eq v w) (nat_eq p q) (Decides-eqb v w) (Decides-eqb p q))
-task_decides (Reading p) (Reading q) = Decides-like (nat_eq p q) (λ e. ap Reading e) (λ e. cc) (Decides-eqb p q)
-task_decides (Writing v p) (Reading q) = (λ h. cc, λ h. cc)
-task_decides (Reading p) (Writing w q) = (λ h. cc, λ h. cc)
+copies_task_decides (Reading p) (Reading q) = Decides-like (nat_eq p q) (λ e. ap Reading e) (λ e. cc) (Decides-eqb p q)
+copies_task_decides (Writing v p) (Reading q) = (λ h. cc, λ h. cc)
+copies_task_decides (Reading p) (Writing w q) = (λ h. cc, λ h. cc)
 
--- the test of two layers
-abbrev pub layer_eq : ℕ → ℕ → ℕ → ℕ → Bool
-layer_eq readers readers' values values' = nat_eq readers readers' && nat_eq values values'
+-- the equality test of two layers
+abbrev pub copies_layer_eq : ℕ → ℕ → ℕ → ℕ → Bool
+copies_layer_eq readers readers' values values' = nat_eq readers readers' && nat_eq values values'
 
-pub layers_alike : (p q v w : ℕ) → layer_eq p q v w ≡ true → copies_table p v ≡ copies_table q w
+-- equal layers have equal tables
+pub layers_alike : (p q v w : ℕ) → copies_layer_eq p q v w ≡ true → copies_table p v ≡ copies_table q w
 layers_alike p q v w h =
     let both = (Decides-and (nat_eq p q) (nat_eq v w) (Decides-eqb p q) (Decides-eqb v w)).0 h in
     λ i. copies_table (both.0 i) (both.1 i)

@@ -1,4 +1,4 @@
-//! The rules of copies, whatever register stands below.
+//! The rules of copies, over any register.
 
 ghost use Rattle.std.specs.Prelude.{◌≡◌, ℕ, ◌<◌, ◌≤◌, ◌^◌, MatchResult, IfOk, Some, None};
 ghost use Rattle.frames.specs.declared.limits.TheConstants.{MOST_READERS};
@@ -16,17 +16,17 @@ use layers::layered::Layered;
 use layers::nested::{Ask, Continuation};
 use safe_bit::Store;
 
-/// A register of several readers: a copy of a register of one reader for each of them. A write writes
-/// them one after the other, that for reader 1 first; a reader reads its own (Lamport 1986; Herlihy
-/// and Shavit, chapter 4).
+/// A register of several readers, made of copies of a register of one reader, one for each reader.
+/// A write writes the copies one after the other, that of reader 1 first. A reader reads its own
+/// copy (Lamport 1986; Herlihy and Shavit, chapter 4).
 pub type Copies<S> = Layered<CopiesRules, S>;
 
 /// The rules of copies.
 #[derive(Debug, PartialEq, Eq)]
 pub struct CopiesRules {
-    /// How many readers there are, each with a copy of its own.
+    /// The number of readers, each with its own copy.
     pub readers: u32,
-    /// How many values each copy has.
+    /// The number of values of each copy.
     pub values: u32,
     ghost some: { 1 ≤ readers },
     ghost few: { readers ≤ MOST_READERS },
@@ -40,17 +40,23 @@ impl Clone for CopiesRules {
 
 impl Copy for CopiesRules {}
 
-impl CopiesRules {
-    /// Copies of the register below for 1 to 4 readers. Refused as BadSize for any other number of
-    /// readers, or where the register below has fewer than 2 values, hasn't 2 processes or has depth
-    /// 8, else as TooManyBits where there would be more than 4,096 cells or 65,536 words.
-    pub fn new<S: Register>(below: S, readers: u32) -> Result<Copies<S>, LayerError>
-        ensures refused { MatchResult result (λ _. copies_refusal readers (S.is below) ≡ None)
-            (λ e. copies_refusal readers (S.is below) ≡ Some e) }
-        ensures built { IfOk result (λ r. ⟦<Layered<CopiesRules, S> as Behaves>⟧.is r
-            ≡ layered (copies_table readers (S.is below).values) (S.is below)) }
-        ensures below { IfOk result (λ r. r.below ≡ below) }
-    {
+/// The trait of `Copies::new`. It has to be in scope in each module that calls `Copies::new`.
+pub trait NewCopies<S: Register>: Sized {
+    /// Copies of the register below for `readers` readers, 1 to 4. Refused as BadSize for any other
+    /// number of readers, or if the register below has fewer than 2 values, doesn't have 2
+    /// processes, or has depth 8; otherwise refused as TooManyBits if there would be more than
+    /// 4,096 cells or 65,536 words.
+    fn new(below: S, readers: u32) -> Result<Copies<S>, LayerError>
+        ensures refused { MatchResult result
+            (λ _. copies_refusal readers (S.behaviour below) ≡ None)
+            (λ e. copies_refusal readers (S.behaviour below) ≡ Some e) }
+        ensures built { IfOk result (λ r. ⟦<Layered<CopiesRules, S> as Behaves>⟧.behaviour r
+            ≡ layered (copies_table readers (S.behaviour below).values) (S.behaviour below)) }
+        ensures below { IfOk result (λ r. r.below ≡ below) };
+}
+
+impl<S: Register> NewCopies<S> for Copies<S> {
+    fn new(below: S, readers: u32) -> Result<Copies<S>, LayerError> {
         if readers == 0 || readers > MOST_READERS {
             return Err(LayerError::BadSize);
         }
@@ -58,7 +64,7 @@ impl CopiesRules {
             readers,
             values: below.values(),
         };
-        Layered::new(below, layer)
+        Layered::over(below, layer)
     }
 }
 
@@ -70,12 +76,12 @@ impl Rules for CopiesRules {
 
 impl Construction for CopiesRules {
     ghost use Rattle.std.specs.Prelude.{refl};
-    ghost use Rattle.reader_copies.specs.Program.{copies_table, CopiesStands};
-    ghost use Rattle.reader_copies.specs.Sound.{copies_left, copies_sound, task_eq, task_decides, layers_alike};
+    ghost use Rattle.reader_copies.specs.Program.{copies_table, CopiesMayBeAt};
+    ghost use Rattle.reader_copies.specs.Sound.{copies_left, copies_sound, copies_task_eq, copies_task_decides, layers_alike};
     ghost use Rattle.reader_copies.specs.declared.task.CopiesTask.TheVariants.{Writing, Reading};
     ghost use Rattle.layers.specs.laws.Equality.{decides_like};
 
-    ghost Stands = { λ l. CopiesStands l.readers l.values };
+    ghost MayBeAt = { λ l. CopiesMayBeAt l.readers l.values };
 
     ghost left = { λ l. copies_left l.readers };
 
@@ -167,7 +173,7 @@ impl Construction for CopiesRules {
         }
     }
 
-    fn stands(&self, who: u32, op: Op, task: CopiesTask) -> bool {
+    fn may_be_at(&self, who: u32, op: Op, task: CopiesTask) -> bool {
         match (op, task) {
             (Op::Write(w), CopiesTask::Writing { v, reader }) => {
                 let there = reader >= 1 && reader <= self.readers;
@@ -184,5 +190,5 @@ impl Construction for CopiesRules {
 
     ghost alike = { λ a b h. layers_alike a.readers b.readers a.values b.values h };
 
-    ghost same_task = { decides_like ⟦<CopiesTask as PartialEq>⟧.eq task_eq (elim [ Writing _ _ ↦ elim [ Writing _ _ ↦ refl | Reading _ ↦ refl ] | Reading _ ↦ elim [ Writing _ _ ↦ refl | Reading _ ↦ refl ] ]) task_decides };
+    ghost same_task = { decides_like ⟦<CopiesTask as PartialEq>⟧.eq copies_task_eq (elim [ Writing _ _ ↦ elim [ Writing _ _ ↦ refl | Reading _ ↦ refl ] | Reading _ ↦ elim [ Writing _ _ ↦ refl | Reading _ ↦ refl ] ]) copies_task_decides };
 }

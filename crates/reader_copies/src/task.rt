@@ -1,10 +1,10 @@
 //! The points of the programs of copies.
 
-/// The operation of a copy that is in work.
+/// An operation of a copy.
 #[derive(Clone, Copy, Debug, PartialEq, Eq)]
 pub enum CopiesTask {
-    /// A write of a value to the copy for this reader.
+    /// A write of `v` to the copy of reader `reader`.
     Writing { v: u32, reader: u32 },
-    /// A read by this reader, of its own copy.
+    /// A read by reader `reader`, of its own copy.
     Reading { reader: u32 },
 }

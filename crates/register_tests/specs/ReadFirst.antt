@@ -1,5 +1,5 @@
--- A register of 8 values that has to be read before it can be written: what the tests build a
--- matrix of, to see a row that is spent at its second part.
+-- A register of 8 values that has to be read before it can be written. Tests build a matrix of such
+-- registers, in which a write is spent at the second part of its row.
 use Rattle.std.proofs.Common.{◌≡◌, ℕ, ◌<◌, Bool, true, false, refl, sym, ap, arith}
 use Rattle.std.specs.Prelude.{◌==◌, if◌then◌else◌}
 use Rattle.frames.specs.declared.types.Op.{Op}
@@ -15,7 +15,7 @@ use Rattle.layers.specs.Sound.{IsSound, IsSoundTable, IsNotSpent, FitsPart}
 use Rattle.layers.specs.OneWriter.{one_writer}
 use Rattle.layers.specs.laws.OneWriter as writer
 
--- the task is the operation itself; word 0 is 1 once the register was read
+-- the task is the operation itself; word 0 is 1 once the register has been read
 abbrev pub read_first_program : ℕ → Op → Program Op
 read_first_program who (op.Write v) = Reads 0 (λ read. if read == 0 then Ends (Spent Stamped) else Asks (op.Write v) Ends)
 read_first_program who op.Read = Sets 0 1 (Asks op.Read Ends)
@@ -43,24 +43,24 @@ read_first_table = record {
   find = λ who f. f.op;
 }
 
-abbrev pub ReadFirstStands : ℕ → Op → Op → Type 0
-ReadFirstStands who (op.Write w) (op.Write v) = (who ≡ 0) × (w ≡ v) × (v < 8)
-ReadFirstStands who op.Read op.Read = who ≡ 1
-ReadFirstStands who (op.Write w) op.Read = ⊥
-ReadFirstStands who op.Read (op.Write v) = ⊥
+abbrev pub ReadFirstMayBeAt : ℕ → Op → Op → Type 0
+ReadFirstMayBeAt who (op.Write w) (op.Write v) = (who ≡ 0) × (w ≡ v) × (v < 8)
+ReadFirstMayBeAt who op.Read op.Read = who ≡ 1
+ReadFirstMayBeAt who (op.Write w) op.Read = ⊥
+ReadFirstMayBeAt who op.Read (op.Write v) = ⊥
 
-write_sound : (who v read : ℕ) → who ≡ 0 → v < 8 → IsSound read_first_table (ReadFirstStands who (op.Write v)) (Answers 8 (op.Write v)) (if read == 0 then Ends (Spent Stamped) else Asks (op.Write v) Ends)
+write_sound : (who v read : ℕ) → who ≡ 0 → v < 8 → IsSound read_first_table (ReadFirstMayBeAt who (op.Write v)) (Answers 8 (op.Write v)) (if read == 0 then Ends (Spent Stamped) else Asks (op.Write v) Ends)
 write_sound who v read zero lt = by_test (read == 0)
   where
-    by_test : (unread : Bool) → IsSound read_first_table (ReadFirstStands who (op.Write v)) (Answers 8 (op.Write v)) (if unread then Ends (Spent Stamped) else Asks (op.Write v) Ends)
+    by_test : (unread : Bool) → IsSound read_first_table (ReadFirstMayBeAt who (op.Write v)) (Answers 8 (op.Write v)) (if unread then Ends (Spent Stamped) else Asks (op.Write v) Ends)
     by_test true = tt
     by_test false = ((zero, refl, lt), λ o. refl)
 
-begins_sound : (who : ℕ) (o : Op) → one_writer 8 2 who o ≡ true → IsSound read_first_table (ReadFirstStands who o) (Answers 8 o) (read_first_program who o)
+begins_sound : (who : ℕ) (o : Op) → one_writer 8 2 who o ≡ true → IsSound read_first_table (ReadFirstMayBeAt who o) (Answers 8 o) (read_first_program who o)
 begins_sound who (op.Write v) h = (omega arith, λ read low. write_sound who v read (writer.writer_zero 8 2 who v h) (writer.no_other_value 8 2 who v h))
 begins_sound who op.Read h = (omega arith, (omega arith, (let above = writer.reader_some 8 2 who h in let below = writer.reader_few 8 2 who h in omega arith, λ o. refl)))
 
-rest_sound : (who : ℕ) (o task : Op) (outcome : Outcome) → ReadFirstStands who o task → Answers 8 (read_first_asks task).op outcome → IsNotSpent outcome → Answers 8 o outcome
+rest_sound : (who : ℕ) (o task : Op) (outcome : Outcome) → ReadFirstMayBeAt who o task → Answers 8 (read_first_asks task).op outcome → IsNotSpent outcome → Answers 8 o outcome
 rest_sound who (op.Write w) (op.Write v) Written stands answers on = tt
 rest_sound who (op.Write w) (op.Write v) (Value x) stands answers on = absurd answers
 rest_sound who (op.Write w) (op.Write v) (Spent layer) stands answers on = absurd on
@@ -70,26 +70,26 @@ rest_sound who op.Read op.Read (Spent layer) stands answers on = absurd on
 rest_sound who (op.Write w) op.Read outcome stands answers on = absurd stands
 rest_sound who op.Read (op.Write v) outcome stands answers on = absurd stands
 
-asks_fit : (who : ℕ) (o task : Op) → ReadFirstStands who o task → ((read_first_asks task).part < 1) × FitsPart 8 2 (read_first_asks task).who (read_first_asks task).op
+asks_fit : (who : ℕ) (o task : Op) → ReadFirstMayBeAt who o task → ((read_first_asks task).part < 1) × FitsPart 8 2 (read_first_asks task).who (read_first_asks task).op
 asks_fit who (op.Write w) (op.Write v) stands = (omega arith, (refl, stands.2))
 asks_fit who op.Read op.Read stands = (omega arith, (omega arith, omega arith))
 asks_fit who (op.Write w) op.Read stands = absurd stands
 asks_fit who op.Read (op.Write v) stands = absurd stands
 
-stands_suits : (who : ℕ) (o task : Op) → ReadFirstStands who o task → one_writer 8 2 who o ≡ true
+stands_suits : (who : ℕ) (o task : Op) → ReadFirstMayBeAt who o task → one_writer 8 2 who o ≡ true
 stands_suits who (op.Write w) (op.Write v) stands = writer.writer_suits 8 2 who w stands.0 (omega arith) (omega (arith, stands.1, stands.2))
 stands_suits who op.Read op.Read stands = writer.others_read 8 2 who (omega arith) (omega arith)
 stands_suits who (op.Write w) op.Read stands = absurd stands
 stands_suits who op.Read (op.Write v) stands = absurd stands
 
 -- the frame's operation is the task
-frame_tells : (who : ℕ) (o task : Op) → ReadFirstStands who o task → (task ≡ task) × (task ≡ o)
+frame_tells : (who : ℕ) (o task : Op) → ReadFirstMayBeAt who o task → (task ≡ task) × (task ≡ o)
 frame_tells who (op.Write w) (op.Write v) stands = (refl, ap op.Write (sym stands.1))
 frame_tells who op.Read op.Read stands = (refl, refl)
 frame_tells who (op.Write w) op.Read stands = absurd stands
 frame_tells who op.Read (op.Write v) stands = absurd stands
 
-pub read_first_sound : IsSoundTable read_first_table ReadFirstStands (λ _. 0)
+pub read_first_sound : IsSoundTable read_first_table ReadFirstMayBeAt (λ _. 0)
 read_first_sound = record {
   zero_writes = λ v lt. writer.zero_writes 8 2 v (omega arith) lt;
   others_read = λ who above below. writer.others_read 8 2 who above below;
@@ -98,8 +98,8 @@ read_first_sound = record {
   first_fits = λ v j lt below. lt;
   first_words = λ v k lt below. omega arith;
   asks_fit = asks_fit;
-  stands_suits = stands_suits;
-  frame_tells = frame_tells;
+  may_be_at_suits = stands_suits;
+  frame_gives = frame_tells;
   begins_sound = begins_sound;
   rest_sound = rest_sound;
   rest_falls = λ who o task outcome stands answers on. tt;

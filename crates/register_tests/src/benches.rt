@@ -1,4 +1,4 @@
-//! Bench files that are read, refused for their first fault, and printed as they were read.
+//! Tests of bench files: they are printed as they were read, or refused for their first fault.
 
 use crate::spelling::{
     Kind, Refused, Sample, assert_all_same, assert_fault, assert_faults, assert_same, assert_texts,
@@ -8,11 +8,12 @@ use std::io::Write;
 use std::test::Fail;
 use tower_file::{FaultKind, laws, parse_bench};
 
-/// Three branches on a safe bit: `a` shares the first cell of `main`, and `b` both of `a`.
+/// Three branches on a safe bit: `a` shares the first cell of `main`, and `b` both cells of `a`.
 const THREE_BRANCHES: &[u8] = b"bench 1\nsafe 0\nbranch main 0 0\nr 1\nw 0 1\n\
     branch a 0 1\ng 1 0\nbranch b 1 2\ng 1 1\n";
 
-/// The same with its 9 lines; the tower's name has 4 bytes, and its line 7.
+/// The same file as a sample. It has 9 lines; the tower's name has 4 bytes, and the second line has
+/// 7.
 pub(crate) const SAMPLE: Sample = Sample {
     file: Kind::Bench,
     bytes: THREE_BRANCHES,
@@ -24,8 +25,8 @@ pub(crate) const SAMPLE: Sample = Sample {
 #[test]
 fn three_branches(rt: HostRuntime) -> Result<(), Fail> {
     let file = parse_bench(rt.alloc(), THREE_BRANCHES)?;
-    assert!(rt; file.spec().is_lawful());
-    let [main, a, b] = file.limbs() else {
+    assert!(rt; file.spec.is_lawful());
+    let [main, a, b] = file.limbs.as_slice() else {
         return Err("three limbs".into());
     };
     assert_eq!(rt; main.name.as_bytes(), b"main".as_slice());
@@ -42,7 +43,8 @@ fn three_branches(rt: HostRuntime) -> Result<(), Fail> {
     Ok(())
 }
 
-/// Bench files that are read: no steps, a stop, branches that share nothing, all or the most of another.
+/// Bench files without a fault: with no steps; with stops; with branches that share no cell, some
+/// cells or all; and with a branch whose name has 16 bytes.
 const READ: [&[u8]; 5] = [
     b"bench 1\nsafe 0\nbranch main 0 0\n",
     b"bench 1\nsafe 0\nbranch main 0 0\nw 0 1\nx 0\nx 1\n",
@@ -56,7 +58,8 @@ fn printed_again(rt: HostRuntime) -> Result<(), Fail> {
     assert_all_same(&rt, Kind::Bench, &READ)
 }
 
-/// A branch of 100 cells, and so many more that share all of them and have one more each.
+/// The bytes of a file with a branch of 100 cells, and `count` branches that share all of these and
+/// have one more cell each.
 fn many_branches(alloc: Global, count: u32) -> Result<Vec<u8>, Fail> {
     let mut bytes = Vec::from_slice(alloc, b"bench 1\nsafe 0\nbranch main 0 0\n")?;
     for _ in 0..100 {
@@ -73,13 +76,16 @@ fn many_branches(alloc: Global, count: u32) -> Result<Vec<u8>, Fail> {
 fn printed_again_many(rt: HostRuntime) -> Result<(), Fail> {
     let mut bytes = many_branches(rt.alloc(), 999)?;
     assert_same(&rt, Kind::Bench, &bytes)?;
-    assert_eq!(rt; parse_bench(rt.alloc(), &bytes)?.limbs().len(), 1000);
+    assert_eq!(rt;
+        parse_bench(rt.alloc(), &bytes)?.limbs.as_slice().len(),
+        1000
+    );
     bytes.extend_from_slice(b"branch b500 0 0\n")?;
     assert_fault(&rt, Kind::Bench, &bytes, FaultKind::BadBranch, 2102);
     Ok(())
 }
 
-/// Line 3 has to be a branch's.
+/// Faults on line 3, which has to be the line of a branch that shares no cells.
 const LINE_3: [Refused; 2] = [
     (
         b"bench 1\nsafe 0\n",
@@ -95,8 +101,8 @@ const LINE_3: [Refused; 2] = [
     ),
 ];
 
-/// The lines before line 8 of three branches, of which the second has one cell of its own behind one
-/// that it shares.
+/// The lines before line 8. They have two branches; the second has one cell of its own, after one
+/// that it shares with the first.
 const BEFORE_LINE_8: &[u8] = b"bench 1\nsafe 0\nbranch main 0 0\nr 1\nw 0 1\nbranch a 0 1\ng 1 0\n";
 
 const LINE_8: [Refused; 3] = [
@@ -130,7 +136,7 @@ fn faults_of_a_line(rt: HostRuntime) -> Result<(), Fail> {
     assert_faults(&rt, Kind::Bench, &LINE_8)
 }
 
-/// Files with a fault that isn't of line 2, nor of a branch, and most with others behind it.
+/// Files whose first fault is neither on line 2 nor in a branch. Most have other faults after it.
 const FAULTS_IN_ORDER: [Refused; 2] = [
     (
         b"",

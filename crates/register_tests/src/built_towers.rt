@@ -1,5 +1,5 @@
-//! Layers over registers that no file names: which can be built, how deep they can be, how they
-//! stand beside each other, and which are equal.
+//! Tests of layers over registers that no file names: which layers can be built, how deep they can
+//! be nested, whether neighbours disturb each other, and which registers are equal.
 
 mod depth;
 mod equality;

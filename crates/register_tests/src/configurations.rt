@@ -1,5 +1,5 @@
-//! Two runs of one safe bit, step by step, and that what takes memory succeeds where there is
-//! plenty.
+//! Tests of the configurations of one safe bit, step by step. Calls that allocate succeed if there
+//! is plenty of memory.
 
 use frames::config::Config;
 use frames::safe::Safe;
@@ -8,7 +8,8 @@ use std::alloc::{AllocError, Global};
 use std::process::Abort;
 use std::test::Fail;
 
-/// A write of 1 is invoked, and started; each with its events.
+/// The step that invokes a write of 1, with its events; `WRITE_STARTED` is the step that starts the
+/// write.
 const WRITE_INVOKED: Row = (
     Step::Write { p: 0, v: 1 },
     Some(Event::Invoke(0, Op::Write(1))),
@@ -17,10 +18,10 @@ const WRITE_INVOKED: Row = (
 
 const WRITE_STARTED: Row = (Step::Go { p: 0, c: 0 }, None, None);
 
-/// A step, and the events that it has to record.
+/// A step, and the events that it should record.
 type Row = (Step, Option<Event>, Option<Event>);
 
-/// Makes each step, and compares its events.
+/// Makes each step, and asserts that it fits and records these events.
 fn run(rt: &impl Abort, config: &mut Config<Safe>, rows: &[Row]) {
     for (step, first, second) in rows {
         assert!(rt; config.fits(*step), "{step:?}");
@@ -32,7 +33,8 @@ fn run(rt: &impl Abort, config: &mut Config<Safe>, rows: &[Row]) {
     }
 }
 
-/// A safe bit that was at 0, after steps whose events are compared.
+/// Makes steps of a safe bit that is 0 at first, and asserts their events. Returns the
+/// configuration after them.
 fn ran(rt: &impl Abort, alloc: Global, rows: &[Row]) -> Result<Config<Safe>, AllocError> {
     let mut config = Config::initial(alloc, Safe, 0)?;
     run(rt, &mut config, rows);

@@ -1,4 +1,4 @@
-//! Files that are read, refused for their first fault, and printed as they were read.
+//! Tests of tower files: they are printed as they were read, or refused for their first fault.
 
 use crate::spelling::{
     Kind, Refused, Sample, assert_all_same, assert_fault, assert_faults, assert_same,
@@ -10,11 +10,12 @@ use std::process::Abort;
 use std::test::Fail;
 use tower_file::{FaultKind, TowerFile, TowerSpec, Version, laws, parse, print};
 
-/// A stamped register of two values, and 16 steps.
+/// A file with a stamped register of two values, and 16 steps.
 const STAMPED_BEST: &[u8] = b"tower 1\nstamped 2 1\nw 0 1\ng 0 0\ng 0 0\ng 0 0\n\
     r 1\ng 1 0\ng 1 0\ng 1 0\ng 1 0\ng 1 0\ng 1 0\ng 1 0\ng 1 0\nr 1\ng 1 0\ng 1 1\n";
 
-/// The same with its 18 lines; the tower's name has 7 bytes, and its line 12.
+/// The same file as a sample. It has 18 lines; the tower's name has 7 bytes, and the second line
+/// has 12.
 pub(crate) const SAMPLE: Sample = Sample {
     file: Kind::Tower,
     bytes: STAMPED_BEST,
@@ -23,7 +24,7 @@ pub(crate) const SAMPLE: Sample = Sample {
     lines: 18,
 };
 
-/// The lines of a file, and then one line so many times.
+/// The first lines of a file, followed by the lines `more`, repeated `times` times.
 fn repeated(alloc: Global, lines: &[u8], more: &[u8], times: usize) -> Result<Vec<u8>, AllocError> {
     let mut bytes = Vec::from_slice(alloc, lines)?;
     for _ in 0..times {
@@ -32,7 +33,8 @@ fn repeated(alloc: Global, lines: &[u8], more: &[u8], times: usize) -> Result<Ve
     Ok(bytes)
 }
 
-/// Files with a fault that isn't of line 2, nor of a step; the last three have others behind it.
+/// Files whose first fault is neither on line 2 nor in a step. Those of the last three rows have
+/// other faults too.
 const FIRST_FAULTS: [Refused; 4] = [
     (
         b"",
@@ -53,7 +55,8 @@ fn first_faults(rt: HostRuntime) -> Result<(), Fail> {
     Ok(())
 }
 
-/// Steps that are cut off, whose words are not those that they may have, or that aren't the tower's.
+/// Files with a step that is empty, cut off or misspelt, has a word out of range, or doesn't fit
+/// the tower.
 const BAD_STEPS: [Refused; 5] = [
     (b"tower 1\nsafe 0\n", b"\n", FaultKind::BadStep, 3),
     (b"tower 1\nsafe 0\nw 0 1\n", b"g 0", FaultKind::BadStep, 4),
@@ -82,11 +85,11 @@ fn faults_of_a_line(rt: HostRuntime) -> Result<(), Fail> {
     assert_faults(&rt, Kind::Tower, &BAD_STEPS)
 }
 
-/// Towers at their limits.
+/// Second lines of files, with towers at their limits.
 const AT_THE_LIMITS: &[u8] = b"safe 1\n|copies 4 0\n|regular 4 0\n|unary 512 4 511\n|\
     stamped 2 255\n|stamped 512 0\n|matrix 2 2 1 3\n|matrix 4 2 1 15\n";
 
-/// Towers beyond them.
+/// Files with towers beyond their limits.
 const BEYOND_THE_LIMITS: [Refused; 2] = [
     (
         b"tower 1\n",
@@ -110,7 +113,7 @@ fn sizes(rt: HostRuntime) -> Result<(), Fail> {
     assert_faults(&rt, Kind::Tower, &BEYOND_THE_LIMITS)
 }
 
-/// Schedules of each tower.
+/// Files with schedules of each tower.
 const SCHEDULES: [&[u8]; 10] = [
     b"tower 1\nsafe 0\nw 0 1\ng 0 0\nr 1\ng 1 0\ng 0 0\ng 1 0\n",
     b"tower 1\nsafe 0\nr 1\nr 1\ng 0 0\n",
@@ -129,10 +132,11 @@ fn printed_again(rt: HostRuntime) -> Result<(), Fail> {
     assert_all_same(&rt, Kind::Tower, &SCHEDULES)
 }
 
-/// The schedule of a writer that stops, and one of a reader too.
+/// A file with a schedule in which the writer stops in the middle of a write.
 const STOPPED: &[u8] = b"tower 2\nsafe 0\nw 0 1\ng 0 0\nx 0\ng 0 0\nr 1\ng 1 0\ng 1 1\n";
 
-/// A stop by version 1, and by version 2 one of no process, and one with a choice.
+/// Files with a bad stop: any stop in version 1; and in version 2 a stop of a process that isn't
+/// there, and a stop with a choice.
 const UNSTOPPED: [Refused; 2] = [
     (
         b"tower 1\nsafe 0\nw 0 1\ng 0 0\n",
@@ -151,7 +155,7 @@ const UNSTOPPED: [Refused; 2] = [
 #[test]
 fn stopped_writer(rt: HostRuntime) -> Result<(), Fail> {
     assert_all_same(&rt, Kind::Tower, &[STOPPED, b"tower 2\nsafe 0\n"])?;
-    assert_eq!(rt; parse(rt.alloc(), STOPPED)?.version(), Version::Two);
+    assert_eq!(rt; parse(rt.alloc(), STOPPED)?.version, Version::Two);
     assert_faults(&rt, Kind::Tower, &UNSTOPPED)
 }
 
@@ -161,7 +165,7 @@ fn printed_again_long(rt: HostRuntime) -> Result<(), Fail> {
     let mut thousand = repeated(rt.alloc(), b"tower 1\nsafe 0\n", writes, 166)?;
     thousand.extend_from_slice(b"w 0 1\ng 0 0\ng 0 0\nw 0 0\n")?;
     assert_same(&rt, Kind::Tower, &thousand)?;
-    assert_eq!(rt; parse(rt.alloc(), &thousand)?.steps().len(), 1000);
+    assert_eq!(rt; parse(rt.alloc(), &thousand)?.steps.as_slice().len(), 1000);
 
     let overlap = repeated(
         rt.alloc(),
@@ -182,7 +186,7 @@ fn printed_again_long(rt: HostRuntime) -> Result<(), Fail> {
         matrix.extend_from_slice(b"g 1 0\n")?;
     }
     assert_same(&rt, Kind::Tower, &matrix)?;
-    assert_eq!(rt; parse(rt.alloc(), &matrix)?.steps().len(), 44);
+    assert_eq!(rt; parse(rt.alloc(), &matrix)?.steps.as_slice().len(), 44);
     Ok(())
 }
 
@@ -200,8 +204,8 @@ fn made_by_hand(rt: HostRuntime) -> Result<(), Fail> {
     steps.push(Step::Write { p: 0, v: 2 })?;
     steps.push(Step::Read { p: 1 })?;
     let file = TowerFile::new(Version::One, spec, steps).ok_or("the steps fit")?;
-    assert_eq!(rt; file.spec(), spec);
-    assert_eq!(rt; file.steps().len(), 2);
+    assert_eq!(rt; file.spec, spec);
+    assert_eq!(rt; file.steps.as_slice().len(), 2);
     let printed = print(rt.alloc(), &file)?;
     assert_eq!(rt;
         printed.as_slice(),

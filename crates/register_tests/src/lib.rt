@@ -1,5 +1,5 @@
-//! Tests of registers, of their steps and of their files. They stand above the crates that they
-//! test, so that none of those is proved once more for its tests.
+//! Tests of registers, of their steps and of their files. This crate is above the crates that it
+//! tests, so that none of them is proved again for its tests.
 #![tactic(auto)]
 
 #[cfg(test)]

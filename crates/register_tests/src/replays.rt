@@ -1,7 +1,7 @@
-//! Replays and runs on one safe bit, against histories worked out by hand.
+//! Replays and runs on one safe bit are compared with histories that were worked out by hand.
 
 use crate::steps::{GO_0, GO_1, READ_1, WRITE};
-use checkpoints::replay::replay;
+use checkpoints::replay;
 use checkpoints::run::{Run, run_segment};
 use frames::config::Config;
 use frames::safe::Safe;
@@ -9,7 +9,7 @@ use frames::types::{Event, Op, Reason, Step};
 use safe_bit::Store;
 use std::test::Fail;
 
-/// A read that a write overlaps, and that ends after it.
+/// A write, and a read that overlaps it and ends after it.
 const OVERLAPPED_READ: [Step; 6] = [WRITE, GO_0, READ_1, GO_1, GO_0, GO_1];
 
 #[test]
@@ -53,7 +53,7 @@ fn voids(rt: HostRuntime) -> Result<(), Fail> {
     Ok(())
 }
 
-/// What may be shared by threads.
+/// Returns true, but compiles only if threads may share values of this type.
 fn is_shareable<T: Send + Sync>(_: &T) -> bool {
     true
 }

@@ -1,4 +1,4 @@
-//! What the tests of tower files and of bench files ask alike: that bytes are refused for a fault, or
+//! What the tests of tower files and of bench files share: bytes are refused for a fault, or are
 //! read and then printed as they were.
 
 use crate::{benches, files};
@@ -14,7 +14,7 @@ pub(crate) enum Kind {
     Bench,
 }
 
-/// The fault that bytes have, if they are no file of a kind.
+/// Why bytes aren't a file of this kind; `None` if they are.
 pub(crate) fn fault_of(alloc: Global, kind: Kind, bytes: &[u8]) -> Option<FileFault> {
     match kind {
         Kind::Tower => parse(alloc, bytes).err(),
@@ -22,7 +22,7 @@ pub(crate) fn fault_of(alloc: Global, kind: Kind, bytes: &[u8]) -> Option<FileFa
     }
 }
 
-/// What is read of bytes, as it is printed.
+/// Reads bytes as a file of this kind, and prints it.
 fn printed(alloc: Global, kind: Kind, bytes: &[u8]) -> Result<Vec<u8>, Fail> {
     match kind {
         Kind::Tower => {
@@ -36,7 +36,7 @@ fn printed(alloc: Global, kind: Kind, bytes: &[u8]) -> Result<Vec<u8>, Fail> {
     }
 }
 
-/// Asserts that bytes have this fault.
+/// Asserts that bytes have this kind of fault on this line.
 pub(crate) fn assert_fault(
     rt: &(impl Abort + AllocGlobal),
     file: Kind,
@@ -48,7 +48,7 @@ pub(crate) fn assert_fault(
     assert_eq!(rt; fault, Some(FileFault { kind, line }));
 }
 
-/// Asserts that bytes are a file, and that it is printed as it was read.
+/// Asserts that bytes are a file, and are printed as they were read.
 pub(crate) fn assert_same(
     rt: &(impl Abort + AllocGlobal),
     file: Kind,
@@ -59,7 +59,7 @@ pub(crate) fn assert_same(
     Ok(())
 }
 
-/// Asserts that each is a file, and is printed as it was read.
+/// Asserts that each of these is a file, and is printed as it was read.
 pub(crate) fn assert_all_same(
     rt: &(impl Abort + AllocGlobal),
     file: Kind,
@@ -71,15 +71,15 @@ pub(crate) fn assert_all_same(
     Ok(())
 }
 
-/// What stands before some texts, and a text of them.
+/// A prefix and a text, joined.
 fn joined(alloc: Global, before: &[u8], text: &[u8]) -> Result<Vec<u8>, AllocError> {
     let mut bytes = Vec::from_slice(alloc, before)?;
     bytes.extend_from_slice(text)?;
     Ok(bytes)
 }
 
-/// Asserts that each text, parted by bars, is a file behind what stands before it, and is printed as
-/// it was read.
+/// Asserts that each of the texts, which bars separate, makes a file with the prefix `before`, and
+/// that this is printed as it was read.
 pub(crate) fn assert_same_behind(
     rt: &(impl Abort + AllocGlobal),
     file: Kind,
@@ -92,11 +92,12 @@ pub(crate) fn assert_same_behind(
     Ok(())
 }
 
-/// What stands before each of some texts, these, parted by bars, and the fault that each then has,
-/// with its line.
+/// A prefix, texts that may follow it, separated by bars, and the fault that the prefix has with
+/// each of them: its kind and its line.
 pub(crate) type Refused = (&'static [u8], &'static [u8], FaultKind, u64);
 
-/// Asserts which fault each text has; where it ends a line, with more behind it too.
+/// Asserts the fault of each text after its prefix; if the text ends a line, also with more lines
+/// after it.
 pub(crate) fn assert_faults(
     rt: &(impl Abort + AllocGlobal),
     file: Kind,
@@ -115,8 +116,8 @@ pub(crate) fn assert_faults(
     Ok(())
 }
 
-/// The fault of a file that is cut within a line behind the second one, by what of it is there; none
-/// where it is whole.
+/// The fault of a file that is cut within a line after the second one, given what is left of that
+/// line; `None` if the file has no fault without the line.
 fn fault_of_cut(file: Kind, line: u64, text: &[u8]) -> Option<FaultKind> {
     match file {
         Kind::Bench if line == 3 || text.starts_with(b"branch") => Some(FaultKind::BadBranch),
@@ -125,8 +126,8 @@ fn fault_of_cut(file: Kind, line: u64, text: &[u8]) -> Option<FaultKind> {
     }
 }
 
-/// A file, and how it is made up: the first line has 8 bytes, the tower's name ends at one place, the
-/// second line at another, and there are so many lines.
+/// A file with a first line of 8 bytes. The tower's name ends at the index `name_end`, and the
+/// second line at `second_end`; the file has `lines` lines.
 pub(crate) struct Sample {
     pub(crate) file: Kind,
     pub(crate) bytes: &'static [u8],
@@ -135,7 +136,7 @@ pub(crate) struct Sample {
     pub(crate) lines: u64,
 }
 
-/// Asserts what a file is that is cut before any of its bytes.
+/// Cuts a file before each of its bytes in turn, and asserts the fault, or that the rest is a file.
 fn assert_cut_anywhere(rt: &(impl Abort + AllocGlobal), sample: &Sample) -> Result<(), Fail> {
     let file = sample.file;
     let mut line = 1;
@@ -163,7 +164,8 @@ fn assert_cut_anywhere(rt: &(impl Abort + AllocGlobal), sample: &Sample) -> Resu
     assert_same(rt, file, sample.bytes)
 }
 
-/// Asserts that a byte which is no ASCII is the fault on its line, whichever byte it stands for.
+/// Replaces each byte in turn by one outside ASCII, and asserts that this is the fault, on the
+/// byte's line.
 fn assert_broken_anywhere(rt: &(impl Abort + AllocGlobal), sample: &Sample) -> Result<(), Fail> {
     let mut line = 1;
     for (at, byte) in sample.bytes.iter().enumerate() {
@@ -179,7 +181,8 @@ fn assert_broken_anywhere(rt: &(impl Abort + AllocGlobal), sample: &Sample) -> R
     Ok(())
 }
 
-/// Asserts the number and the name of a kind of fault, its text, and that of such a fault on line 4.
+/// Asserts the number and the name of a kind of fault, the text of the kind, and the text of such a
+/// fault on line 4.
 pub(crate) fn assert_texts(
     rt: &(impl Abort + AllocGlobal),
     kind: FaultKind,
@@ -197,8 +200,8 @@ pub(crate) fn assert_texts(
     Ok(())
 }
 
-/// Lines that are no second line of a file, some of them cut off and some with faults behind them,
-/// and their faults.
+/// Texts that aren't a second line, and their faults. Some texts are cut off, and some have other
+/// faults on later lines.
 const LINE_2: [(&[u8], FaultKind); 3] = [
     (
         b"|atom 0| safe 0\n|atom 0\n|atom\nw 0|atom 0\nr 1\n",

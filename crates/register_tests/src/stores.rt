@@ -1,4 +1,5 @@
-//! That what takes memory succeeds where there is plenty, and a read that a write overlaps.
+//! Tests of stores. Calls that allocate succeed if there is plenty of memory, and a read overlaps a
+//! write.
 
 use safe_bit::{Cell, Store};
 use std::test::Fail;
@@ -31,8 +32,8 @@ fn copy_stands_alone(rt: HostRuntime) -> Result<(), Fail> {
     Ok(())
 }
 
-/// A read that starts within a write and ends after it gives the choice, and the bit is the one
-/// that was written.
+/// A read that starts during a write and ends after it gives the chosen bit. The cell then holds
+/// the bit that was written.
 #[test]
 fn overlapped_read(rt: HostRuntime) -> Result<(), Fail> {
     let mut store = Store::new(rt.alloc(), 1, 0)?;

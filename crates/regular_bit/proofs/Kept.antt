@@ -27,20 +27,23 @@ use Rattle.layers.proofs.Law.{Standing, View, Watch, Runs, IsKept, IsUser}
 use Rattle.layers.proofs.LayerLaw.{Told, told_begun, told_gone, told_void, told_stop, layer_promises}
 use Rattle.regular_bit.specs.declared.task.RegularTask.{RegularTask}
 use Rattle.regular_bit.specs.declared.task.RegularTask.TheVariants.{Writing, Reading}
-use Rattle.regular_bit.specs.Program.{regular_table, regular_program, RegularStands}
+use Rattle.regular_bit.specs.Program.{regular_table, regular_program, RegularMayBeAt}
 
--- the word is the value of the last write that began, which differs from the one before it
+-- the word is the value of the last write below that began; during that write it differs from the
+-- value written before
 abbrev pub WordSays : ℕ → Option ℕ → ℕ → Type 0
 WordSays word None last = word ≡ last
 WordSays word (Some v) last = (word ≡ v) × ((v ≡ last → ⊥) × v < 2)
 
--- the reader overlaps no write of the register below, or one of another value than the fresh one
+-- a read now overlaps no write of the register below, or it overlaps a write of a value other than
+-- the fresh one
 abbrev pub HasOther : ℕ → List ℕ → ℕ → Option ℕ → Type 0
 HasOther fresh overlaps last writing =
     ((overlaps ≡ []) × ((fresh ≡ last) × (writing ≡ None)))
     ⊎ ((x : ℕ) × (IsTrue (among x overlaps) × ((x ≡ fresh → ⊥) × x < 2)))
 
--- what the histories of the regular bit, u, and of the register below, s, tell of a reader
+-- u is what the history of the regular bit shows, and s what that of the register below shows: they
+-- agree
 pub record Agree (u s : Seen) (word : ℕ) : Type 0 where
   pub last : u.last ≡ s.last
   pub writing : u.writing ≡ s.writing
@@ -105,7 +108,7 @@ agree_wrote p q u s word a = record {
   ];
 }
 
--- a write of the word's value
+-- a write of the word's value, which writes nothing below, keeps this agreement
 agree_same : (p v : ℕ) (u s : Seen) (word : ℕ) → Agree u s word → s.writing ≡ None → word ≡ v → Agree (sees (Some (Wrote p)) (sees (Some (Invoke p (Write v))) u)) s word
 agree_same p v u s word a idle e =
     let w : word ≡ s.last = subst (λ k. WordSays word k s.last) idle a.says in
@@ -268,7 +271,7 @@ module _ (processes : ℕ) where
   begins u j p Read h free s = begin_read u j p h (writer.reader_some 2 processes p s)
 
   go_ends : (u : Seen) (j : View RegularTask) (p : ℕ) (op : Op) (task : RegularTask) (chosen : Option (ℕ × Bool)) (o : Outcome)
-      → RegularInv u j → RegularStands processes p op task → Answers 2 (t.asks task).op o → IsNotSpent o
+      → RegularInv u j → RegularMayBeAt processes p op task → Answers 2 (t.asks task).op o → IsNotSpent o
       → AllByRecursion IsFreshAlone (got (Some (ended (t.asks task).who o)) (j.parts (t.asks task).part))
       → Runs t regular_watch p op (λ e. Told IsNotStray u (in_order (chosen_of p chosen) e)) (Ends o)
       (record j { parts = put (t.asks task).part (sees (Some (ended (t.asks task).who o)) (j.parts (t.asks task).part)) j.parts })
@@ -307,7 +310,7 @@ module _ (processes : ℕ) where
         idle = λ k. ap (λ s. s.writing) ep;
       }
 
-  pub regular_kept : IsKept t (RegularStands processes) regular_watch opening (Told IsNotStray)
+  pub regular_kept : IsKept t (RegularMayBeAt processes) regular_watch opening (Told IsNotStray)
   regular_kept = record {
     initial = λ v l j ew et ep. at_first v l j (ew 0 (omega arith)) (ep 0 (omega arith));
     void = told_void IsNotStray;
@@ -317,8 +320,8 @@ module _ (processes : ℕ) where
     goes = λ u j p n chosen o h mine s ans pass good. go_ends u j p n.op n.task chosen o h s ans pass good;
   }
 
-  -- each process acts as itself on the one part
-  pub regular_user : IsUser t (RegularStands processes) (λ part who. who)
+  -- each process acts as itself on the only part
+  pub regular_user : IsUser t (RegularMayBeAt processes) (λ part who. who)
   regular_user p (Write w) (Writing v) s = sym s.0
   regular_user p Read (Reading q) s = s.0
   regular_user p (Write w) (Reading q) s = absurd s
@@ -326,6 +329,6 @@ module _ (processes : ℕ) where
 
 -- a regular bit over a safe register is regular
 pub regular_over_safe : {P : Type 0} (b : Behaviour P) (Holds : Memory → Type 0) (Reaches : ℕ → Op → P → Type 0) (processes : ℕ) (left : RegularTask → ℕ) → IsLawful b Holds Reaches
-    → IsSoundTable (regular_table processes) (RegularStands processes) left → FitsBelow (regular_table processes) b → IsSafe b → IsRegular (layered (regular_table processes) b)
+    → IsSoundTable (regular_table processes) (RegularMayBeAt processes) left → FitsBelow (regular_table processes) b → IsSafe b → IsRegular (layered (regular_table processes) b)
 regular_over_safe b Holds Reaches processes left lawful sound fit safe =
     layer_promises (over lawful sound fit) (λ part who. who) (regular_user processes) IsNotStray regular_watch fresh_alike stray_alike (λ who o h. h) safe (regular_kept processes)

@@ -1,4 +1,4 @@
--- The regular bit's table is sound, and its tasks are equal only to themselves.
+-- The regular bit's table is sound, and the test of two tasks decides whether they are equal.
 use Rattle.std.proofs.Common.{◌≡◌, ℕ, ◌<◌, Bool, true, false, refl, sym, ap, arith, nat_eq}
 use Rattle.std.specs.Bool.{Decides}
 use Rattle.std.specs.Prelude.{if◌then◌else◌}
@@ -14,19 +14,19 @@ use Rattle.layers.specs.OneWriter.{one_writer}
 use Rattle.layers.specs.laws.OneWriter as writer
 use Rattle.regular_bit.specs.declared.task.RegularTask.{RegularTask}
 use Rattle.regular_bit.specs.declared.task.RegularTask.TheVariants.{Writing, Reading}
-use Rattle.regular_bit.specs.Program.{regular_program, regular_table, regular_asks, regular_frame, regular_find, RegularStands}
+use Rattle.regular_bit.specs.Program.{regular_program, regular_table, regular_asks, regular_frame, regular_find, RegularMayBeAt}
 
 module _ (processes : ℕ) (some : 0 < processes) where
-  write_sound : (who v : ℕ) (same : Bool) → who ≡ 0 → v < 2 → IsSound (regular_table processes) (RegularStands processes who (op.Write v)) (Answers 2 (op.Write v))
+  write_sound : (who v : ℕ) (same : Bool) → who ≡ 0 → v < 2 → IsSound (regular_table processes) (RegularMayBeAt processes who (op.Write v)) (Answers 2 (op.Write v))
       (if same then Ends Written else Sets 0 v (Asks (Writing v) Ends))
   write_sound who v true writer lt = tt
   write_sound who v false writer lt = (omega arith, (lt, ((writer, refl, lt), λ o. refl)))
 
-  begins_sound : (who : ℕ) (o : Op) → one_writer 2 processes who o ≡ true → IsSound (regular_table processes) (RegularStands processes who o) (Answers 2 o) (regular_program who o)
+  begins_sound : (who : ℕ) (o : Op) → one_writer 2 processes who o ≡ true → IsSound (regular_table processes) (RegularMayBeAt processes who o) (Answers 2 o) (regular_program who o)
   begins_sound who (op.Write v) h = (omega arith, λ last low. write_sound who v _ (writer.writer_zero 2 processes who v h) (writer.no_other_value 2 processes who v h))
   begins_sound who op.Read h = ((refl, writer.reader_some 2 processes who h, writer.reader_few 2 processes who h), λ o. refl)
 
-  rest_sound : (who : ℕ) (o : Op) (task : RegularTask) (outcome : Outcome) → RegularStands processes who o task → Answers 2 (regular_asks task).op outcome → IsNotSpent outcome → Answers 2 o outcome
+  rest_sound : (who : ℕ) (o : Op) (task : RegularTask) (outcome : Outcome) → RegularMayBeAt processes who o task → Answers 2 (regular_asks task).op outcome → IsNotSpent outcome → Answers 2 o outcome
   rest_sound who (op.Write w) (Writing v) Written stands answers on = tt
   rest_sound who (op.Write w) (Writing v) (Value x) stands answers on = absurd answers
   rest_sound who op.Read (Reading reader) (Value x) stands answers on = answers
@@ -36,41 +36,44 @@ module _ (processes : ℕ) (some : 0 < processes) where
   rest_sound who (op.Write w) (Writing v) (Spent layer) stands answers on = absurd on
   rest_sound who op.Read (Reading reader) (Spent layer) stands answers on = absurd on
 
-  asks_fit : (who : ℕ) (o : Op) (task : RegularTask) → RegularStands processes who o task → ((regular_asks task).part < 1) × FitsPart 2 processes (regular_asks task).who (regular_asks task).op
+  asks_fit : (who : ℕ) (o : Op) (task : RegularTask) → RegularMayBeAt processes who o task → ((regular_asks task).part < 1) × FitsPart 2 processes (regular_asks task).who (regular_asks task).op
   asks_fit who (op.Write w) (Writing v) stands = (omega arith, (refl, stands.2))
   asks_fit who op.Read (Reading reader) stands = (omega arith, (stands.1, stands.2))
   asks_fit who (op.Write w) (Reading reader) stands = absurd stands
   asks_fit who op.Read (Writing v) stands = absurd stands
 
-  stands_suits : (who : ℕ) (o : Op) (task : RegularTask) → RegularStands processes who o task → one_writer 2 processes who o ≡ true
+  stands_suits : (who : ℕ) (o : Op) (task : RegularTask) → RegularMayBeAt processes who o task → one_writer 2 processes who o ≡ true
   stands_suits who (op.Write w) (Writing v) stands = writer.writer_suits 2 processes who w stands.0 some (rw stands.1 at stands.2)
   stands_suits who op.Read (Reading reader) stands = writer.others_read 2 processes who (omega (arith, stands.0, stands.1)) (omega (arith, stands.0, stands.2))
   stands_suits who (op.Write w) (Reading reader) stands = absurd stands
   stands_suits who op.Read (Writing v) stands = absurd stands
 
-  frame_tells : (who : ℕ) (o : Op) (task : RegularTask) → RegularStands processes who o task → (regular_find who (regular_frame task) ≡ task) × ((regular_frame task).op ≡ o)
+  frame_tells : (who : ℕ) (o : Op) (task : RegularTask) → RegularMayBeAt processes who o task → (regular_find who (regular_frame task) ≡ task) × ((regular_frame task).op ≡ o)
   frame_tells who (op.Write w) (Writing v) stands = (refl, ap op.Write stands.1)
   frame_tells who op.Read (Reading reader) stands = (ap Reading (sym stands.0), refl)
   frame_tells who (op.Write w) (Reading reader) stands = absurd stands
   frame_tells who op.Read (Writing v) stands = absurd stands
 
-  pub regular_sound : IsSoundTable (regular_table processes) (RegularStands processes) (λ _. 0)
-  regular_sound = writer.one_writer_sound (regular_table processes) (RegularStands processes) (λ _. 0) (λ who o. refl) (some)
+  -- the regular bit's table is sound
+  pub regular_sound : IsSoundTable (regular_table processes) (RegularMayBeAt processes) (λ _. 0)
+  regular_sound = writer.one_writer_sound (regular_table processes) (RegularMayBeAt processes) (λ _. 0) (λ who o. refl) (some)
       (λ v j lt below. lt) (λ v k lt below. omega (arith, lt))
       asks_fit stands_suits frame_tells begins_sound rest_sound (λ who o task outcome stands answers on. tt)
 
--- the test of two tasks
-abbrev pub task_eq : RegularTask → RegularTask → Bool
-task_eq (Writing v) (Writing w) = nat_eq v w
-task_eq (Reading p) (Reading q) = nat_eq p q
-task_eq (Writing v) (Reading q) = false
-task_eq (Reading p) (Writing w) = false
+-- the equality test of two tasks
+abbrev pub regular_task_eq : RegularTask → RegularTask → Bool
+regular_task_eq (Writing v) (Writing w) = nat_eq v w
+regular_task_eq (Reading p) (Reading q) = nat_eq p q
+regular_task_eq (Writing v) (Reading q) = false
+regular_task_eq (Reading p) (Writing w) = false
 
-pub task_decides : (a b : RegularTask) → Decides (task_eq a b) (a ≡ b)
-task_decides (Writing v) (Writing w) = Decides-like (nat_eq v w) (λ p. ap Writing p) (λ p. cc) (Decides-eqb v w)
-task_decides (Reading p) (Reading q) = Decides-like (nat_eq p q) (λ e. ap Reading e) (λ e. cc) (Decides-eqb p q)
-task_decides (Writing v) (Reading q) = (λ h. cc, λ h. cc)
-task_decides (Reading p) (Writing w) = (λ h. cc, λ h. cc)
+-- the test of two tasks decides whether they are equal
+pub regular_task_decides : (a b : RegularTask) → Decides (regular_task_eq a b) (a ≡ b)
+regular_task_decides (Writing v) (Writing w) = Decides-like (nat_eq v w) (λ p. ap Writing p) (λ p. cc) (Decides-eqb v w)
+regular_task_decides (Reading p) (Reading q) = Decides-like (nat_eq p q) (λ e. ap Reading e) (λ e. cc) (Decides-eqb p q)
+regular_task_decides (Writing v) (Reading q) = (λ h. cc, λ h. cc)
+regular_task_decides (Reading p) (Writing w) = (λ h. cc, λ h. cc)
 
-pub table_alike : (p q : ℕ) → nat_eq p q ≡ true → regular_table p ≡ regular_table q
-table_alike p q h = ap regular_table ((Decides-eqb p q).0 h)
+-- regular bits of equally many processes have equal tables
+pub regular_table_alike : (p q : ℕ) → nat_eq p q ≡ true → regular_table p ≡ regular_table q
+regular_table_alike p q h = ap regular_table ((Decides-eqb p q).0 h)

@@ -1,4 +1,4 @@
-//! The rules of a regular bit, whatever register stands below.
+//! The rules of a regular bit, over any register.
 
 ghost use Rattle.std.specs.Prelude.{◌≡◌, ℕ, ◌<◌, ◌≤◌, ◌^◌, MatchResult, IfOk, Some, None};
 ghost use Rattle.layers.specs.OneWriter.{one_writer};
@@ -15,14 +15,15 @@ use layers::layered::Layered;
 use layers::nested::{Ask, Continuation};
 use safe_bit::Store;
 
-/// A regular bit over a register of two values: a write of the last value is done at once, any other
-/// writes below; a read reads below (Lamport 1986; Herlihy and Shavit, chapter 4).
+/// A regular bit over a register of two values. A write of the value written last is done at once;
+/// any other write writes the register below. A read reads the register below (Lamport 1986;
+/// Herlihy and Shavit, chapter 4).
 pub type RegularBit<S> = Layered<RegularBitRules, S>;
 
 /// The rules of a regular bit.
 #[derive(Debug, PartialEq, Eq)]
 pub struct RegularBitRules {
-    /// How many processes it has: one writes, the others read.
+    /// The number of processes: one writes, the others read.
     pub processes: u32,
     ghost some: { 0 < processes },
 }
@@ -35,24 +36,32 @@ impl Clone for RegularBitRules {
 
 impl Copy for RegularBitRules {}
 
-impl RegularBitRules {
-    /// The regular bit over a register of two values, with that register's 2 to 5 processes. Refused
-    /// as BadSize where the register below hasn't two values, hasn't so many processes or has depth
-    /// 8, else as TooManyBits where there would be more than 4,096 cells or 65,536 words.
-    pub fn new<S: Register>(below: S) -> Result<RegularBit<S>, LayerError>
+/// The trait of `RegularBit::new`. It has to be in scope in each module that calls
+/// `RegularBit::new`.
+pub trait NewRegularBit<S: Register>: Sized {
+    /// The regular bit over a register of two values and 2 to 5 processes, which are the bit's
+    /// processes too. Refused as BadSize if the register below doesn't have two values, doesn't
+    /// have 2 to 5 processes, or has depth 8; otherwise refused as TooManyBits if there would be
+    /// more than 4,096 cells or 65,536 words.
+    fn new(below: S) -> Result<RegularBit<S>, LayerError>
         ensures refused { MatchResult result
-            (λ _. refusal_below (regular_table (S.is below).processes) (S.is below) ≡ None)
-            (λ e. refusal_below (regular_table (S.is below).processes) (S.is below) ≡ Some e) }
-        ensures built { IfOk result (λ r. ⟦<Layered<RegularBitRules, S> as Behaves>⟧.is r
-            ≡ layered (regular_table (S.is below).processes) (S.is below)) }
-        ensures below { IfOk result (λ r. r.below ≡ below) }
-    {
+            (λ _. refusal_below (regular_table (S.behaviour below).processes) (S.behaviour below)
+            ≡ None)
+            (λ e. refusal_below (regular_table (S.behaviour below).processes) (S.behaviour below)
+            ≡ Some e) }
+        ensures built { IfOk result (λ r. ⟦<Layered<RegularBitRules, S> as Behaves>⟧.behaviour r
+            ≡ layered (regular_table (S.behaviour below).processes) (S.behaviour below)) }
+        ensures below { IfOk result (λ r. r.below ≡ below) };
+}
+
+impl<S: Register> NewRegularBit<S> for RegularBit<S> {
+    fn new(below: S) -> Result<RegularBit<S>, LayerError> {
         let processes = below.processes();
         if processes == 0 {
             return Err(LayerError::BadSize);
         }
         let layer = RegularBitRules { processes };
-        Layered::new(below, layer)
+        Layered::over(below, layer)
     }
 }
 
@@ -64,12 +73,12 @@ impl Rules for RegularBitRules {
 
 impl Construction for RegularBitRules {
     ghost use Rattle.std.specs.Prelude.{refl};
-    ghost use Rattle.regular_bit.specs.Program.{regular_table, RegularStands};
-    ghost use Rattle.regular_bit.specs.Sound.{regular_sound, task_eq, task_decides, table_alike};
+    ghost use Rattle.regular_bit.specs.Program.{regular_table, RegularMayBeAt};
+    ghost use Rattle.regular_bit.specs.Sound.{regular_sound, regular_task_eq, regular_task_decides, regular_table_alike};
     ghost use Rattle.regular_bit.specs.declared.task.RegularTask.TheVariants.{Writing, Reading};
     ghost use Rattle.layers.specs.laws.Equality.{decides_like};
 
-    ghost Stands = { λ l. RegularStands l.processes };
+    ghost MayBeAt = { λ l. RegularMayBeAt l.processes };
 
     ghost left = { λ _ _. 0 };
 
@@ -154,7 +163,7 @@ impl Construction for RegularBitRules {
         }
     }
 
-    fn stands(&self, who: u32, op: Op, task: RegularTask) -> bool {
+    fn may_be_at(&self, who: u32, op: Op, task: RegularTask) -> bool {
         match (op, task) {
             (Op::Write(w), RegularTask::Writing(v)) => who == 0 && v == w && v < 2,
             (Op::Read, RegularTask::Reading(reader)) => {
@@ -166,7 +175,7 @@ impl Construction for RegularBitRules {
 
     ghost sound = { λ l. regular_sound l.processes l.some };
 
-    ghost alike = { λ a b h. table_alike a.processes b.processes h };
+    ghost alike = { λ a b h. regular_table_alike a.processes b.processes h };
 
-    ghost same_task = { decides_like ⟦<RegularTask as PartialEq>⟧.eq task_eq (elim [ Writing _ ↦ elim [ Writing _ ↦ refl | Reading _ ↦ refl ] | Reading _ ↦ elim [ Writing _ ↦ refl | Reading _ ↦ refl ] ]) task_decides };
+    ghost same_task = { decides_like ⟦<RegularTask as PartialEq>⟧.eq regular_task_eq (elim [ Writing _ ↦ elim [ Writing _ ↦ refl | Reading _ ↦ refl ] | Reading _ ↦ elim [ Writing _ ↦ refl | Reading _ ↦ refl ] ]) regular_task_decides };
 }

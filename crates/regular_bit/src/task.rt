@@ -1,6 +1,6 @@
 //! The points of a regular bit's programs.
 
-/// The operation of the register below that is in work.
+/// An operation of the register below.
 #[derive(Clone, Copy, Debug, PartialEq, Eq)]
 pub enum RegularTask {
     /// A write of this value.

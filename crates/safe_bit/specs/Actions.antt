@@ -1,28 +1,28 @@
 -- A safe bit and its four actions (Lamport, "On Interprocess Communication", 1986, safe registers).
--- That a write and a read are two actions each is this project's own.
+-- That a write takes two actions, and a read two, is this project's own choice.
 use Rattle.std.specs.Prelude.{Bool, false, true, Some, None, ◌||◌, is_some, if◌then◌else◌, unwrap_or}
 use Rattle.safe_bit.specs.declared.Cell.{Cell}
 
--- a cell that holds a value, with nothing going on
+-- a cell that holds this value, with no write and no read in progress
 abbrev pub idle_cell : Bool → Cell
 idle_cell v = record { value = v; writing = None; reading = false; hit = false }
 
--- start write v: the value being written is v, and a read in progress becomes hit
+-- start write v: the value being written is v, and a read in progress is now hit
 abbrev pub start_write : Bool → Cell → Cell
 start_write v c = record c { writing = Some v; hit = c.hit || c.reading }
 
--- end write: the value is the one being written, which becomes none; with none, nothing changes
+-- end write: the cell takes the value being written; if there is none, nothing changes
 abbrev pub end_write : Cell → Cell
 end_write c = record c { value = unwrap_or c.writing c.value; writing = None }
 
--- start read: the cell is being read, and the read is hit exactly where a write is in progress
+-- start read: the cell is being read, and the read is hit if a write is in progress
 abbrev pub start_read : Cell → Cell
 start_read c = record c { reading = true; hit = is_some c.writing }
 
--- end read: neither read nor hit
+-- end read: no read is in progress any more, and none is hit
 abbrev pub end_read : Cell → Cell
 end_read c = record c { reading = false; hit = false }
 
--- what a read that ends gives: the choice if it was hit, else the value
+-- the result of a read that ends: the choice if the read was hit, else the cell's value
 abbrev pub read_gives : Bool → Cell → Bool
 read_gives choice c = if c.hit then choice else c.value

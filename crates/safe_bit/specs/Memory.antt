@@ -1,37 +1,37 @@
--- What a store is: a list of cells and a list of words, and the parts of it.
+-- A store's contents: cells and words; and how one cell or one word is read or changed.
 use Rattle.std.specs.Prelude.{ℕ, ◌<◌, ◌^◌, List, length, slice_set, slice_index_or, replicate, false}
 use Rattle.safe_bit.specs.declared.Cell.{Cell}
 use Rattle.safe_bit.specs.Actions.{idle_cell}
 
--- bit cells and words
+-- the contents of a store: cells, each of which is a safe bit, and words
 pub record Memory : Type 0 where
   pub cells : List Cell
   pub words : List ℕ
 
--- each cell and each word has a number of 32 bits
+-- there are fewer than 2^32 cells, and fewer than 2^32 words
 pub record IsNumbered (m : Memory) : Type 0 where
   pub cells : length m.cells < 2 ^ 32
   pub words : length m.words < 2 ^ 32
 
--- what is read beyond the end
+-- the cell that a look-up beyond the last cell gives: idle, and 0
 abbrev pub no_cell : Cell
 no_cell = idle_cell false
 
--- all cells idle at 0, all words 0
+-- a memory of `cells` idle cells and `words` words, all of them 0
 abbrev pub blank : ℕ → ℕ → Memory
 blank cells words = record { cells = replicate cells no_cell; words = replicate words 0 }
 
--- cell i, and word i
+-- cell i of a memory, and word i of a memory
 abbrev pub cell_at : ℕ → Memory → Cell
 cell_at i m = slice_index_or m.cells i no_cell
 
 abbrev pub word_at : ℕ → Memory → ℕ
 word_at i m = slice_index_or m.words i 0
 
--- the memory with cell i changed so, and no other
+-- the memory with f applied to cell i alone
 abbrev pub on_cell : ℕ → (Cell → Cell) → Memory → Memory
 on_cell i f m = record m { cells = slice_set m.cells i (f (cell_at i m)) }
 
--- the memory with word i set to x, and no other
+-- the memory with word i alone set to x
 abbrev pub with_word : ℕ → ℕ → Memory → Memory
 with_word i x m = record m { words = slice_set m.words i x }

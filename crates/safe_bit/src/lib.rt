@@ -1,8 +1,8 @@
-//! Safe bits: cells of shared memory that a write and a read reach in two actions each, and words
-//! that a layer above keeps for itself.
+//! Safe bits: each is a cell of shared memory, and its writes and its reads take two actions each.
+//! The same store has words, which a layer above keeps for itself.
 //!
-//! The four actions are Lamport's safe register ("On Interprocess Communication", 1986): a read that
-//! overlaps a write may give either value, any other read gives the value last written.
+//! The four actions make a cell Lamport's safe register ("On Interprocess Communication", 1986): a
+//! read that overlaps a write may give either value; any other read gives the value last written.
 #![tactic(auto)]
 
 ghost use Rattle.std.specs.Prelude.{◌≡◌, ◌<◌, ℕ, IfOk, length, Option, Some, None};
@@ -12,12 +12,12 @@ ghost use Rattle.safe_bit.specs.Memory.{IsNumbered, blank, cell_at, word_at, on_
 use std::alloc::{AllocError, Global};
 use std::marker::Model;
 
-/// A safe bit: its value, the value being written, and what is known of the read in progress.
+/// A safe bit: its value, the value being written, and the read in progress.
 #[derive(Clone, Copy, Debug, PartialEq, Eq)]
 pub struct Cell {
-    /// The value that a read which overlaps no write gives.
+    /// The value that a read gives if it overlaps no write.
     pub value: bool,
-    /// The value being written, if a write is in progress.
+    /// The value being written; `None` if no write is in progress.
     pub writing: Option<bool>,
     /// Whether a read is in progress.
     pub reading: bool,
@@ -25,12 +25,12 @@ pub struct Cell {
     pub hit: bool,
 }
 
-/// Where a register's own memory begins in a store, or how much of it there is: cells and words.
+/// A place in a store, at which a register's own memory begins; or a size, in cells and words.
 #[derive(Clone, Copy, Debug, PartialEq, Eq, Default)]
 pub struct Place {
-    /// The first cell, or the number of cells.
+    /// The first cell of a place, or the number of cells of a size.
     pub cell: u32,
-    /// The first word, or the number of words.
+    /// The first word of a place, or the number of words of a size.
     pub word: u32,
 }
 
@@ -51,7 +51,7 @@ impl Model for Store {
     ghost invariant = { λ s. IsNumbered (record { cells = s.cells.items; words = s.words.items }) };
 }
 
-/// Two stores are equal where they hold the same cells and words.
+/// Two stores are equal if their cells and their words are equal.
 impl PartialEq for Store {
     ghost use Rattle.std.specs.Prelude.{◌≡◌};
     ghost use Rattle.std.specs.Bool.{Decides};
@@ -79,7 +79,7 @@ impl Cell {
 }
 
 impl Store {
-    /// A store of this many cells and words, all 0 and idle.
+    /// A store of `cells` idle cells and `words` words, all of them 0.
     pub fn new(alloc: Global, cells: u32, words: u32) -> Result<Store, AllocError>
         ensures { IfOk result (λ store. store ≡ blank cells words) }
     {
@@ -102,8 +102,13 @@ impl Store {
         Ok(Store { cells, words })
     }
 
-    /// Each of its cells and words has a number of 32 bits. It does nothing: callers learn this by its
-    /// contract.
+    /// The allocator that the store was made with.
+    pub fn allocator(&self) -> Global {
+        *self.cells.allocator()
+    }
+
+    /// Does nothing. Its contract states that there are fewer than 2^32 cells and fewer than 2^32
+    /// words.
     pub fn numbered(&self)
         ensures { IsNumbered self.now }
     {
@@ -148,7 +153,7 @@ impl Store {
         self.words[i as usize] = x;
     }
 
-    /// Sets cell `i` to `value`; the cell is idle then.
+    /// Sets cell `i` to `value`, and leaves it idle.
     pub fn set_value(&mut self, i: u32, value: bool)
         requires { i < length self.old.cells }
         ensures { self.new ≡ on_cell i (λ _. idle_cell value) self.old }
@@ -160,7 +165,7 @@ impl Store {
         };
     }
 
-    /// Starts a write of `value` to cell `i`: a read in progress becomes hit.
+    /// Starts a write of `value` to cell `i`; a read of the cell that is in progress is now hit.
     pub fn start_write(&mut self, i: u32, value: bool)
         requires { i < length self.old.cells }
         ensures { self.new ≡ on_cell i (start_write value) self.old }
@@ -170,7 +175,7 @@ impl Store {
         cell.hit = cell.hit || cell.reading;
     }
 
-    /// Ends the write of cell `i`; where none is in progress, nothing changes.
+    /// Ends the write of cell `i`; if none is in progress, nothing changes.
     pub fn end_write(&mut self, i: u32)
         requires { i < length self.old.cells }
         ensures { self.new ≡ on_cell i end_write self.old }
@@ -179,7 +184,7 @@ impl Store {
         cell.value = cell.writing.take().unwrap_or(cell.value);
     }
 
-    /// Starts a read of cell `i`, which is hit exactly where a write is in progress.
+    /// Starts a read of cell `i`. The read is hit at once if a write of the cell is in progress.
     pub fn start_read(&mut self, i: u32)
         requires { i < length self.old.cells }
         ensures { self.new ≡ on_cell i start_read self.old }
@@ -189,7 +194,7 @@ impl Store {
         cell.hit = cell.writing.is_some();
     }
 
-    /// Ends the read of cell `i`, and answers `choice` if the read was hit, else the value.
+    /// Ends the read of cell `i`, and gives `choice` if the read was hit, else the cell's value.
     pub fn end_read(&mut self, i: u32, choice: bool) -> bool
         requires { i < length self.old.cells }
         ensures value { result ≡ read_gives choice (cell_at i self.old) }

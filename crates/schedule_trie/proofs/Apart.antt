@@ -1,4 +1,4 @@
--- Names that no two branches have.
+-- Names of branches are all different.
 use Rattle.std.proofs.Common.{◌≡◌, ℕ, zero, suc, ◌+◌, ◌<◌, false, true, cond, not, nat_eq, nat_lt, List, [], ◌∷◌, length, map, slice_get, position, Option, Some, None, refl, sym, ap, subst, ◌∙◌, arith, lt-ltb}
 use Rattle.std.specs.Option.{IfSome}
 use Rattle.std.specs.List.{IsDistinct, AllByRecursion, position_or_len}
@@ -10,7 +10,7 @@ use Rattle.schedule_trie.specs.Cut.{forest, piece_at}
 use Rattle.schedule_trie.specs.Held.{names_of, cut_of}
 use Rattle.schedule_trie.proofs.Strands.{names_on}
 
--- a name differs from all those that it is distinct from
+-- a name that differs from each of these isn't one of them
 differs : (name other : List ℕ) (names : List (List ℕ)) (i : ℕ) → AllByRecursion (λ n. pointwise nat_eq name n ≡ false) names → slice_get names i ≡ Some other
     → pointwise nat_eq other name ≡ false
 differs name other [] i all e = cc
@@ -19,7 +19,7 @@ differs name other (n ∷ names) zero all e =
     nat_list_eq_equiv.symm other name ∙ subst (λ m. pointwise nat_eq name m ≡ false) same all.0
 differs name other (n ∷ names) (suc i) all e = differs name other names i all.1 e
 
--- a name's first place among distinct ones is its own
+-- the first index of a name, in names that are all different, is its own
 first_place : (name : List ℕ) (names : List (List ℕ)) (i : ℕ) → IsDistinct (pointwise nat_eq) names → slice_get names i ≡ Some name
     → (position_or_len (pointwise nat_eq name) names ≡ i) × (i < length names)
 unfolding IsDistinct

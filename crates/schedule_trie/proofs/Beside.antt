@@ -1,9 +1,9 @@
--- New segments beside those that were there.
+-- New segments that are added to the existing ones.
 use Rattle.std.proofs.Common.{◌≡◌, ℕ, zero, suc, ◌+◌, ◌<◌, ◌≤◌, Bool, true, false, nat_eq, cond, List, [], ◌∷◌, length, Option, Some, None, IsSome, refl, sym, ap, subst, ◌∙◌, true≢false, arith, eq-eqb}
 use Rattle.std.specs.Option.{IfSome}
 use Rattle.std.proofs.lemmas.Bool.{eqb-true}
 use Rattle.schedule_trie.specs.Forest.{branch, renumbered, only_in}
-use Rattle.schedule_trie.specs.Cut.{Piece, Strand, slots_of, note_of, line, branches_on, keys_in, set_keys, has, has_cell, Once, Linked, IsSegment, IsSound, before_key}
+use Rattle.schedule_trie.specs.Cut.{Piece, Strand, slots_of, note_of, line, branches_on, keys_in, set_keys, has, has_cell, Once, Linked, IsSegment, IsSoundCut, before_key}
 use Rattle.schedule_trie.proofs.Once.{has_not_from, has-head, has-tail}
 use Rattle.schedule_trie.proofs.Lines.{given_at}
 use Rattle.schedule_trie.proofs.Pushes.{not_equal}
@@ -15,7 +15,7 @@ linked_alike : (f g : ℕ → Option ℕ) (up : Option ℕ) (ks : List ℕ) → 
 linked_alike f g up [] l same = tt
 linked_alike f g up (k ∷ ks) l same = (same k (has-head k ks) ∙ l.0, linked_alike f g (Some k) ks l.1 (λ j h. same j (has-tail j k ks h)))
 
--- a path of keys that stand once is linked by itself
+-- a path with no key twice is linked
 linked_once : (up : Option ℕ) (ks : List ℕ) → Once ks → Linked (λ k. before_key k up ks) up ks
 linked_once up [] once = tt
 linked_once up (k ∷ ks) once = (
@@ -36,8 +36,8 @@ only_changed at new made (s ∷ ss) zero keys h same e = λ i. branch s.name (e 
 only_changed at new made (s ∷ ss) (suc n) keys h same e =
     λ i. branch s.name (line_alike at new s.keys (same 0) i) ∷ only_changed at new made ss n keys (omega arith) (λ j. same (suc j)) e i
 
--- new segments stand beside those that were there
-module _ {T : Type 0} (at new : ℕ → Option (Piece T)) (strands : List Strand) (made more index : ℕ) (keys : List ℕ) (sound : IsSound at strands made)
+-- new segments are added to the existing ones
+module _ {T : Type 0} (at new : ℕ → Option (Piece T)) (strands : List Strand) (made more index : ℕ) (keys : List ℕ) (sound : IsSoundCut at strands made)
     (inside : index < length strands) (copied : AreCopied at new made (keys_in strands index) keys) (most : made + length (line at (keys_in strands index)) ≡ more)
     (vacant : (k : ℕ) → has k keys ≡ true → at k ≡ None) (once : Once keys) (others : (k : ℕ) → has k keys ≡ false → new k ≡ at k) where
   size_of : (o : Option (Piece T)) → IsSome o → IfSome o (IsSegment made) → (0 < length (slots_of o)) × (length (slots_of o) ≤ 128)
@@ -95,7 +95,7 @@ module _ {T : Type 0} (at new : ℕ → Option (Piece T)) (strands : List Strand
       by false true e f = absurd (never_both k j x f e b a)
       by false false e f = sound.apart j k x (was_in j x e a) (was_in k x f b)
 
-  -- what is above a key, now
+  -- the key above a key, now
   abbrev above_now : ℕ → Option ℕ
   above_now k = cond (has k keys) (before_key k None keys) (sound.shares.above k)
 

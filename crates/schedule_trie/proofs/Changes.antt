@@ -1,4 +1,4 @@
--- What a change of one segment does to each line.
+-- The effect of a change of one segment on each line.
 use Rattle.std.proofs.Common.{◌≡◌, ℕ, zero, suc, ◌<◌, Bool, true, false, ◌||◌, nat_eq, cond, List, [], ◌∷◌, ◌++◌, length, map, slice_get, slice_index_or, Option, Some, None, IsSome, refl, sym, ap, subst, ◌∙◌, true≢false, arith, eq-eqb}
 use Rattle.std.specs.Option.{IfSome}
 use Rattle.std.specs.List.{slice_set}
@@ -10,17 +10,17 @@ use Rattle.schedule_trie.specs.declared.slot.Slot.{Slot}
 use Rattle.schedule_trie.specs.declared.segment.Segment.{Segment}
 use Rattle.schedule_trie.specs.Forest.{slot, cell_of, with_step, replaced, everywhere}
 use Rattle.schedule_trie.specs.Slots.{set_step}
-use Rattle.schedule_trie.specs.Cut.{Piece, Strand, piece, piece_at, slots_of, line, branches_on, has, has_cell, Once, IsSegment, IsSound}
+use Rattle.schedule_trie.specs.Cut.{Piece, Strand, piece, piece_at, slots_of, line, branches_on, has, has_cell, Once, IsSegment, IsSoundCut}
 use Rattle.schedule_trie.specs.Held.{piece_of, pieces_of}
 use Rattle.schedule_trie.proofs.Once.{has_not_from, has-head, has-tail}
 
--- one key has a segment, and each other what it had
+-- one key has another segment, and each other key still has the segment that it had
 pub record Changes {T : Type 0} (old new : ℕ → Option (Piece T)) (key : ℕ) (p : Piece T) : Type 0 where
   pub here : new key ≡ Some p
   pub others : (j : ℕ) → (j ≡ key → ⊥) → new j ≡ old j
 
 module _ {T : Type 0} where
-  -- a list function that goes through `++`, done to each segment, is done to each line
+  -- a list function that distributes over `++`, applied to each segment, is applied to each line
   pub line_through : (old new : ℕ → Option (Piece T)) (g : List Slot → List Slot) → g [] ≡ [] → ((xs ys : List Slot) → g (xs ++ ys) ≡ g xs ++ g ys)
       → ((j : ℕ) → slots_of (new j) ≡ g (slots_of (old j))) → (ks : List ℕ) → line new ks ≡ g (line old ks)
   line_through old new g empty through each [] = sym empty
@@ -34,7 +34,7 @@ module _ {T : Type 0} where
   everywhere_on old new g each (s ∷ ss) =
       λ i. record { name = s.name; slots = each s.keys i } ∷ everywhere_on old new g each ss i
 
-  -- a segment in the slab is written
+  -- a segment in the slab is replaced
   pub piece_at_set : (slots : List (Option (Segment T))) (key : ℕ) (v : Segment T) → key < length slots
       → Changes (piece_at (pieces_of slots)) (piece_at (pieces_of (slice_set slots key (Some v)))) key (piece v.slots.items v.note)
   piece_at_set slots key v h = record {
@@ -50,7 +50,7 @@ nat_eq-turned x y e = by (nat_eq y x) refl
     by true f = absurd (true≢false (sym (eq-eqb x y (sym (eqb-true y x f))) ∙ e))
     by false f = f
 
--- of cells without a number: each has another
+-- induction on cells that don't have a number
 pub absent_by : (x : ℕ) (P : List Slot → Type 0) → P [] → ((s : Slot) (ss : List Slot) → nat_eq s.cell x ≡ false → P ss → P (s ∷ ss))
     → (slots : List Slot) → has_cell x slots ≡ false → P slots
 absent_by x P none more [] h = none
@@ -60,7 +60,7 @@ absent_by x P none more (s ∷ ss) h = by (nat_eq x s.cell) refl (absent_by x P 
     by true e rest = absurd (true≢false (sym (ap (λ c. c || has_cell x ss) e) ∙ h))
     by false e rest = more s ss (nat_eq-turned x s.cell e) (rest (sym (ap (λ c. c || has_cell x ss) e) ∙ h))
 
--- a cell that isn't there isn't replaced
+-- replacing the step of a cell that isn't there changes nothing
 pub replaced-absent : (x : ℕ) (step : Step) (slots : List Slot) → has_cell x slots ≡ false → replaced x step slots ≡ slots
 replaced-absent x step =
     absent_by x (λ l. replaced x step l ≡ l) refl (λ s ss other rest. ap (λ b. cond b (slot s.cell step) s ∷ replaced x step ss) other ∙ ap (λ l. s ∷ l) rest)
@@ -70,7 +70,7 @@ has_cell_get [] i s e = absurd (cc)
 has_cell_get (z ∷ zs) zero s e = let same : z ≡ s = cc in subst (λ y. has_cell y.cell (z ∷ zs) ≡ true) same (has-head z.cell (map cell_of zs))
 has_cell_get (z ∷ zs) (suc i) s e = has-tail s.cell z.cell (map cell_of zs) (has_cell_get zs i s e)
 
--- a cell that stands once isn't the one before it
+-- if the first cell's number isn't in the rest, a cell of the rest has another number
 pub cell_apart : (z : Slot) (zs : List Slot) (i : ℕ) (s : Slot) → has_cell z.cell zs ≡ false → slice_get zs i ≡ Some s → nat_eq z.cell s.cell ≡ false
 cell_apart z zs i s once e = apart (nat_eq z.cell s.cell) refl
   where
@@ -78,7 +78,7 @@ cell_apart z zs i s once e = apart (nat_eq z.cell s.cell) refl
     apart true f = absurd (true≢false (sym (subst (λ x. has_cell x zs ≡ true) (sym (eqb-true z.cell s.cell f)) (has_cell_get zs i s e)) ∙ once))
     apart false f = f
 
--- a step that is set at a place is the replacement of the cell there
+-- setting the step at an index replaces the step of the cell there
 pub replaced-at : (slots : List Slot) (i : ℕ) (s : Slot) (step : Step) → Once (map cell_of slots) → slice_get slots i ≡ Some s
     → set_step slots i step ≡ replaced s.cell step slots
 replaced-at [] i s step once e = absurd (cc)
@@ -90,19 +90,19 @@ replaced-at (z ∷ zs) zero s step once e =
 replaced-at (z ∷ zs) (suc i) s step once e =
     sym (ap (λ b. cond b (slot z.cell step) z ∷ replaced s.cell step zs) (cell_apart z zs i s once.0 e) ∙ ap (λ l. z ∷ l) (sym (replaced-at zs i s step once.1 e)))
 
--- it keeps the cells
+-- setting a step keeps the cells' numbers
 pub set_step-cells : (slots : List Slot) (i : ℕ) (step : Step) → map cell_of (set_step slots i step) ≡ map cell_of slots
 set_step-cells [] i step = refl
 set_step-cells (z ∷ zs) zero step = refl
 set_step-cells (z ∷ zs) (suc i) step = ap (λ l. z.cell ∷ l) (set_step-cells zs i step)
 
--- and is a write at the place
+-- setting a step is a write of a cell at the index
 pub set_step-write : (slots : List Slot) (i : ℕ) (d : Slot) (step : Step) → i < length slots → slice_set slots i (slot (slice_index_or slots i d).cell step) ≡ set_step slots i step
 set_step-write [] i d step h = absurd (omega arith)
 set_step-write (z ∷ zs) zero d step h = refl
 set_step-write (z ∷ zs) (suc i) d step h = ap (λ l. z ∷ l) (set_step-write zs i d step (omega arith))
 
--- the same cells, wherever there is a segment
+-- at each key, the segments before and after have the same cells
 pub record SameCells {T : Type 0} (old new : ℕ → Option (Piece T)) : Type 0 where
   pub cells : (k : ℕ) → map cell_of (slots_of (new k)) ≡ map cell_of (slots_of (old k))
   pub there : (k : ℕ) → IsSome (old k) → IsSome (new k)
@@ -122,7 +122,7 @@ module _ {T : Type 0} (old new : ℕ → Option (Piece T)) (same : SameCells old
         given = λ x g. h.given x (subst (λ l. has x l ≡ true) e g);
       }
 
-  pub sound_same : IsSound old strands made → IsSound new strands made
+  pub sound_same : IsSoundCut old strands made → IsSoundCut new strands made
   sound_same s = record {
     held = λ i k h. same.there k (s.held i k h);
     segments = λ k. segment_same (old k) (new k) (same.was_there k) (same.cells k) (s.segments k);
@@ -131,9 +131,9 @@ module _ {T : Type 0} (old new : ℕ → Option (Piece T)) (same : SameCells old
     shares = s.shares;
   }
 
--- a replaced step, in every line
+-- a step is replaced in every line
 module _ {T : Type 0} (old new : ℕ → Option (Piece T)) (strands : List Strand) (made key offset : ℕ) (step : Step) (s : Slot)
-    (sound : IsSound old strands made) (here : new key ≡ Some (piece (set_step (slots_of (old key)) offset step) None))
+    (sound : IsSoundCut old strands made) (here : new key ≡ Some (piece (set_step (slots_of (old key)) offset step) None))
     (others : (j : ℕ) → (j ≡ key → ⊥) → new j ≡ old j) (at_cell : slice_get (slots_of (old key)) offset ≡ Some s) where
   once_in : (o : Option (Piece T)) → IfSome o (IsSegment made) → Once (map cell_of (slots_of o))
   once_in None h = tt

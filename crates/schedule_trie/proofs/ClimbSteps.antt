@@ -1,12 +1,12 @@
--- A climb of a branch, by what the fields tell.
+-- A climb of a branch, in terms of the fields.
 use Rattle.std.proofs.Common.{◌≡◌, ℕ, ◌<◌, ◌≤◌, true, true≢false, ◌+◌, List, [], ◌∷◌, ◌++◌, length, Option, Some, None, IsSome, refl, sym, ap, subst, ◌∙◌, arith}
 use Rattle.std.proofs.lemmas.List.{length-append}
 use Rattle.lineage.specs.Family.{item_at, path_in, last_of}
 use Rattle.schedule_trie.specs.declared.trie.Trie.TheInside.{Inside}
 use Rattle.schedule_trie.specs.Cut.{Cut, Piece, piece_at, slots_of, line, keys_in, above_of, has, Once, IsWhole}
-use Rattle.schedule_trie.specs.Held.{cut_of, IsHeld}
+use Rattle.schedule_trie.specs.Held.{cut_of, IsHeldCut}
 use Rattle.schedule_trie.proofs.Once.{Once-from_linked, has-head, has-tail}
-use Rattle.schedule_trie.specs.Climbs.{keys_to, IsReached}
+use Rattle.schedule_trie.specs.Climbs.{keys_to, HasClimbedTo}
 use Rattle.schedule_trie.proofs.Climbs.{IsLast, IsStepUp, last_is, step_up, cells_up, shorter_up}
 use Rattle.schedule_trie.proofs.Lines.{keys_are, line_fits, sound_short}
 use Rattle.schedule_trie.proofs.Partings.{has-in}
@@ -15,8 +15,8 @@ use Rattle.schedule_trie.proofs.StepSet.{item_there, none_there}
 use Rattle.schedule_trie.proofs.Touched.{some_slots}
 use Rattle.schedule_trie.specs.declared.limits.TheConstants.{MOST_CELLS_MADE}
 
-module _ {T : Type 0} (t : Inside T) (c : Cut T) (seen : cut_of t ≡ c) (held : IsHeld t) (index : ℕ) where
-  -- a path has each key once
+module _ {T : Type 0} (t : Inside T) (c : Cut T) (seen : cut_of t ≡ c) (held : IsHeldCut t) (index : ℕ) where
+  -- a path has no key twice
   path_once : Once (keys_in c.strands index)
   path_once =
       subst (λ z. Once (keys_in z.strands index)) seen
@@ -25,22 +25,23 @@ module _ {T : Type 0} (t : Inside T) (c : Cut T) (seen : cut_of t ≡ c) (held :
   same : keys_in c.strands index ≡ path_in t.segments index
   same = sym (ap (λ z. keys_in z.strands index) seen) ∙ keys_are t held index
 
-  -- where it begins
+  -- a climb starts at the last key of the path
   pub path_last : (last : Option ℕ) → last ≡ last_of (path_in t.segments index) → IsLast (keys_in c.strands index) last
   path_last last e = subst (IsLast (keys_in c.strands index)) (ap last_of same ∙ sym e) (last_is (keys_in c.strands index) path_once)
 
-  -- and a step of it
+  -- one step of a climb
   pub path_up : (key : ℕ) (above : Option ℕ) → has key (keys_in c.strands index) ≡ true
       → ((i : ℕ) (front back : List ℕ) → path_in t.segments i ≡ front ++ key ∷ back → above ≡ last_of front) → IsStepUp (keys_in c.strands index) key above
   path_up key above h each = step_up (keys_in c.strands index) key above path_once h (λ front back e. each index front back (sym same ∙ e))
 
--- what a climb knows of a turn: the key above is one of the path, with fewer keys down to it, and the cells add up
+-- one pass of a climb's loop: the key above is on the path, there are fewer keys down to it, and
+-- the cells add up
 pub record IsTurn {T : Type 0} (at : ℕ → Option (Piece T)) (keys : List ℕ) (last : Option ℕ) (key : ℕ) (above : Option ℕ) : Type 0 where
   pub step : IsStepUp keys key above
   pub fewer : length (keys_to keys above) < length (keys_to keys last)
   pub cells : length (line at (keys_to keys last)) ≡ length (line at (keys_to keys above)) + length (slots_of (at key))
 
--- the same, where each branch tells what is above a key
+-- a climb of a branch, if in each branch that has a key the same key is right above it
 module _ {T : Type 0} (c : Cut T) (whole : IsWhole c) (index : ℕ) where
   pub branch_once : Once (keys_in c.strands index)
   branch_once = Once-from_linked whole.sound.shares.above (keys_in c.strands index) (whole.sound.shares.linked index)
@@ -49,16 +50,13 @@ module _ {T : Type 0} (c : Cut T) (whole : IsWhole c) (index : ℕ) where
       → ((i : ℕ) (front back : List ℕ) → keys_in c.strands i ≡ front ++ key ∷ back → above ≡ last_of front) → IsStepUp (keys_in c.strands index) key above
   branch_up key above h each = step_up (keys_in c.strands index) key above branch_once h (λ front back e. each index front back e)
 
-  -- a turn of a climb: from one segment to the one above it
+  -- one pass of a climb's loop: from a segment to the one above it
   module _ (last : Option ℕ) (key : ℕ) where
-    pub turn_there : IsReached (keys_in c.strands index) last → last ≡ Some key → IsSome (piece_at c.pieces key)
-    turn_there reached at = whole.sound.held index key (subst (IsReached (keys_in c.strands index)) at reached)
-
-    pub turn : (above : Option ℕ) → IsReached (keys_in c.strands index) last → last ≡ Some key
+    pub turn : (above : Option ℕ) → HasClimbedTo (keys_in c.strands index) last → last ≡ Some key
         → ((i : ℕ) (front back : List ℕ) → keys_in c.strands i ≡ front ++ key ∷ back → above ≡ last_of front)
         → IsTurn (piece_at c.pieces) (keys_in c.strands index) last key above
     turn above reached at each =
-        let s = branch_up key above (subst (IsReached (keys_in c.strands index)) at reached) each in
+        let s = branch_up key above (subst (HasClimbedTo (keys_in c.strands index)) at reached) each in
         record {
           step = s;
           fewer = subst (λ o. length (keys_to (keys_in c.strands index) above) < length (keys_to (keys_in c.strands index) o)) (sym at)
@@ -81,7 +79,7 @@ few_keys at (k ∷ ks) h =
     let sum = length-append (slots_of (at k)) (line at ks) in
     omega (arith, rest, one, sum)
 
-pub path_few : {T : Type 0} (t : Inside T) → IsHeld t → (i : ℕ) → length (keys_in (cut_of t).strands i) ≤ t.made
+pub path_few : {T : Type 0} (t : Inside T) → IsHeldCut t → (i : ℕ) → length (keys_in (cut_of t).strands i) ≤ t.made
 path_few t held i =
     let at = piece_at (cut_of t).pieces in
     let keys = keys_in (cut_of t).strands i in
@@ -90,15 +88,15 @@ path_few t held i =
     let short = line_fits t held i in
     omega (arith, few, short)
 
--- one look at a segment, which tells the key above it: by what the paths tell, each branch tells it
-module _ {T : Type 0} (t : Inside T) (c : Cut T) (seen : cut_of t ≡ c) (held : IsHeld t) (key : ℕ) (above : Option ℕ) where
+-- one access to a segment: the key right above in each path is also right above in each branch
+module _ {T : Type 0} (t : Inside T) (c : Cut T) (seen : cut_of t ≡ c) (held : IsHeldCut t) (key : ℕ) (above : Option ℕ) where
   abbrev pub IsAbove : Type 0
   IsAbove = (i : ℕ) (front back : List ℕ) → path_in t.segments i ≡ front ++ key ∷ back → above ≡ last_of front
 
   pub each_up : IsAbove → (i : ℕ) (front back : List ℕ) → keys_in c.strands i ≡ front ++ key ∷ back → above ≡ last_of front
   each_up each i front back e = each i front back (sym (keys_are t held i) ∙ ap (λ z. keys_in z.strands i) seen ∙ e)
 
-  -- no path has a key that no segment has
+  -- no path has a key without a segment
   pub none_up : item_at t.segments key ≡ None → IsAbove
   none_up none i front back e =
       let h : has key (keys_in (cut_of t).strands i) ≡ true = ap (has key) (keys_are t held i ∙ e) ∙ has-in key front back in
@@ -110,9 +108,9 @@ module _ {T : Type 0} (t : Inside T) (c : Cut T) (seen : cut_of t ≡ c) (held :
       (above_told (cut_of t).strands key above (λ i front back e. each i front back (sym (keys_are t held i) ∙ e))
       (λ lacks. none (none_there t key (lacked_none (piece_at (cut_of t).pieces key) (cut_of t).strands key (held.whole.sound.live key) lacks))))
 
--- a climb that comes to no item is at its end, where it was on a branch
-module _ {T : Type 0} (t : Inside T) (c : Cut T) (seen : cut_of t ≡ c) (held : IsHeld t) where
-  pub ends_up : (at : Option ℕ) → ((k : ℕ) → at ≡ Some k → item_at t.segments k ≡ None) → (i : ℕ) → IsReached (keys_in c.strands i) at → at ≡ None
+-- a climb of a branch that finds no item has ended
+module _ {T : Type 0} (t : Inside T) (c : Cut T) (seen : cut_of t ≡ c) (held : IsHeldCut t) where
+  pub ends_up : (at : Option ℕ) → ((k : ℕ) → at ≡ Some k → item_at t.segments k ≡ None) → (i : ℕ) → HasClimbedTo (keys_in c.strands i) at → at ≡ None
   ends_up None none i reached = refl
   ends_up (Some k) none i reached =
       let there = item_there t k (held.whole.sound.held i k (subst (λ z. has k (keys_in z.strands i) ≡ true) (sym seen) reached)) in

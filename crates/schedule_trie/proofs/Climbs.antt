@@ -1,4 +1,4 @@
--- A path seen from one of its keys, upwards.
+-- A path, climbed up from one of its keys.
 use Rattle.std.proofs.Common.{◌≡◌, ℕ, suc, ◌+◌, ◌<◌, ◌≤◌, Bool, true, false, ◌||◌, nat_eq, cond, List, [], ◌∷◌, ◌++◌, length, map, position, not, nat_lt, slice_get, Option, Some, None, refl, sym, ap, subst, ◌∙◌, true≢false, arith, eq-eqb, append_assoc, append-nil}
 use Rattle.std.proofs.lemmas.Bool.{eqb-true}
 use Rattle.std.proofs.lemmas.List.{length-append}
@@ -6,8 +6,8 @@ use Rattle.std.specs.List.{position_or_len}
 use Rattle.lineage.specs.Family.{last_of, last_from}
 use Rattle.schedule_trie.specs.declared.slot.Slot.{Slot}
 use Rattle.schedule_trie.specs.Forest.{cell_of, is_cell}
-use Rattle.schedule_trie.specs.Cut.{Piece, slots_of, line, has, has_cell, Once, StandsAt, LiesIn}
-use Rattle.schedule_trie.specs.Climbs.{keys_up_to, keys_to, IsReached}
+use Rattle.schedule_trie.specs.Cut.{Piece, slots_of, line, has, has_cell, Once, IsSpotInPath, LiesInPath}
+use Rattle.schedule_trie.specs.Climbs.{keys_up_to, keys_to, HasClimbedTo}
 use Rattle.schedule_trie.proofs.Once.{has-tail, has_cases, has_not_from}
 use Rattle.schedule_trie.proofs.Lines.{slice_get_left, slice_get_right, in_line}
 use Rattle.schedule_trie.proofs.Pushes.{line-append}
@@ -16,7 +16,7 @@ use Rattle.std.proofs.lemmas.Bool.Decides.{nat_tests}
 use Rattle.schedule_trie.proofs.Changes.{nat_eq-turned}
 use Rattle.schedule_trie.proofs.Readings.{most, first_left, first_right, none_of, first_of, first_is, none_is}
 
--- up to a key that comes once: those before it, and itself
+-- the keys up to a key, if it isn't among those before it
 pub up_to-here : (key : ℕ) (front back : List ℕ) → has key front ≡ false → keys_up_to key (front ++ key ∷ back) ≡ front ++ key ∷ []
 up_to-here key [] back h = ap (λ b. cond b (key ∷ []) (key ∷ keys_up_to key back)) (eq-eqb key key refl)
 up_to-here key (k ∷ front) back h = by (nat_eq key k) refl (up_to-here key front back)
@@ -31,9 +31,9 @@ once_before (k ∷ front) key back h = has_not_from key (k ∷ front) (λ g. has
     (λ e. true≢false (sym (subst (λ z. has z (front ++ key ∷ back) ≡ true) e (has-in key front back)) ∙ h.0))
     (λ r. true≢false (sym r ∙ once_before front key back h.1)))
 
--- the last of some keys, if there are any
+-- `last` is the last of these keys, if there are any
 pub record IsLast (keys : List ℕ) (last : Option ℕ) : Type 0 where
-  pub reached : IsReached keys last
+  pub reached : HasClimbedTo keys last
   pub all : keys_to keys last ≡ keys
 
 pub last_some : (keys : List ℕ) (first key : ℕ) → (k : ℕ) × ((front : List ℕ) × ((last_from (Some first) keys ≡ Some k) × (first ∷ keys ≡ front ++ k ∷ [])))
@@ -48,8 +48,8 @@ last_parts (k ∷ ks) key e =
     let same : p.0 ≡ key = cc in
     (p.1.0, p.1.1.1 ∙ ap (λ z. p.1.0 ++ z ∷ []) same)
 
--- the keys down to the last before a key are those before it
-pub front_is : (front back : List ℕ) → Once (front ++ back) → (keys_to (front ++ back) (last_of front) ≡ front) × IsReached (front ++ back) (last_of front)
+-- the keys down to the last of a front are that front
+pub front_is : (front back : List ℕ) → Once (front ++ back) → (keys_to (front ++ back) (last_of front) ≡ front) × HasClimbedTo (front ++ back) (last_of front)
 front_is [] back once = (refl, tt)
 front_is (f ∷ fs) back once =
     let p = last_some fs f f in
@@ -57,18 +57,18 @@ front_is (f ∷ fs) back once =
     let parts : (f ∷ fs) ++ back ≡ before ++ p.0 ∷ back = ap (λ l. l ++ back) p.1.1.1 ∙ append_assoc before (p.0 ∷ []) back in
     let lacks : has p.0 before ≡ false = once_before before p.0 back (subst Once parts once) in (
       ap (keys_to ((f ∷ fs) ++ back)) p.1.1.0 ∙ ap (keys_up_to p.0) parts ∙ up_to-here p.0 before back lacks ∙ sym p.1.1.1,
-      subst (IsReached ((f ∷ fs) ++ back)) (sym p.1.1.0) (ap (has p.0) parts ∙ has-in p.0 before back),
+      subst (HasClimbedTo ((f ∷ fs) ++ back)) (sym p.1.1.0) (ap (has p.0) parts ∙ has-in p.0 before back),
     )
 
 pub last_is : (keys : List ℕ) → Once keys → IsLast keys (last_of keys)
 last_is keys once =
     let all : keys ++ [] ≡ keys = append-nil keys in
     let p = front_is keys [] (subst Once (sym all) once) in
-    record { reached = subst (λ l. IsReached l (last_of keys)) all p.1; all = ap (λ l. keys_to l (last_of keys)) (sym all) ∙ p.0 }
+    record { reached = subst (λ l. HasClimbedTo l (last_of keys)) all p.1; all = ap (λ l. keys_to l (last_of keys)) (sym all) ∙ p.0 }
 
 -- one step of a climb
 pub record IsStepUp (keys : List ℕ) (key : ℕ) (above : Option ℕ) : Type 0 where
-  pub reached : IsReached keys above
+  pub reached : HasClimbedTo keys above
   pub is : keys_up_to key keys ≡ keys_to keys above ++ key ∷ []
   pub back : List ℕ
   pub parts : keys ≡ keys_to keys above ++ key ∷ back
@@ -81,13 +81,13 @@ step_up keys key above once h each =
     let up : above ≡ last_of p.front = each p.front p.back p.is in
     let to : keys_to keys above ≡ p.front = (λ i. keys_to (p.is i) (up i)) ∙ f.0 in
     record {
-      reached = subst (IsReached keys) (sym up) (subst (λ l. IsReached l (last_of p.front)) (sym p.is) f.1);
+      reached = subst (HasClimbedTo keys) (sym up) (subst (λ l. HasClimbedTo l (last_of p.front)) (sym p.is) f.1);
       is = p.to ∙ ap (λ l. l ++ key ∷ []) (sym to);
       back = p.back;
       parts = p.is ∙ ap (λ l. l ++ key ∷ p.back) (sym to);
     }
 
--- a cell that is not among others, and one that is
+-- the first index of a cell, if it isn't among the first cells, and if it is
 lacks_past : (cell : ℕ) (slots : List Slot) → has_cell cell slots ≡ false → position_or_len (is_cell cell) slots ≡ length slots
 lacks_past cell [] h = refl
 lacks_past cell (s ∷ ss) h = by (nat_eq cell s.cell) refl (lacks_past cell ss)
@@ -126,7 +126,7 @@ module _ {T : Type 0} (at : ℕ → Option (Piece T)) where
   pub line-last : (front : List ℕ) (key : ℕ) → line at (front ++ key ∷ []) ≡ line at front ++ slots_of (at key)
   line-last front key = line-append at front (key ∷ []) ∙ ap (λ l. line at front ++ l) (append-nil (slots_of (at key)))
 
-  -- the cells down to a key: those down to the one above it, and its own
+  -- the number of cells down to a key is the number down to the key above, plus the key's own
   pub cells_up : (keys : List ℕ) (key : ℕ) (above : Option ℕ) → IsStepUp keys key above
       → length (line at (keys_up_to key keys)) ≡ length (line at (keys_to keys above)) + length (slots_of (at key))
   cells_up keys key above s =
@@ -137,8 +137,8 @@ module _ {T : Type 0} (at : ℕ → Option (Piece T)) where
       let more : length (keys_up_to key keys) ≡ length (keys_to keys above) + 1 = ap length s.is ∙ length-append (keys_to keys above) (key ∷ []) in
       omega arith
 
-  -- no more cells down to a key than the whole has, and no more of its own than down to it
-  pub cells_within : (keys : List ℕ) (last : Option ℕ) → IsReached keys last → length (line at (keys_to keys last)) ≤ length (line at keys)
+  -- the cells down to a key are at most all cells, and the key's own at most those down to it
+  pub cells_within : (keys : List ℕ) (last : Option ℕ) → HasClimbedTo keys last → length (line at (keys_to keys last)) ≤ length (line at keys)
   cells_within keys None h = omega arith
   cells_within keys (Some key) h =
       let p = parting keys key h in
@@ -150,7 +150,7 @@ module _ {T : Type 0} (at : ℕ → Option (Piece T)) where
       ap (λ l. length (line at l)) p.to ∙ ap length (line-last p.front key) ∙ length-append (line at p.front) (slots_of (at key)) in
       omega (arith, whole, own)
 
-  pub cells_own : (keys : List ℕ) (last : Option ℕ) (key : ℕ) → IsReached keys last → last ≡ Some key → length (slots_of (at key)) ≤ length (line at (keys_to keys last))
+  pub cells_own : (keys : List ℕ) (last : Option ℕ) (key : ℕ) → HasClimbedTo keys last → last ≡ Some key → length (slots_of (at key)) ≤ length (line at (keys_to keys last))
   cells_own keys None key h e = absurd (cc)
   cells_own keys (Some k) key h e =
       let same : k ≡ key = cc in
@@ -160,9 +160,9 @@ module _ {T : Type 0} (at : ℕ → Option (Piece T)) where
       let named : length (slots_of (at k)) ≡ length (slots_of (at key)) = ap (λ j. length (slots_of (at j))) same in
       omega (arith, own, named)
 
-  -- the place lies in this segment
-  pub lies_here : (keys : List ℕ) (last : Option ℕ) (key place offset : ℕ) → IsReached keys last → last ≡ Some key
-      → length (line at (keys_to keys last)) + offset ≡ place + length (slots_of (at key)) → offset < length (slots_of (at key)) → LiesIn at keys place (key, offset)
+  -- a place lies in the key's segment if it is the number of cells above the segment plus an offset
+  pub lies_here : (keys : List ℕ) (last : Option ℕ) (key place offset : ℕ) → HasClimbedTo keys last → last ≡ Some key
+      → length (line at (keys_to keys last)) + offset ≡ place + length (slots_of (at key)) → offset < length (slots_of (at key)) → LiesInPath at keys place (key, offset)
   lies_here keys None key place offset h e behind within = absurd (cc)
   lies_here keys (Some k) key place offset h e behind within =
       let one : k ≡ key = cc in
@@ -179,8 +179,8 @@ module _ {T : Type 0} (at : ℕ → Option (Piece T)) where
         within = within;
       }
 
-  -- the cells down to the segment of a place: those before it there, and its own
-  pub cells_to : (keys : List ℕ) (key place offset : ℕ) → (l : LiesIn at keys place (key, offset))
+  -- the cells down to the segment of a place are those before the segment, and the segment's own
+  pub cells_to : (keys : List ℕ) (key place offset : ℕ) → (l : LiesInPath at keys place (key, offset))
       → length (line at (keys_to keys (Some key))) + offset ≡ place + length (slots_of (at key))
   cells_to keys key place offset l =
       let own : length (line at (keys_up_to key keys)) ≡ length (line at l.front) + length (slots_of (at key)) =
@@ -189,7 +189,7 @@ module _ {T : Type 0} (at : ℕ → Option (Piece T)) where
       let before = l.before in
       omega (arith, own, before)
 
-  pub stands_here : (keys : List ℕ) (place : ℕ) (spot : ℕ × ℕ) → LiesIn at keys place spot → StandsAt at keys place spot
+  pub stands_here : (keys : List ℕ) (place : ℕ) (spot : ℕ × ℕ) → LiesInPath at keys place spot → IsSpotInPath at keys place spot
   stands_here keys place spot l =
       let whole : line at keys ≡ line at l.front ++ (slots_of (at spot.0) ++ line at l.back) = ap (line at) l.is ∙ line-append at l.front (spot.0 ∷ l.back) in
       record {
@@ -200,7 +200,7 @@ module _ {T : Type 0} (at : ℕ → Option (Piece T)) where
             ∙ ap (λ z. slice_get z place) (sym whole);
       }
 
-  -- the first place of a cell, where it is among those down to a key
+  -- the first place of a cell, if it is among those down to a key
   module _ (cell : ℕ) (keys : List ℕ) (key : ℕ) (above : Option ℕ) (step : IsStepUp keys key above)
       (apart : (j k x : ℕ) → has_cell x (slots_of (at j)) ≡ true → has_cell x (slots_of (at k)) ≡ true → j ≡ k) (once : Once keys) where
     abbrev front : List ℕ

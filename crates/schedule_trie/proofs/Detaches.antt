@@ -1,13 +1,13 @@
--- A branch is detached, by what the fields become.
+-- Detaching a branch, in terms of the fields.
 use Rattle.std.proofs.Common.{◌≡◌, ℕ, ◌+◌, ◌<◌, ◌≤◌, Bool, true, false, cond, List, [], ◌∷◌, ◌++◌, length, map, get_or, Option, Some, None, refl, sym, ap, subst, ◌∙◌}
 use Rattle.std.proofs.lemmas.List.{length-set, get_or-set_same}
-use Rattle.lineage.specs.Family.{item_at, path_in, Stands, IsExchanged, IsFamily}
+use Rattle.lineage.specs.Family.{item_at, path_in, IsOnPath, IsExchanged, IsFamily}
 use Rattle.lineage.proofs.Once.{stands}
 use Rattle.schedule_trie.specs.declared.segment.Segment.{Segment}
 use Rattle.schedule_trie.specs.declared.trie.Trie.TheInside.{Inside}
 use Rattle.schedule_trie.specs.Forest.{slots_in}
-use Rattle.schedule_trie.specs.Cut.{Piece, piece_at, forest, line, keys_in, set_keys, has, Once, IsSound, branches_on}
-use Rattle.schedule_trie.specs.Held.{piece_of, strands_of, names_of, cut_of, IsHeld}
+use Rattle.schedule_trie.specs.Cut.{Piece, piece_at, forest, line, keys_in, set_keys, has, Once, IsSoundCut, branches_on}
+use Rattle.schedule_trie.specs.Held.{piece_of, strands_of, names_of, cut_of, IsHeldCut}
 use Rattle.schedule_trie.specs.Copies.{AreCopies, IsDetached}
 use Rattle.schedule_trie.proofs.Once.{has_not_from, has-head, has-tail}
 use Rattle.schedule_trie.proofs.Lines.{slots_in_on}
@@ -19,12 +19,12 @@ use Rattle.schedule_trie.proofs.Renumbered.{AreCopied, HaveValues, copied_from}
 use Rattle.schedule_trie.proofs.Beside.{old_kept, new_notes, new_apart, sound_beside, only_renumbered}
 use Rattle.schedule_trie.specs.declared.limits.TheConstants.{MOST_CELLS_MADE}
 
--- a list in which what comes before a key is one list has each key once
+-- a list has no key twice if for each key only one list of keys can be before it
 once_from : (keys : List ℕ) → ((k : ℕ) (front back front2 back2 : List ℕ) → keys ≡ front ++ k ∷ back → keys ≡ front2 ++ k ∷ back2 → front ≡ front2) → Once keys
 once_from [] h = tt
 once_from (x ∷ xs) h = (
   has_not_from x xs (λ g.
-      let s : Stands xs x = stands x xs g in
+      let s : IsOnPath xs x = stands x xs g in
       let no : [] ≡ x ∷ s.front = h x [] xs (x ∷ s.front) s.back refl (ap (λ l. x ∷ l) s.is) in
       cc),
   once_from xs (λ k front back front2 back2 e f.
@@ -32,7 +32,7 @@ once_from (x ∷ xs) h = (
       cc),
 )
 
--- values by what each key has
+-- the values at keys, from the item of each key
 have_values : {X : Type 0} (at : ℕ → Option X) (keys : List ℕ) (xs : List X) → map at keys ≡ map Some xs → HaveValues at keys xs
 have_values at [] [] e = tt
 have_values at [] (x ∷ xs) e = absurd (cc)
@@ -46,7 +46,7 @@ map_on : {Y : Type 0} (f g : ℕ → Y) (keys : List ℕ) → ((k : ℕ) → has
 map_on f g [] h = refl
 map_on f g (k ∷ ks) h = λ i. h k (has-head k ks) i ∷ map_on f g ks (λ j e. h j (has-tail j k ks e)) i
 
-module _ {T : Type 0} (t u : Inside T) (index len : ℕ) (copies : List (Segment T)) (held : IsHeld t) (inside : index < length (cut_of t).strands)
+module _ {T : Type 0} (t u : Inside T) (index len : ℕ) (copies : List (Segment T)) (held : IsHeldCut t) (inside : index < length (cut_of t).strands)
     (are : AreCopies (piece_at (cut_of t).pieces) t.made (keys_in (cut_of t).strands index) copies)
     (exchanged : IsExchanged t.segments u.segments index copies) (family : IsFamily u.segments)
     (names : names_of u ≡ names_of t) (made : u.made ≡ t.made + len) (limits : u.limits ≡ t.limits)
@@ -57,7 +57,7 @@ module _ {T : Type 0} (t u : Inside T) (index len : ℕ) (copies : List (Segment
   abbrev at : ℕ → Option (Piece T)
   at = piece_at (cut_of t).pieces
 
-  -- each segment before the branch lets go of what it had
+  -- each key's segment, until the old path is released
   abbrev put : ℕ → Option (Segment T)
   put k = cond (has k fresh_keys) (item_at u.segments k) (item_at t.segments k)
 
@@ -118,13 +118,13 @@ module _ {T : Type 0} (t u : Inside T) (index len : ℕ) (copies : List (Segment
       (subst (λ l. IsSoundBut new l (t.made + len)) (sym strands)
       (sound_beside at new (cut_of t).strands t.made (t.made + len) index fresh_keys held.whole.sound inside copied most vacant once others))
 
-  sound : IsSound (piece_at (cut_of u).pieces) (cut_of u).strands u.made
+  sound : IsSoundCut (piece_at (cut_of u).pieces) (cut_of u).strands u.made
   sound = released_sound new (piece_at (cut_of u).pieces) (cut_of u).strands pieces u.made before
 
   count : length (cut_of u).strands ≡ length (cut_of t).strands
   count = ap length strands ∙ length-set_keys (cut_of t).strands index fresh_keys
 
-  pub detach_held : t.made + len ≤ t.limits.cells → IsHeld u
+  pub detach_held : t.made + len ≤ t.limits.cells → IsHeldCut u
   detach_held room = record {
     whole = record {
       sound = sound;

@@ -1,16 +1,16 @@
--- A segment is cut in two, and the upper part has a new key.
+-- Cutting a segment in two. The upper part has a new key.
 use Rattle.std.proofs.Common.{◌≡◌, ℕ, zero, suc, ◌<◌, ◌≤◌, Bool, true, false, ◌||◌, nat_eq, cond, List, [], ◌∷◌, ◌++◌, length, map, Option, Some, None, IsSome, ◌⊎◌, refl, sym, ap, subst, ◌∙◌, true≢false, arith, eq-eqb, append_assoc, inl, inr}
 use Rattle.std.specs.Option.{IfSome}
 use Rattle.std.proofs.lemmas.Bool.{eqb-true}
 use Rattle.std.proofs.lemmas.List.{map-append}
 use Rattle.schedule_trie.specs.declared.slot.Slot.{Slot}
 use Rattle.schedule_trie.specs.Forest.{branch, cell_of, everywhere}
-use Rattle.schedule_trie.specs.Cut.{Cut, Piece, Strand, piece_at, slots_of, note_of, line, branches_on, keys_in, has, has_cell, Once, Linked, IsSegment, IsSound, KeepsNotesOff, divided_keys, divided_strand}
+use Rattle.schedule_trie.specs.Cut.{Cut, Piece, Strand, piece_at, slots_of, note_of, line, branches_on, keys_in, has, has_cell, Once, Linked, IsSegment, IsSoundCut, KeepsNotesOff, divided_keys, divided_strand}
 use Rattle.schedule_trie.proofs.Once.{has-append, has-head, has-tail, has_cases, has_not_from}
 use Rattle.schedule_trie.proofs.Lines.{given_at}
 use Rattle.schedule_trie.proofs.Pushes.{not_equal}
 
--- the key has the cells below, and a new one those above
+-- the key has the cells below the cut, and a new key has those above
 pub record Divides {T : Type 0} (old new : ℕ → Option (Piece T)) (key fresh : ℕ) (above below : Piece T) : Type 0 where
   pub was : IsSome (old key)
   pub vacant : old fresh ≡ None
@@ -18,7 +18,7 @@ pub record Divides {T : Type 0} (old new : ℕ → Option (Piece T)) (key fresh 
   pub lower : new key ≡ Some below
   pub others : (j : ℕ) → (j ≡ key → ⊥) → (j ≡ fresh → ⊥) → new j ≡ old j
 
--- numbers of two lists with nothing twice
+-- a part of a list that has no number twice has none twice
 Once-left : (xs ys : List ℕ) → Once (xs ++ ys) → Once xs
 Once-left [] ys h = tt
 Once-left (x ∷ xs) ys h =
@@ -42,14 +42,14 @@ Once-apart x (z ∷ xs) ys once a b =
     (λ e. true≢false (sym (has-right z xs ys (subst (λ w. has w ys ≡ true) e b)) ∙ once.0))
     (λ r. Once-apart x xs ys once.1 r b)
 
--- the keys of paths that are divided
+-- the keys of divided paths
 module _ (key fresh : ℕ) where
   pub keys_in-divided : (strands : List Strand) (i : ℕ) → keys_in (map (divided_strand key fresh) strands) i ≡ divided_keys key fresh (keys_in strands i)
   keys_in-divided [] i = refl
   keys_in-divided (s ∷ ss) zero = refl
   keys_in-divided (s ∷ ss) (suc i) = keys_in-divided ss i
 
-  -- a key's own part of the path
+  -- the keys that replace a key in a path
   abbrev part : Bool → ℕ → List ℕ → List ℕ
   part b k rest = cond b (fresh ∷ k ∷ []) (k ∷ []) ++ rest
 
@@ -93,7 +93,7 @@ module _ (key fresh : ℕ) where
           has_cases k fresh (j ∷ divided_keys key fresh ks) ((k ≡ fresh) ⊎ (has k (j ∷ ks) ≡ true)) g (λ e. inl e) (later rest)
       by false g rest = later rest g
 
-  -- the new key comes below what was above the key
+  -- the new key is between the key and the one above it
   abbrev pub above_divided : (ℕ → Option ℕ) → ℕ → Option ℕ
   above_divided above j = cond (nat_eq key j) (Some fresh) (cond (nat_eq fresh j) (above key) (above j))
 
@@ -135,7 +135,7 @@ module _ (key fresh : ℕ) where
           subst (λ b. Linked (above_divided above) up (part b k (divided_keys key fresh ks))) (sym e) (at_k, rest)
 
 module _ {T : Type 0} (old new : ℕ → Option (Piece T)) (key fresh : ℕ) (above below : Piece T) (divides : Divides old new key fresh above below) where
-  -- a list function that goes through `++` and changes the cut segment alone
+  -- a list function that distributes over `++` and changes only the cut segment
   module _ (g : List Slot → List Slot) (empty : g [] ≡ []) (through : (xs ys : List Slot) → g (xs ++ ys) ≡ g xs ++ g ys)
       (parts : above.slots ++ below.slots ≡ g (slots_of (old key)))
       (elsewhere : (j : ℕ) → (j ≡ key → ⊥) → g (slots_of (old j)) ≡ slots_of (old j)) where
@@ -167,7 +167,7 @@ module _ {T : Type 0} (old new : ℕ → Option (Piece T)) (key fresh : ℕ) (ab
     branches-divided (s ∷ ss) h = λ i. branch s.name (line-divided s.keys (h 0) i) ∷ branches-divided ss (λ j. h (suc j)) i
 
   -- the two parts have cells that the segment had, or new ones
-  module _ (strands : List Strand) (made more : ℕ) (sound : IsSound old strands made) (grows : made ≤ more)
+  module _ (strands : List Strand) (made more : ℕ) (sound : IsSoundCut old strands made) (grows : made ≤ more)
       (some_above : 0 < length above.slots) (few_above : length above.slots ≤ 128) (some_below : 0 < length below.slots) (few_below : length below.slots ≤ 128)
       (once : Once (map cell_of (above.slots ++ below.slots)))
       (cells : (x : ℕ) → has_cell x (above.slots ++ below.slots) ≡ true → (has_cell x (slots_of (old key)) ≡ true) ⊎ ((made ≤ x) × (x < more))) where
@@ -182,7 +182,7 @@ module _ {T : Type 0} (old new : ℕ → Option (Piece T)) (key fresh : ℕ) (ab
     in_below x h =
         subst (λ l. has x l ≡ true) (sym (map-append cell_of above.slots below.slots)) (has-right x (map cell_of above.slots) (map cell_of below.slots) h)
 
-    -- where a key stands: it is the cut one, the new one, or as it was
+    -- a key is the cut one, the new one, or another, whose segment is unchanged
     cases : (k : ℕ) (P : ℕ → Type 0) → P key → P fresh → ((k ≡ key → ⊥) → (k ≡ fresh → ⊥) → P k) → P k
     cases k P at_key at_fresh at_other = by (nat_eq k key) refl (nat_eq k fresh) refl
       where
@@ -232,7 +232,7 @@ module _ {T : Type 0} (old new : ℕ → Option (Piece T)) (key fresh : ℕ) (ab
         }))
         (λ a b. subst (λ o. IfSome o (IsSegment more)) (sym (divides.others k a b)) (weaker (old k) (sound.segments k)))
 
-    -- a cell of the two parts is in no other segment
+    -- no other segment has a cell of the two parts
     outside : (k x : ℕ) → (k ≡ key → ⊥) → has_cell x (above.slots ++ below.slots) ≡ true → has_cell x (slots_of (old k)) ≡ true → ⊥
     outside k x ne h g = elim (cells x h) [
       | inl f ↦ ne (sound.apart k key x g f)
@@ -267,7 +267,7 @@ module _ {T : Type 0} (old new : ℕ → Option (Piece T)) (key fresh : ℕ) (ab
         kept : (j : ℕ) → (i : ℕ) × (has j (keys_in strands i) ≡ true) → (i : ℕ) × (has j (keys_in (map (divided_strand key fresh) strands) i) ≡ true)
         kept j p = (p.0, subst (λ l. has j l ≡ true) (sym (keys_in-divided key fresh strands p.0)) (has-divided key fresh j (keys_in strands p.0) p.1))
 
-    pub sound-divided : IsSound new (map (divided_strand key fresh) strands) more
+    pub sound-divided : IsSoundCut new (map (divided_strand key fresh) strands) more
     sound-divided = record {
       held = held;
       segments = segments;

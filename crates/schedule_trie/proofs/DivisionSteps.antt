@@ -1,4 +1,4 @@
--- A division, by what the fields become.
+-- A division, in terms of the fields.
 use Rattle.std.proofs.Common.{◌≡◌, ℕ, List, [], Some, None, IsSome, set, sym, ap, subst, ◌∙◌, true≢false}
 use Rattle.std.proofs.lemmas.List.{get_or-set_same, get_or-set_other}
 use Rattle.lineage.specs.Family.{Family, item_at, IsAdded}
@@ -10,12 +10,12 @@ use Rattle.schedule_trie.specs.Held.{piece_of, cut_of}
 use Rattle.schedule_trie.proofs.StepSet.{piece_seen, key_within}
 use Rattle.schedule_trie.proofs.Division.{Divides}
 
--- what was there is there behind what is added
+-- an existing item still exists after one is added
 pub still_there : {X : Type 0} (old new : Family X) (key fresh : ℕ) (x : X) → IsAdded old new fresh x → IsSome (item_at old key) → IsSome (item_at new key)
 still_there old new key fresh x added h =
     subst IsSome (sym (added.others key (λ e. true≢false (sym (subst IsSome (ap (item_at old) e ∙ added.was_vacant) h))))) h
 
--- a new segment is put above one, which then has the cells below
+-- a new segment is put above one, which then has only the cells below the cut
 module _ {T : Type 0} (t d : Inside T) (mid : Family (Segment T)) (key fresh : ℕ) (above v w : Segment T) (below : List Slot)
     (was : IsSome (piece_at (cut_of t).pieces key)) (added : IsAdded t.segments mid fresh above) (there : item_at mid key ≡ Some v)
     (after : d.segments.items ≡ set mid.items key (Some w)) (items : w.slots.items ≡ below) (note : w.note ≡ None) where

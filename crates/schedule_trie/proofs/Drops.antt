@@ -1,18 +1,18 @@
--- A branch is dropped.
+-- Dropping a branch.
 use Rattle.std.proofs.Common.{◌≡◌, ℕ, zero, suc, ◌<◌, ◌≤◌, true, List, [], ◌∷◌, length, Option, None, refl, sym, ap, subst, ◌∙◌, arith}
 use Rattle.std.specs.List.{remove}
 use Rattle.indexmap.proofs.SetLemmas.{map-remove}
 use Rattle.lineage.specs.Family.{path_in, IsReleased as IsReleasedIn}
 use Rattle.std.specs.Map.{keys_of}
 use Rattle.schedule_trie.specs.declared.trie.Trie.TheInside.{Inside}
-use Rattle.schedule_trie.specs.Cut.{IsWithin, Piece, Strand, piece_at, note_of, branch_on, branches_on, keys_in, has, Linked, IsSound}
-use Rattle.schedule_trie.specs.Held.{piece_of, strands_of, names_of, cut_of, IsHeld}
+use Rattle.schedule_trie.specs.Cut.{IsWithin, Piece, Strand, piece_at, note_of, branch_on, branches_on, keys_in, has, Linked, IsSoundCut}
+use Rattle.schedule_trie.specs.Held.{piece_of, strands_of, names_of, cut_of, IsHeldCut}
 use Rattle.schedule_trie.specs.Releases.{IsDropped}
 use Rattle.schedule_trie.proofs.Strands.{keys_in-of, length-strands, strands-remove}
 use Rattle.schedule_trie.proofs.StepSet.{piece_seen, cut_from_sound, within_still}
 use Rattle.schedule_trie.proofs.Released.{IsReleased, IsSoundBut, released_sound, released_branches, released_notes}
 
--- the branches that are left are those that were there but one
+-- each branch that is left was there before
 keys_left : (strands : List Strand) (index j : ℕ) → (i : ℕ) × (keys_in (remove strands index) j ≡ keys_in strands i)
 keys_left [] zero j = (0, refl)
 keys_left [] (suc index) j = (0, refl)
@@ -25,7 +25,7 @@ length-remove [] i h = absurd (omega arith)
 length-remove (x ∷ xs) zero h = refl
 length-remove (x ∷ xs) (suc i) h = ap suc (length-remove xs i (omega arith))
 
-module _ {T : Type 0} (at : ℕ → Option (Piece T)) (strands : List Strand) (made index : ℕ) (sound : IsSound at strands made) where
+module _ {T : Type 0} (at : ℕ → Option (Piece T)) (strands : List Strand) (made index : ℕ) (sound : IsSoundCut at strands made) where
   pub left_sound : IsSoundBut at (remove strands index) made
   left_sound = record {
     held = λ j k h. let p = keys_left strands index j in sound.held p.0 k (subst (λ l. has k l ≡ true) p.1 h);
@@ -34,8 +34,8 @@ module _ {T : Type 0} (at : ℕ → Option (Piece T)) (strands : List Strand) (m
     shares = record { above = sound.shares.above; linked = λ j. let p = keys_left strands index j in subst (Linked sound.shares.above None) (sym p.1) (sound.shares.linked p.0) };
   }
 
--- by what the fields become
-module _ {T : Type 0} (t u : Inside T) (index : ℕ) (held : IsHeld t) (inside : index < length (cut_of t).strands) (several : 1 < length (cut_of t).strands)
+-- dropping a branch, in terms of the fields
+module _ {T : Type 0} (t u : Inside T) (index : ℕ) (held : IsHeldCut t) (inside : index < length (cut_of t).strands) (several : 1 < length (cut_of t).strands)
     (entries : u.branches.entries ≡ remove t.branches.entries index) (paths : u.segments.paths ≡ remove t.segments.paths index)
     (items : IsReleasedIn t.segments u.segments) (made : u.made ≡ t.made) (limits : u.limits ≡ t.limits) where
   names : names_of u ≡ remove (names_of t) index
@@ -69,13 +69,13 @@ module _ {T : Type 0} (t u : Inside T) (index : ℕ) (held : IsHeld t) (inside :
       (subst (λ l. IsSoundBut (piece_at (cut_of t).pieces) l t.made) (sym left)
       (left_sound (piece_at (cut_of t).pieces) (cut_of t).strands t.made index held.whole.sound))
 
-  sound : IsSound (piece_at (cut_of u).pieces) (cut_of u).strands u.made
+  sound : IsSoundCut (piece_at (cut_of u).pieces) (cut_of u).strands u.made
   sound = released_sound (piece_at (cut_of t).pieces) (piece_at (cut_of u).pieces) (cut_of u).strands pieces u.made before
 
   count : suc (length (cut_of u).strands) ≡ length (cut_of t).strands
   count = ap (λ l. suc (length l)) left ∙ length-remove (cut_of t).strands index inside
 
-  pub drop_held : IsHeld u
+  pub drop_held : IsHeldCut u
   drop_held = record {
     whole = record {
       sound = sound;

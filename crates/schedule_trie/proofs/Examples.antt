@@ -1,10 +1,10 @@
--- Worked examples of the definitions by which something is there: one that holds, and a near miss.
+-- Worked examples of definitions that claim an existence: one that holds, and a near miss.
 use Rattle.std.proofs.Common.{ℕ, zero, suc, ◌≡◌, ◌+◌, ◌<◌, ◌≤◌, ◌⊎◌, Bool, true, false, ◌||◌, true≢false, nat_eq, List, [], ◌∷◌, ◌++◌, Option, Some, None, IsSome, IfSome, unwrap_or, length, codes, slice_index_or, ap, refl, sym, ◌∙◌, subst, inl, ⊎_elim, arith}
 use Rattle.std.proofs.lemmas.Bool.{eqb-true}
 use Rattle.frames.specs.declared.types.Step.{Step}
 use Rattle.frames.specs.declared.types.Step.TheVariants.{Write, Read}
 use Rattle.schedule_trie.specs.Forest.{slot, step_of}
-use Rattle.schedule_trie.specs.Cut.{Cut, Piece, Strand, strand, piece, piece_at, slots_of, note_of, line, has, has_cell, keys_in, Linked, SharesAbove, IsSegment, IsSound, LiesIn, IsCut, AreGone, KeepsNotes, HoldsCellAt, HoldsCellBefore, KeepsAllNotes}
+use Rattle.schedule_trie.specs.Cut.{Cut, Piece, Strand, strand, piece, piece_at, slots_of, note_of, line, has, has_cell, keys_in, Linked, SharesAbove, IsSegment, IsSoundCut, LiesInPath, IsCut, AreGone, KeepsNotes, HoldsCellAt, HoldsCellBefore, KeepsAllNotes}
 
 abbrev cut : List Strand → List (Option (Piece ℕ)) → Cut ℕ
 cut strands pieces = record { strands = strands; pieces = pieces; made = 2; limits = record { cells = 9; branches = 9; log = 9 } }
@@ -16,15 +16,16 @@ cell number step note = Some (piece (slot number step ∷ []) note)
 abbrev main : List ℕ → Strand
 main keys = strand (codes "main") keys
 
--- `main` alone, of one segment, at which 7 is noted
+-- `main` alone, with one segment, whose note is 7
 abbrev noted : Cut ℕ
 noted = cut (main (0 ∷ []) ∷ []) (cell 0 (Read 1) (Some 7) ∷ [])
 
--- the same with another step, at which nothing is noted, or 7 still is
+-- the same with another step, and with no note, or still with 7
 abbrev edited : Option ℕ → Cut ℕ
 edited note = cut (main (0 ∷ []) ∷ []) (cell 0 (Write 0 1) note ∷ [])
 
--- `main` of two segments of a cell each, and of the first alone, so that the other is in no branch
+-- `main` with two segments of one cell each; and with
+-- the first alone, so that no branch has the second
 abbrev two_segments : List (Option (Piece ℕ))
 two_segments = cell 0 (Read 1) None ∷ cell 1 (Read 1) None ∷ []
 
@@ -47,7 +48,7 @@ not_zero k h = by (nat_eq (suc k) 0) refl
     by true e = let none : suc k ≡ 0 = eqb-true (suc k) 0 e in omega (arith, none)
     by false e = true≢false (sym h ∙ ap (λ b. b || false) e)
 
--- branches of the segments 0, 1 and 0, 2
+-- branches with the segments 0, 1 and 0, 2
 SharesAbove-holds : SharesAbove (main (0 ∷ 1 ∷ []) ∷ strand (codes "a") (0 ∷ 2 ∷ []) ∷ [])
 SharesAbove-holds = record { above = above; linked = linked }
   where
@@ -60,7 +61,7 @@ SharesAbove-holds = record { above = above; linked = linked }
     linked (suc zero) = (refl, (refl, tt))
     linked (suc (suc i)) = tt
 
--- branches of the segments 0, 1 and 1, 0, which share a segment and not what is above it
+-- branches with the segments 0, 1 and 1, 0, which share a segment, but not what is above it
 SharesAbove-fails : SharesAbove (main (0 ∷ 1 ∷ []) ∷ strand (codes "a") (1 ∷ 0 ∷ []) ∷ []) → ⊥
 SharesAbove-fails h = some_none 1 (sym (h.linked 1).1.0 ∙ (h.linked 0).0)
 
@@ -83,14 +84,14 @@ one_shares = record { above = λ k. None; linked = linked }
     linked zero = (refl, tt)
     linked (suc i) = tt
 
--- a segment that is in no branch
+-- a segment that no branch has
 lost : (i : ℕ) → has 1 (keys_in one_strand i) ≡ true → ⊥
 lost zero e = true≢false (sym e)
 lost (suc i) e = true≢false (sym e)
 
--- one segment of one cell, in the one branch
-IsSound-holds : IsSound (piece_at noted.pieces) one_strand 2
-IsSound-holds = record { held = one_held; segments = segments; apart = apart; live = one_live; shares = one_shares }
+-- one segment of one cell, on the one branch
+IsSoundCut-holds : IsSoundCut (piece_at noted.pieces) one_strand 2
+IsSoundCut-holds = record { held = one_held; segments = segments; apart = apart; live = one_live; shares = one_shares }
   where
     given : (x : ℕ) → has_cell x (slot 0 (Read 1) ∷ []) ≡ true → x < 2
     given zero h = omega arith
@@ -105,11 +106,11 @@ IsSound-holds = record { held = one_held; segments = segments; apart = apart; li
     apart zero (suc k) x h g = absurd (true≢false (sym g))
     apart (suc j) k x h g = absurd (true≢false (sym h))
 
--- the second segment is in no branch
-IsSound-fails : IsSound (piece_at two_segments) one_strand 2 → ⊥
-IsSound-fails h = lost (h.live 1 refl).0 (h.live 1 refl).1
+-- no branch has the second segment
+IsSoundCut-fails : IsSoundCut (piece_at two_segments) one_strand 2 → ⊥
+IsSoundCut-fails h = lost (h.live 1 refl).0 (h.live 1 refl).1
 
--- one segment of one cell, in the one branch
+-- one segment of one cell, on the one branch
 IsCut-holds : IsCut noted
 IsCut-holds = record { held = one_held; sizes = sizes; live = one_live; shares = one_shares }
   where
@@ -117,17 +118,17 @@ IsCut-holds = record { held = one_held; sizes = sizes; live = one_live; shares =
     sizes zero = (omega arith, omega arith)
     sizes (suc k) = tt
 
--- the second segment is in no branch
+-- no branch has the second segment
 IsCut-fails : IsCut with_lost_segment → ⊥
 IsCut-fails h = lost (h.live 1 refl).0 (h.live 1 refl).1
 
--- the first cell of the second segment lies at place 1
-LiesIn-holds : LiesIn (piece_at two_segments) (0 ∷ 1 ∷ []) 1 (1, 0)
-LiesIn-holds = record { front = 0 ∷ []; back = []; is = refl; first = refl; before = refl; within = omega arith }
+-- the first cell of the second segment is at place 1
+LiesInPath-holds : LiesInPath (piece_at two_segments) (0 ∷ 1 ∷ []) 1 (1, 0)
+LiesInPath-holds = record { front = 0 ∷ []; back = []; is = refl; first = refl; before = refl; within = omega arith }
 
 -- and not at place 0
-LiesIn-fails : LiesIn (piece_at two_segments) (0 ∷ 1 ∷ []) 0 (1, 0) → ⊥
-LiesIn-fails h = by h.front h.back h.is h.before
+LiesInPath-fails : LiesInPath (piece_at two_segments) (0 ∷ 1 ∷ []) 0 (1, 0) → ⊥
+LiesInPath-fails h = by h.front h.back h.is h.before
   where
     by : (front back : List ℕ) → 0 ∷ 1 ∷ [] ≡ front ++ 1 ∷ back → length (line (piece_at two_segments) front) + 0 ≡ 0 → ⊥
     by [] back e before = let same : 0 ≡ 1 = ap (λ keys. slice_index_or keys 0 5) e in omega (arith, same)
@@ -137,7 +138,7 @@ LiesIn-fails h = by h.front h.back h.is h.before
         subst (λ k. length (line (piece_at two_segments) (k ∷ front)) + 0 ≡ 0) first before in
         omega (arith, none)
 
--- the second segment holds the cell at place 1 of `main`
+-- the second segment has the cell at place 1 of `main`
 HoldsCellAt-holds : HoldsCellAt whole (codes "main") 1 1
 HoldsCellAt-holds = record { cell = 1; there = refl; held = refl }
 
@@ -147,7 +148,7 @@ HoldsCellAt-fails h =
     let number : 1 ≡ h.cell = ap (λ o. unwrap_or o 0) h.there in
     true≢false (sym (ap (λ x. has_cell x (slot 0 (Read 1) ∷ [])) number ∙ h.held))
 
--- the second segment holds the cell before place 2 of `main`
+-- the second segment has the cell before place 2 of `main`
 HoldsCellBefore-holds : HoldsCellBefore whole (codes "main") 2 1
 HoldsCellBefore-holds = record { before = 1; next = refl; holds = HoldsCellAt-holds }
 
@@ -155,7 +156,7 @@ HoldsCellBefore-holds = record { before = 1; next = refl; holds = HoldsCellAt-ho
 HoldsCellBefore-fails : HoldsCellBefore whole (codes "main") 0 0 → ⊥
 HoldsCellBefore-fails h = omega (arith, h.next)
 
--- the one segment has another step, and nothing is noted at it any more
+-- the one segment has another step, and its note is cleared
 KeepsNotes-holds : KeepsNotes noted (edited None)
 KeepsNotes-holds = record { touched = Some 0; kept = kept; cleared = cleared; fresh = fresh }
   where
@@ -172,7 +173,7 @@ KeepsNotes-holds = record { touched = Some 0; kept = kept; cleared = cleared; fr
     fresh zero h = refl
     fresh (suc k) h = refl
 
--- a segment whose step is another one neither stays nor is gone
+-- a segment with another step neither stays nor is gone
 neither : (seven : Option ℕ) → (piece_at (edited seven).pieces 0 ≡ piece_at noted.pieces 0)
     ⊎ ((piece_at (edited seven).pieces 0 ≡ None) × AreGone (edited seven) (slots_of (piece_at noted.pieces 0))) → ⊥
 neither seven h = ⊎_elim (λ stays. other_step (ap step_at stays)) (λ gone. some_none _ gone.0) h
@@ -181,7 +182,7 @@ neither seven h = ⊎_elim (λ stays. other_step (ap step_at stays)) (λ gone. s
     step_at None = Read 7
     step_at (Some p) = step_of (slice_index_or p.slots 0 (slot 0 (Read 7)))
 
--- the one segment has another step, and still its note
+-- the one segment has another step, but still its note
 KeepsNotes-fails : KeepsNotes noted (edited (Some 7)) → ⊥
 KeepsNotes-fails h = neither (Some 7) (h.kept 0 (λ touched. some_none 7 (h.cleared 0 touched)) refl)
 

@@ -1,4 +1,4 @@
--- What a fork is answered with.
+-- The results of a fork.
 use Rattle.std.proofs.Common.{◌≡◌, ℕ, suc, ◌+◌, ◌<◌, ◌≤◌, Bool, true, false, not, ◌||◌, cond, nat_lt, nat_le, nat_eq, List, [], ◌∷◌, ◌++◌, length, map, take, position, Option, Some, None, is_some, Result, Ok, Err, IsOk, refl, sym, ap, subst, ◌∙◌, arith, inr, true≢false, if◌then◌else◌}
 use Rattle.std.specs.List.{list_any, position_or_len}
 use Rattle.std.specs.Cmp.Lexicographic.{pointwise}
@@ -24,7 +24,7 @@ nat_le_false a b h = grind (arith, nat_tests)
 nat_lt-more : (a b : ℕ) → nat_lt (1 + a) (suc b) ≡ nat_lt a b
 nat_lt-more a b = grind (arith, nat_tests)
 
--- a list has an element that passes where one is found
+-- a search finds an item exactly if some item passes the test
 pub any_or_none : {X : Type 0} (test : X → Bool) (xs : List X) → nat_lt (position_or_len test xs) (length xs) ≡ list_any test xs
 any_or_none test [] = refl
 any_or_none test (x ∷ xs) = by (test x) (any_or_none test xs)

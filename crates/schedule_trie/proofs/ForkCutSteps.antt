@@ -1,4 +1,4 @@
--- A fork inside a segment, by what the fields become.
+-- A fork inside a segment, in terms of the fields.
 use Rattle.std.proofs.Common.{◌≡◌, ℕ, ◌+◌, ◌-◌, ◌<◌, nat_eq, List, [], ◌∷◌, ◌++◌, length, map, take, drop, get_or, set, Option, Some, None, IsSome, refl, sym, ap, subst, ◌∙◌, arith}
 use Rattle.std.specs.Cmp.Lexicographic.{pointwise}
 use Rattle.std.specs.Global.{Vec}
@@ -11,8 +11,8 @@ use Rattle.schedule_trie.specs.declared.segment.Segment.{Segment}
 use Rattle.schedule_trie.specs.declared.trie.Trie.TheInside.{Inside}
 use Rattle.schedule_trie.specs.Forest.{branch, index_of, slots_in}
 use Rattle.schedule_trie.specs.Cut.{Cut, Piece, piece, piece_at, slots_of, line, forest, keys_in, IsParted, IsWhole, divided_strand}
-use Rattle.schedule_trie.specs.Held.{pieces_of, names_of, cut_of, IsHeld}
-use Rattle.schedule_trie.specs.Forks.{IsForked}
+use Rattle.schedule_trie.specs.Held.{pieces_of, names_of, cut_of, IsHeldCut}
+use Rattle.schedule_trie.specs.Forks.{IsBranchForked}
 use Rattle.schedule_trie.proofs.Division.{Divides, notes-divided}
 use Rattle.schedule_trie.proofs.DivisionSteps.{divides_from}
 use Rattle.schedule_trie.proofs.ForkCuts.{cut, cut_whole, same_branches, cut_front, cut_line}
@@ -23,7 +23,7 @@ use Rattle.schedule_trie.proofs.StepSet.{one_holder}
 use Rattle.schedule_trie.proofs.Strands.{keys_in-of, strands-divided}
 use Rattle.schedule_trie.proofs.Touched.{parted}
 
--- a list from a place on
+-- a list from an index on
 pub rest_of : {X : Type 0} (n : ℕ) (xs : List X) → take (length xs - n) (drop n xs) ≡ drop n xs
 rest_of n xs = ap (λ k. take k (drop n xs)) (sym (length-drop n xs)) ∙ take-length (drop n xs)
 
@@ -36,7 +36,7 @@ get_or-here [] back key = refl
 get_or-here (f ∷ fs) back key = get_or-here fs back key
 
 module _ {T : Type 0} (t u : Inside T) (mid : Family (Segment T)) (name : List ℕ) (index key new rest : ℕ) (front back : List ℕ)
-    (above below : Vec Slot) (v w : Segment T) (more : Option ℕ) (held : IsHeld t) (room : length (cut_of t).strands < (cut_of t).limits.branches)
+    (above below : Vec Slot) (v w : Segment T) (more : Option ℕ) (held : IsHeldCut t) (room : length (cut_of t).strands < (cut_of t).limits.branches)
     (free : index_of (forest (cut_of t)).branches name ≡ None) (made : u.made ≡ t.made) (limits : u.limits ≡ t.limits)
     (parting : keys_in (cut_of t).strands index ≡ front ++ key ∷ back) (some : 0 < rest) (within : rest < length (slots_of (piece_at (cut_of t).pieces key)))
     (forked : IsForkedAbove t.segments mid key new (unnoted above)) (there : item_at mid key ≡ Some v) (after : u.segments.items ≡ set mid.items key (Some w))
@@ -93,20 +93,20 @@ module _ {T : Type 0} (t u : Inside T) (mid : Family (Segment T)) (name : List �
   as_many : length (map (divided_keys key new) t.segments.paths) ≡ length (names_of t)
   as_many = length-map t.segments.paths (divided_keys key new) ∙ held.paths
 
-  pub cut_fork_held : IsHeld u
+  pub cut_fork_held : IsHeldCut u
   cut_fork_held = fork_held middle u name index (count + 1) t.branches.entries (map (divided_keys key new) t.segments.paths) forked.path more
       (strands-divided key new (names_of t) t.segments.paths) as_many refl made limits free_now path_now (paths ∙ forked.paths) entries middle_whole room_now
 
   abbrev place : ℕ
   place = length (line (piece_at c.pieces) front) + rest
 
-  told : IsForked middle (cut_of u) index place name
+  told : IsBranchForked middle (cut_of u) index place name
   told = fork_told middle u name index (count + 1) t.branches.entries (map (divided_keys key new) t.segments.paths) forked.path more
       (strands-divided key new (names_of t) t.segments.paths) as_many refl made limits free_now path_now (paths ∙ forked.paths) entries middle_whole room_now place
       (cut_line c (pieces_of u.segments.items) index count key new rest (piece above.items None) (piece below.items None) held.whole inside at_key divides parts len some within
       ∙ ap (λ l. length (line (piece_at c.pieces) l) + rest) front_is)
 
-  pub cut_fork_told : IsForked c (cut_of u) index place name
+  pub cut_fork_told : IsBranchForked c (cut_of u) index place name
   cut_fork_told = record {
     branches = told.branches ∙ ap (λ l. l ++ branch name (take place (slots_in l index)) ∷ []) same;
     made = told.made;
@@ -121,5 +121,5 @@ module _ {T : Type 0} (t u : Inside T) (mid : Family (Segment T)) (name : List �
     cut = told.cut;
   }
 
-  pub cut_fork : IsHeld u × IsForked c (cut_of u) index place name
+  pub cut_fork : IsHeldCut u × IsBranchForked c (cut_of u) index place name
   cut_fork = (cut_fork_held, cut_fork_told)

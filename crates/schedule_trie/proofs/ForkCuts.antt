@@ -14,7 +14,7 @@ use Rattle.schedule_trie.proofs.Division.{Divides, keys_in-divided, branches-div
 use Rattle.lineage.proofs.ForksAbove.{divided-other}
 use Rattle.schedule_trie.proofs.Forks.{linked_front, has_front}
 
--- a path that is divided at a key
+-- a path, divided at a key
 module _ (key new : ℕ) where
   divided-from : (front back : List ℕ) → has key front ≡ false → divided_keys key new (front ++ key ∷ back) ≡ (front ++ new ∷ []) ++ key ∷ divided_keys key new back
   divided-from front back h =
@@ -49,7 +49,7 @@ module _ {T : Type 0} where
   few_slots made None h = omega arith
   few_slots made (Some p) h = h.few
 
--- a segment of a branch is cut in two, and the cells stay
+-- a segment of a branch is cut in two, and no cell changes
 module _ {T : Type 0} (c : Cut T) (pieces : List (Option (Piece T))) (index count key new rest : ℕ) (above below : Piece T) (whole : IsWhole c)
     (inside : count < length (keys_in c.strands index)) (at_key : key ≡ get_or (keys_in c.strands index) count 0)
     (divides : Divides (piece_at c.pieces) (piece_at pieces) key new above below)

@@ -1,4 +1,4 @@
--- A fork, by what the fields become.
+-- A fork, in terms of the fields.
 use Rattle.std.proofs.Common.{◌≡◌, ℕ, ◌+◌, ◌<◌, nat_eq, List, [], ◌∷◌, ◌++◌, length, map, take, position, Option, Some, None, IsSome, refl, sym, ap, subst, ◌∙◌, append_assoc}
 use Rattle.std.specs.Cmp.Lexicographic.{pointwise}
 use Rattle.std.specs.Map.{keys_of}
@@ -11,15 +11,15 @@ use Rattle.lineage.specs.Family.{Family, item_at, last_of, last_from, path_in, I
 use Rattle.schedule_trie.specs.declared.trie.Trie.TheInside.{Inside}
 use Rattle.schedule_trie.specs.Forest.{index_of, name_of}
 use Rattle.schedule_trie.specs.Cut.{Cut, strand, forest, piece_at, line, branches_on, keys_in, IsWhole}
-use Rattle.schedule_trie.specs.Climbs.{keys_to, IsReached}
-use Rattle.schedule_trie.specs.Held.{pieces_of, strands_of, names_of, cut_of, IsHeld}
-use Rattle.schedule_trie.specs.Forks.{IsForked, IsForkedWhole}
+use Rattle.schedule_trie.specs.Climbs.{keys_to, HasClimbedTo}
+use Rattle.schedule_trie.specs.Held.{pieces_of, strands_of, names_of, cut_of, IsHeldCut}
+use Rattle.schedule_trie.specs.Forks.{IsBranchForked, IsForkedWhole}
 use Rattle.schedule_trie.proofs.Partings.{parting}
 use Rattle.schedule_trie.proofs.Forks.{with_front, front_whole, front_forked}
 use Rattle.schedule_trie.proofs.StepSet.{item_there}
 use Rattle.schedule_trie.proofs.Strands.{names_on, keys_in-of, strands-last}
 
--- a path of a name that no branch has goes last
+-- a path whose name no branch has is added last
 module _ {T : Type 0} (c : Cut T) (u : Inside T) (name : List ℕ) (index count : ℕ) (es : List (List ℕ × Option ℕ)) (paths : List (List ℕ)) (path : List ℕ) (v : Option ℕ)
     (strands : strands_of (keys_of es) paths ≡ c.strands) (as_many : length paths ≡ length (keys_of es))
     (pieces : pieces_of u.segments.items ≡ c.pieces) (made : u.made ≡ c.made) (limits : u.limits ≡ c.limits)
@@ -43,7 +43,7 @@ module _ {T : Type 0} (c : Cut T) (u : Inside T) (name : List ℕ) (index count 
   fork_seen : cut_of u ≡ with_front c name index count
   fork_seen = λ i. record { strands = last i; pieces = pieces i; made = made i; limits = limits i }
 
-  -- it has all keys, where so many are all
+  -- the fork has all keys, if the first `count` keys are all of them
   pub fork_whole : take count (keys_in c.strands index) ≡ keys_in c.strands index → IsForkedWhole c (cut_of u) index name
   fork_whole every = record { strands = last ∙ ap (λ l. c.strands ++ strand name l ∷ []) every; pieces = pieces }
 
@@ -51,14 +51,14 @@ module _ {T : Type 0} (c : Cut T) (u : Inside T) (name : List ℕ) (index count 
   many = ap length all ∙ length_push paths path ∙ ap (λ n. n + 1) as_many ∙ sym (ap length names ∙ length_push (keys_of es) name)
 
   module _ (whole : IsWhole c) (room : length c.strands < c.limits.branches) where
-    pub fork_held : IsHeld u
+    pub fork_held : IsHeldCut u
     fork_held = record { whole = subst IsWhole (sym fork_seen) (front_whole c name index count whole room); paths = many }
 
-    pub fork_told : (place : ℕ) → length (line (piece_at c.pieces) (take count (keys_in c.strands index))) ≡ place → IsForked c (cut_of u) index place name
-    fork_told place e = subst (λ d. IsForked c d index place name) (sym fork_seen) (front_forked c name index count whole room place e)
+    pub fork_told : (place : ℕ) → length (line (piece_at c.pieces) (take count (keys_in c.strands index))) ≡ place → IsBranchForked c (cut_of u) index place name
+    fork_told place e = subst (λ d. IsBranchForked c d index place name) (sym fork_seen) (front_forked c name index count whole room place e)
 
--- keys down to one of them are the first so many
-pub taken_to : (keys : List ℕ) (last : Option ℕ) → IsReached keys last → keys_to keys last ≡ take (length (keys_to keys last)) keys
+-- the keys down to `last` are the first n keys, n being their number
+pub taken_to : (keys : List ℕ) (last : Option ℕ) → HasClimbedTo keys last → keys_to keys last ≡ take (length (keys_to keys last)) keys
 taken_to keys None h = refl
 taken_to keys (Some key) h =
     let p = parting keys key h in
@@ -69,30 +69,30 @@ some_last : (ks : List ℕ) (k : ℕ) → last_from (Some k) ks ≡ None → ⊥
 some_last [] k e = cc
 some_last (j ∷ js) k e = some_last js j e
 
--- the path of a fork
+-- a path that has no last key is empty
 pub no_last : (path : List ℕ) → last_of path ≡ None → path ≡ []
 no_last [] e = refl
 no_last (k ∷ ks) e = absurd (some_last ks k e)
 
 module _ {X : Type 0} (old new : Family X) (index : ℕ) (key : Option ℕ) (forked : IsForkedIn old new key) where
-  pub path_forked : IsReached (path_in old index) key → forked.path ≡ take (length (keys_to (path_in old index) key)) (path_in old index)
+  pub path_forked : HasClimbedTo (path_in old index) key → forked.path ≡ take (length (keys_to (path_in old index) key)) (path_in old index)
   path_forked h = by key forked h
     where
-      by : (key : Option ℕ) (forked : IsForkedIn old new key) → IsReached (path_in old index) key → forked.path ≡ take (length (keys_to (path_in old index) key)) (path_in old index)
+      by : (key : Option ℕ) (forked : IsForkedIn old new key) → HasClimbedTo (path_in old index) key → forked.path ≡ take (length (keys_to (path_in old index) key)) (path_in old index)
       by None forked h = no_last forked.path forked.last
       by (Some k) forked h =
           let p = parting (path_in old index) k h in
           forked.shared k index p.front p.back refl p.is ∙ sym p.to ∙ taken_to (path_in old index) (Some k) h
 
-pub reached_there : {T : Type 0} (t : Inside T) (index : ℕ) (last : Option ℕ) → IsHeld t → IsReached (keys_in (cut_of t).strands index) last
+pub reached_there : {T : Type 0} (t : Inside T) (index : ℕ) (last : Option ℕ) → IsHeldCut t → HasClimbedTo (keys_in (cut_of t).strands index) last
     → IfSome last (λ k. IsSome (item_at t.segments k))
 reached_there t index None held h = tt
 reached_there t index (Some k) held h = item_there t k (held.whole.sound.held index k h)
 
--- a fork behind a segment of a branch, or of none
-module _ {T : Type 0} (t u : Inside T) (name : List ℕ) (index : ℕ) (last : Option ℕ) (more : Option ℕ) (held : IsHeld t)
+-- a fork down to the end of a segment of a branch, or with no segment
+module _ {T : Type 0} (t u : Inside T) (name : List ℕ) (index : ℕ) (last : Option ℕ) (more : Option ℕ) (held : IsHeldCut t)
     (room : length (cut_of t).strands < (cut_of t).limits.branches) (free : index_of (forest (cut_of t)).branches name ≡ None)
-    (reached : IsReached (keys_in (cut_of t).strands index) last) (forked : IsForkedIn t.segments u.segments last)
+    (reached : HasClimbedTo (keys_in (cut_of t).strands index) last) (forked : IsForkedIn t.segments u.segments last)
     (entries : u.branches.entries ≡ insert_entry (pointwise nat_eq) t.branches.entries name more) (made : u.made ≡ t.made) (limits : u.limits ≡ t.limits) where
   abbrev keys : List ℕ
   keys = keys_in (cut_of t).strands index
@@ -105,14 +105,14 @@ module _ {T : Type 0} (t u : Inside T) (name : List ℕ) (index : ℕ) (last : O
 
   path : forked.path ≡ take count keys
   path =
-      path_forked t.segments u.segments index last forked (subst (λ l. IsReached l last) same reached)
+      path_forked t.segments u.segments index last forked (subst (λ l. HasClimbedTo l last) same reached)
       ∙ ap (λ l. take (length (keys_to l last)) l) (sym same)
 
-  pub behind_held : IsHeld u
+  pub behind_held : IsHeldCut u
   behind_held = fork_held (cut_of t) u name index count t.branches.entries t.segments.paths forked.path more refl held.paths (ap pieces_of forked.items) made limits free path forked.paths entries
       held.whole room
 
-  pub behind_told : IsForked (cut_of t) (cut_of u) index (length (line (piece_at (cut_of t).pieces) (keys_to keys last))) name
+  pub behind_told : IsBranchForked (cut_of t) (cut_of u) index (length (line (piece_at (cut_of t).pieces) (keys_to keys last))) name
   behind_told = fork_told (cut_of t) u name index count t.branches.entries t.segments.paths forked.path more refl held.paths (ap pieces_of forked.items) made limits free path forked.paths entries
       held.whole room (length (line (piece_at (cut_of t).pieces) (keys_to keys last))) (ap (λ l. length (line (piece_at (cut_of t).pieces) l)) (sym (taken_to keys last reached)))
 

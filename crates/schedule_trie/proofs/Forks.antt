@@ -3,15 +3,15 @@ use Rattle.std.proofs.Common.{◌≡◌, ℕ, zero, suc, ◌+◌, ◌<◌, true,
 use Rattle.std.proofs.lemmas.List.{length-append, map-append, take-append-drop}
 use Rattle.std.proofs.Math.Seq.{take-append_seam}
 use Rattle.schedule_trie.specs.Forest.{branch, index_of, slots_in}
-use Rattle.schedule_trie.specs.Cut.{Cut, Piece, Strand, strand, piece_at, line, forest, branch_on, branches_on, keys_in, has, note_of, Linked, IsSound, IsWhole, KeepsNotesOff, IsParted}
-use Rattle.schedule_trie.specs.Forks.{IsForked}
+use Rattle.schedule_trie.specs.Cut.{Cut, Piece, Strand, strand, piece_at, line, forest, branch_on, branches_on, keys_in, has, note_of, Linked, IsSoundCut, IsWhole, KeepsNotesOff, IsParted}
+use Rattle.schedule_trie.specs.Forks.{IsBranchForked}
 use Rattle.schedule_trie.proofs.Once.{has-append}
 use Rattle.schedule_trie.proofs.Lines.{slots_in_on}
 use Rattle.schedule_trie.proofs.Pushes.{line-append}
 use Rattle.schedule_trie.proofs.StepSet.{cut_from_sound}
 use Rattle.schedule_trie.proofs.Touched.{none_parted}
 
--- the keys of a branch, where one more goes last: those that it had, or the last one's
+-- the keys of a branch after one is added: those that it had, or the added one's
 keys_in-last : (strands : List Strand) (s : Strand) (i : ℕ) → (keys_in (strands ++ s ∷ []) i ≡ keys_in strands i) ⊎ (keys_in (strands ++ s ∷ []) i ≡ s.keys)
 keys_in-last [] s zero = inr refl
 keys_in-last [] s (suc i) = inl refl
@@ -23,7 +23,7 @@ has-keys_in [] more i k h = absurd (true≢false (sym h))
 has-keys_in (t ∷ ts) more zero k h = h
 has-keys_in (t ∷ ts) more (suc i) k h = has-keys_in ts more i k h
 
--- the front of a path
+-- the front of a linked path is linked
 pub linked_front : (above : ℕ → Option ℕ) (up : Option ℕ) (n : ℕ) (ks : List ℕ) → Linked above up ks → Linked above up (take n ks)
 linked_front above up zero ks l = tt
 linked_front above up (suc n) [] l = tt
@@ -36,13 +36,13 @@ module _ {T : Type 0} where
   branches_on-append : (at : ℕ → Option (Piece T)) (a b : List Strand) → branches_on at (a ++ b) ≡ branches_on at a ++ branches_on at b
   branches_on-append at a b = map-append (branch_on at) a b
 
-  -- a path's front has the first cells of its line
+  -- the front of a path has the first cells of its line
   pub line_front : (at : ℕ → Option (Piece T)) (n : ℕ) (ks : List ℕ) → line at (take n ks) ≡ take (length (line at (take n ks))) (line at ks)
   line_front at n ks =
       sym (take-append_seam (line at (take n ks)) (line at (drop n ks)))
       ∙ ap (take (length (line at (take n ks)))) (sym (line-append at (take n ks) (drop n ks)) ∙ ap (line at) (take-append-drop n ks))
 
--- a branch of this name, with the first keys of the branch at an index, goes last
+-- a branch of this name is added last, with the first keys of the branch at an index
 abbrev pub with_front : {T : Type 0} → Cut T → List ℕ → ℕ → ℕ → Cut T
 with_front c name index count = record c { strands = c.strands ++ strand name (take count (keys_in c.strands index)) ∷ [] }
 
@@ -56,7 +56,7 @@ module _ {T : Type 0} (c : Cut T) (name : List ℕ) (index count : ℕ) (whole :
   count_more : length after.strands ≡ length c.strands + 1
   count_more = length-append c.strands (strand name front ∷ [])
 
-  sound : IsSound (piece_at c.pieces) after.strands c.made
+  sound : IsSoundCut (piece_at c.pieces) after.strands c.made
   sound = record {
     held = λ i k h. elim (keys_in-last c.strands (strand name front) i) [
       | inl e ↦ whole.sound.held i k (subst (λ l. has k l ≡ true) e h)
@@ -95,7 +95,7 @@ module _ {T : Type 0} (c : Cut T) (name : List ℕ) (index count : ℕ) (whole :
       ∙ ap (λ n. take n (line (piece_at c.pieces) (keys_in c.strands index))) e
       ∙ ap (take place) (sym (slots_in_on (piece_at c.pieces) c.strands index)))
 
-  -- no segment has cells of the front and cells after it
+  -- no segment has cells both in the front and after it
   front_notes : (place : ℕ) → length (line (piece_at c.pieces) front) ≡ place → (source : List ℕ) → index_of (forest c).branches source ≡ Some index
       → KeepsNotesOff c after (IsParted c source place)
   front_notes place e source found = record {
@@ -104,7 +104,7 @@ module _ {T : Type 0} (c : Cut T) (name : List ℕ) (index count : ℕ) (whole :
     only = λ k e. absurd (cc);
   }
 
-  pub front_forked : (place : ℕ) → length (line (piece_at c.pieces) front) ≡ place → IsForked c after index place name
+  pub front_forked : (place : ℕ) → length (line (piece_at c.pieces) front) ≡ place → IsBranchForked c after index place name
   front_forked place e = record {
     branches = front_branches place e;
     made = refl;

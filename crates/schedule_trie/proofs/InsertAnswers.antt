@@ -1,4 +1,4 @@
--- What an insert that isn't refused is answered with.
+-- The result of an insert that isn't refused.
 use Rattle.std.proofs.Common.{◌≡◌, ℕ, ◌<◌, ◌≤◌, List, length, Some, Ok, Err, cond, sym, ap, ◌∙◌}
 use Rattle.frames.specs.declared.types.Step.{Step}
 use Rattle.schedule_trie.specs.declared.limits.Limits.{Limits}

@@ -1,4 +1,4 @@
--- An insert, by what the fields become.
+-- An insert, in terms of the fields.
 use Rattle.std.proofs.Common.{◌≡◌, ℕ, ◌+◌, ◌<◌, ◌≤◌, Bool, true, false, nat_eq, cond, List, ◌++◌, length, map, set, slice_get, Option, Some, None, IsSome, ◌⊎◌, inl, inr, refl, sym, ap, subst, ◌∙◌, arith, eq-eqb}
 use Rattle.std.specs.List.{insert}
 use Rattle.std.proofs.lemmas.Bool.{eqb-true}
@@ -13,9 +13,9 @@ use Rattle.schedule_trie.specs.declared.slot.Slot.{Slot}
 use Rattle.schedule_trie.specs.declared.segment.Segment.{Segment}
 use Rattle.schedule_trie.specs.declared.trie.Trie.TheInside.{Inside}
 use Rattle.schedule_trie.specs.Forest.{slot, cell_of, slots_in, cell_in, only_in, put_last, put_before, everywhere, inserted}
-use Rattle.schedule_trie.specs.Cut.{Cut, Piece, piece, piece_at, slots_of, note_of, forest, branches_on, keys_in, has, has_cell, Once, StandsAt, IsSegment, IsSound, IsWithin, IsWhole, HoldsCellAt, CanGrowAt, IsPushed, IsPutBefore, IsInserted, divided_strand, HasChanged}
+use Rattle.schedule_trie.specs.Cut.{Cut, Piece, piece, piece_at, slots_of, note_of, forest, branches_on, keys_in, has, has_cell, Once, IsSpotInPath, IsSegment, IsSoundCut, IsWithin, IsWhole, HoldsCellAt, CanGrowAt, IsPushed, IsPutBefore, IsInserted, divided_strand, HasChanged}
 use Rattle.schedule_trie.specs.declared.limits.Limits.{Limits}
-use Rattle.schedule_trie.specs.Held.{piece_of, strands_of, names_of, cut_of, IsHeld}
+use Rattle.schedule_trie.specs.Held.{piece_of, strands_of, names_of, cut_of, IsHeldCut}
 use Rattle.schedule_trie.proofs.Strands.{strands-divided}
 use Rattle.schedule_trie.proofs.Lines.{slots_in_on}
 use Rattle.schedule_trie.proofs.Changes.{Changes, piece_at_set}
@@ -38,8 +38,8 @@ within_more l made branches h room = record {
 pub slots_seen : {T : Type 0} (t : Inside T) (key : ℕ) (v : Segment T) (c : Cut T) → cut_of t ≡ c → item_at t.segments key ≡ Some v → slots_of (piece_at c.pieces key) ≡ v.slots.items
 slots_seen t key v c seen there = ap (λ b. slots_of (piece_at b.pieces key)) (sym seen) ∙ ap slots_of (piece_seen t key ∙ ap piece_of there)
 
--- in a segment with room
-module _ {T : Type 0} (t : Inside T) (key offset : ℕ) (step : Step) (v w : Segment T) (held : IsHeld t) (there : item_at t.segments key ≡ Some v)
+-- an insert in a segment that isn't full
+module _ {T : Type 0} (t : Inside T) (key offset : ℕ) (step : Step) (v w : Segment T) (held : IsHeldCut t) (there : item_at t.segments key ≡ Some v)
     (inside : offset < length v.slots.items) (few : length v.slots.items < 128) (room : t.made < t.limits.cells)
     (slots : w.slots.items ≡ insert v.slots.items offset (slot t.made step)) (note : w.note ≡ None) where
   abbrev after : Inside T
@@ -69,12 +69,12 @@ module _ {T : Type 0} (t : Inside T) (key offset : ℕ) (step : Step) (v w : Seg
   len : length w.slots.items ≡ length v.slots.items + 1
   len = ap length slots ∙ length-insert v.slots.items offset (slot t.made step) (omega arith)
 
-  sound : IsSound new (cut_of t).strands (t.made + 1)
+  sound : IsSoundCut new (cut_of t).strands (t.made + 1)
   sound = sound_grown old new key now change (cut_of t).strands t.made held.whole.sound (subst IsSome (sym was) refl) (omega (arith, len)) (omega (arith, len))
       (subst (λ l. Once (map cell_of l)) (sym grows) (grown_once old (cut_of t).strands t.made key offset step first.0 held.whole.sound first.1))
       (λ x h. grown_cells old (cut_of t).strands t.made key offset step first.0 held.whole.sound first.1 x (subst (λ l. has_cell x l ≡ true) grows h))
 
-  pub put_held : IsHeld after
+  pub put_held : IsHeldCut after
   put_held = record { whole = record { sound = sound; within = within_more t.limits t.made (length (cut_of t).strands) held.whole.within room }; paths = held.paths }
 
   pub put_told : IsPutBefore (cut_of t) (cut_of after) key offset step
@@ -92,9 +92,9 @@ module _ {T : Type 0} (t : Inside T) (key offset : ℕ) (step : Step) (v w : Seg
     cut = cut_from_sound (cut_of after) (t.made + 1) sound;
   }
 
--- what `insert_at` gives
-module _ {T : Type 0} (old new : Cut T) (index place key offset : ℕ) (step : Step) (stands : StandsAt (piece_at old.pieces) (keys_in old.strands index) place (key, offset))
-    (sound : IsSound (piece_at old.pieces) old.strands old.made) (put : IsPutBefore old new key offset step) where
+-- the result of `insert_at`
+module _ {T : Type 0} (old new : Cut T) (index place key offset : ℕ) (step : Step) (stands : IsSpotInPath (piece_at old.pieces) (keys_in old.strands index) place (key, offset))
+    (sound : IsSoundCut (piece_at old.pieces) old.strands old.made) (put : IsPutBefore old new key offset step) where
   the_cell : (s : Slot) × (slice_get (slots_of (piece_at old.pieces key)) offset ≡ Some s)
   the_cell = slice_get_some (slots_of (piece_at old.pieces key)) offset stands.within
 
@@ -128,7 +128,7 @@ module _ {T : Type 0} (old new : Cut T) (index place key offset : ℕ) (step : S
     cut = put.cut;
   }
 
--- at the end of a branch
+-- an insert at the end of a branch
 module _ {T : Type 0} (old new : Cut T) (index place : ℕ) (step : Step) (all : length (slots_in (forest old).branches index) ≡ place)
     (pushed : IsPushed old new index step) where
   pushed_branches : (forest new).branches ≡ (inserted (forest old) index place step).branches
@@ -157,7 +157,7 @@ some_full : {T : Type 0} (o : Option (Piece T)) → 128 ≤ length (slots_of o) 
 some_full None h = absurd (omega arith)
 some_full (Some p) h = refl
 
--- in a full segment, which is cut in two
+-- an insert in a full segment, which is cut in two
 module _ {T : Type 0} (c d : Cut T) (key fresh offset : ℕ) (step : Step) (above below : Piece T) (whole : IsWhole c)
     (divides : Divides (piece_at c.pieces) (piece_at d.pieces) key fresh above below) (strands : d.strands ≡ map (divided_strand key fresh) c.strands)
     (made : d.made ≡ c.made + 1) (limits : d.limits ≡ c.limits) (room : c.made < c.limits.cells)
@@ -187,12 +187,12 @@ module _ {T : Type 0} (c d : Cut T) (key fresh offset : ℕ) (step : Step) (abov
   once : Once (map cell_of (above.slots ++ below.slots))
   once = subst (λ l. Once (map cell_of l)) (sym parts) (grown_once (piece_at c.pieces) c.strands c.made key offset step cut_cell.0 whole.sound cut_cell.1)
 
-  sound_cut : IsSound (piece_at d.pieces) (map (divided_strand key fresh) c.strands) (c.made + 1)
+  sound_cut : IsSoundCut (piece_at d.pieces) (map (divided_strand key fresh) c.strands) (c.made + 1)
   sound_cut = sound-divided (piece_at c.pieces) (piece_at d.pieces) key fresh above below divides c.strands c.made (c.made + 1) whole.sound (omega arith)
       (omega (arith, least)) (omega (arith, most)) (omega (arith, sum, full, most)) (omega (arith, sum, few, least)) once cells
 
-  sound_after : IsSound (piece_at d.pieces) d.strands d.made
-  sound_after = subst (λ l. IsSound (piece_at d.pieces) l d.made) (sym strands) (subst (IsSound (piece_at d.pieces) (map (divided_strand key fresh) c.strands)) (sym made) sound_cut)
+  sound_after : IsSoundCut (piece_at d.pieces) d.strands d.made
+  sound_after = subst (λ l. IsSoundCut (piece_at d.pieces) l d.made) (sym strands) (subst (IsSoundCut (piece_at d.pieces) (map (divided_strand key fresh) c.strands)) (sym made) sound_cut)
 
   count : length d.strands ≡ length c.strands
   count = ap length strands ∙ length-map c.strands (divided_strand key fresh)
@@ -228,9 +228,9 @@ module _ {T : Type 0} (c d : Cut T) (key fresh offset : ℕ) (step : Step) (abov
 abbrev pub unnoted : {T : Type 0} → Vec Slot → Segment T
 unnoted slots = record { slots = slots; note = None }
 
--- by what the fields become
+-- an insert in a full segment, in terms of the fields
 module _ {T : Type 0} (t d : Inside T) (view : Cut T) (view_is : cut_of t ≡ view) (mid : Family (Segment T)) (key fresh offset : ℕ) (step : Step)
-    (above below : Vec Slot) (v w : Segment T) (cells : List Slot) (held : IsHeld t) (cells_are : cells ≡ slots_of (piece_at view.pieces key))
+    (above below : Vec Slot) (v w : Segment T) (cells : List Slot) (held : IsHeldCut t) (cells_are : cells ≡ slots_of (piece_at view.pieces key))
     (added : IsAdded t.segments mid fresh (unnoted above)) (there : item_at mid key ≡ Some v) (after : d.segments.items ≡ set mid.items key (Some w))
     (items : w.slots ≡ below) (note : w.note ≡ None) (paths : d.segments.paths ≡ map (divided_keys key fresh) t.segments.paths)
     (names : names_of d ≡ names_of t) (made : d.made ≡ t.made + 1) (limits : d.limits ≡ t.limits)
@@ -260,7 +260,7 @@ module _ {T : Type 0} (t d : Inside T) (view : Cut T) (view_is : cut_of t ≡ vi
   parts_before : above.items ++ below.items ≡ insert (slots_of (piece_at (cut_of t).pieces key)) offset (slot t.made step)
   parts_before = parts ∙ ap (λ l. insert l offset (slot t.made step)) (cells_are ∙ seen)
 
-  pub divided_held : IsHeld d
+  pub divided_held : IsHeldCut d
   divided_held = record {
     whole = cut_held (cut_of t) (cut_of d) key fresh offset step (piece above.items None) (piece below.items None) held.whole divides strands made limits
         room_before inside_before full_before parts_before least most refl refl;

@@ -7,13 +7,13 @@ use Rattle.indexmap.proofs.SetLemmas.{map-insert}
 use Rattle.frames.specs.declared.types.Step.{Step}
 use Rattle.schedule_trie.specs.declared.slot.Slot.{Slot}
 use Rattle.schedule_trie.specs.Forest.{slot, cell_of, before_cell, put_before, everywhere}
-use Rattle.schedule_trie.specs.Cut.{Piece, Strand, slots_of, branches_on, has, has_cell, Once, IsSound}
+use Rattle.schedule_trie.specs.Cut.{Piece, Strand, slots_of, branches_on, has, has_cell, Once, IsSoundCut}
 use Rattle.schedule_trie.proofs.Once.{has-head, has-tail, has_cases, has_not_from}
 use Rattle.schedule_trie.proofs.Lines.{once_at, given_at}
 use Rattle.schedule_trie.proofs.Changes.{absent_by, Changes, line_through, everywhere_on, has_cell_get}
 use Rattle.schedule_trie.proofs.Pushes.{not_equal, segments_more, apart_more}
 
--- a number put among others
+-- a number in a list after an insert was there before, or is the inserted one
 pub has-inserted : (x y : ℕ) (ys : List ℕ) (i : ℕ) → has x (insert ys i y) ≡ true → (has x ys ≡ true) ⊎ (x ≡ y)
 has-inserted x y [] zero h = has_cases x y [] ((has x [] ≡ true) ⊎ (x ≡ y)) h (λ e. inr e) (λ r. inl r)
 has-inserted x y [] (suc i) h = has_cases x y [] ((has x [] ≡ true) ⊎ (x ≡ y)) h (λ e. inr e) (λ r. inl r)
@@ -35,13 +35,13 @@ Once-inserted y (z ∷ zs) (suc i) once h = (
   Once-inserted y zs i once.1 (has_not_from y zs (λ g. true≢false (sym (has-tail y z zs g) ∙ h))),
 )
 
--- nothing is put before a cell that isn't there
+-- nothing is inserted before a cell that isn't there
 pub put_before-absent : (x : ℕ) (new : Slot) (slots : List Slot) → has_cell x slots ≡ false → put_before x new slots ≡ slots
 put_before-absent x new =
     absent_by x (λ l. put_before x new l ≡ l) refl
     (λ s ss other rest. ap (λ b. cond b (new ∷ s ∷ []) (s ∷ []) ++ put_before x new ss) other ∙ ap (λ l. s ∷ l) rest)
 
--- a cell that is inserted at a place is put before the cell there
+-- inserting a cell at an index is inserting it before the cell there
 pub inserted-at : (slots : List Slot) (i : ℕ) (s new : Slot) → Once (map cell_of slots) → slice_get slots i ≡ Some s
     → insert slots i new ≡ put_before s.cell new slots
 inserted-at [] i s new once e = absurd (cc)
@@ -60,7 +60,7 @@ inserted-at (z ∷ zs) (suc i) s new once e =
 
 -- the cells of a segment, with a new one before one of them
 module _ {T : Type 0} (old : ℕ → Option (Piece T)) (strands : List Strand) (made key offset : ℕ) (step : Step) (s : Slot)
-    (sound : IsSound old strands made) (at_cell : slice_get (slots_of (old key)) offset ≡ Some s) where
+    (sound : IsSoundCut old strands made) (at_cell : slice_get (slots_of (old key)) offset ≡ Some s) where
   abbrev pub put : List Slot → List Slot
   put slots = put_before s.cell (slot made step) slots
 
@@ -89,11 +89,11 @@ module _ {T : Type 0} (old : ℕ → Option (Piece T)) (strands : List Strand) (
   pub grown_cells : (x : ℕ) → has_cell x grown ≡ true → (has_cell x (slots_of (old key)) ≡ true) ⊎ (x ≡ made)
   grown_cells x h = has-inserted x made (map cell_of (slots_of (old key))) offset (subst (λ l. has x l ≡ true) cells_are h)
 
--- in place
+-- the new cell is put in the same segment
 module _ {T : Type 0} (old new : ℕ → Option (Piece T)) (key : ℕ) (q : Piece T) (change : Changes old new key q) (strands : List Strand) (made : ℕ)
-    (sound : IsSound old strands made) (was : IsSome (old key)) (some : 0 < length q.slots) (few : length q.slots ≤ 128) (once : Once (map cell_of q.slots))
+    (sound : IsSoundCut old strands made) (was : IsSome (old key)) (some : 0 < length q.slots) (few : length q.slots ≤ 128) (once : Once (map cell_of q.slots))
     (cells : (x : ℕ) → has_cell x q.slots ≡ true → (has_cell x (slots_of (old key)) ≡ true) ⊎ (x ≡ made)) where
-  pub sound_grown : IsSound new strands (made + 1)
+  pub sound_grown : IsSoundCut new strands (made + 1)
   sound_grown = record {
     held = λ i k h. there k (sound.held i k h);
     segments = segments_more old new key q change strands made sound some few once cells;
@@ -119,7 +119,7 @@ module _ {T : Type 0} (old new : ℕ → Option (Piece T)) (key : ℕ) (q : Piec
 module _ {T : Type 0} (old new : ℕ → Option (Piece T)) (key : ℕ) (q : Piece T) (change : Changes old new key q) (g : List Slot → List Slot)
     (empty : g [] ≡ []) (through : (xs ys : List Slot) → g (xs ++ ys) ≡ g xs ++ g ys) (here : q.slots ≡ g (slots_of (old key)))
     (elsewhere : (j : ℕ) → (j ≡ key → ⊥) → g (slots_of (old j)) ≡ slots_of (old j)) where
-  -- a list function that changes one segment alone
+  -- a list function that changes only the cells of this segment changes each branch
   pub branches_changed : (strands : List Strand) → branches_on new strands ≡ everywhere g (branches_on old strands)
   branches_changed = everywhere_on old new g (line_through old new g empty through each)
     where

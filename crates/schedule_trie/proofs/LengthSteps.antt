@@ -1,4 +1,4 @@
--- Lengths that are kept, after each edit.
+-- Cached lengths after each edit.
 use Rattle.std.proofs.Common.{◌≡◌, ℕ, ◌<◌, nat_eq, List, [], ◌∷◌, ◌++◌, length, slice_get, position, Option, None, sym, ap, subst, ◌∙◌}
 use Rattle.std.specs.Cmp.Lexicographic.{pointwise}
 use Rattle.std.specs.List.{remove}
@@ -10,9 +10,9 @@ use Rattle.schedule_trie.specs.declared.trie.Trie.TheInside.{Inside}
 use Rattle.schedule_trie.specs.Forest.{index_of, put_last, renumbered, replaced, slot, slots_in, with_step}
 use Rattle.schedule_trie.specs.Cut.{Cut, forest, piece_at, slots_of, branch_on, IsStepSet, IsNoted, IsPushed}
 use Rattle.schedule_trie.specs.Copies.{IsDetached}
-use Rattle.schedule_trie.specs.Forks.{IsForked}
+use Rattle.schedule_trie.specs.Forks.{IsBranchForked}
 use Rattle.schedule_trie.specs.Releases.{IsDropped}
-use Rattle.schedule_trie.specs.Held.{names_of, cut_of, kept_in, AreLengths, AreNames, IsHeld, IsKept}
+use Rattle.schedule_trie.specs.Held.{names_of, cut_of, kept_in, AreLengths, AreNames, IsHeldCut, IsKept}
 use Rattle.schedule_trie.proofs.Lengths.{relength_seen, relength_held, none_kept, same_lengths, length-everywhere, length-only_in, one_forgotten, lengths_left, lengths_more}
 use Rattle.schedule_trie.proofs.Lines.{index_is}
 use Rattle.schedule_trie.proofs.Renumbered.{length-renumbered}
@@ -42,7 +42,7 @@ module _ {T : Type 0} (old new : Cut T) (es : List (List ℕ × Option ℕ)) (ri
   pub dropped_lengths : (index : ℕ) → IsDropped old new index → AreLengths (remove es index) (forest new).branches
   dropped_lengths index told = subst (AreLengths (remove es index)) (sym told.branches) (lengths_left es (forest old).branches index right)
 
--- how many branches there are
+-- the number of branches
 pub count_of : {T : Type 0} (t : Inside T) → length t.branches.entries ≡ length (cut_of t).strands
 count_of t = sym (length-map t.branches.entries (λ e. e.0)) ∙ sym (length-strands (names_of t) t.segments.paths)
 
@@ -51,7 +51,7 @@ entry_within t c index view inside = subst (λ n. index < n) (ap (λ z. length z
 
 pub forked_lengths : {T : Type 0} (t : Inside T) (new : Cut T) (entries : List (List ℕ × Option ℕ)) (index place : ℕ) (name : List ℕ) → AreLengths t.branches.entries (forest (cut_of t)).branches
     → index_of (forest (cut_of t)).branches name ≡ None → entries ≡ insert_entry (pointwise nat_eq) t.branches.entries name None
-    → IsForked (cut_of t) new index place name → AreLengths entries (forest new).branches
+    → IsBranchForked (cut_of t) new index place name → AreLengths entries (forest new).branches
 forked_lengths t new entries index place name right free is told =
     let es = t.branches.entries in
     let absent : position (pointwise nat_eq name) (names_of t) ≡ None = sym (index_is t name) ∙ free in
@@ -60,16 +60,16 @@ forked_lengths t new entries index place name right free is told =
     subst (λ l. AreLengths l (forest new).branches) (sym all)
     (subst (AreLengths (es ++ (name, None) ∷ [])) (sym told.branches) (lengths_more es (forest (cut_of t)).branches name _ count right))
 
--- no length is kept any more
+-- no length is cached any more
 module _ {T : Type 0} (t u : Inside T) (names : names_of u ≡ names_of t) (segments : u.segments ≡ t.segments) (made : u.made ≡ t.made) (limits : u.limits ≡ t.limits) where
-  pub none_held : IsHeld t → AreNames (names_of t) → ((i : ℕ) → kept_in (slice_get u.branches.entries i) ≡ None) → IsKept u
+  pub none_held : IsHeldCut t → AreNames (names_of t) → ((i : ℕ) → kept_in (slice_get u.branches.entries i) ≡ None) → IsKept u
   none_held held named none = record {
     held = relength_held t u names segments made limits held;
     lengths = none_kept u.branches.entries (forest (cut_of u)).branches none;
     names = subst AreNames (sym names) named;
   }
 
-  pub one_held : (es : List (List ℕ × Option ℕ)) → IsHeld t → AreNames (names_of t) → AreLengths es (forest (cut_of t)).branches → u.branches.entries ≡ es → IsKept u
+  pub one_held : (es : List (List ℕ × Option ℕ)) → IsHeldCut t → AreNames (names_of t) → AreLengths es (forest (cut_of t)).branches → u.branches.entries ≡ es → IsKept u
   one_held es held named right is = record {
     held = relength_held t u names segments made limits held;
     lengths = subst (λ l. AreLengths l (forest (cut_of u)).branches) (sym is)

@@ -1,4 +1,4 @@
--- Lengths that are kept with branches.
+-- Lengths cached with branches.
 use Rattle.std.proofs.Common.{◌≡◌, ℕ, zero, suc, ◌+◌, ◌<◌, ◌≤◌, Bool, List, [], ◌∷◌, ◌++◌, length, Option, Some, None, slice_get, refl, sym, ap, subst, ◌∙◌, arith}
 use Rattle.std.specs.Option.{IfSome}
 use Rattle.std.specs.List.{remove}
@@ -8,17 +8,17 @@ use Rattle.schedule_trie.specs.declared.slot.Slot.{Slot}
 use Rattle.schedule_trie.specs.declared.trie.Trie.TheInside.{Inside}
 use Rattle.schedule_trie.specs.Forest.{Branch, everywhere, only_in, slots_in}
 use Rattle.schedule_trie.specs.Cut.{IsWhole}
-use Rattle.schedule_trie.specs.Held.{pieces_of, strands_of, names_of, cut_of, kept_in, AreLengths, IsHeld}
+use Rattle.schedule_trie.specs.Held.{pieces_of, strands_of, names_of, cut_of, kept_in, AreLengths, IsHeldCut}
 
 abbrev IsRight : Option ℕ → ℕ → Type 0
 IsRight kept len = IfSome kept (λ n. n ≡ len)
 
--- lengths aren't seen
+-- no contract sees cached lengths
 module _ {T : Type 0} (t u : Inside T) (names : names_of u ≡ names_of t) (segments : u.segments ≡ t.segments) (made : u.made ≡ t.made) (limits : u.limits ≡ t.limits) where
   pub relength_seen : cut_of u ≡ cut_of t
   relength_seen = λ i. record { strands = strands_of (names i) (segments i).paths; pieces = pieces_of (segments i).items; made = made i; limits = limits i }
 
-  pub relength_held : IsHeld t → IsHeld u
+  pub relength_held : IsHeldCut t → IsHeldCut u
   relength_held held = record { whole = subst IsWhole (sym relength_seen) held.whole; paths = ap (λ s. length s.paths) segments ∙ held.paths ∙ sym (ap length names) }
 
 pub names_set : (entries : List (List ℕ × Option ℕ)) (index : ℕ) (len : Option ℕ) → keys_of (set_value_at entries index len) ≡ keys_of entries
@@ -35,11 +35,11 @@ pub kept_told : (entries : List (List ℕ × Option ℕ)) (branches : List Branc
     → len ≡ length (slots_in branches index)
 kept_told entries branches index len h e = subst (λ o. IsRight o (length (slots_in branches index))) (sym e) (h index)
 
--- none is kept
+-- `AreLengths` holds if no length is cached
 pub none_kept : (entries : List (List ℕ × Option ℕ)) (branches : List Branch) → ((i : ℕ) → kept_in (slice_get entries i) ≡ None) → AreLengths entries branches
 none_kept entries branches none i = subst (λ o. IsRight o (length (slots_in branches i))) (sym (none i)) tt
 
--- no length changes
+-- cached lengths stay right if no branch's length changes
 pub same_lengths : (entries : List (List ℕ × Option ℕ)) (old new : List Branch) → ((i : ℕ) → length (slots_in new i) ≡ length (slots_in old i)) → AreLengths entries old → AreLengths entries new
 same_lengths entries old new same h i = subst (λ n. IsRight (kept_in (slice_get entries i)) n) (sym (same i)) (h i)
 
@@ -57,7 +57,7 @@ length-only_in g same (b ∷ bs) zero (suc i) = refl
 length-only_in g same (b ∷ bs) (suc index) zero = refl
 length-only_in g same (b ∷ bs) (suc index) (suc i) = length-only_in g same bs index i
 
--- the length of the branch at an index is kept
+-- cached lengths stay right when the length of the branch at an index is cached
 pub one_kept : (entries : List (List ℕ × Option ℕ)) (branches : List Branch) (index len : ℕ) → len ≡ length (slots_in branches index) → AreLengths entries branches
     → AreLengths (set_value_at entries index (Some len)) branches
 one_kept [] bs index len e h i = h i
@@ -70,7 +70,7 @@ one_kept (x ∷ xs) (b ∷ bs) zero len e h (suc i) = h (suc i)
 one_kept (x ∷ xs) (b ∷ bs) (suc index) len e h zero = h 0
 one_kept (x ∷ xs) (b ∷ bs) (suc index) len e h (suc i) = one_kept xs bs index len e (λ j. h (suc j)) i
 
--- the branch at an index has other cells, and no length is kept with it
+-- cached lengths stay right when the branch at an index gets other cells, and its length is cleared
 pub one_forgotten : (g : List Slot → List Slot) (entries : List (List ℕ × Option ℕ)) (branches : List Branch) (index : ℕ) → AreLengths entries branches
     → AreLengths (set_value_at entries index None) (only_in index g branches)
 one_forgotten g [] bs index h i = tt
@@ -83,7 +83,7 @@ one_forgotten g (x ∷ xs) (b ∷ bs) zero h (suc i) = h (suc i)
 one_forgotten g (x ∷ xs) (b ∷ bs) (suc index) h zero = h 0
 one_forgotten g (x ∷ xs) (b ∷ bs) (suc index) h (suc i) = one_forgotten g xs bs index (λ j. h (suc j)) i
 
--- a branch goes
+-- cached lengths stay right when a branch is removed
 pub lengths_left : (entries : List (List ℕ × Option ℕ)) (branches : List Branch) (index : ℕ) → AreLengths entries branches → AreLengths (remove entries index) (remove branches index)
 lengths_left [] bs zero h i = tt
 lengths_left [] bs (suc index) h i = tt
@@ -98,7 +98,7 @@ lengths_left (x ∷ xs) (b ∷ bs) zero h i = h (suc i)
 lengths_left (x ∷ xs) (b ∷ bs) (suc index) h zero = h 0
 lengths_left (x ∷ xs) (b ∷ bs) (suc index) h (suc i) = lengths_left xs bs index (λ j. h (suc j)) i
 
--- a branch goes last, with no length
+-- cached lengths stay right when a branch is added last, with no cached length
 pub lengths_more : (entries : List (List ℕ × Option ℕ)) (branches : List Branch) (name : List ℕ) (b : Branch) → length entries ≡ length branches → AreLengths entries branches
     → AreLengths (entries ++ (name, None) ∷ []) (branches ++ b ∷ [])
 lengths_more [] [] name b e h zero = tt
@@ -108,7 +108,7 @@ lengths_more (x ∷ xs) [] name b e h i = absurd (omega arith)
 lengths_more (x ∷ xs) (c ∷ cs) name b e h zero = h 0
 lengths_more (x ∷ xs) (c ∷ cs) name b e h (suc i) = lengths_more xs cs name b (omega arith) (λ j. h (suc j)) i
 
--- one more length is forgotten
+-- after one more length is cleared, none is cached up to there
 pub one_more_gone : (entries : List (List ℕ × Option ℕ)) (index : ℕ) → ((i : ℕ) → i < index → kept_in (slice_get entries i) ≡ None)
     → (i : ℕ) → i < index + 1 → kept_in (slice_get (set_value_at entries index None) i) ≡ None
 one_more_gone [] index h i less = refl
@@ -124,7 +124,7 @@ all_gone (x ∷ xs) count few h zero = h 0 (omega arith)
 all_gone (x ∷ xs) zero few h (suc i) = absurd (omega arith)
 all_gone (x ∷ xs) (suc count) few h (suc i) = all_gone xs count (omega arith) (λ j l. h (suc j) (omega arith)) i
 
--- the first branch has no length
+-- cached lengths are right when the first branch is added
 pub first_lengths : (eq : List ℕ → List ℕ → Bool) (es entries : List (List ℕ × Option ℕ)) (name : List ℕ) (branches : List Branch) → es ≡ [] → entries ≡ insert_entry eq es name None
     → AreLengths entries branches
 first_lengths eq es entries name branches empty is =

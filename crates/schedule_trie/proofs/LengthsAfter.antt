@@ -1,4 +1,4 @@
--- How long a branch is after an edit.
+-- The length of a branch after an edit.
 use Rattle.std.proofs.Common.{◌≡◌, ℕ, zero, suc, ◌+◌, ◌<◌, ◌≤◌, Bool, true, false, nat_eq, cond, List, [], ◌∷◌, ◌++◌, length, map, take, slice_get, Some, refl, sym, ap, subst, ◌∙◌, arith, eq-eqb, true≢false}
 use Rattle.std.specs.List.{remove}
 use Rattle.std.proofs.lemmas.List.{length-map, length_push, length-take-le}
@@ -7,8 +7,8 @@ use Rattle.std.proofs.lemmas.List.Edits.{length-insert}
 use Rattle.frames.specs.declared.types.Step.{Step}
 use Rattle.schedule_trie.specs.declared.slot.Slot.{Slot}
 use Rattle.schedule_trie.specs.Forest.{Branch, branch, cell_of, cell_in, changed, everywhere, only_in, put_before, put_last, slot, slots_in, without}
-use Rattle.schedule_trie.specs.Cut.{Cut, forest, piece_at, slots_of, branch_on, keys_in, Once, StandsAt, IsWhole, IsInserted, IsRemoved}
-use Rattle.schedule_trie.specs.Forks.{IsForked}
+use Rattle.schedule_trie.specs.Cut.{Cut, forest, piece_at, slots_of, branch_on, keys_in, Once, IsSpotInPath, IsWhole, IsInserted, IsRemoved}
+use Rattle.schedule_trie.specs.Forks.{IsBranchForked}
 use Rattle.schedule_trie.proofs.Drops.{length-remove}
 use Rattle.schedule_trie.proofs.Insertion.{inserted-at}
 use Rattle.schedule_trie.proofs.Lines.{line_once, slots_in_on, sound_short}
@@ -48,8 +48,8 @@ module _ {T : Type 0} (c : Cut T) (whole : IsWhole c) (index : ℕ) where
 pub branch_count : {T : Type 0} (c : Cut T) → length (forest c).branches ≡ length c.strands
 branch_count c = length-map c.strands (branch_on (piece_at c.pieces))
 
--- a place that is found is inside
-pub place_inside : {T : Type 0} (c : Cut T) (index place : ℕ) (spot : ℕ × ℕ) → StandsAt (piece_at c.pieces) (keys_in c.strands index) place spot
+-- a place at which a cell is found is inside the branch
+pub place_inside : {T : Type 0} (c : Cut T) (index place : ℕ) (spot : ℕ × ℕ) → IsSpotInPath (piece_at c.pieces) (keys_in c.strands index) place spot
     → place < length (slots_in (forest c).branches index)
 place_inside c index place spot stands =
     let p = slice_get_some (slots_of (piece_at c.pieces spot.0)) spot.1 stands.within in
@@ -97,7 +97,7 @@ module _ {T : Type 0} (old new : Cut T) (whole : IsWhole old) (index : ℕ) (ins
       let same : length (forest new).branches ≡ length (forest old).branches = ap length (told.everywhere_gone p.0 p.1) ∙ length-map (forest old).branches (changed (without p.0.cell)) in
       omega (arith, same, within, branch_count new)
 
-  pub shorter : (place key offset : ℕ) → StandsAt (piece_at old.pieces) (keys_in old.strands index) place (key, offset) → IsRemoved old new key offset
+  pub shorter : (place key offset : ℕ) → IsSpotInPath (piece_at old.pieces) (keys_in old.strands index) place (key, offset) → IsRemoved old new key offset
       → place < length slots → length slots ≡ length (slots_in (forest new).branches index) + 1
   shorter place key offset stands told less =
       let p = slice_get_some (slots_of (piece_at old.pieces key)) offset stands.within in
@@ -110,8 +110,8 @@ module _ {T : Type 0} (old new : Cut T) (whole : IsWhole old) (index : ℕ) (ins
       let same = ap length rest in
       omega (arith, one, same)
 
--- a fork goes last, and is as long as its place says
-module _ {T : Type 0} (old new : Cut T) (index place : ℕ) (name : List ℕ) (told : IsForked old new index place name) where
+-- a fork is the last branch, and its length is the place of the fork
+module _ {T : Type 0} (old new : Cut T) (index place : ℕ) (name : List ℕ) (told : IsBranchForked old new index place name) where
   abbrev last : Branch
   last = branch name (take place (slots_in (forest old).branches index))
 

@@ -1,4 +1,4 @@
--- How many cells limbs bring.
+-- The number of own cells of limbs.
 use Rattle.std.proofs.Common.{◌≡◌, ℕ, zero, suc, ◌+◌, ◌-◌, ◌<◌, ◌≤◌, true, false, nat_lt, List, [], ◌∷◌, ◌++◌, length, take, get_or, refl, sym, ap, ◌∙◌, arith}
 use Rattle.std.proofs.lemmas.Bool.Decides.{nat_tests}
 use Rattle.std.proofs.lemmas.List.{take_more}
@@ -21,7 +21,7 @@ module _ (ls : List Limb) (i : ℕ) (l : Limb) (less : i < length ls) (at : get_
       let sum = cells_of-append (take i ls) (l ∷ []) in
       let whole = ap cells_of more in omega arith
 
-  -- too many at the next limb, and not yet
+  -- the limit is exceeded at the next limb, or not yet
   pub too_many_here : (room most : ℕ) → cells_of (take i ls) + room ≡ most → room < length l.steps → true ≡ nat_lt most (cells_of ls)
   too_many_here room most so_far few =
       let next = cells_of-next in

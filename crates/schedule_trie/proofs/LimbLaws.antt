@@ -1,4 +1,4 @@
--- The limbs of a forest of limbs are these limbs.
+-- The limbs of the forest that limbs describe are these limbs.
 use Rattle.std.proofs.Common.{◌≡◌, ℕ, zero, suc, ◌+◌, ◌<◌, ◌≤◌, Bool, true, false, ◌&&◌, ◌||◌, nat_eq, nat_lt, nat_le, List, [], ◌∷◌, ◌++◌, length, map, take, drop, slice_get, Option, Some, None, refl, sym, ap, subst, ◌∙◌, true≢false, arith, append_assoc, append-nil}
 use Rattle.std.proofs.lemmas.Bool.{eqb-true}
 use Rattle.std.proofs.lemmas.Bool.Decides.{nat_tests}
@@ -8,15 +8,15 @@ use Rattle.frames.specs.declared.types.Step.{Step}
 use Rattle.schedule_trie.specs.declared.slot.Slot.{Slot}
 use Rattle.schedule_trie.specs.declared.limb.Limb.{Limb}
 use Rattle.schedule_trie.specs.Forest.{Forest, Branch, branch, numbered, slots_in, step_of, cell_in}
-use Rattle.schedule_trie.specs.Limbs.{has_slot, is_in, shared_with, first_with, limb_of, limbs_after, limbs, slots_on, grown, grow, no_branches, forest_of, length_of, cells_of, is_own_of, is_new_name, may_share, are_lawful_after, IsLawful}
+use Rattle.schedule_trie.specs.Limbs.{has_slot, is_in_branches, shared_with, first_with, limb_of, limbs_after, limbs, slots_on, grown, grow, no_branches, forest_of, limb_length, cells_of, is_own_of, is_new_name, may_share, are_lawful_after, AreLawfulLimbs}
 use Rattle.schedule_trie.proofs.LimbLists.{by_order, slot-append, slot_not_from, length-numbered, numbered_below, slice_get-front, slice_get-last, slice_get-within, slots_in-front, slots_in-last, slots_in-past, any_from, any_none, first_is, StopsAt, prefix_is, all_in, has_taken, cell_in-has, cell_in-taken, cell_in-own, steps-numbered, length-taken}
 
--- a limb shares cells of which the last is an own one of the branch that it is from
+-- the last cell that a limb shares is one of the own cells of the branch that it is from
 pub record SharesOf (earlier : List Limb) (l : Limb) : Type 0 where
   pub stem : Limb
   pub there : slice_get earlier l.from ≡ Some stem
   pub more : stem.shared < l.shared
-  pub within : l.shared ≤ length_of stem
+  pub within : l.shared ≤ limb_length stem
 
 pub record SharesNone (l : Limb) : Type 0 where
   pub from : l.from ≡ 0
@@ -26,10 +26,10 @@ both : (a b : Bool) → (a && b) ≡ true → (a ≡ true) × (b ≡ true)
 both true b h = (refl, h)
 both false b h = absurd (true≢false (sym h))
 
-own_parts : (o : Option Limb) (k : ℕ) → is_own_of o k ≡ true → (p : Limb) × (o ≡ Some p) × (p.shared < k) × (k ≤ length_of p)
+own_parts : (o : Option Limb) (k : ℕ) → is_own_of o k ≡ true → (p : Limb) × (o ≡ Some p) × (p.shared < k) × (k ≤ limb_length p)
 own_parts None k h = absurd (true≢false (sym h))
 own_parts (Some p) k h =
-    let r = both (nat_lt p.shared k) (nat_le k (length_of p)) h in
+    let r = both (nat_lt p.shared k) (nat_le k (limb_length p)) h in
     let a = r.0 in
     let b = r.1 in (p, refl, grind (arith, nat_tests), grind (arith, nat_tests))
 
@@ -42,12 +42,12 @@ may_share_parts earlier l P h none some = by (nat_eq l.from 0 && nat_eq l.shared
         let r = own_parts (slice_get earlier l.from) l.shared (sym (ap (λ c. c || is_own_of (slice_get earlier l.from) l.shared) e) ∙ h) in
         some (record { stem = r.0; there = r.1; more = r.2; within = r.3 })
 
--- what a forest that has grown from limbs keeps
+-- the invariant of a forest that is built from limbs
 pub record HasGrown (earlier : List Limb) (f : Forest) : Type 0 where
   pub count : length f.branches ≡ length earlier
-  pub sizes : (i : ℕ) (p : Limb) → slice_get earlier i ≡ Some p → length (slots_in f.branches i) ≡ length_of p
+  pub sizes : (i : ℕ) (p : Limb) → slice_get earlier i ≡ Some p → length (slots_in f.branches i) ≡ limb_length p
   pub given : (i x : ℕ) → has_slot x (slots_in f.branches i) ≡ true → x < f.made
-  pub own : (i j k : ℕ) (p : Limb) → slice_get earlier i ≡ Some p → j < i → p.shared ≤ k → k < length_of p
+  pub own : (i j k : ℕ) (p : Limb) → slice_get earlier i ≡ Some p → j < i → p.shared ≤ k → k < limb_length p
       → has_slot (cell_in (slots_in f.branches i) k) (slots_in f.branches j) ≡ false
 
 pub grown_none : HasGrown [] no_branches
@@ -78,13 +78,13 @@ module _ (earlier : List Limb) (f : Forest) (l : Limb) (h : HasGrown earlier f) 
   fresh : (x : ℕ) → f.made ≤ x → (j : ℕ) → has_slot x (slots_in bs j) ≡ false
   fresh x old j = slot_not_from x (slots_in bs j) (λ e. let less = h.given j x e in omega arith)
 
-  stops : (n : ℕ) → f.made ≤ n → (steps : List Step) → StopsAt (is_in bs) (numbered n steps)
+  stops : (n : ℕ) → f.made ≤ n → (steps : List Step) → StopsAt (is_in_branches bs) (numbered n steps)
   stops n old [] = tt
   stops n old (s ∷ ss) = any_none bs n (fresh n old)
 
   shared_is : shared_with bs (slots_on f l) ≡ l.shared
   shared_is =
-      prefix_is (is_in bs) front (numbered f.made l.steps)
+      prefix_is (is_in_branches bs) front (numbered f.made l.steps)
       (all_in bs front (λ x e. any_from bs l.from x (has_taken l.shared x stem e)))
       (stops f.made (omega arith) l.steps)
       ∙ length-front
@@ -115,7 +115,7 @@ module _ (earlier : List Limb) (f : Forest) (l : Limb) (h : HasGrown earlier f) 
       let from : first_with bs (slots_on f l) (shared_with bs (slots_on f l)) ≡ l.from = ap (first_with bs (slots_on f l)) shared_is ∙ from_is l.shared refl in
       λ i. record { name = l.name; from = from i; shared = shared_is i; steps = steps_are i }
 
-  length-new : length (slots_on f l) ≡ length_of l
+  length-new : length (slots_on f l) ≡ limb_length l
   length-new = length-append front (numbered f.made l.steps) ∙ ap (λ n. n + length (numbered f.made l.steps)) length-front ∙ ap (λ n. l.shared + n) (length-numbered f.made l.steps)
 
   new_given : (x : ℕ) → has_slot x (slots_on f l) ≡ true → x < f.made + length l.steps
@@ -154,11 +154,11 @@ module _ (earlier : List Limb) (f : Forest) (l : Limb) (h : HasGrown earlier f) 
       count : length (bs ++ new ∷ []) ≡ length (earlier ++ l ∷ [])
       count = length-append bs (new ∷ []) ∙ ap (λ n. n + 1) h.count ∙ sym (length-append earlier (l ∷ []))
 
-      sizes : (i : ℕ) (p : Limb) → slice_get (earlier ++ l ∷ []) i ≡ Some p → length (slots_in (bs ++ new ∷ []) i) ≡ length_of p
+      sizes : (i : ℕ) (p : Limb) → slice_get (earlier ++ l ∷ []) i ≡ Some p → length (slots_in (bs ++ new ∷ []) i) ≡ limb_length p
       sizes i p g =
-          by_order i (length earlier) (length (slots_in (bs ++ new ∷ []) i) ≡ length_of p)
+          by_order i (length earlier) (length (slots_in (bs ++ new ∷ []) i) ≡ limb_length p)
           (λ less. ap length (front_slots i less) ∙ h.sizes i p (front_limb i p less g))
-          (λ e. ap length (last_slots i e) ∙ length-new ∙ ap length_of (last_limb i p e g))
+          (λ e. ap length (last_slots i e) ∙ length-new ∙ ap limb_length (last_limb i p e g))
           (λ more. absurd (none_past i p more g))
 
       given : (i x : ℕ) → has_slot x (slots_in (bs ++ new ∷ []) i) ≡ true → x < f.made + length l.steps
@@ -168,14 +168,14 @@ module _ (earlier : List Limb) (f : Forest) (l : Limb) (h : HasGrown earlier f) 
           (λ e. new_given x (subst (λ s. has_slot x s ≡ true) (last_slots i e) g))
           (λ more. absurd (true≢false (sym (subst (λ s. has_slot x s ≡ true) (past_slots i more) g))))
 
-      own_last : (i j k : ℕ) → i ≡ length earlier → j < i → l.shared ≤ k → k < length_of l
+      own_last : (i j k : ℕ) → i ≡ length earlier → j < i → l.shared ≤ k → k < limb_length l
           → has_slot (cell_in (slots_in (bs ++ new ∷ []) i) k) (slots_in (bs ++ new ∷ []) j) ≡ false
       own_last i j k e less more few =
           subst (λ s. has_slot (cell_in s k) (slots_in (bs ++ new ∷ []) j) ≡ false) (sym (last_slots i e))
           (subst (λ s. has_slot (cell_in (slots_on f l) k) s ≡ false) (sym (front_slots j (omega arith)))
           (fresh (cell_in (slots_on f l) k) (cell_in-own stem l.shared f.made k l.steps short more few) j))
 
-      own : (i j k : ℕ) (p : Limb) → slice_get (earlier ++ l ∷ []) i ≡ Some p → j < i → p.shared ≤ k → k < length_of p
+      own : (i j k : ℕ) (p : Limb) → slice_get (earlier ++ l ∷ []) i ≡ Some p → j < i → p.shared ≤ k → k < limb_length p
           → has_slot (cell_in (slots_in (bs ++ new ∷ []) i) k) (slots_in (bs ++ new ∷ []) j) ≡ false
       own i j k p g less more few =
           by_order i (length earlier) (has_slot (cell_in (slots_in (bs ++ new ∷ []) i) k) (slots_in (bs ++ new ∷ []) j) ≡ false)
@@ -183,7 +183,7 @@ module _ (earlier : List Limb) (f : Forest) (l : Limb) (h : HasGrown earlier f) 
           (subst (λ s. has_slot (cell_in (slots_in bs i) k) s ≡ false) (sym (front_slots j (omega arith)))
           (h.own i j k p (front_limb i p inside g) less more few)))
           (λ e. let same = last_limb i p e g in
-          own_last i j k e less (subst (λ q. q.shared ≤ k) (sym same) more) (subst (λ q. k < length_of q) (sym same) few))
+          own_last i j k e less (subst (λ q. q.shared ≤ k) (sym same) more) (subst (λ q. k < limb_length q) (sym same) few))
           (λ past. absurd (none_past i p past g))
 
 pub limbs_after-put : (earlier bs : List Branch) (b : Branch) → limbs_after earlier (bs ++ b ∷ []) ≡ limbs_after earlier bs ++ limb_of (earlier ++ bs) b ∷ []
@@ -202,11 +202,11 @@ limbs_more earlier f (l ∷ ls) h same lawful =
     ∙ ap (λ m. earlier ++ m ∷ []) (limb_is earlier f l h q.0) in
     limbs_more (earlier ++ l ∷ []) (grown f l) ls (grown_more earlier f l h q.0) next q.1 ∙ append_assoc earlier (l ∷ []) ls
 
--- saving what was loaded gives what was loaded
-pub limbs_again : (ls : List Limb) → IsLawful ls → limbs (forest_of ls) ≡ ls
+-- saving a loaded forest gives the limbs that were loaded
+pub limbs_again : (ls : List Limb) → AreLawfulLimbs ls → limbs (forest_of ls) ≡ ls
 limbs_again ls lawful = limbs_more [] no_branches ls grown_none refl lawful
 
--- how many cells are made, and how many branches there are
+-- the number of cells made, and the number of branches
 grow_made : (f : Forest) (ls : List Limb) → (grow f ls).made ≡ f.made + cells_of ls
 grow_made f [] = omega arith
 grow_made f (l ∷ ls) = grow_made (grown f l) ls ∙ omega arith

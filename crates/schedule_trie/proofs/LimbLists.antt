@@ -1,4 +1,4 @@
--- Cells and branches in lists, for limbs.
+-- Lists of cells and branches, for limbs.
 use Rattle.std.proofs.Common.{◌≡◌, ℕ, zero, suc, ◌+◌, ◌<◌, ◌≤◌, Bool, true, false, not, ◌&&◌, ◌||◌, cond, nat_eq, nat_lt, List, [], ◌∷◌, ◌++◌, length, map, take, slice_get, Some, None, refl, sym, ap, subst, ◌∙◌, true≢false, arith, eq-eqb}
 use Rattle.std.specs.List.{list_any, list_all, prefix_len, position_or_len}
 use Rattle.std.proofs.lemmas.Bool.{eqb-true}
@@ -8,7 +8,7 @@ use Rattle.schedule_trie.specs.declared.slot.Slot.{Slot}
 use Rattle.std.proofs.lemmas.List.{map-append}
 use Rattle.schedule_trie.specs.Cut.{has}
 use Rattle.schedule_trie.specs.Forest.{Branch, cell_of, slot, numbered, slots_in, step_of, cell_in}
-use Rattle.schedule_trie.specs.Limbs.{has_slot, holds, is_in}
+use Rattle.schedule_trie.specs.Limbs.{has_slot, holds, is_in_branches}
 use Rattle.schedule_trie.proofs.Once.{has_cases, has-head, has-tail, has-append, has_not_from}
 
 pub by_order : (i n : ℕ) (P : Type 0) → (i < n → P) → (i ≡ n → P) → (n < i → P) → P
@@ -30,7 +30,7 @@ turned x y = by (nat_eq x y) (nat_eq y x) refl refl
     by false true e f = eq-eqb x y (sym (eqb-true y x f)) ∙ sym f
     by false false e f = e ∙ sym f
 
--- a cell among others, as its number among theirs
+-- the cells' numbers; a cell is found by its number among them
 abbrev cells : List Slot → List ℕ
 cells xs = map cell_of xs
 
@@ -38,7 +38,7 @@ slot_is : (x : ℕ) (xs : List Slot) → has_slot x xs ≡ has x (cells xs)
 slot_is x [] = refl
 slot_is x (s ∷ xs) = ap (λ b. b || has_slot x xs) (turned s.cell x) ∙ ap (λ b. nat_eq x s.cell || b) (slot_is x xs)
 
--- it is the first of them, or among the rest
+-- a cell in a list is the first one, or is in the rest
 pub slot_cases : (x : ℕ) (s : Slot) (xs : List Slot) (P : Type 0) → has_slot x (s ∷ xs) ≡ true → (x ≡ s.cell → P) → (has_slot x xs ≡ true → P) → P
 slot_cases x s xs P h same rest = has_cases x s.cell (cells xs) P (sym (slot_is x (s ∷ xs)) ∙ h) same (λ e. rest (slot_is x xs ∙ e))
 
@@ -56,7 +56,7 @@ slot-append x xs ys =
 pub slot_not_from : (x : ℕ) (xs : List Slot) → (has_slot x xs ≡ true → ⊥) → has_slot x xs ≡ false
 slot_not_from x xs h = slot_is x xs ∙ has_not_from x (cells xs) (λ e. h (slot_is x xs ∙ e))
 
--- an element of a list that one was put behind
+-- an item of a list is still there after another is added last
 pub slice_get-front : {X : Type 0} (xs : List X) (x : X) (i : ℕ) → i < length xs → slice_get (xs ++ x ∷ []) i ≡ slice_get xs i
 slice_get-front [] x i h = absurd (omega arith)
 slice_get-front (y ∷ ys) x zero h = refl
@@ -65,11 +65,6 @@ slice_get-front (y ∷ ys) x (suc i) h = slice_get-front ys x i (omega arith)
 pub slice_get-last : {X : Type 0} (xs : List X) (x : X) → slice_get (xs ++ x ∷ []) (length xs) ≡ Some x
 slice_get-last [] x = refl
 slice_get-last (y ∷ ys) x = slice_get-last ys x
-
-pub slice_get-past : {X : Type 0} (xs : List X) (i : ℕ) → length xs ≤ i → slice_get xs i ≡ None
-slice_get-past [] i h = refl
-slice_get-past (y ∷ ys) zero h = absurd (omega arith)
-slice_get-past (y ∷ ys) (suc i) h = slice_get-past ys i (omega arith)
 
 pub slice_get-within : {X : Type 0} (xs : List X) (i : ℕ) (x : X) → slice_get xs i ≡ Some x → i < length xs
 slice_get-within [] i x e = cc
@@ -90,7 +85,7 @@ slots_in-past [] i h = refl
 slots_in-past (c ∷ bs) zero h = absurd (omega arith)
 slots_in-past (c ∷ bs) (suc i) h = slots_in-past bs i (omega arith)
 
--- a cell that one of the branches has, or none
+-- `list_any` is true exactly if some branch has the cell
 pub any_from : (bs : List Branch) (j x : ℕ) → has_slot x (slots_in bs j) ≡ true → list_any (holds x) bs ≡ true
 any_from [] j x h = absurd (true≢false (sym h))
 any_from (b ∷ bs) zero x h = ap (λ c. c || list_any (holds x) bs) h
@@ -112,7 +107,7 @@ any_which (b ∷ bs) x h = by (any_which bs x) (holds x b) refl
     by rest true e = (0, e)
     by rest false e = let r = rest (sym (ap (λ c. c || list_any (holds x) bs) e) ∙ h) in (suc r.0, r.1)
 
--- the first branch that has a cell
+-- the branch that a search finds is the first that has the cell
 pub first_is : (bs : List Branch) (p x : ℕ) → has_slot x (slots_in bs p) ≡ true → ((j : ℕ) → j < p → has_slot x (slots_in bs j) ≡ false)
     → position_or_len (holds x) bs ≡ p
 first_is [] p x h none = absurd (true≢false (sym h))
@@ -121,7 +116,7 @@ first_is (b ∷ bs) (suc p) x h none =
     ap (λ c. cond (not c) (1 + position_or_len (holds x) bs) 0) (none 0 (omega arith))
     ∙ ap (λ n. 1 + n) (first_is bs p x h (λ j less. none (suc j) (omega arith))) ∙ omega arith
 
--- a branch has a cell, and none before it has
+-- the branch p has the cell x, and no branch before it has
 pub record IsFirst (bs : List Branch) (x p : ℕ) : Type 0 where
   pub has_it : has_slot x (slots_in bs p) ≡ true
   pub within : p < length bs
@@ -151,7 +146,7 @@ first_has (b ∷ bs) x h = by (first_has bs x) (holds x b) refl
         omega arith ∙ sym (ap (λ c. cond (not c) (1 + position_or_len (holds x) bs) 0) e) in
         subst (IsFirst (b ∷ bs) x) below (first_later b bs x (position_or_len (holds x) bs) e (rest (sym (ap (λ c. c || list_any (holds x) bs) e) ∙ h)))
 
--- cells in front that pass, and one behind them that doesn't
+-- the first item of a list, if there is one, fails the test
 abbrev pub StopsAt : {X : Type 0} → (X → Bool) → List X → Type 0
 StopsAt test [] = Unit {0}
 StopsAt test (x ∷ xs) = test x ≡ false
@@ -166,10 +161,10 @@ prefix_is test (x ∷ xs) ys all stops = by (λ h. prefix_is test xs ys h stops)
     by rest true e h = ap (λ c. cond c (1 + prefix_len test (xs ++ ys)) 0) e ∙ ap (λ n. 1 + n) (rest h) ∙ omega arith
     by rest false e h = absurd (true≢false (sym h))
 
-pub all_in : (bs : List Branch) (xs : List Slot) → ((x : ℕ) → has_slot x xs ≡ true → list_any (holds x) bs ≡ true) → list_all (is_in bs) xs ≡ true
+pub all_in : (bs : List Branch) (xs : List Slot) → ((x : ℕ) → has_slot x xs ≡ true → list_any (holds x) bs ≡ true) → list_all (is_in_branches bs) xs ≡ true
 all_in bs [] h = refl
 all_in bs (s ∷ xs) h =
-    ap (λ c. c && list_all (is_in bs) xs) (h s.cell (slot-head s xs))
+    ap (λ c. c && list_all (is_in_branches bs) xs) (h s.cell (slot-head s xs))
     ∙ all_in bs xs (λ x e. h x (slot-tail x s xs e))
 
 pub has_taken : (k x : ℕ) (xs : List Slot) → has_slot x (take k xs) ≡ true → has_slot x xs ≡ true
@@ -196,7 +191,7 @@ cell_in-numbered n k [] h = absurd (omega arith)
 cell_in-numbered n zero (s ∷ ss) h = omega arith
 cell_in-numbered n (suc k) (s ∷ ss) h = let r = cell_in-numbered (suc n) k ss (omega arith) in omega arith
 
--- an own cell has a new number
+-- a branch's own cell has a new number
 pub cell_in-own : (xs : List Slot) (n made k : ℕ) (steps : List Step) → n ≤ length xs → n ≤ k → k < n + length steps → made ≤ cell_in (take n xs ++ numbered made steps) k
 cell_in-own xs zero made k steps few more less = cell_in-numbered made k steps (omega arith)
 cell_in-own [] (suc n) made k steps few more less = absurd (omega arith)
@@ -216,7 +211,7 @@ pub length-numbered : (n : ℕ) (steps : List Step) → length (numbered n steps
 length-numbered n [] = refl
 length-numbered n (s ∷ ss) = ap suc (length-numbered (suc n) ss)
 
--- the last number that is given
+-- each number that is given is below n plus the number of steps
 pub numbered_below : (n : ℕ) (steps : List Step) (x : ℕ) → has_slot x (numbered n steps) ≡ true → x < n + length steps
 numbered_below n [] x h = absurd (true≢false (sym h))
 numbered_below n (s ∷ ss) x h =

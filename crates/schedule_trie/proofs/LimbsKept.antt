@@ -1,4 +1,4 @@
--- The forest of a forest's limbs is that forest, but for the numbers of its cells.
+-- The forest of a forest's limbs is that forest, except for the numbers of its cells.
 use Rattle.std.proofs.Common.{◌≡◌, ℕ, zero, suc, ◌+◌, ◌-◌, ◌<◌, ◌≤◌, Bool, true, false, nat_eq, nat_lt, List, [], ◌∷◌, ◌++◌, length, map, take, drop, slice_get, Some, cond, ◌&&◌, refl, sym, ap, subst, ◌∙◌, true≢false, arith, append_assoc, append-nil, eq-eqb}
 use Rattle.std.specs.List.{list_all, prefix_len, position_or_len}
 use Rattle.std.proofs.lemmas.Bool.{eqb-true}
@@ -9,13 +9,13 @@ use Rattle.frames.specs.declared.types.Step.{Step}
 use Rattle.schedule_trie.specs.declared.slot.Slot.{Slot}
 use Rattle.schedule_trie.specs.declared.limb.Limb.{Limb}
 use Rattle.schedule_trie.specs.Forest.{Forest, Branch, branch, numbered, slots_in, step_of, cell_in, name_of, IsForest}
-use Rattle.schedule_trie.specs.Limbs.{has_slot, holds, is_in, shared_with, first_with, limb_of, limbs_after, limbs, slots_on, grown, grow, no_branches, forest_of}
+use Rattle.schedule_trie.specs.Limbs.{has_slot, holds, is_in_branches, shared_with, first_with, limb_of, limbs_after, limbs, slots_on, grown, grow, no_branches, forest_of}
 use Rattle.schedule_trie.specs.Renumbering.{IsRenumbered, is_one_cell}
 use Rattle.schedule_trie.proofs.LimbLists.{by_order, turned, slice_get-within, slots_in-front, slots_in-last, slots_in-past, any_from, IsFirst, first_has, all_in, has_taken, cell_in-has, cell_in-taken, steps-numbered, length-taken, length-numbered}
 use Rattle.schedule_trie.proofs.LimbLaws.{HasGrown, grown_none, short, grown_more, limbs_after-put}
 use Rattle.schedule_trie.proofs.LimbsLawful.{AreSameUpTo, some_at, slots_in-left, slots_in-next, cell_in-at, place_of_cell, passes_at, limb_may_share}
 
--- two tests of numbers agree where each equality gives the other
+-- two tests of numbers agree if either equality implies the other
 alike : (a b c d : ℕ) → (a ≡ b → c ≡ d) → (c ≡ d → a ≡ b) → nat_eq a b ≡ nat_eq c d
 alike a b c d there back = by (nat_eq a b) refl (nat_eq c d) refl
   where
@@ -24,17 +24,17 @@ alike a b c d there back = by (nat_eq a b) refl (nat_eq c d) refl
     by false e true g = eq-eqb a b (back (eqb-true c d g)) ∙ sym g
     by false e false g = e ∙ sym g
 
--- as many cells as steps
+-- equal steps mean equal numbers of cells
 same_length : (xs ys : List Slot) → map step_of xs ≡ map step_of ys → length xs ≡ length ys
 same_length xs ys e = sym (length-map xs step_of) ∙ ap length e ∙ length-map ys step_of
 
--- a branch that has a cell stands among the branches
+-- a branch that has a cell is one of the branches
 branch_within : (bs : List Branch) (i k : ℕ) → k < length (slots_in bs i) → i < length bs
 branch_within [] i k h = absurd (omega arith)
 branch_within (b ∷ bs) zero k h = omega arith
 branch_within (b ∷ bs) (suc i) k h = let r = branch_within bs i k h in omega arith
 
--- cells in front that pass are counted
+-- the count of first cells that pass is at least n, if the first n pass
 passes_least : {X : Type 0} (test : X → Bool) (n : ℕ) (xs : List X) → list_all test (take n xs) ≡ true → n ≤ length xs → n ≤ prefix_len test xs
 passes_least test zero xs all few = omega arith
 passes_least test (suc n) [] all few = absurd (omega arith)
@@ -51,7 +51,7 @@ cell_in-numbered made d [] less = absurd (omega arith)
 cell_in-numbered made zero (s ∷ ss) less = omega arith
 cell_in-numbered made (suc d) (s ∷ ss) less = cell_in-numbered (suc made) d ss (omega arith) ∙ omega arith
 
--- also behind some shared ones
+-- also after some shared ones
 cell_in-new : (xs : List Slot) (n made d k : ℕ) (steps : List Step) → n ≤ length xs → d < length steps → k ≡ n + d
     → cell_in (take n xs ++ numbered made steps) k ≡ made + d
 cell_in-new xs zero made d k steps few less place =
@@ -60,14 +60,15 @@ cell_in-new [] (suc n) made d k steps few less place = absurd (omega arith)
 cell_in-new (x ∷ xs) (suc n) made d zero steps few less place = absurd (omega arith)
 cell_in-new (x ∷ xs) (suc n) made d (suc k) steps few less place = cell_in-new xs n made d k steps (omega arith) less (omega arith)
 
--- a cell in front
+-- one of the first cells
 cell_in-first : (xs : List Slot) (n k : ℕ) → k < n → cell_in xs k ≡ cell_in (take n xs) k
 cell_in-first xs zero k less = absurd (omega arith)
 cell_in-first [] (suc n) k less = refl
 cell_in-first (x ∷ xs) (suc n) zero less = refl
 cell_in-first (x ∷ xs) (suc n) (suc k) less = cell_in-first xs n k (omega arith)
 
--- two lists of cells that are the same up to each common one: they are the same up to places with one cell
+-- two lists of cells that are equal up to each common
+-- cell are equal up to places with the same cell
 module _ (xs ys : List Slot) (agree : AreSameUpTo xs ys) (k m : ℕ) (inside : k < length xs) (within : m < length ys)
     (same : cell_in xs k ≡ cell_in ys m) where
   same_up_to : take (suc k) xs ≡ take (suc m) ys
@@ -84,25 +85,25 @@ module _ (xs ys : List Slot) (agree : AreSameUpTo xs ys) (k m : ℕ) (inside : k
       let up : length (take (suc k) xs) ≡ length (take (suc m) ys) = ap length same_up_to in
       omega arith
 
--- a branch behind others with which it shares all up to each common cell
+-- a branch after others, with each of which it shares all up to each common cell
 module _ (earlier : List Branch) (b : Branch) (agree : (j : ℕ) → j < length earlier → AreSameUpTo b.slots (slots_in earlier j)) where
-  -- how many cells in front it shares, and the first branch that has the last of them
+  -- the number of first cells that it shares, and the first branch that has the last of them
   abbrev common : ℕ
   common = shared_with earlier b.slots
 
   abbrev stem : ℕ
   stem = first_with earlier b.slots common
 
-  -- it shares no more cells than it has
+  -- it shares at most the cells that it has
   common_few : common ≤ length b.slots
-  common_few = prefix_len-le-length (is_in earlier) b.slots
+  common_few = prefix_len-le-length (is_in_branches earlier) b.slots
 
   -- up to a shared cell it has the cells of the first branch that has that one
   front_of : (k : ℕ) → k < common → (s : Slot) → slice_get b.slots k ≡ Some s
       → take (suc k) b.slots ≡ take (suc k) (slots_in earlier (position_or_len (holds s.cell) earlier))
   front_of k less s here =
       let few = common_few in
-      let first : IsFirst earlier s.cell (position_or_len (holds s.cell) earlier) = first_has earlier s.cell (passes_at (is_in earlier) b.slots k s here less) in
+      let first : IsFirst earlier s.cell (position_or_len (holds s.cell) earlier) = first_has earlier s.cell (passes_at (is_in_branches earlier) b.slots k s here less) in
       let ys = slots_in earlier (position_or_len (holds s.cell) earlier) in
       let p = place_of_cell s.cell ys first.has_it in
       let inside : p.0 < length ys = slice_get-within ys p.0 p.1 p.2 in
@@ -111,7 +112,7 @@ module _ (earlier : List Branch) (b : Branch) (agree : (j : ℕ) → j < length 
       subst (λ n. take (suc k) b.slots ≡ take (suc n) ys) (sym (same_place b.slots ys up k p.0 (omega arith) inside same))
       (same_up_to b.slots ys up k p.0 (omega arith) inside same)
 
-  -- so many shared cells are the first ones of the first branch that has the last of them
+  -- the first k shared cells are those of the first branch that has the last of them
   front_by : (k : ℕ) → k ≤ common → take k b.slots ≡ take k (slots_in earlier (first_with earlier b.slots k))
   front_by zero few = refl
   front_by (suc k) few =
@@ -124,33 +125,33 @@ module _ (earlier : List Branch) (b : Branch) (agree : (j : ℕ) → j < length 
   front_is : take common b.slots ≡ take common (slots_in earlier stem)
   front_is = front_by common (omega arith)
 
-  -- a cell behind the shared ones is in no earlier branch
+  -- no earlier branch has a cell after the shared ones
   own_apart : (k j m : ℕ) → common ≤ k → k < length b.slots → m < length (slots_in earlier j) → cell_in b.slots k ≡ cell_in (slots_in earlier j) m → ⊥
   own_apart k j m more inside within same =
       let up : take (suc k) b.slots ≡ take (suc m) (slots_in earlier j) =
       same_up_to b.slots (slots_in earlier j) (agree j (branch_within earlier j m within)) k m inside within same in
-      let all : list_all (is_in earlier) (take (suc k) b.slots) ≡ true =
+      let all : list_all (is_in_branches earlier) (take (suc k) b.slots) ≡ true =
       all_in earlier (take (suc k) b.slots)
       (λ x e. any_from earlier j x (has_taken (suc m) x (slots_in earlier j) (subst (λ l. has_slot x l ≡ true) up e))) in
-      let least = passes_least (is_in earlier) (suc k) b.slots all (omega arith) in
+      let least = passes_least (is_in_branches earlier) (suc k) b.slots all (omega arith) in
       omega arith
 
--- the front of a forest: some of its branches
+-- the front of a forest: its first branches
 abbrev front : List Branch → Forest
 front branches = record { branches = branches; made = 0 }
 
--- one more branch on the one side, and its limb on the other
+-- one more branch on one side, and its limb on the other
 module _ (earlier : List Branch) (b : Branch) (agree : (j : ℕ) → j < length earlier → AreSameUpTo b.slots (slots_in earlier j))
     (once : AreSameUpTo b.slots b.slots)
     (g : Forest) (has_grown : HasGrown (limbs_after [] earlier) g) (kept : IsRenumbered (front earlier) g) where
-  -- the branch's limb, and the cells that grow from it
+  -- the branch's limb, and the cells of its branch
   abbrev l : Limb
   l = limb_of earlier b
 
   abbrev new : List Slot
   new = slots_on g l
 
-  -- the branches with that one, on each side
+  -- the branches including that one, on each side
   abbrev before : List Branch
   before = earlier ++ b ∷ []
 
@@ -165,7 +166,8 @@ module _ (earlier : List Branch) (b : Branch) (agree : (j : ℕ) → j < length 
   enough : l.shared ≤ length origin
   enough = short (limbs_after [] earlier) g l has_grown (limb_may_share earlier b agree)
 
-  -- there are as many branches on both sides, and each has as many cells on both
+  -- both sides have the same number of branches, and
+  -- each branch has the same number of cells on both
   count : length earlier ≡ length g.branches
   count = sym (length-map earlier name_of) ∙ ap length kept.names ∙ length-map g.branches name_of
 
@@ -184,12 +186,12 @@ module _ (earlier : List Branch) (b : Branch) (agree : (j : ℕ) → j < length 
       ∙ ap (λ ss. map step_of (take l.shared origin) ++ ss) (sym (steps-numbered g.made l.steps))
       ∙ sym (map-append step_of (take l.shared origin) (numbered g.made l.steps))
 
-  -- the names stay the same on both sides
+  -- the names stay equal on both sides
   names_more : map name_of before ≡ map name_of after
   names_more =
       map-append name_of earlier (b ∷ []) ∙ ap (λ ns. ns ++ b.name ∷ []) kept.names ∙ sym (map-append name_of g.branches (branch b.name new ∷ []))
 
-  -- the branches before and after: the earlier ones as they were, and the last one
+  -- the branches before and after: the earlier ones unchanged, and the last one
   before_front : (i : ℕ) → i < length earlier → slots_in before i ≡ slots_in earlier i
   before_front i less = slots_in-front earlier b i less
 
@@ -216,14 +218,14 @@ module _ (earlier : List Branch) (b : Branch) (agree : (j : ℕ) → j < length 
       (λ e. ap (map step_of) (before_last i e) ∙ steps_new ∙ ap (map step_of) (sym (after_last i e)))
       (λ more. ap (map step_of) (before_past i more ∙ sym (after_past i more)))
 
-  -- a place whose cell is in an earlier branch on both sides, at the same place there
+  -- a place whose cell is on an earlier branch on both sides, at the same place there
   record IsOld (i k : ℕ) : Type 0 where
     j : ℕ
     within : k < length (slots_in earlier j)
     left : cell_in (slots_in before i) k ≡ cell_in (slots_in earlier j) k
     right : cell_in (slots_in after i) k ≡ cell_in (slots_in g.branches j) k
 
-  -- a place of the last branch, behind the shared ones
+  -- a place of the last branch, after the shared ones
   record IsOwn (i k : ℕ) : Type 0 where
     d : ℕ
     place : k ≡ l.shared + d
@@ -256,7 +258,7 @@ module _ (earlier : List Branch) (b : Branch) (agree : (j : ℕ) → j < length 
         right = ap (λ xs. cell_in xs k) (after_last i e) ∙ cell_in-taken origin (numbered g.made l.steps) l.shared k less long;
       }
 
-  -- a place of the last one behind these
+  -- a place of the last one after these
   own_last : (i k d : ℕ) → i ≡ length earlier → k ≡ l.shared + d → k < length b.slots → IsOwn i k
   own_last i k d e place inside =
       let size : length b.slots ≡ l.shared + length l.steps =
@@ -270,7 +272,7 @@ module _ (earlier : List Branch) (b : Branch) (agree : (j : ℕ) → j < length 
         right = ap (λ xs. cell_in xs k) (after_last i e) ∙ cell_in-new origin l.shared g.made d k l.steps enough (omega arith) place;
       }
 
-  -- a place of the last one is shared or behind these
+  -- a place of the last one is shared or after the shared ones
   last_place : (i k : ℕ) (P : Type 0) → i ≡ length earlier → k < length (slots_in before i) → (IsOld i k → P) → (IsOwn i k → P) → P
   last_place i k P e within old own = by (nat_lt k l.shared) refl
     where
@@ -298,21 +300,21 @@ module _ (earlier : List Branch) (b : Branch) (agree : (j : ℕ) → j < length 
   cells_old : (i k j m : ℕ) → IsOld i k → IsOld j m → is_one_cell before i k j m ≡ is_one_cell after i k j m
   cells_old i k j m p q = (λ z. nat_eq (p.left z) (q.left z)) ∙ kept.cells p.j k q.j m p.within q.within ∙ sym (λ z. nat_eq (p.right z) (q.right z))
 
-  -- an own cell is none of an earlier branch, on both sides
+  -- a cell of its own is on no earlier branch, on both sides
   cells_apart : (i k j m : ℕ) → IsOwn i k → IsOld j m → is_one_cell before i k j m ≡ is_one_cell after i k j m
   cells_apart i k j m p q =
       alike (cell_in (slots_in before i) k) (cell_in (slots_in before j) m) (cell_in (slots_in after i) k) (cell_in (slots_in after j) m)
       (λ e. absurd (own_apart earlier b agree k q.j m (omega (arith, p.place)) p.within q.within (sym p.left ∙ e ∙ q.left)))
       (λ e. absurd (omega (arith, e, p.right, old_below j m q)))
 
-  -- two own cells are one at one place alone, on both sides
+  -- two own cells are the same just at the same place, on both sides
   cells_own : (i k j m : ℕ) → IsOwn i k → IsOwn j m → is_one_cell before i k j m ≡ is_one_cell after i k j m
   cells_own i k j m p q =
       alike (cell_in (slots_in before i) k) (cell_in (slots_in before j) m) (cell_in (slots_in after i) k) (cell_in (slots_in after j) m)
       (λ e. let one = same_place b.slots b.slots once k m p.within q.within (sym p.left ∙ e ∙ q.left) in omega (arith, one, p.place, q.place, p.right, q.right))
       (λ e. let one : k ≡ m = omega (arith, e, p.place, q.place, p.right, q.right) in p.left ∙ ap (cell_in b.slots) one ∙ sym q.left)
 
-  -- two places have one cell on the one side just where on the other
+  -- two places have the same cell on one side just if they do on the other
   cells_more : (i k j m : ℕ) → k < length (slots_in before i) → m < length (slots_in before j) → is_one_cell before i k j m ≡ is_one_cell after i k j m
   cells_more i k j m inside within =
       let P = is_one_cell before i k j m ≡ is_one_cell after i k j m in
@@ -322,11 +324,11 @@ module _ (earlier : List Branch) (b : Branch) (agree : (j : ℕ) → j < length 
       ∙ turned (cell_in (slots_in after j) m) (cell_in (slots_in after i) k)))
       (λ p. places j m P within (cells_apart i k j m p) (cells_own i k j m p))
 
-  -- one more branch keeps both sides the same but for numbers
+  -- after one more branch, both sides are still equal except for numbers
   kept_more : IsRenumbered (front before) (grown g l)
   kept_more = record { names = names_more; steps = steps_more; cells = cells_more }
 
--- along the branches: a front of them and the forest of their limbs are the same but for numbers
+-- along the branches: a front of them and the forest of their limbs are equal except for numbers
 kept_from : (f : Forest) → IsForest f → (earlier rest : List Branch) → f.branches ≡ earlier ++ rest → (g : Forest)
     → HasGrown (limbs_after [] earlier) g → IsRenumbered (front earlier) g → IsRenumbered (front f.branches) (grow g (limbs_after earlier rest))
 kept_from f h earlier [] e g has_grown kept = subst (λ bs. IsRenumbered (front bs) g) (sym (append-nil earlier) ∙ sym e) kept
@@ -342,11 +344,11 @@ kept_from f h earlier (b ∷ bs) e g has_grown kept =
     kept_from f h (earlier ++ b ∷ []) bs (e ∙ sym (append_assoc earlier (b ∷ []) bs)) (grown g (limb_of earlier b)) next
     (kept_more earlier b agree once g has_grown kept)
 
--- no branches at all are the same
+-- two forests with no branches are equal
 kept_none : IsRenumbered (front []) no_branches
 kept_none = record { names = refl; steps = λ i. refl; cells = λ i k j m inside within. refl }
 
--- saving and loading keeps a forest, but for the numbers of its cells
+-- saving and loading keeps a forest, except for the numbers of its cells
 pub limbs_kept : (f : Forest) → IsForest f → IsRenumbered f (forest_of (limbs f))
 limbs_kept f h =
     let r = kept_from f h [] f.branches refl no_branches grown_none kept_none in

@@ -7,11 +7,11 @@ use Rattle.std.proofs.lemmas.Bool.Decides.{nat_tests}
 use Rattle.std.proofs.lemmas.List.{length-map, map-append}
 use Rattle.schedule_trie.specs.declared.slot.Slot.{Slot}
 use Rattle.schedule_trie.specs.Forest.{Forest, Branch, slots_in, step_of, cell_in, name_of, name_in, AreNamedApart, IsForest}
-use Rattle.schedule_trie.specs.Limbs.{has_slot, holds, is_in, shared_with, first_with, limb_of, limbs_after, limbs, length_of, is_own_of, is_new_name, has_name, may_share, are_lawful_after, is_name, HaveNames, IsLawful}
+use Rattle.schedule_trie.specs.Limbs.{has_slot, holds, is_in_branches, shared_with, first_with, limb_of, limbs_after, limbs, limb_length, is_own_of, is_new_name, has_name, may_share, are_lawful_after, is_name, HaveNames, AreLawfulLimbs}
 use Rattle.schedule_trie.proofs.LimbLists.{by_order, slot_cases, any_which, IsFirst, first_has, length-taken}
 use Rattle.schedule_trie.proofs.LimbLaws.{limbs_after-put}
 
--- two lists of cells are the same up to each cell that both have
+-- two lists of cells are equal up to each cell that both have
 abbrev pub AreSameUpTo : List Slot → List Slot → Type 0
 AreSameUpTo xs ys = (a b : ℕ) (s t : Slot) → slice_get xs a ≡ Some s → slice_get ys b ≡ Some t → s.cell ≡ t.cell → take (suc a) xs ≡ take (suc b) ys
 
@@ -83,10 +83,10 @@ all_three : (a b c : Bool) → a ≡ true → b ≡ true → c ≡ true → (a &
 all_three true b c h g e = ap (λ z. z && c) g ∙ e
 all_three false b c h g e = absurd (true≢false (sym h))
 
-length_of_limb : (earlier : List Branch) (b : Branch) → length_of (limb_of earlier b) ≡ length b.slots
+length_of_limb : (earlier : List Branch) (b : Branch) → limb_length (limb_of earlier b) ≡ length b.slots
 length_of_limb earlier b =
     let n = shared_with earlier b.slots in
-    let most = prefix_most (is_in earlier) b.slots in
+    let most = prefix_most (is_in_branches earlier) b.slots in
     let rest : length (map step_of (drop n b.slots)) ≡ length (drop n b.slots) = length-map (drop n b.slots) step_of in
     let len = length-drop n b.slots in
     omega arith
@@ -97,12 +97,12 @@ module _ (earlier : List Branch) (b : Branch) (agree : (j : ℕ) → j < length 
     stem = position_or_len (holds s.cell) earlier
 
     first : IsFirst earlier s.cell stem
-    first = first_has earlier s.cell (passes_at (is_in earlier) b.slots k s here (omega arith))
+    first = first_has earlier s.cell (passes_at (is_in_branches earlier) b.slots k s here (omega arith))
 
     module _ (c : Branch) (there : slice_get earlier stem ≡ Some c) (t : Slot) (at : slice_get c.slots k ≡ Some t) (same : t.cell ≡ s.cell) where
       more : shared_with (take stem earlier) c.slots < suc k
       more = by_order k (shared_with (take stem earlier) c.slots) (shared_with (take stem earlier) c.slots < suc k)
-          (λ less. let w = any_which (take stem earlier) t.cell (passes_at (is_in (take stem earlier)) c.slots k t at less) in
+          (λ less. let w = any_which (take stem earlier) t.cell (passes_at (is_in_branches (take stem earlier)) c.slots k t at less) in
           let r = slots_in-first stem earlier w.0 t.cell w.1 in
           absurd (true≢false (sym (subst (λ x. has_slot x (slots_in earlier w.0) ≡ true) same r.1) ∙ first.none_before w.0 r.0)))
           (λ e. omega arith)
@@ -122,8 +122,8 @@ module _ (earlier : List Branch) (b : Branch) (agree : (j : ℕ) → j < length 
           let l = length_of_limb (take stem earlier) c in
           let w = within in
           let a : nat_lt (shared_with (take stem earlier) c.slots) (suc k) ≡ true = grind (arith, nat_tests) in
-          let e : nat_le (suc k) (length_of (limb_of (take stem earlier) c)) ≡ true = grind (arith, nat_tests) in
-          ap (λ o. is_own_of o (suc k)) (limbs_at [] earlier stem c there) ∙ ap (λ z. z && nat_le (suc k) (length_of (limb_of (take stem earlier) c))) a ∙ e
+          let e : nat_le (suc k) (limb_length (limb_of (take stem earlier) c)) ≡ true = grind (arith, nat_tests) in
+          ap (λ o. is_own_of o (suc k)) (limbs_at [] earlier stem c there) ∙ ap (λ z. z && nat_le (suc k) (limb_length (limb_of (take stem earlier) c))) a ∙ e
 
     own_there : is_own_of (slice_get (limbs_after [] earlier) stem) (suc k) ≡ true
     own_there =
@@ -131,7 +131,7 @@ module _ (earlier : List Branch) (b : Branch) (agree : (j : ℕ) → j < length 
         let slots = slots_at earlier stem c.0 c.1 in
         let p = place_of_cell s.cell c.0.slots (subst (λ xs. has_slot s.cell xs ≡ true) slots first.has_it) in
         let up : take (suc k) b.slots ≡ take (suc p.0) c.0.slots = subst (λ xs. AreSameUpTo b.slots xs) slots (agree stem first.within) k p.0 s p.1 here p.2 (sym p.3) in
-        let most = prefix_most (is_in earlier) b.slots in
+        let most = prefix_most (is_in_branches earlier) b.slots in
         let left : length (take (suc k) b.slots) ≡ suc k = length-taken (suc k) b.slots (omega arith) in
         let right : length (take (suc p.0) c.0.slots) ≡ suc p.0 = length-taken (suc p.0) c.0.slots (inside c.0.slots p.0 p.1 p.2) in
         let places : p.0 ≡ k = let e : length (take (suc k) b.slots) ≡ length (take (suc p.0) c.0.slots) = ap length up in omega arith in
@@ -146,7 +146,7 @@ module _ (earlier : List Branch) (b : Branch) (agree : (j : ℕ) → j < length 
       → ((nat_eq (first_with earlier b.slots k) 0 && nat_eq k 0) || is_own_of (slice_get (limbs_after [] earlier) (first_with earlier b.slots k)) k) ≡ true
   shares_at zero e = refl
   shares_at (suc k) e =
-      let most = prefix_most (is_in earlier) b.slots in
+      let most = prefix_most (is_in_branches earlier) b.slots in
       let s = some_at b.slots k (omega arith) in
       let cell : cell_in b.slots k ≡ s.0.cell = cell_in-at b.slots k s.0 s.1 in
       or_right (nat_eq (first_with earlier b.slots (suc k)) 0 && nat_eq (suc k) 0) (is_own_of (slice_get (limbs_after [] earlier) (first_with earlier b.slots (suc k))) (suc k))
@@ -155,7 +155,7 @@ module _ (earlier : List Branch) (b : Branch) (agree : (j : ℕ) → j < length 
   pub limb_may_share : may_share (limbs_after [] earlier) (limb_of earlier b) ≡ true
   limb_may_share = shares_at (shared_with earlier b.slots) refl
 
--- a place that is found
+-- an index that is found
 position_is : {X : Type 0} (p : X → Bool) (xs : List X) (o : ℕ) → position p xs ≡ Some o → position_or_len p xs ≡ o
 position_is p xs o e = by (nat_lt (position_or_len p xs) (length xs)) refl
   where
@@ -223,5 +223,5 @@ lawful_from f h n earlier (b ∷ bs) e =
     (subst (λ l. are_lawful_after l (limbs_after (earlier ++ b ∷ []) bs) ≡ true) (limbs_after-put [] earlier b) rest)
 
 -- the limbs of a forest are lawful
-pub limbs_lawful : (f : Forest) → IsForest f → HaveNames f.branches → IsLawful (limbs f)
+pub limbs_lawful : (f : Forest) → IsForest f → HaveNames f.branches → AreLawfulLimbs (limbs f)
 limbs_lawful f h n = lawful_from f h n [] f.branches refl

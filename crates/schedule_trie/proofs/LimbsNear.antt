@@ -1,4 +1,4 @@
--- What limbs name lies within a trie's limits.
+-- The numbers of branches and of cells in a trie's limbs are within the trie's limits.
 use Rattle.std.proofs.Common.{◌≡◌, ℕ, zero, suc, ◌+◌, ◌<◌, ◌≤◌, Bool, true, false, List, [], ◌∷◌, ◌++◌, length, refl, ap, arith}
 use Rattle.std.specs.List.{position_or_len}
 use Rattle.std.proofs.lemmas.List.{length-append, length-map}
@@ -8,7 +8,7 @@ use Rattle.schedule_trie.specs.declared.limits.Limits.{Limits}
 use Rattle.schedule_trie.specs.declared.slot.Slot.{Slot}
 use Rattle.schedule_trie.specs.Forest.{Branch, cell_in, slots_in}
 use Rattle.schedule_trie.specs.Cut.{Cut, forest, piece_at, branch_on, IsWhole}
-use Rattle.schedule_trie.specs.Limbs.{FitLimits, holds, is_in, shared_with, first_with, limb_of, limbs_after, limbs}
+use Rattle.schedule_trie.specs.Limbs.{FitLimits, holds, is_in_branches, shared_with, first_with, limb_of, limbs_after, limbs}
 use Rattle.schedule_trie.proofs.Lines.{slots_in_on, sound_short}
 
 position-short : {X : Type 0} (p : X → Bool) (xs : List X) → position_or_len p xs ≤ length xs
@@ -27,7 +27,7 @@ after-near : (limits : Limits) (earlier bs : List Branch) → length earlier + l
     → ((i : ℕ) → length (slots_in bs i) ≤ limits.cells) → FitLimits limits (limbs_after earlier bs)
 after-near limits earlier [] few short = All-nil (λ l. (l.from < limits.branches) × (l.shared ≤ limits.cells))
 after-near limits earlier (b ∷ bs) few short =
-    let less = prefix_len-le-length (is_in earlier) b.slots in
+    let less = prefix_len-le-length (is_in_branches earlier) b.slots in
     let here = short 0 in
     let more = length-append earlier (b ∷ []) in
     All-cons (λ l. (l.from < limits.branches) × (l.shared ≤ limits.cells)) (limb_of earlier b) (limbs_after (earlier ++ b ∷ []) bs)

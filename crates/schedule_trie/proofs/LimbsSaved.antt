@@ -20,13 +20,13 @@ length-limbs_after earlier (b ∷ bs) = ap suc (length-limbs_after (earlier ++ b
 pub length-limbs : (f : Forest) → length (limbs f) ≡ length f.branches
 length-limbs f = length-limbs_after [] f.branches
 
--- one more is taken
+-- taking one more item adds the item at that index
 pub taken_next : {X : Type 0} (xs : List X) (i : ℕ) (x : X) → slice_get xs i ≡ Some x → take (i + 1) xs ≡ take i xs ++ x ∷ []
 taken_next xs i x e =
     let next : i + 1 ≡ suc i = omega arith in
     ap (λ n. take n xs) next ∙ take_more xs i x e
 
--- places with no mark
+-- a list of places with no mark has none after one more such place
 pub empty_more : (marks : List (Option Mark)) → ((k : ℕ) → mark_at marks k ≡ None) → (k : ℕ) → mark_at (marks ++ None ∷ []) k ≡ None
 empty_more [] h zero = refl
 empty_more [] h (suc k) = refl

@@ -1,4 +1,4 @@
--- The limb of a branch, by the marks of its segments.
+-- The limb of a branch, from the marks of its segments.
 use Rattle.std.proofs.Common.{◌≡◌, ℕ, zero, suc, ◌+◌, ◌<◌, ◌≤◌, Bool, true, false, ◌||◌, nat_eq, List, [], ◌∷◌, ◌++◌, length, map, take, drop, slice_get, Option, Some, None, refl, sym, ap, subst, ◌∙◌, true≢false, arith, append_assoc, eq-eqb, cond}
 use Rattle.std.specs.List.{list_any}
 use Rattle.std.specs.Option.{IfSome, option_map}
@@ -12,7 +12,7 @@ use Rattle.schedule_trie.specs.declared.mark.Mark.{Mark}
 use Rattle.schedule_trie.specs.Forest.{Branch, branch, slots_in, name_of, name_in, cell_of, cell_in, step_of}
 use Rattle.schedule_trie.specs.Cut.{Cut, Piece, forest, piece_at, slots_of, line, keys_in, has, has_cell, Once, Linked, IsWhole}
 use Rattle.schedule_trie.specs.Climbs.{keys_up_to}
-use Rattle.schedule_trie.specs.Limbs.{has_slot, holds, is_in, shared_with, first_with, limb_of, limbs}
+use Rattle.schedule_trie.specs.Limbs.{has_slot, holds, is_in_branches, shared_with, first_with, limb_of, limbs}
 use Rattle.schedule_trie.specs.Marks.{mark, mark_at, IsMarkOf, IsOwnPart, AreMarked, IsMark, MarksFirst}
 use Rattle.schedule_trie.proofs.Changes.{nat_eq-turned}
 use Rattle.schedule_trie.proofs.Climbs.{last_some, up_to-here, once_before, line-last}
@@ -26,7 +26,7 @@ use Rattle.schedule_trie.proofs.Pushes.{line-append}
 use Rattle.schedule_trie.proofs.Shared.{same_before}
 use Rattle.schedule_trie.proofs.Touched.{some_slots}
 
--- a cell among others, told both ways
+-- membership of a cell, in its two definitions
 slot_is_cell : (x : ℕ) (xs : List Slot) → has_slot x xs ≡ has_cell x xs
 slot_is_cell x [] = refl
 slot_is_cell x (s ∷ xs) = (λ i. same (nat_eq s.cell x) refl i || slot_is_cell x xs i)
@@ -73,7 +73,7 @@ slots_in-taken (suc n) [] j less = refl
 slots_in-taken (suc n) (b ∷ bs) zero less = refl
 slots_in-taken (suc n) (b ∷ bs) (suc j) less = slots_in-taken n bs j (omega arith)
 
--- a cell that stands in the middle part
+-- a cell of the first part
 cell_in-left : (ys zs : List Slot) (n : ℕ) → n < length ys → has_slot (cell_in (ys ++ zs) n) ys ≡ true
 cell_in-left [] zs n less = absurd (omega arith)
 cell_in-left (y ∷ ys) zs zero less = slot-head y ys
@@ -103,7 +103,7 @@ same_front above f b g d k lf lg =
     here [] ys = refl
     here (x ∷ xs) ys = here xs ys
 
--- the mark behind which a path goes on
+-- the mark after which a path goes on
 stem_cases : (marks : List (Option Mark)) (front : List ℕ) (m : Mark) (P : Type 0) → IsMarkOf marks (last_of front) m → (front ≡ [] → m ≡ mark 0 0 → P)
     → ((f : List ℕ) (k : ℕ) → front ≡ f ++ k ∷ [] → mark_at marks k ≡ Some m → P) → P
 stem_cases marks [] m P is none some = none refl is
@@ -140,7 +140,7 @@ module _ {T : Type 0} (c : Cut T) (whole : IsWhole c) (index : ℕ) (marks : Lis
   is_mark : (k : ℕ) → mark_at marks k ≡ Some m → IsMark at c.strands index k m
   is_mark k e = subst (λ o. IfSome o (IsMark at c.strands index k)) e (first.right k)
 
-  -- the branch of the mark begins alike
+  -- the branch of the mark begins with the same keys
   stem_path : (f : List ℕ) (k : ℕ) → part.front ≡ f ++ k ∷ [] → mark_at marks k ≡ Some m → (back : List ℕ) × (keys_in c.strands m.branch ≡ f ++ k ∷ back)
   stem_path f k e marked =
       let p = parting (keys_in c.strands m.branch) k (is_mark k marked).has_it in
@@ -181,7 +181,7 @@ module _ {T : Type 0} (c : Cut T) (whole : IsWhole c) (index : ℕ) (marks : Lis
       let cells = whole.within.cells in
       omega (arith, short, most, cells, cells_are, total)
 
-  -- a cell is in a branch that has its segment, and in no other
+  -- the branches that have a segment have its cells, and no others do
   seg_in : (j k x : ℕ) → has k (keys_in c.strands j) ≡ true → has_cell x (slots_of (at k)) ≡ true → has_slot x (slots_in bs j) ≡ true
   seg_in j k x h g =
       ap (has_slot x) (slots_in_on at c.strands j) ∙ slot_is_cell x (line at (keys_in c.strands j)) ∙ line_has at k x (keys_in c.strands j) h g
@@ -209,16 +209,16 @@ module _ {T : Type 0} (c : Cut T) (whole : IsWhole c) (index : ℕ) (marks : Lis
       let q = front_known p.0 p.1 in
       any_from earlier q.0 x (in_earlier q.0 p.0 x q.1 q.2 p.2)
 
-  stops : (ks : List ℕ) → ((k : ℕ) → has k ks ≡ true → has k own ≡ true) → StopsAt (is_in earlier) (line at ks)
+  stops : (ks : List ℕ) → ((k : ℕ) → has k ks ≡ true → has k own ≡ true) → StopsAt (is_in_branches earlier) (line at ks)
   stops [] inside = tt
   stops (k ∷ ks) inside =
       let mine = inside k (has-head k ks) in
       by (slots_of (at k)) refl (some_slots c.made (at k) (whole.sound.held index k (in_keys k mine)) (whole.sound.segments k)) mine
     where
-      by : (slots : List Slot) → slots_of (at k) ≡ slots → 0 < length (slots_of (at k)) → has k own ≡ true → StopsAt (is_in earlier) (slots_of (at k) ++ line at ks)
+      by : (slots : List Slot) → slots_of (at k) ≡ slots → 0 < length (slots_of (at k)) → has k own ≡ true → StopsAt (is_in_branches earlier) (slots_of (at k) ++ line at ks)
       by [] e some mine = let none = ap length e in absurd (omega arith)
       by (s ∷ ss) e some mine =
-          subst (λ l. StopsAt (is_in earlier) (l ++ line at ks)) (sym e)
+          subst (λ l. StopsAt (is_in_branches earlier) (l ++ line at ks)) (sym e)
           (any_none earlier s.cell (λ j. out_of_earlier j k s.cell (λ i less. first.none i k (part.unmarked k mine) less)
           (ap (has_cell s.cell) e ∙ has-head s.cell (map cell_of ss))))
 
@@ -229,7 +229,7 @@ module _ {T : Type 0} (c : Cut T) (whole : IsWhole c) (index : ℕ) (marks : Lis
   slots_are = slots_in_on at c.strands index ∙ ap (line at) part.is ∙ line-append at part.front own
 
   shared_is : shared_with earlier slots ≡ length (line at part.front)
-  shared_is = prefix_is (is_in earlier) (line at part.front) (line at own) (all_in earlier (line at part.front) front_in) (stops own (λ k h. h))
+  shared_is = prefix_is (is_in_branches earlier) (line at part.front) (line at own) (all_in earlier (line at part.front) front_in) (stops own (λ k h. h))
 
   from_is : (n : ℕ) → n ≡ length (line at part.front) → first_with earlier slots n ≡ m.branch
   from_is zero e =
@@ -276,7 +276,7 @@ module _ {T : Type 0} (c : Cut T) (whole : IsWhole c) (index : ℕ) (marks : Lis
           let same : b.name ≡ name = cc in
           limbs_at [] bs index b e ∙ ap Some (limb_told b e) ∙ ap (λ n. Some (record { name = n; from = m.branch; shared = m.cells; steps = map step_of (line at own) })) same
 
-  -- with the own keys marked
+  -- after the branch's own keys are marked
   module _ (new : List (Option Mark)) (told : AreMarked at marks new own index m.cells) where
     own_mark : (k : ℕ) → has k own ≡ true → IsMark at c.strands (index + 1) k (mark index (m.cells + length (line at (keys_up_to k own))))
     own_mark k h =

@@ -10,9 +10,9 @@ use Rattle.schedule_trie.specs.declared.trie.Trie.TheInside.{Inside}
 use Rattle.schedule_trie.specs.Forest.{step_of, cell_of, slots_in, index_of, name_in}
 use Rattle.std.specs.Cmp.Lexicographic.{pointwise}
 use Rattle.std.proofs.lemmas.Option.{slice_get-map}
-use Rattle.schedule_trie.specs.Cut.{forest, piece_at, Piece, Strand, line, slots_of, branches_on, keys_in, has, has_cell, Once, IsSegment, IsSound, StandsAt}
+use Rattle.schedule_trie.specs.Cut.{forest, piece_at, Piece, Strand, line, slots_of, branches_on, keys_in, has, has_cell, Once, IsSegment, IsSoundCut, IsSpotInPath}
 use Rattle.lineage.specs.Family.{path_in}
-use Rattle.schedule_trie.specs.Held.{names_of, cut_of, IsHeld}
+use Rattle.schedule_trie.specs.Held.{names_of, cut_of, IsHeldCut}
 use Rattle.schedule_trie.proofs.Strands.{names_on, length-strands, keys_in-of}
 use Rattle.schedule_trie.proofs.Once.{has-append, has-head, has-tail, Once-append, Once-bounded, has_not_from, Once-from_linked}
 use Rattle.schedule_trie.specs.declared.limits.TheConstants.{MOST_CELLS_MADE}
@@ -70,12 +70,12 @@ module _ {T : Type 0} (at : ℕ → Option (Piece T)) where
         let b : length (map cell_of (line at ks)) ≤ made = Once-bounded (map cell_of (line at ks)) made (line_once ks h) (λ x e. let p = in_line x ks e in given_at p.0 x p.2) in
         subst (λ n. n ≤ made) (length-map (line at ks) cell_of) b
 
-pub sound_short : {T : Type 0} (at : ℕ → Option (Piece T)) (strands : List Strand) (made : ℕ) → IsSound at strands made → (i : ℕ) → length (line at (keys_in strands i)) ≤ made
+pub sound_short : {T : Type 0} (at : ℕ → Option (Piece T)) (strands : List Strand) (made : ℕ) → IsSoundCut at strands made → (i : ℕ) → length (line at (keys_in strands i)) ≤ made
 sound_short at strands made s i =
     line_short at made s.segments s.apart (keys_in strands i)
     (Once-from_linked s.shares.above (keys_in strands i) (s.shares.linked i))
 
--- what the fields tell of the forest
+-- the forest in terms of the fields
 module _ {T : Type 0} (t : Inside T) where
   pub index_is : (name : List ℕ) → index_of (forest (cut_of t)).branches name ≡ position (pointwise nat_eq name) (names_of t)
   index_is name = ap (position (pointwise nat_eq name)) (names_on (piece_at (cut_of t).pieces) (names_of t) t.segments.paths)
@@ -83,23 +83,23 @@ module _ {T : Type 0} (t : Inside T) where
   pub name_is : (i : ℕ) → name_in (forest (cut_of t)).branches i ≡ option_map (λ e. e.0) (slice_get t.branches.entries i)
   name_is i = ap (λ l. slice_get l i) (names_on (piece_at (cut_of t).pieces) (names_of t) t.segments.paths) ∙ slice_get-map (λ e. e.0) t.branches.entries i
 
-  pub keys_are : IsHeld t → (i : ℕ) → keys_in (cut_of t).strands i ≡ path_in t.segments i
+  pub keys_are : IsHeldCut t → (i : ℕ) → keys_in (cut_of t).strands i ≡ path_in t.segments i
   keys_are h i = keys_in-of (names_of t) t.segments.paths i h.paths
 
-  pub path_within : IsHeld t → (i : ℕ) → i < length (cut_of t).strands → i < length t.segments.paths
+  pub path_within : IsHeldCut t → (i : ℕ) → i < length (cut_of t).strands → i < length t.segments.paths
   path_within h i inside = subst (λ n. i < n) (length-strands (names_of t) t.segments.paths ∙ sym h.paths) inside
 
-  pub line_fits : IsHeld t → (i : ℕ) → length (line (piece_at (cut_of t).pieces) (keys_in (cut_of t).strands i)) ≤ t.made
+  pub line_fits : IsHeldCut t → (i : ℕ) → length (line (piece_at (cut_of t).pieces) (keys_in (cut_of t).strands i)) ≤ t.made
   line_fits h i = sound_short (piece_at (cut_of t).pieces) (cut_of t).strands t.made h.whole.sound i
 
-  -- what the keys of a branch promise
-  pub keys_told : IsHeld t → (i : ℕ) (keys : List ℕ) → keys ≡ path_in t.segments i
+  -- the keys of a branch, in terms of the fields
+  pub keys_told : IsHeldCut t → (i : ℕ) (keys : List ℕ) → keys ≡ path_in t.segments i
       → (keys ≡ keys_in (cut_of t).strands i) × (length (line (piece_at (cut_of t).pieces) keys) ≤ (cut_of t).made) × ((cut_of t).made ≤ MOST_CELLS_MADE)
   keys_told h i keys e =
       let same : keys_in (cut_of t).strands i ≡ keys = keys_are h i ∙ sym e in
       (sym same, subst (λ l. length (line (piece_at (cut_of t).pieces) l) ≤ t.made) same (line_fits h i), omega (arith, h.whole.within.cells, h.whole.within.most_cells))
 
--- what follows of an answer, where there is one
+-- if one property of a value implies another, an Ok result that has the first has the other too
 pub if_ok : {A E : Type 0} (r : Result A E) (P Q : A → Type 0) → ((a : A) → P a → Q a) → IfOk r P → IfOk r Q
 if_ok (Ok a) P Q f h = f a h
 if_ok (Err e) P Q f h = tt
@@ -110,14 +110,7 @@ drop_past zero (x ∷ xs) h = absurd (omega arith)
 drop_past (suc n) [] h = refl
 drop_past (suc n) (x ∷ xs) h = drop_past n xs (omega arith)
 
-pub len_told : {T : Type 0} (at : ℕ → Option (Piece T)) (strands : List Strand) (i n : ℕ) (keys : List ℕ) (len : ℕ) → length keys ≤ n
-    → len + length (line at (drop n keys)) ≡ length (line at keys) → keys ≡ keys_in strands i → len ≡ length (slots_in (branches_on at strands) i)
-len_told at strands i n keys len past sum same =
-    let none : length (line at (drop n keys)) ≡ 0 = ap (λ l. length (line at l)) (drop_past n keys past) in
-    let all : len ≡ length (line at keys) = omega arith in
-    all ∙ ap (λ l. length (line at l)) same ∙ ap length (sym (slots_in_on at strands i))
-
--- an element of the first of two lists, and of the second
+-- an item of two joined lists is one of the first list, or one of the second
 pub slice_get_left : {X : Type 0} (xs ys : List X) (i : ℕ) → i < length xs → slice_get (xs ++ ys) i ≡ slice_get xs i
 slice_get_left [] ys i h = absurd (omega arith)
 slice_get_left (x ∷ xs) ys zero h = refl
@@ -136,15 +129,7 @@ has-get_or (k ∷ ks) (suc i) h = has-tail (get_or ks i 0) k ks (has-get_or ks i
 module _ {T : Type 0} (at : ℕ → Option (Piece T)) (keys : List ℕ) (place i rest : ℕ) (inside : i < length keys)
     (same : slice_get (line at (drop i keys)) rest ≡ slice_get (line at keys) place)
     (sum : length (line at (drop i keys)) + place ≡ length (line at keys) + rest) where
-  -- the place lies in this segment
-  pub found_here : rest < length (slots_of (at (get_or keys i 0))) → StandsAt at keys place (get_or keys i 0, rest)
-  found_here h = record {
-    member = has-get_or keys i inside;
-    within = h;
-    same = sym (slice_get_left (slots_of (at (get_or keys i 0))) (line at (drop (suc i) keys)) rest h) ∙ sym (ap (λ l. slice_get l rest) (line-drop at keys i inside)) ∙ same;
-  }
-
-  -- or behind it
+  -- or after it
   pub found_below : (next : ℕ) → length (slots_of (at (get_or keys i 0))) + next ≡ rest
       → (slice_get (line at (drop (i + 1) keys)) next ≡ slice_get (line at keys) place)
       × (length (line at (drop (i + 1) keys)) + place ≡ length (line at keys) + next)
@@ -165,12 +150,7 @@ none_found at strands index place i rest keys past sum same =
     let all : length (line at keys) ≡ length (slots_in (branches_on at strands) index) = ap (λ l. length (line at l)) same ∙ ap length (sym (slots_in_on at strands index)) in
     omega arith
 
-pub keys_in_past : (strands : List Strand) (j : ℕ) → length strands ≤ j → keys_in strands j ≡ []
-keys_in_past [] j h = refl
-keys_in_past (s ∷ ss) zero h = absurd (omega arith)
-keys_in_past (s ∷ ss) (suc j) h = keys_in_past ss j (omega arith)
-
--- the steps of keys so far
+-- the steps of the keys read so far
 module _ {T : Type 0} (at : ℕ → Option (Piece T)) where
   pub steps_more : (keys : List ℕ) (i : ℕ) (done more : List Step) → i < length keys
       → done ++ map step_of (line at (drop i keys)) ≡ map step_of (line at keys) → more ≡ done ++ map step_of (slots_of (at (get_or keys i 0)))

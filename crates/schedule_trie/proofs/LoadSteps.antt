@@ -1,4 +1,4 @@
--- Limbs that grow one by one.
+-- Adding limbs one by one.
 use Rattle.std.proofs.Common.{◌≡◌, ℕ, zero, suc, ◌+◌, ◌-◌, ◌<◌, ◌≤◌, Bool, true, false, not, ◌&&◌, ◌||◌, cond, nat_eq, List, [], ◌∷◌, ◌++◌, length, map, take, drop, get_or, position, Some, None, refl, sym, ap, subst, ◌∙◌, true≢false, arith, append_assoc, append-nil}
 use Rattle.std.specs.List.{list_any, position_or_len}
 use Rattle.std.specs.Option.{IfSome}
@@ -7,10 +7,10 @@ use Rattle.std.proofs.lemmas.List.{length-map, length-append, map-append, take_m
 use Rattle.frames.specs.declared.types.Step.{Step}
 use Rattle.schedule_trie.specs.declared.slot.Slot.{Slot}
 use Rattle.schedule_trie.specs.declared.limb.Limb.{Limb}
-use Rattle.schedule_trie.specs.Forest.{Forest, Branch, branch, changed, numbered, slots_in, only_in, put_all, name_of, index_of, alone, IsForest}
+use Rattle.schedule_trie.specs.Forest.{Forest, Branch, branch, changed, numbered, slots_in, only_in, put_all, name_of, index_of, lone_branch, IsForest}
 use Rattle.schedule_trie.specs.Cut.{Cut, forest, IsBlank, IsWhole, ArePushed}
-use Rattle.schedule_trie.specs.Forks.{IsForked}
-use Rattle.schedule_trie.specs.Limbs.{slots_on, grown, grow, no_branches, forest_of, cells_of, is_name, has_name, is_new_name, may_share, are_lawful_after, IsLawful}
+use Rattle.schedule_trie.specs.Forks.{IsBranchForked}
+use Rattle.schedule_trie.specs.Limbs.{slots_on, grown, grow, no_branches, forest_of, cells_of, is_name, has_name, is_new_name, may_share, are_lawful_after, AreLawfulLimbs}
 use Rattle.schedule_trie.specs.Loads.{CanGrow, IsGrown}
 use Rattle.schedule_trie.proofs.ForkAnswers.{any_or_none}
 use Rattle.schedule_trie.proofs.LengthsAfter.{branch_count, cells_few}
@@ -26,14 +26,14 @@ only_last : (g : List Slot → List Slot) (bs : List Branch) (b : Branch) → on
 only_last g [] b = refl
 only_last g (c ∷ bs) b = ap (λ l. c ∷ l) (only_last g bs b)
 
--- a fork, and then the own steps
+-- a fork, then the limb's own steps
 module _ {T : Type 0} (a was b d : Cut T) (l : Limb) (steps : List Step) (index : ℕ) (can : CanGrow a l) (same : was ≡ a) (own : steps ≡ l.steps) (count : index ≡ length (forest was).branches)
-    (fork : IsForked was b l.from l.shared l.name) (push : ArePushed b d index steps) where
+    (fork : IsBranchForked was b l.from l.shared l.name) (push : ArePushed b d index steps) where
   last : index ≡ length (forest a).branches
   last = count ∙ ap (λ z. length (forest z).branches) same
 
-  forked : IsForked a b l.from l.shared l.name
-  forked = subst (λ z. IsForked z b l.from l.shared l.name) same fork
+  forked : IsBranchForked a b l.from l.shared l.name
+  forked = subst (λ z. IsBranchForked z b l.from l.shared l.name) same fork
 
   pushed : ArePushed b d index l.steps
   pushed = subst (ArePushed b d index) own push
@@ -77,7 +77,7 @@ module _ {T : Type 0} (a was b d : Cut T) (l : Limb) (steps : List Step) (index 
     cut = pushed.cut forked.cut;
   }
 
--- the length of its branch is small
+-- the length of a limb's branch is at most the most cells
 pub grown_small : {T : Type 0} (a : Cut T) (l : Limb) → IsWhole a → CanGrow a l → l.shared + length l.steps ≤ MOST_CELLS_MADE
 grown_small a l whole can =
     let few = cells_few a whole l.from in
@@ -85,7 +85,7 @@ grown_small a l whole can =
     let cells = can.cells in
     let most = whole.within.most_cells in omega arith
 
--- the first limbs of lawful ones are lawful, and so is the next
+-- the first of lawful limbs are lawful, and so is the next
 lawful_first : (earlier ls : List Limb) (n : ℕ) → are_lawful_after earlier ls ≡ true → are_lawful_after earlier (take n ls) ≡ true
 lawful_first earlier ls zero h = refl
 lawful_first earlier [] (suc n) h = refl
@@ -106,7 +106,7 @@ lawful_last earlier (x ∷ xs) l h =
     let q = and_both (may_share earlier x) (are_lawful_after (earlier ++ x ∷ []) (xs ++ l ∷ [])) p.1 in
     subst (λ e. (is_new_name e l.name ≡ true) × (may_share e l ≡ true)) (append_assoc earlier (x ∷ []) xs) (lawful_last (earlier ++ x ∷ []) xs l q.1)
 
--- what a forest of lawful limbs keeps
+-- the invariant of a forest of lawful limbs
 grown_all : (earlier : List Limb) (f : Forest) (ls : List Limb) → HasGrown earlier f → are_lawful_after earlier ls ≡ true → HasGrown (earlier ++ ls) (grow f ls)
 grown_all earlier f [] h lawful = subst (λ e. HasGrown e f) (sym (append-nil earlier)) h
 grown_all earlier f (l ∷ ls) h lawful =
@@ -149,7 +149,7 @@ free_name ls name new =
     (p.0, none_found (pointwise nat_eq name) (map name_of (forest_of ls).branches) none)
 
 -- the next of lawful limbs
-module _ (ls : List Limb) (lawful : IsLawful ls) (n : ℕ) (l : Limb) (less : n < length ls) (at : get_or ls n l ≡ l) where
+module _ (ls : List Limb) (lawful : AreLawfulLimbs ls) (n : ℕ) (l : Limb) (less : n < length ls) (at : get_or ls n l ≡ l) where
   abbrev xs : List Limb
   xs = take n ls
 
@@ -188,7 +188,7 @@ module _ (ls : List Limb) (lawful : IsLawful ls) (n : ℕ) (l : Limb) (less : n 
     grown_next d told =
         told.forest_is ∙ ap (λ f. grown f l) is ∙ sym (grow-last no_branches xs l) ∙ ap forest_of (sym more)
 
--- the items of the rest
+-- an item of the rest
 rest_item : {X : Type 0} (x : X) (xs : List X) (m i : ℕ) (d : X) → length xs ≤ m → i < length (take m xs) → d ≡ get_or (take m xs) i d
     → (i + 1 < length (x ∷ xs)) × (get_or (x ∷ xs) (i + 1) d ≡ d)
 rest_item x xs m i d most less at =
@@ -211,7 +211,7 @@ rest_ends (x ∷ all) i some end =
     let whole = taken_whole (suc (length all) - 1) all (omega arith) in
     let len = subst (λ l. length l ≤ i) whole end in omega arith
 
--- the first of limbs
+-- the first limb
 abbrev no_slots : List Slot
 no_slots = []
 
@@ -219,18 +219,12 @@ take_none : (n : ℕ) → take n no_slots ≡ no_slots
 take_none zero = refl
 take_none (suc n) = refl
 
-first_alone : (l : Limb) → alone l.name l.steps ≡ forest_of (l ∷ [])
+first_alone : (l : Limb) → lone_branch l.name l.steps ≡ forest_of (l ∷ [])
 first_alone l =
     let slots : numbered 0 l.steps ≡ take l.shared [] ++ numbered 0 l.steps = ap (λ z. z ++ numbered 0 l.steps) (sym (take_none l.shared)) in
     let made : length l.steps ≡ 0 + length l.steps = omega arith in
     λ i. record { branches = branch l.name (slots i) ∷ []; made = made i }
 
-pub first_grown : (ls : List Limb) (f : Forest) (l : Limb) → 0 < length ls → get_or ls 0 l ≡ l → f ≡ alone l.name l.steps → f ≡ forest_of (take 1 ls)
+pub first_grown : (ls : List Limb) (f : Forest) (l : Limb) → 0 < length ls → get_or ls 0 l ≡ l → f ≡ lone_branch l.name l.steps → f ≡ forest_of (take 1 ls)
 first_grown [] f l some at is = absurd (omega arith)
 first_grown (x ∷ ys) f l some at is = is ∙ first_alone l ∙ ap (λ z. forest_of (z ∷ [])) (sym at)
-
-pub first_formed : (ls : List Limb) (l : Limb) → IsLawful ls → 0 < length ls → get_or ls 0 l ≡ l → is_name l.name ≡ true
-first_formed [] l lawful some at = absurd (omega arith)
-first_formed (x ∷ ys) l lawful some at =
-    let p = and_both (is_new_name [] x.name) (may_share [] x && are_lawful_after (x ∷ []) ys) lawful in
-    subst (λ z. is_name z.name ≡ true) at (and_both (is_name x.name) (not (list_any (has_name x.name) [])) p.0).0

@@ -1,4 +1,4 @@
--- Keys of a path that are marked one by one.
+-- Marking keys of a path one by one.
 use Rattle.std.proofs.Common.{◌≡◌, ℕ, zero, suc, ◌+◌, ◌<◌, ◌≤◌, ◌^◌, Bool, true, false, ◌||◌, nat_eq, List, [], ◌∷◌, ◌++◌, length, take, get_or, set, Option, Some, None, refl, sym, ap, subst, ◌∙◌, true≢false, arith}
 use Rattle.std.proofs.lemmas.Bool.{eqb-true}
 use Rattle.std.proofs.lemmas.List.{length-append, length-set, take_more, get_or-set_same, get_or-set_other}
@@ -17,7 +17,7 @@ split_at [] i d less e = absurd (omega arith)
 split_at (x ∷ xs) zero d less e = (xs, ap (λ z. z ∷ xs) e)
 split_at (x ∷ xs) (suc i) d less e = let p = split_at xs i d (omega arith) e in (p.0, ap (λ l. x ∷ l) p.1)
 
--- so far
+-- the first i of these keys are marked
 pub record AreMarkedSoFar {T : Type 0} (at : ℕ → Option (Piece T)) (old new : List (Option Mark)) (keys : List ℕ) (branch above i cells : ℕ) : Type 0 where
   pub count : length new ≡ length old
   pub cells_are : cells ≡ above + length (line at (take i keys))

@@ -22,7 +22,7 @@ pub and_true : (a b : Bool) → a ≡ true → b ≡ true → (a && b) ≡ true
 and_true true b h g = g
 and_true false b h g = absurd (true≢false (sym h))
 
--- a branch goes
+-- names keep their form when a branch is removed
 pub names_left : (es : List (List ℕ × Option ℕ)) (index : ℕ) → AreNames (keys_of es) → AreNames (keys_of (remove es index))
 names_left [] zero h = refl
 names_left [] (suc index) h = refl
@@ -31,7 +31,7 @@ names_left (e ∷ es) (suc index) h =
     let p = and_both (is_name e.0) (list_all is_name (keys_of es)) h in
     and_true (is_name e.0) (list_all is_name (keys_of (remove es index))) p.0 (names_left es index p.1)
 
--- one more comes last
+-- names keep their form when a branch is added last
 pub names_more : (names : List (List ℕ)) (name : List ℕ) → AreNames names → is_name name ≡ true → AreNames (names ++ name ∷ [])
 names_more [] name h g = and_true (is_name name) true g refl
 names_more (n ∷ ns) name h g =
@@ -46,6 +46,6 @@ forked_names t entries name named formed free is =
     is ∙ insert_entry-absent (pointwise nat_eq) name None t.branches.entries (Missing-position (pointwise nat_eq name) t.branches.entries absent).absent in
     subst AreNames (sym (ap keys_of all ∙ map-append (λ e. e.0) t.branches.entries ((name, None) ∷ []))) (names_more (names_of t) name named formed)
 
--- what the fields tell of the forest
+-- the names in the fields are the forest's names
 pub have_names : {T : Type 0} (t : Inside T) → AreNames (names_of t) → HaveNames (forest (cut_of t)).branches
 have_names t named = subst AreNames (sym (names_on (piece_at (cut_of t).pieces) (names_of t) t.segments.paths)) named

@@ -1,4 +1,4 @@
--- What an edit leaves of notes.
+-- The notes that an edit keeps.
 use Rattle.std.proofs.Common.{◌≡◌, ℕ, Bool, true, false, nat_eq, Option, Some, None, IsSome, ◌⊎◌, inl, inr, refl, sym, ap, subst, ◌∙◌, true≢false, eq-eqb}
 use Rattle.std.proofs.lemmas.Bool.{eqb-true}
 use Rattle.schedule_trie.specs.Cut.{Cut, Piece, piece_at, slots_of, slots_by, note_of, KeepsNotes, KeepsNotesBut, KeepsNotesOff, Nowhere, KeepsUnchanged, HasChanged, IsBlank}
@@ -12,7 +12,7 @@ is_touched (Some j) k = by (nat_eq j k) refl
     by true e = inl (ap Some (eqb-true j k e))
     by false e = inr (λ s. let same : j ≡ k = cc in true≢false (sym (eq-eqb j k same) ∙ e))
 
--- the cells of a segment by those of one that may not be there
+-- two segments, of which either may be missing, have the same cells
 slots_from : {T : Type 0} (o q : Option (Piece T)) → slots_by o ≡ slots_by q → slots_of o ≡ slots_of q
 slots_from None None e = refl
 slots_from None (Some q) e = cc
@@ -23,7 +23,7 @@ none_from : {T : Type 0} (o : Option (Piece T)) → slots_by o ≡ None → o �
 none_from None e = refl
 none_from (Some p) e = cc
 
--- where a touched segment has other cells, one whose cells stay keeps its note
+-- if the touched segment has changed, one with unchanged cells keeps its note
 pub unchanged_kept : {T : Type 0} (old new : Cut T) (notes : KeepsNotes old new) → ((k : ℕ) → notes.touched ≡ Some k → HasChanged old new k)
     → KeepsUnchanged old new
 unchanged_kept {T} old new notes changed k same = by (piece_at old.pieces k) refl
@@ -40,7 +40,8 @@ unchanged_kept {T} old new notes changed k same = by (piece_at old.pieces k) ref
       ]
     ]
 
--- what holds of each segment, and of each with no note, holds after an edit
+-- if each segment without a note has a property, and before an edit all segments have it, then
+-- after the edit all have it too
 module _ {T : Type 0} (Q : Option (Piece T) → Type 0) (unnoted : (o : Option (Piece T)) → note_of o ≡ None → Q o) where
   pub notes_kept : (old new : Cut T) → KeepsNotes old new → ((k : ℕ) → Q (piece_at old.pieces k)) → (k : ℕ) → Q (piece_at new.pieces k)
   notes_kept old new notes each k = by (piece_at old.pieces k) refl
@@ -58,7 +59,7 @@ module _ {T : Type 0} (Q : Option (Piece T) → Type 0) (unnoted : (o : Option (
 pub blank_kept : {T : Type 0} (old new : Cut T) → KeepsNotes old new → IsBlank old → IsBlank new
 blank_kept old new notes blank = notes_kept (λ o. note_of o ≡ None) (λ o e. e) old new notes blank
 
--- every segment but one is as it was
+-- each segment but the one at `key` is unchanged
 module _ {T : Type 0} (c d : Cut T) (key : ℕ) (others : (j : ℕ) → (j ≡ key → ⊥) → piece_at d.pieces j ≡ piece_at c.pieces j) (clear : note_of (piece_at d.pieces key) ≡ None) where
   unnoted_still : (k : ℕ) → piece_at c.pieces k ≡ None → note_of (piece_at d.pieces k) ≡ None
   unnoted_still k h = by (nat_eq k key) refl
@@ -67,7 +68,7 @@ module _ {T : Type 0} (c d : Cut T) (key : ℕ) (others : (j : ℕ) → (j ≡ k
       by true e = subst (λ j. note_of (piece_at d.pieces j) ≡ None) (sym (eqb-true k key e)) clear
       by false e = ap note_of (others k (λ f. true≢false (sym (eq-eqb k key f) ∙ e)) ∙ h)
 
-  -- that one is touched
+  -- the segment at `key` is touched
   pub notes_at : KeepsNotesOff c d (λ k. k ≡ key)
   notes_at = record {
     notes = record {
@@ -80,7 +81,7 @@ module _ {T : Type 0} (c d : Cut T) (key : ℕ) (others : (j : ℕ) → (j ≡ k
     only = λ k e. cc;
   }
 
-  -- that one is new
+  -- the segment at `key` is new
   pub notes_beside : (May : ℕ → Type 0) → piece_at c.pieces key ≡ None → KeepsNotesBut c d Nowhere May
   notes_beside May vacant = record {
     notes = record {
@@ -93,7 +94,7 @@ module _ {T : Type 0} (c d : Cut T) (key : ℕ) (others : (j : ℕ) → (j ≡ k
     only = λ k e. absurd (cc);
   }
 
--- said by what holds of that one
+-- the same, with conditions on that key
 pub notes_but : {T : Type 0} (c d : Cut T) (key : ℕ) (Must May : ℕ → Type 0) → KeepsNotesOff c d (λ k. k ≡ key) → ((k : ℕ) → Must k → k ≡ key) → May key
     → KeepsNotesBut c d Must May
 notes_but c d key Must May n must may =

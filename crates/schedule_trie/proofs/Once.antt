@@ -1,4 +1,4 @@
--- Numbers that stand once, and keys in a path.
+-- Lists in which no number is twice, and keys of a path.
 use Rattle.std.proofs.Common.{◌≡◌, ℕ, suc, ◌<◌, ◌≤◌, true, false, ◌||◌, eqb, List, [], ◌∷◌, ◌++◌, length, Option, Some, None, refl, sym, ap, subst, ◌∙◌, true≢false, arith}
 use Rattle.std.proofs.lemmas.Map.Keys.{IsDistinct-cons}
 use Rattle.std.proofs.lemmas.Map.Steps.{length-le_from_distinct_below}
@@ -7,7 +7,7 @@ use Rattle.schedule_trie.specs.Cut.{has, Once, Linked}
 use Rattle.lineage.proofs.Once.{AllByRecursion-from_has}
 pub use Rattle.lineage.proofs.Once.{has_cases, has-head, has-tail, has-append, has_not_from}
 
--- lists with nothing in common
+-- two joined lists have no number twice if neither has, and they have none in common
 pub Once-append : (xs ys : List ℕ) → Once xs → Once ys → ((x : ℕ) → has x xs ≡ true → has x ys ≡ false) → Once (xs ++ ys)
 Once-append [] ys a b h = b
 Once-append (x ∷ xs) ys a b h =
@@ -22,12 +22,12 @@ has-list_any : (x : ℕ) (xs : List ℕ) → list_any (eqb x) xs ≡ has x xs
 has-list_any x [] = refl
 has-list_any x (y ∷ ys) = ap (λ c. eqb x y || c) (has-list_any x ys)
 
--- numbers below n that stand once are at most n
+-- a list with no number twice, all below n, has at most n items
 pub Once-bounded : (xs : List ℕ) (n : ℕ) → Once xs → ((x : ℕ) → has x xs ≡ true → x < n) → length xs ≤ n
 Once-bounded xs n once below =
     length-le_from_distinct_below xs n (IsDistinct-from_once xs once) (λ q h. below q (sym (has-list_any q xs) ∙ h))
 
--- the way up from a key, the nearest first
+-- the keys above a key, the nearest first
 abbrev pub Ups : (ℕ → Option ℕ) → Option ℕ → List ℕ → Type 0
 Ups above up [] = up ≡ None
 Ups above up (k ∷ ks) = (up ≡ Some k) × Ups above (above k) ks
@@ -63,6 +63,6 @@ Once-from_linked_below above up seen (k ∷ ks) u l =
           (λ r. true≢false (sym r ∙ rest.1 j (has-tail j k seen h)))),
     )
 
--- a path has each key once
+-- a path has no key twice
 pub Once-from_linked : (above : ℕ → Option ℕ) (ks : List ℕ) → Linked above None ks → Once ks
 Once-from_linked above ks l = (Once-from_linked_below above None [] ks refl l).0

@@ -6,9 +6,9 @@ use Rattle.lineage.specs.Family.{Family, IsForked}
 use Rattle.frames.specs.declared.types.Step.{Step}
 use Rattle.schedule_trie.specs.declared.limits.Limits.{Limits}
 use Rattle.schedule_trie.specs.declared.trie.Trie.TheInside.{Inside}
-use Rattle.schedule_trie.specs.Forest.{slot, numbered, alone}
+use Rattle.schedule_trie.specs.Forest.{slot, numbered, lone_branch}
 use Rattle.schedule_trie.specs.Cut.{Cut, strand, keys_in, has, Linked, IsWhole, IsCut, AreLimits, forest}
-use Rattle.schedule_trie.specs.Held.{piece_of, strands_of, names_of, cut_of, IsHeld}
+use Rattle.schedule_trie.specs.Held.{piece_of, strands_of, names_of, cut_of, IsHeldCut}
 use Rattle.schedule_trie.proofs.ForkSteps.{no_last}
 use Rattle.schedule_trie.proofs.StepSet.{cut_from_sound}
 
@@ -45,13 +45,13 @@ module _ {T : Type 0} (limits : Limits) (are : AreLimits limits) (name : List �
     };
   }
 
-  pub first_held : (t : Inside T) → names_of t ≡ name ∷ [] → t.segments.paths ≡ [] ∷ [] → t.segments.items ≡ [] → t.made ≡ 0 → t.limits ≡ limits → IsHeld t
+  pub first_held : (t : Inside T) → names_of t ≡ name ∷ [] → t.segments.paths ≡ [] ∷ [] → t.segments.items ≡ [] → t.made ≡ 0 → t.limits ≡ limits → IsHeldCut t
   first_held t names paths items made same =
       let e : cut_of t ≡ first = λ i. record { strands = strands_of (names i) (paths i); pieces = map piece_of (items i); made = made i; limits = same i } in
       let many : length t.segments.paths ≡ length (names_of t) = ap length paths ∙ sym (ap length names) in
       record { whole = subst IsWhole (sym e) first_whole; paths = many }
 
-  pub first_forest : (t : Inside T) → names_of t ≡ name ∷ [] → t.segments.paths ≡ [] ∷ [] → t.segments.items ≡ [] → t.made ≡ 0 → forest (cut_of t) ≡ alone name []
+  pub first_forest : (t : Inside T) → names_of t ≡ name ∷ [] → t.segments.paths ≡ [] ∷ [] → t.segments.items ≡ [] → t.made ≡ 0 → forest (cut_of t) ≡ lone_branch name []
   first_forest t names paths items made = λ i. forest (record { strands = strands_of (names i) (paths i); pieces = map piece_of (items i); made = made i; limits = t.limits })
 
   pub first_cut : (t : Inside T) → names_of t ≡ name ∷ [] → t.segments.paths ≡ [] ∷ [] → t.segments.items ≡ [] → t.made ≡ 0 → t.limits ≡ limits → IsCut (cut_of t)

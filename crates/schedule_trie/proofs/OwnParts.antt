@@ -1,18 +1,18 @@
--- A path climbed up to its last marked key.
+-- Climbing a path up to its last marked key.
 use Rattle.std.proofs.Common.{◌≡◌, ℕ, true, List, [], ◌∷◌, ◌++◌, reverse, Option, Some, None, refl, sym, ap, subst, ◌∙◌, true≢false, append_assoc, append-nil}
 use Rattle.std.proofs.lemmas.List.{reverse-append}
 use Rattle.lineage.specs.Family.{last_of, last_from}
 use Rattle.schedule_trie.specs.declared.mark.Mark.{Mark}
 use Rattle.schedule_trie.specs.Cut.{has}
-use Rattle.schedule_trie.specs.Climbs.{keys_to, IsReached}
+use Rattle.schedule_trie.specs.Climbs.{keys_to, HasClimbedTo}
 use Rattle.schedule_trie.specs.Marks.{mark_at, IsMarkOf, IsOwnPart}
 use Rattle.schedule_trie.proofs.Climbs.{IsLast, IsStepUp}
 use Rattle.schedule_trie.proofs.Once.{has_cases}
 use Rattle.schedule_trie.proofs.Partings.{parting}
 
--- a climb has come to a key, and these are below it, the last first
+-- a climb is at a key, and `own` are the keys below it
 pub record IsClimbing (marks : List (Option Mark)) (keys : List ℕ) (at : Option ℕ) (own : List ℕ) : Type 0 where
-  pub reached : IsReached keys at
+  pub reached : HasClimbedTo keys at
   pub is : keys ≡ keys_to keys at ++ reverse own
   pub unmarked : (k : ℕ) → has k (reverse own) ≡ true → mark_at marks k ≡ None
 
@@ -20,7 +20,7 @@ last_from-push : (first : Option ℕ) (xs : List ℕ) (k : ℕ) → last_from fi
 last_from-push first [] k = refl
 last_from-push first (x ∷ xs) k = last_from-push (Some x) xs k
 
-last_reached : (keys : List ℕ) (at : Option ℕ) → IsReached keys at → last_of (keys_to keys at) ≡ at
+last_reached : (keys : List ℕ) (at : Option ℕ) → HasClimbedTo keys at → last_of (keys_to keys at) ≡ at
 last_reached keys None h = refl
 last_reached keys (Some key) h = let p = parting keys key h in ap last_of p.to ∙ last_from-push None p.front key
 

@@ -1,11 +1,11 @@
--- Where a key stands among others.
+-- The position of a key in a list.
 use Rattle.std.proofs.Common.{◌≡◌, ℕ, Bool, true, false, ◌||◌, nat_eq, cond, List, [], ◌∷◌, ◌++◌, refl, sym, ap, ◌∙◌, true≢false}
 use Rattle.std.proofs.lemmas.Bool.{eqb-true}
 use Rattle.schedule_trie.specs.Cut.{has}
 use Rattle.schedule_trie.specs.Climbs.{keys_up_to}
 use Rattle.schedule_trie.proofs.Once.{has-head, has-tail}
 
--- a key among others, with those before it and those behind it
+-- a key of a list, with the keys before it and those after it
 pub record IsParting (keys : List ℕ) (key : ℕ) : Type 0 where
   pub front : List ℕ
   pub back : List ℕ

@@ -1,10 +1,10 @@
--- A key goes from paths.
+-- Removing a key from paths.
 use Rattle.std.proofs.Common.{◌≡◌, ℕ, zero, suc, Bool, true, false, not, ◌||◌, nat_eq, cond, List, [], ◌∷◌, map, Option, Some, None, refl, sym, ap, subst, ◌∙◌}
 use Rattle.std.proofs.lemmas.Bool.{eqb-true}
 use Rattle.schedule_trie.specs.Cut.{Strand, keys_in, has, Linked, keys_without, strand_without}
 use Rattle.schedule_trie.proofs.Once.{has-head, has-tail, has_cases}
 
--- the keys of a branch
+-- the keys of the branch at an index, after a key is removed
 pub keys_in-without : (key : ℕ) (ss : List Strand) (i : ℕ) → keys_in (map (strand_without key) ss) i ≡ keys_without key (keys_in ss i)
 keys_in-without key [] i = refl
 keys_in-without key (s ∷ ss) zero = refl
@@ -21,7 +21,7 @@ module _ (key k : ℕ) where
           (sym (ap (λ b. has k (cond (not b) (j ∷ keys_without key ks) (keys_without key ks))) e) ∙ h)
           (λ f. subst (λ z. has k (z ∷ ks) ≡ true) f (has-head k ks)) (λ r. has-tail k j ks (rest r))
 
-  -- another key stays
+  -- each other key stays
   pub has_other : (k ≡ key → ⊥) → (ks : List ℕ) → has k ks ≡ true → has k (keys_without key ks) ≡ true
   has_other ne [] h = h
   has_other ne (j ∷ ks) h = by (nat_eq key j) refl (has_other ne ks)
@@ -36,7 +36,7 @@ module _ (key k : ℕ) where
           (λ f. subst (λ z. has k (z ∷ keys_without key ks) ≡ true) f (has-head k (keys_without key ks)))
           (λ r. has-tail k j (keys_without key ks) (rest r))
 
--- the key itself doesn't
+-- the removed key isn't there any more
 pub has-without : (key : ℕ) (ks : List ℕ) → has key (keys_without key ks) ≡ false
 has-without key [] = refl
 has-without key (j ∷ ks) = by (nat_eq key j) refl (has-without key ks)
@@ -46,7 +46,7 @@ has-without key (j ∷ ks) = by (nat_eq key j) refl (has-without key ks)
     by false e rest = ap (λ b. has key (cond (not b) (j ∷ keys_without key ks) (keys_without key ks))) e
         ∙ ap (λ c. c || has key (keys_without key ks)) e ∙ rest
 
--- what was right below the key comes right below what was above it
+-- the link past a removed key: a link to this key becomes a link to the key above it
 abbrev pub past : (ℕ → Option ℕ) → ℕ → Option ℕ → Option ℕ
 past above key None = None
 past above key (Some k) = cond (nat_eq key k) (above key) (Some k)

@@ -1,10 +1,10 @@
--- Where a key stands in the paths that have it.
+-- The position of a key in the paths that have it.
 use Rattle.std.proofs.Common.{◌≡◌, ℕ, zero, suc, ◌+◌, ◌≤◌, Bool, true, false, ◌||◌, nat_eq, nat_lt, List, [], ◌∷◌, length, slice_get, Option, Some, None, refl, sym, ap, subst, ◌∙◌, true≢false, arith, eq-eqb}
 use Rattle.std.proofs.lemmas.Bool.Decides.{nat_tests}
 use Rattle.schedule_trie.specs.Cut.{has, Linked}
 use Rattle.schedule_trie.proofs.Once.{Ups, Ups-one, has_cases, has-head, has-tail}
 
--- the way up from a place of a path
+-- the way up from an index of a path
 ups_at : (above : ℕ → Option ℕ) (up : Option ℕ) (seen ks : List ℕ) (place k : ℕ) → Ups above up seen → Linked above up ks → slice_get ks place ≡ Some k
     → (ys : List ℕ) × Ups above (above k) ys × (length ys ≡ length seen + place)
 ups_at above up seen [] place k u l e = absurd (cc)
@@ -16,18 +16,13 @@ ups_at above up seen (j ∷ ks) (suc place) k u l e =
     let p = ups_at above (Some j) (j ∷ seen) ks place k (refl, at_j) l.1 e in
     (p.0, p.1, omega (arith, p.2))
 
--- a key that a path has stands at a place
+-- a key of a path has an index
 pub place_of_key : (k : ℕ) (ks : List ℕ) → has k ks ≡ true → (place : ℕ) × (slice_get ks place ≡ Some k)
 place_of_key k [] h = absurd (true≢false (sym h))
 place_of_key k (j ∷ ks) h =
     has_cases k j ks ((place : ℕ) × (slice_get (j ∷ ks) place ≡ Some k)) h (λ e. (0, ap Some (sym e))) (λ r. let p = place_of_key k ks r in (suc p.0, p.1))
 
-pub has_from_place : (k : ℕ) (ks : List ℕ) (place : ℕ) → slice_get ks place ≡ Some k → has k ks ≡ true
-has_from_place k [] place e = absurd (cc)
-has_from_place k (j ∷ ks) zero e = let same : j ≡ k = cc in subst (λ z. has z (j ∷ ks) ≡ true) same (has-head j ks)
-has_from_place k (j ∷ ks) (suc place) e = has-tail k j ks (has_from_place k ks place e)
-
--- it stands at the same place in each path
+-- a key has the same index in each path that has it
 pub same_place : (above : ℕ → Option ℕ) (xs ys : List ℕ) (place k : ℕ) → Linked above None xs → Linked above None ys → slice_get xs place ≡ Some k → has k ys ≡ true
     → slice_get ys place ≡ Some k
 same_place above xs ys place k a b e h =
@@ -46,40 +41,10 @@ one_place above xs ys m n k a b e f =
     let same : length p.0 ≡ length r.0 = Ups-one above (above k) p.0 r.0 p.1 r.1 in
     omega (arith, p.2, r.2)
 
--- what is above a key is in each path that has the key
-has_above : (above : ℕ → Option ℕ) (up : Option ℕ) (ks : List ℕ) (j k : ℕ) → Linked above up ks → has k ks ≡ true → above k ≡ Some j → (up ≡ Some j → ⊥) → has j ks ≡ true
-has_above above up [] j k l h e first = absurd (true≢false (sym h))
-has_above above up (i ∷ ks) j k l h e first =
-    has_cases k i ks (has j (i ∷ ks) ≡ true) h (λ f. absurd (first (sym l.0 ∙ ap above (sym f) ∙ e))) (λ r. by (has_above above (Some i) ks j k l.1 r e) (nat_eq j i) refl)
-  where
-    by : ((Some i ≡ Some j → ⊥) → has j ks ≡ true) → (b : Bool) → nat_eq j i ≡ b → has j (i ∷ ks) ≡ true
-    by rest true f = ap (λ c. c || has j ks) f
-    by rest false f = has-tail j i ks (rest (λ g. let same : j ≡ i = cc in true≢false (sym (eq-eqb j i same) ∙ f)))
-
--- the key before a place is above the key there
+-- the key before an index is above the key there
 pub before_place : (above : ℕ → Option ℕ) (up : Option ℕ) (ks : List ℕ) (place k : ℕ) → Linked above up ks → slice_get ks (suc place) ≡ Some k
     → (j : ℕ) × (slice_get ks place ≡ Some j) × (above k ≡ Some j)
 before_place above up [] place k l e = absurd (cc)
 before_place above up (i ∷ []) place k l e = absurd (cc)
 before_place above up (i ∷ (j ∷ ks)) zero k l e = let same : j ≡ k = cc in (i, refl, ap above (sym same) ∙ l.1.0)
 before_place above up (i ∷ (j ∷ ks)) (suc place) k l e = before_place above (Some i) (j ∷ ks) place k l.1 e
-
--- who has the key at a place of a path has each one before it
-pub shared_before : (above : ℕ → Option ℕ) (xs ys : List ℕ) (place k q j : ℕ) → Linked above None xs → Linked above None ys → slice_get xs place ≡ Some k → has k ys ≡ true
-    → q ≤ place → slice_get xs q ≡ Some j → has j ys ≡ true
-shared_before above xs ys zero k q j a b e h few f =
-    let first : q ≡ 0 = omega arith in
-    let here : slice_get xs 0 ≡ Some j = subst (λ n. slice_get xs n ≡ Some j) first f in
-    let same : k ≡ j = cc in
-    subst (λ z. has z ys ≡ true) same h
-shared_before above xs ys (suc place) k q j a b e h few f =
-    let p = before_place above None xs place k a e in
-    by (λ less. shared_before above xs ys place p.0 q j a b p.1 (has_above above None ys p.0 k b h p.2 (λ n. absurd (cc))) less f) (nat_lt place q) refl
-  where
-    by : (q ≤ place → has j ys ≡ true) → (c : Bool) → nat_lt place q ≡ c → has j ys ≡ true
-    by rest true g =
-        let last : q ≡ suc place = grind (arith, nat_tests) in
-        let here : slice_get xs (suc place) ≡ Some j = subst (λ n. slice_get xs n ≡ Some j) last f in
-        let same : k ≡ j = cc in
-        subst (λ z. has z ys ≡ true) same h
-    by rest false g = rest (grind (arith, nat_tests))

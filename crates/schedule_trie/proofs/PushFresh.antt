@@ -1,4 +1,4 @@
--- A push as a segment of its own, by what the fields become.
+-- A push as a new segment, in terms of the fields.
 use Rattle.std.proofs.Common.{◌≡◌, ℕ, ◌+◌, ◌<◌, Bool, true, false, ◌||◌, nat_eq, cond, List, [], ◌∷◌, ◌++◌, length, set, Option, Some, None, IsSome, refl, sym, ap, subst, ◌∙◌, true≢false, arith, eq-eqb, append-nil}
 use Rattle.std.proofs.lemmas.Bool.{eqb-true}
 use Rattle.std.proofs.lemmas.List.{length-set}
@@ -8,7 +8,7 @@ use Rattle.schedule_trie.specs.declared.segment.Segment.{Segment}
 use Rattle.schedule_trie.specs.declared.trie.Trie.TheInside.{Inside}
 use Rattle.schedule_trie.specs.Forest.{slot}
 use Rattle.schedule_trie.specs.Cut.{piece, piece_at, slots_of, note_of, line, keys_in, set_keys, has, Linked, SharesAbove, IsChangedEnd, IsPushed}
-use Rattle.schedule_trie.specs.Held.{piece_of, strands_of, names_of, cut_of, IsHeld}
+use Rattle.schedule_trie.specs.Held.{piece_of, strands_of, names_of, cut_of, IsHeldCut}
 use Rattle.schedule_trie.proofs.Once.{has_not_from}
 use Rattle.schedule_trie.proofs.Changes.{Changes}
 use Rattle.schedule_trie.proofs.Notes.{notes_beside}
@@ -40,8 +40,8 @@ linked_last above key v up (k ∷ ks) e h l = by (nat_eq key k) refl (linked_las
     by true f rest = absurd (true≢false (sym (ap (λ c. c || has key ks) f) ∙ h))
     by false f rest = (ap (λ b. cond b v (above k)) f ∙ l.0, rest (sym (ap (λ c. c || has key ks) f) ∙ h) l.1)
 
--- as a segment of its own
-module _ {T : Type 0} (t grown : Inside T) (index key : ℕ) (s : Segment T) (step : Step) (held : IsHeld t) (index_in : index < length (cut_of t).strands)
+-- a push as a new segment
+module _ {T : Type 0} (t grown : Inside T) (index key : ℕ) (s : Segment T) (step : Step) (held : IsHeldCut t) (index_in : index < length (cut_of t).strands)
     (room : t.made < t.limits.cells) (added : IsAdded t.segments grown.segments key s)
     (paths : grown.segments.paths ≡ set t.segments.paths index (path_in t.segments index ++ key ∷ [])) (names : names_of grown ≡ names_of t)
     (made : grown.made ≡ t.made + 1) (limits : grown.limits ≡ t.limits) (one : s.slots.items ≡ slot t.made step ∷ []) (note : s.note ≡ None) where
@@ -92,7 +92,7 @@ module _ {T : Type 0} (t grown : Inside T) (index key : ℕ) (s : Segment T) (st
   many : length grown.segments.paths ≡ length (names_of grown)
   many = ap length paths ∙ length-set t.segments.paths index (path_in t.segments index ++ key ∷ []) ∙ held.paths ∙ sym (ap length names)
 
-  pub segment_held : IsHeld grown
+  pub segment_held : IsHeldCut grown
   segment_held = record {
     whole = whole_pushed (cut_of t) (cut_of grown) index key step (keys_in (cut_of t).strands index) (piece s.slots.items s.note) held.whole room change note slots few made limits strands index_in was
         (λ k h. has_front k key (keys_in (cut_of t).strands index) h) (λ k h. h) (lacked index) (λ j ne. lacked j) shares;

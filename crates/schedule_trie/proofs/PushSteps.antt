@@ -1,4 +1,4 @@
--- A push, by what the fields become.
+-- A push, in terms of the fields.
 use Rattle.std.proofs.Common.{◌≡◌, ℕ, ◌+◌, ◌<◌, true, false, ◌||◌, List, [], ◌∷◌, ◌++◌, length, Option, Some, None, IsSome, Result, Ok, Err, refl, sym, ap, subst, ◌∙◌, append-nil, arith}
 use Rattle.std.specs.Map.{keys_of}
 use Rattle.std.specs.Result.{OnErr}
@@ -10,7 +10,7 @@ use Rattle.schedule_trie.specs.declared.segment.Segment.{Segment}
 use Rattle.schedule_trie.specs.declared.trie.Trie.TheInside.{Inside}
 use Rattle.schedule_trie.specs.Forest.{slot}
 use Rattle.schedule_trie.specs.Cut.{forest, piece, piece_at, slots_of, note_of, line, keys_in, set_keys, has, Once, IsOwnEnd, IsChangedEnd, Nowhere, HasChanged, IsPushed, IsWhole}
-use Rattle.schedule_trie.specs.Held.{piece_of, pieces_of, strands_of, cut_of, AreLengths, AreNames, IsHeld, IsKept}
+use Rattle.schedule_trie.specs.Held.{piece_of, pieces_of, strands_of, cut_of, AreLengths, AreNames, IsHeldCut, IsKept}
 use Rattle.schedule_trie.proofs.Once.{has-append, Once-from_linked}
 use Rattle.schedule_trie.proofs.Changes.{Changes, piece_at_set}
 use Rattle.schedule_trie.proofs.Climbs.{last_parts}
@@ -28,7 +28,7 @@ on_err (Err e) P p = p
 pub has_front : (k key : ℕ) (front : List ℕ) → has k front ≡ true → has k (front ++ key ∷ []) ≡ true
 has_front k key front h = has-append k front (key ∷ []) ∙ ap (λ b. b || has k (key ∷ [])) h
 
--- a segment that is written as it was
+-- the cut is unchanged when a segment is replaced by an equal one
 pub cut_written : {T : Type 0} (t : Inside T) (key : ℕ) (v w : Segment T) → item_at t.segments key ≡ Some v → w.slots.items ≡ v.slots.items → w.note ≡ v.note
     → cut_of (record t { segments = with_item t.segments key w }) ≡ cut_of t
 cut_written t key v w there items note =
@@ -43,7 +43,7 @@ kept_held t key w kept same = record {
   names = kept.names;
 }
 
--- room alone has been made
+-- only capacity has changed
 module _ {T : Type 0} (t u : Inside T) (entries : u.branches.entries ≡ t.branches.entries)
     (segments : u.segments ≡ t.segments) (made : u.made ≡ t.made) (limits : u.limits ≡ t.limits) where
   pub roomed_seen : cut_of u ≡ cut_of t
@@ -65,8 +65,8 @@ module _ {T : Type 0} (t u : Inside T) (entries : u.branches.entries ≡ t.branc
     names = subst (λ es. AreNames (keys_of es)) (sym entries) kept.names;
   }
 
--- in the last segment of a branch
-module _ {T : Type 0} (t : Inside T) (index key : ℕ) (held : IsHeld t) (end : IsOwnEnd (cut_of t) index key) where
+-- a push in the last segment of a branch
+module _ {T : Type 0} (t : Inside T) (index key : ℕ) (held : IsHeldCut t) (end : IsOwnEnd (cut_of t) index key) where
   some_slab : (o : Option (Segment T)) → IsSome (piece_of o) → IsSome o
   some_slab None h = h
   some_slab (Some v) h = refl
@@ -80,7 +80,7 @@ module _ {T : Type 0} (t : Inside T) (index key : ℕ) (held : IsHeld t) (end : 
     seen : piece_at (cut_of t).pieces key ≡ Some (piece v.slots.items v.note)
     seen = piece_seen t key ∙ ap piece_of there
 
-    -- refused
+    -- a push that is refused changes nothing
     pub cut_kept : w.slots.items ≡ v.slots.items → w.note ≡ v.note → cut_of (record t { segments = with_item t.segments key w }) ≡ cut_of t
     cut_kept items note = cut_written t key v w there items note
 
@@ -117,7 +117,7 @@ module _ {T : Type 0} (t : Inside T) (index key : ℕ) (held : IsHeld t) (end : 
           let as_long : length w.slots.items ≡ length (slots_of (piece_at (cut_of t).pieces key)) = ap length (sym (ap slots_of change.here) ∙ e) in
           omega arith
 
-      pub in_held : IsHeld after
+      pub in_held : IsHeldCut after
       in_held = record {
         whole = whole_pushed (cut_of t) (cut_of after) index key step end.front (piece w.slots.items w.note) held.whole room change note slots end.room refl refl strands index_in was kept in_front fresh end.own held.whole.sound.shares;
         paths = held.paths;
@@ -128,8 +128,8 @@ module _ {T : Type 0} (t : Inside T) (index key : ℕ) (held : IsHeld t) (end : 
           (notes_but (cut_of t) (cut_of after) key Nowhere (IsChangedEnd (cut_of t) (cut_of after) index) (notes_at (cut_of t) (cut_of after) key change.others (ap note_of change.here ∙ note))
           (λ k h. absurd h) (record { front = end.front; last = end.last; some = some_slots t.made (piece_at (cut_of t).pieces key) (subst IsSome (sym seen) refl) (held.whole.sound.segments key) }, changed))
 
--- the last segment of a branch, which no other has
-pub own_told : {T : Type 0} (t : Inside T) (index key : ℕ) → IsHeld t → last_of (path_in t.segments index) ≡ Some key → EndsAlone t.segments index
+-- the last segment of a branch, which no other branch has
+pub own_told : {T : Type 0} (t : Inside T) (index key : ℕ) → IsHeldCut t → last_of (path_in t.segments index) ≡ Some key → EndsAlone t.segments index
     → length (slots_of (piece_at (cut_of t).pieces key)) < 128 → IsOwnEnd (cut_of t) index key
 own_told t index key held last alone few =
     let p = last_parts (path_in t.segments index) key last in

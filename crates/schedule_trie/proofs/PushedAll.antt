@@ -1,9 +1,9 @@
--- Steps that are put last one by one.
+-- Adding steps at the end, one by one.
 use Rattle.std.proofs.Common.{◌≡◌, ℕ, zero, suc, ◌+◌, ◌<◌, List, [], ◌∷◌, ◌++◌, length, take, get_or, refl, sym, ap, ◌∙◌, arith, append_assoc, append-nil}
 use Rattle.std.proofs.lemmas.List.{length-append, take_more}
 use Rattle.frames.specs.declared.types.Step.{Step}
 use Rattle.schedule_trie.specs.declared.slot.Slot.{Slot}
-use Rattle.schedule_trie.specs.Forest.{Branch, branch, slot, numbered, only_in, put_last, put_all, alone}
+use Rattle.schedule_trie.specs.Forest.{Branch, branch, slot, numbered, only_in, put_last, put_all, lone_branch}
 use Rattle.schedule_trie.specs.Cut.{Cut, forest, IsPushed, ArePushed}
 use Rattle.schedule_trie.proofs.Notes.{blank_kept}
 use Rattle.schedule_trie.proofs.Openings.{numbered-push}
@@ -51,12 +51,3 @@ module _ {T : Type 0} where
   pushed_more a b d index steps i s less at p q =
       let more : take (i + 1) steps ≡ take i steps ++ s ∷ [] = take_more steps i s less ∙ ap (λ z. take i steps ++ z ∷ []) at in
       rw more (pushed_one a b d index (take i steps) s p q)
-
-  -- the first branch with all its steps
-  pub opened_with : (a b : Cut T) (name : List ℕ) (steps : List Step) → forest a ≡ alone name [] → ArePushed a b 0 steps → forest b ≡ alone name steps
-  opened_with a b name steps was p =
-      let made : a.made ≡ 0 = ap (λ f. f.made) was in
-      let here : (forest b).branches ≡ branch name (numbered 0 steps) ∷ [] =
-      p.branches ∙ ap (λ n. only_in 0 (put_all (numbered n steps)) (forest a).branches) made ∙ ap (λ f. only_in 0 (put_all (numbered 0 steps)) f.branches) was in
-      let count : b.made ≡ length steps = p.made ∙ omega (arith, made) in
-      λ i. record { branches = here i; made = count i }

@@ -4,7 +4,7 @@ use Rattle.std.specs.Option.{IfSome}
 use Rattle.std.proofs.lemmas.Bool.{eqb-true}
 use Rattle.schedule_trie.specs.declared.slot.Slot.{Slot}
 use Rattle.schedule_trie.specs.Forest.{branch, cell_of, only_in, put_last}
-use Rattle.schedule_trie.specs.Cut.{Piece, Strand, slots_of, line, branches_on, keys_in, set_keys, has, has_cell, Once, IsSegment, IsSound, LackedByOthers}
+use Rattle.schedule_trie.specs.Cut.{Piece, Strand, slots_of, line, branches_on, keys_in, set_keys, has, has_cell, Once, IsSegment, IsSoundCut, LackedByOthers}
 use Rattle.schedule_trie.proofs.Lines.{given_at}
 use Rattle.schedule_trie.proofs.Changes.{Changes}
 
@@ -17,7 +17,7 @@ module _ {T : Type 0} where
   line-append at (k ∷ a) b = ap (λ l. slots_of (at k) ++ l) (line-append at a b) ∙ sym (append_assoc (slots_of (at k)) (line at a) (line at b))
 
 module _ {T : Type 0} (old new : ℕ → Option (Piece T)) (key : ℕ) (q : Piece T) (change : Changes old new key q) where
-  -- a line that hasn't the segment stays
+  -- a line without the segment is unchanged
   pub line_kept : (ks : List ℕ) → has key ks ≡ false → line new ks ≡ line old ks
   line_kept [] h = refl
   line_kept (k ∷ ks) h = by (nat_eq key k) refl (line_kept ks)
@@ -40,7 +40,7 @@ module _ {T : Type 0} (old new : ℕ → Option (Piece T)) (key : ℕ) (q : Piec
   all_kept [] h = refl
   all_kept (s ∷ ss) h = λ i. branch s.name (line_kept s.keys (h 0) i) ∷ all_kept ss (λ j. h (suc j)) i
 
-  -- in that branch alone
+  -- the cell is added in that branch alone
   pub only_pushed : (strands : List Strand) (index : ℕ) (keys : List ℕ) (s : Slot) → index < length strands → LackedByOthers strands index key
       → line new keys ≡ put_last s (line old (keys_in strands index))
       → branches_on new (set_keys strands index keys) ≡ only_in index (put_last s) (branches_on old strands)
@@ -51,8 +51,8 @@ module _ {T : Type 0} (old new : ℕ → Option (Piece T)) (key : ℕ) (q : Piec
       λ i. branch t.name (line_kept t.keys (lacked 0 (λ f. absurd (omega arith))) i)
       ∷ only_pushed ts n keys s (omega arith) (λ j ne. lacked (suc j) (λ f. ne (omega arith))) e i
 
-  -- the segment has a cell that is made, beside those that it had
-  module _ (strands : List Strand) (made : ℕ) (sound : IsSound old strands made) (some : 0 < length q.slots) (few : length q.slots ≤ 128)
+  -- the segment has the cells that it had, and the new cell
+  module _ (strands : List Strand) (made : ℕ) (sound : IsSoundCut old strands made) (some : 0 < length q.slots) (few : length q.slots ≤ 128)
       (once : Once (map cell_of q.slots))
       (cells : (x : ℕ) → has_cell x q.slots ≡ true → (has_cell x (slots_of (old key)) ≡ true) ⊎ (x ≡ made)) where
     weaker : (o : Option (Piece T)) → IfSome o (IsSegment made) → IfSome o (IsSegment (made + 1))

@@ -55,7 +55,7 @@ module _ {X : Type 0} (p : X → Bool) where
   pub first_right : (xs ys : List X) → position_or_len p xs ≡ length xs → position_or_len p (xs ++ ys) ≡ length xs + position_or_len p ys
   first_right xs ys e = let parts = prefix_len-append (λ x. not (p x)) xs ys in grind (arith, nat_tests)
 
--- what comes before a key that comes once
+-- the key before a key that is once in a path
 before-here : (key : ℕ) (up : Option ℕ) (front back : List ℕ) → has key front ≡ false → before_key key up (front ++ key ∷ back) ≡ last_from up front
 before-here key up [] back h = ap (λ b. cond b up (before_key key (Some key) back)) (eq-eqb key key refl)
 before-here key up (k ∷ front) back h = by (nat_eq key k) refl (before-here key (Some k) front back)
@@ -65,7 +65,7 @@ before-here key up (k ∷ front) back h = by (nat_eq key k) refl (before-here ke
     by true e rest = absurd (true≢false (sym (ap (λ c. c || has key front) e) ∙ h))
     by false e rest = ap (λ b. cond b up (before_key key (Some k) (front ++ key ∷ back))) e ∙ rest (sym (ap (λ c. c || has key front) e) ∙ h)
 
--- the segment above, by what each path tells
+-- a key that is right above another in each path is the one that `above_of` gives
 pub above_told : (ss : List Strand) (key : ℕ) (r : Option ℕ) → ((i : ℕ) (front back : List ℕ) → keys_in ss i ≡ front ++ key ∷ back → r ≡ last_of front)
     → (((i : ℕ) → has key (keys_in ss i) ≡ false) → r ≡ None) → r ≡ above_of ss key
 above_told [] key r each none = none (λ i. refl)
@@ -82,7 +82,7 @@ above_told (s ∷ ss) key r each none = by (has key s.keys) refl (above_told ss 
         ∙ sym (ap (λ b. cond b (before_key key None s.keys) (above_of ss key)) e)
     by false e rest = rest (λ lacks. none (lacks_all e lacks)) ∙ sym (ap (λ b. cond b (before_key key None s.keys) (above_of ss key)) e)
 
--- a segment that no branch has isn't there
+-- a segment that no branch has doesn't exist
 pub lacked_none : {T : Type 0} (o : Option (Piece T)) (strands : List Strand) (key : ℕ) → (IsSome o → (i : ℕ) × (has key (keys_in strands i) ≡ true))
     → ((i : ℕ) → has key (keys_in strands i) ≡ false) → o ≡ None
 lacked_none None strands key live lacks = refl

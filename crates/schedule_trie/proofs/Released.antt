@@ -1,8 +1,8 @@
--- What a release leaves of a cut.
+-- The effect of a release on a cut.
 use Rattle.std.proofs.Common.{◌≡◌, ℕ, zero, suc, Bool, true, false, List, [], ◌∷◌, ◌++◌, map, Option, None, IsSome, ◌⊎◌, refl, sym, ap, subst, ◌∙◌, true≢false, inl, inr}
 use Rattle.std.specs.Option.{IfSome}
 use Rattle.schedule_trie.specs.Forest.{branch, slots_in}
-use Rattle.schedule_trie.specs.Cut.{Cut, Piece, Strand, piece_at, slots_of, note_of, line, forest, branches_on, keys_in, has, has_cell, SharesAbove, IsSegment, IsSound, AreGone, KeepsAllNotes}
+use Rattle.schedule_trie.specs.Cut.{Cut, Piece, Strand, piece_at, slots_of, note_of, line, forest, branches_on, keys_in, has, has_cell, SharesAbove, IsSegment, IsSoundCut, AreGone, KeepsAllNotes}
 use Rattle.schedule_trie.proofs.Once.{has-head, has-tail, has_not_from}
 use Rattle.schedule_trie.proofs.Lines.{in_line, slots_in_on}
 
@@ -10,12 +10,12 @@ use Rattle.schedule_trie.proofs.Lines.{in_line, slots_in_on}
 abbrev LackedByAll : List Strand → ℕ → Type 0
 LackedByAll strands key = (i : ℕ) → has key (keys_in strands i) ≡ false
 
--- the segments of branches are as before, and those that no branch has are gone
+-- the segments of branches are unchanged, and those that no branch has are gone
 pub record IsReleased {X : Type 0} (old new : ℕ → Option X) (strands : List Strand) : Type 0 where
   pub kept : (i k : ℕ) → has k (keys_in strands i) ≡ true → new k ≡ old k
   pub gone : (k : ℕ) → LackedByAll strands k → new k ≡ None
 
--- a cut that is sound, but that segments may be in no branch
+-- a correct cut, except that segments may be on no branch
 pub record IsSoundBut {T : Type 0} (at : ℕ → Option (Piece T)) (strands : List Strand) (made : ℕ) : Type 0 where
   pub held : (i k : ℕ) → has k (keys_in strands i) ≡ true → IsSome (at k)
   pub segments : (k : ℕ) → IfSome (at k) (IsSegment made)
@@ -66,7 +66,7 @@ module _ {T : Type 0} (old new : ℕ → Option (Piece T)) (strands : List Stran
       | inr e ↦ subst (λ o. IfSome o (IsSegment made)) (sym e) tt
     ]
 
-    pub released_sound : IsSound new strands made
+    pub released_sound : IsSoundCut new strands made
     released_sound = record {
       held = λ i k h. subst IsSome (sym (released.kept i k h)) (sound.held i k h);
       segments = segments;
@@ -78,7 +78,7 @@ module _ {T : Type 0} (old new : ℕ → Option (Piece T)) (strands : List Stran
   pub released_branches : branches_on new strands ≡ branches_on old strands
   released_branches = branches_alike old new strands released.kept
 
--- what was noted, where segments may be new before the release
+-- the notes that are kept, if segments may have been added before the release
 module _ {T : Type 0} (c d : Cut T) (mid : ℕ → Option (Piece T))
     (apart : (j k x : ℕ) → has_cell x (slots_of (mid j)) ≡ true → has_cell x (slots_of (mid k)) ≡ true → j ≡ k)
     (released : IsReleased mid (piece_at d.pieces) d.strands) (kept : (k : ℕ) → IsSome (piece_at c.pieces k) → mid k ≡ piece_at c.pieces k)

@@ -1,4 +1,4 @@
--- A cell goes from its segment, and so from each line.
+-- Removing a cell from its segment, and so from each line.
 use Rattle.std.proofs.Common.{◌≡◌, ℕ, zero, suc, ◌<◌, Bool, true, false, not, ◌||◌, nat_eq, cond, List, [], ◌∷◌, ◌++◌, length, map, slice_get, Option, Some, None, IsSome, refl, sym, ap, subst, ◌∙◌, true≢false, arith, eq-eqb}
 use Rattle.std.specs.Option.{IfSome}
 use Rattle.std.specs.List.{remove}
@@ -6,14 +6,14 @@ use Rattle.std.proofs.lemmas.Bool.{eqb-true}
 use Rattle.std.proofs.lemmas.List.Elements.{filter-append}
 use Rattle.schedule_trie.specs.declared.slot.Slot.{Slot}
 use Rattle.schedule_trie.specs.Forest.{branch, cell_of, is_other, without, everywhere}
-use Rattle.schedule_trie.specs.Cut.{Piece, Strand, slots_of, line, branches_on, keys_in, has, has_cell, Once, Linked, IsSegment, IsSound, keys_without, strand_without}
+use Rattle.schedule_trie.specs.Cut.{Piece, Strand, slots_of, line, branches_on, keys_in, has, has_cell, Once, Linked, IsSegment, IsSoundCut, keys_without, strand_without}
 use Rattle.schedule_trie.proofs.Once.{has_not_from, has-head, has-tail, has_cases}
 use Rattle.schedule_trie.proofs.Changes.{line_through, everywhere_on, nat_eq-turned, cell_apart, has_cell_get}
 use Rattle.schedule_trie.proofs.Lines.{once_at, given_at}
 use Rattle.schedule_trie.proofs.Pushes.{not_equal}
 use Rattle.schedule_trie.proofs.PathsWithout.{keys_in-without, has_from_without, has_other, has-without, past, linked_without}
 
--- a cell that isn't there doesn't go
+-- removing a cell that isn't there changes nothing
 pub without-absent : (x : ℕ) (slots : List Slot) → has_cell x slots ≡ false → without x slots ≡ slots
 without-absent x [] h = refl
 without-absent x (s ∷ ss) h = by (nat_eq x s.cell) refl (without-absent x ss)
@@ -23,7 +23,7 @@ without-absent x (s ∷ ss) h = by (nat_eq x s.cell) refl (without-absent x ss)
     by false e rest =
         ap (λ b. cond (not b) (s ∷ without x ss) (without x ss)) (nat_eq-turned x s.cell e) ∙ ap (λ l. s ∷ l) (rest (sym (ap (λ c. c || has_cell x ss) e) ∙ h))
 
--- the cell at a place, of cells that stand once
+-- removing the item at an index removes just that cell, if no cell is twice
 pub without-at : (slots : List Slot) (i : ℕ) (s : Slot) → Once (map cell_of slots) → slice_get slots i ≡ Some s → remove slots i ≡ without s.cell slots
 without-at [] i s once e = absurd (cc)
 without-at (z ∷ zs) zero s once e =
@@ -34,7 +34,7 @@ without-at (z ∷ zs) zero s once e =
 without-at (z ∷ zs) (suc i) s once e =
     sym (ap (λ b. cond (not b) (z ∷ without s.cell zs) (without s.cell zs)) (cell_apart z zs i s once.0 e) ∙ ap (λ l. z ∷ l) (sym (without-at zs i s once.1 e)))
 
--- the others are of those that were there
+-- the cells that are left were there before
 pub has_cell_without : (x y : ℕ) (slots : List Slot) → has_cell y (without x slots) ≡ true → has_cell y slots ≡ true
 has_cell_without x y [] h = h
 has_cell_without x y (s ∷ ss) h = by (nat_eq s.cell x) refl (has_cell_without x y ss)
@@ -70,7 +70,7 @@ within_from [] i s e = absurd (cc)
 within_from (z ∷ zs) zero s e = omega arith
 within_from (z ∷ zs) (suc i) s e = let h : i < length zs = within_from zs i s e in omega arith
 
-module _ {T : Type 0} (old new : ℕ → Option (Piece T)) (key offset : ℕ) (s : Slot) (strands : List Strand) (made : ℕ) (sound : IsSound old strands made)
+module _ {T : Type 0} (old new : ℕ → Option (Piece T)) (key offset : ℕ) (s : Slot) (strands : List Strand) (made : ℕ) (sound : IsSoundCut old strands made)
     (here : slots_of (new key) ≡ remove (slots_of (old key)) offset) (others : (j : ℕ) → (j ≡ key → ⊥) → new j ≡ old j)
     (at_cell : slice_get (slots_of (old key)) offset ≡ Some s) where
   each_without : (j : ℕ) → slots_of (new j) ≡ without s.cell (slots_of (old j))
@@ -99,7 +99,7 @@ module _ {T : Type 0} (old new : ℕ → Option (Piece T)) (key offset : ℕ) (s
   short_at None h l = absurd (omega arith)
   short_at (Some p) h l = omega (arith, h.few)
 
-  -- the segment has another cell
+  -- the segment has other cells
   module _ (p q : Piece T) (was : old key ≡ Some p) (is : new key ≡ Some q) (more : 1 < length (slots_of (old key))) where
     segment : IsSegment made q
     segment = record {
@@ -132,7 +132,7 @@ module _ {T : Type 0} (old new : ℕ → Option (Piece T)) (key offset : ℕ) (s
         by true e = subst (λ j. IsSome (old j)) (sym (eqb-true k key e)) (subst IsSome (sym was) refl)
         by false e = subst IsSome (others k (not_equal k key e)) h
 
-    pub sound_within : IsSound new strands made
+    pub sound_within : IsSoundCut new strands made
     sound_within = record {
       held = λ i k h. there k (sound.held i k h);
       segments = λ k. segment_at k (nat_eq k key) refl;
@@ -145,7 +145,7 @@ module _ {T : Type 0} (old new : ℕ → Option (Piece T)) (key offset : ℕ) (s
         segment_at k true e = subst (λ j. IfSome (new j) (IsSegment made)) (sym (eqb-true k key e)) (subst (λ o. IfSome o (IsSegment made)) (sym is) segment)
         segment_at k false e = subst (λ o. IfSome o (IsSegment made)) (sym (others k (not_equal k key e))) (sound.segments k)
 
-  -- the segment goes with its last cell
+  -- the segment is removed with its last cell
   module _ (gone : new key ≡ None) where
     not_key : (k : ℕ) → IsSome (new k) → k ≡ key → ⊥
     not_key k h e = true≢false (sym (subst IsSome (ap new e ∙ gone) h))
@@ -168,7 +168,7 @@ module _ {T : Type 0} (old new : ℕ → Option (Piece T)) (key offset : ℕ) (s
     pub gone_with_segment : branches_on new (map (strand_without key) strands) ≡ everywhere (without s.cell) (branches_on old strands)
     gone_with_segment = branches_past strands ∙ gone_everywhere
 
-    pub sound_gone : IsSound new (map (strand_without key) strands) made
+    pub sound_gone : IsSoundCut new (map (strand_without key) strands) made
     sound_gone = record {
       held = held;
       segments = λ k. segment_at k (nat_eq k key) refl;

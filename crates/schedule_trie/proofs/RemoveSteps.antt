@@ -1,4 +1,4 @@
--- A removal, by what the fields become.
+-- A removal, in terms of the fields.
 use Rattle.std.proofs.Common.{◌≡◌, ℕ, ◌<◌, ◌≤◌, List, [], ◌∷◌, length, map, slice_get, Some, None, Ok, refl, sym, ap, subst, ◌∙◌, arith}
 use Rattle.std.specs.List.{remove}
 use Rattle.std.proofs.lemmas.List.{length-map}
@@ -7,15 +7,15 @@ use Rattle.schedule_trie.specs.declared.slot.Slot.{Slot}
 use Rattle.schedule_trie.specs.declared.segment.Segment.{Segment}
 use Rattle.schedule_trie.specs.declared.trie.Trie.TheInside.{Inside}
 use Rattle.schedule_trie.specs.Forest.{without, remove_cell, index_of}
-use Rattle.schedule_trie.specs.Cut.{IsWithin, Cut, piece, piece_at, slots_of, note_of, forest, branches_on, keys_in, keys_without, strand_without, StandsAt, IsSound, IsRemoved}
-use Rattle.schedule_trie.specs.Held.{piece_of, strands_of, names_of, cut_of, IsHeld}
+use Rattle.schedule_trie.specs.Cut.{IsWithin, Cut, piece, piece_at, slots_of, note_of, forest, branches_on, keys_in, keys_without, strand_without, IsSpotInPath, IsSoundCut, IsRemoved}
+use Rattle.schedule_trie.specs.Held.{piece_of, strands_of, names_of, cut_of, IsHeldCut}
 use Rattle.schedule_trie.proofs.Strands.{strands-without}
 use Rattle.schedule_trie.proofs.Notes.{notes_at}
 use Rattle.schedule_trie.proofs.StepSet.{IsSeen, seen_with, with_segment, within_still, slice_get_some, piece_seen, cut_from_sound, command_at, the_cell}
 use Rattle.schedule_trie.proofs.Removals.{gone_everywhere, sound_within, gone_with_segment, sound_gone}
 
--- a cell of a segment that has another one
-module _ {T : Type 0} (t : Inside T) (key offset : ℕ) (v w : Segment T) (held : IsHeld t) (there : item_at t.segments key ≡ Some v)
+-- removing a cell of a segment that has other cells
+module _ {T : Type 0} (t : Inside T) (key offset : ℕ) (v w : Segment T) (held : IsHeldCut t) (there : item_at t.segments key ≡ Some v)
     (inside : offset < length (slots_of (piece_at (cut_of t).pieces key))) (more : 1 < length (slots_of (piece_at (cut_of t).pieces key)))
     (slots : w.slots.items ≡ remove v.slots.items offset) (note : w.note ≡ None) where
   abbrev after : Inside T
@@ -30,11 +30,11 @@ module _ {T : Type 0} (t : Inside T) (key offset : ℕ) (v w : Segment T) (held 
   first : (s : Slot) × (slice_get (slots_of (piece_at (cut_of t).pieces key)) offset ≡ Some s)
   first = slice_get_some (slots_of (piece_at (cut_of t).pieces key)) offset inside
 
-  sound : IsSound (piece_at (cut_of after).pieces) (cut_of t).strands t.made
+  sound : IsSoundCut (piece_at (cut_of after).pieces) (cut_of t).strands t.made
   sound = sound_within (piece_at (cut_of t).pieces) (piece_at (cut_of after).pieces) key offset first.0 (cut_of t).strands t.made held.whole.sound here seen.change.others first.1
       (piece v.slots.items v.note) (piece w.slots.items w.note) seen.was seen.change.here more
 
-  pub within_held : IsHeld after
+  pub within_held : IsHeldCut after
   within_held = record { whole = record { sound = sound; within = held.whole.within }; paths = held.paths }
 
   pub within_told : IsRemoved (cut_of t) (cut_of after) key offset
@@ -51,8 +51,8 @@ removed_all [] h = absurd (omega arith)
 removed_all (s ∷ []) h = refl
 removed_all (s ∷ z ∷ zs) h = absurd (omega arith)
 
--- a segment with its only cell
-module _ {T : Type 0} (t u : Inside T) (key : ℕ) (held : IsHeld t) (one : length (slots_of (piece_at (cut_of t).pieces key)) ≡ 1)
+-- removing a segment with its only cell
+module _ {T : Type 0} (t u : Inside T) (key : ℕ) (held : IsHeldCut t) (one : length (slots_of (piece_at (cut_of t).pieces key)) ≡ 1)
     (none : item_at u.segments key ≡ None) (kept : (j : ℕ) → (j ≡ key → ⊥) → item_at u.segments j ≡ item_at t.segments j)
     (paths : u.segments.paths ≡ map (keys_without key) t.segments.paths) (names : names_of u ≡ names_of t)
     (made : u.made ≡ t.made) (limits : u.limits ≡ t.limits) where
@@ -74,16 +74,16 @@ module _ {T : Type 0} (t u : Inside T) (key : ℕ) (held : IsHeld t) (one : leng
   only : (s : Slot) × (slice_get (slots_of (piece_at (cut_of t).pieces key)) 0 ≡ Some s)
   only = slice_get_some (slots_of (piece_at (cut_of t).pieces key)) 0 (omega (arith, one))
 
-  sound_rest : IsSound (piece_at (cut_of u).pieces) (cut_of u).strands u.made
+  sound_rest : IsSoundCut (piece_at (cut_of u).pieces) (cut_of u).strands u.made
   sound_rest =
-      subst (λ n. IsSound (piece_at (cut_of u).pieces) (cut_of u).strands n) (sym made)
-      (subst (λ ss. IsSound (piece_at (cut_of u).pieces) ss t.made) (sym strands)
+      subst (λ n. IsSoundCut (piece_at (cut_of u).pieces) (cut_of u).strands n) (sym made)
+      (subst (λ ss. IsSoundCut (piece_at (cut_of u).pieces) ss t.made) (sym strands)
       (sound_gone (piece_at (cut_of t).pieces) (piece_at (cut_of u).pieces) key 0 only.0 (cut_of t).strands t.made held.whole.sound all_gone others only.1 gone))
 
   count : length (cut_of u).strands ≡ length (cut_of t).strands
   count = ap length strands ∙ length-map (cut_of t).strands (strand_without key)
 
-  pub gone_held : IsHeld u
+  pub gone_held : IsHeldCut u
   gone_held = record {
     whole = record {
       sound = sound_rest;
@@ -103,9 +103,9 @@ module _ {T : Type 0} (t u : Inside T) (key : ℕ) (held : IsHeld t) (one : leng
     cut = cut_from_sound (cut_of u) u.made sound_rest;
   }
 
--- what `remove` gives
+-- the result of `remove`
 pub remove_ok : {T : Type 0} (old new : Cut T) (name : List ℕ) (place index key offset : ℕ) → index_of (forest old).branches name ≡ Some index
-    → StandsAt (piece_at old.pieces) (keys_in old.strands index) place (key, offset) → IsRemoved old new key offset
+    → IsSpotInPath (piece_at old.pieces) (keys_in old.strands index) place (key, offset) → IsRemoved old new key offset
     → remove_cell (forest old) name place ≡ Ok (forest new)
 remove_ok old new name place index key offset found stands removed =
     let cell = the_cell old new name place index key offset found stands in

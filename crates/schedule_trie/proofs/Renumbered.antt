@@ -1,4 +1,4 @@
--- Segments that are made again, with new cells.
+-- Copies of segments, with new cells.
 use Rattle.std.proofs.Common.{◌≡◌, ℕ, suc, ◌+◌, ◌<◌, ◌≤◌, true, List, [], ◌∷◌, ◌++◌, length, map, take, drop, get_or, Option, Some, None, IsSome, refl, sym, ap, subst, ◌∙◌, true≢false, arith, add-one, append_assoc, append-nil}
 use Rattle.std.specs.Option.{IfSome}
 use Rattle.std.proofs.lemmas.List.{length-map, length-append, map-append, take_all, take_more, at_drop_more, at_drop_all}
@@ -30,7 +30,7 @@ renumbered-append n xs ys =
     ap (numbered n) (map-append step_of xs ys) ∙ numbered-append n (map step_of xs) (map step_of ys)
     ∙ ap (λ m. renumbered n xs ++ numbered (n + m) (map step_of ys)) (length-map xs step_of)
 
--- cells that are numbered one by one
+-- numbering cells one by one
 module _ (slots : List Slot) (first cell i : ℕ) (done : List Slot)
     (was : done ++ numbered cell (map step_of (drop i slots)) ≡ renumbered first slots) where
   pub renumbered_more : (d : Slot) (more : List Slot) → i < length slots
@@ -50,7 +50,7 @@ module _ (slots : List Slot) (first cell i : ℕ) (done : List Slot)
       ∙ ap (λ l. done ++ l) (sym (at_drop_all (λ l. numbered cell (map step_of l)) slots i past))
       ∙ was
 
--- the numbers that are given
+-- the numbers given
 numbered_cell : (n : ℕ) (steps : List Step) (x : ℕ) → has_cell x (numbered n steps) ≡ true → (n ≤ x) × (x < n + length steps)
 numbered_cell n [] x h = absurd (true≢false (sym h))
 numbered_cell n (s ∷ ss) x h =
@@ -66,7 +66,7 @@ numbered_once n (s ∷ ss) =
 renumbered_cell : (n : ℕ) (slots : List Slot) (x : ℕ) → has_cell x (renumbered n slots) ≡ true → (n ≤ x) × (x < n + length slots)
 renumbered_cell n slots x h = let p = numbered_cell n (map step_of slots) x h in (p.0, omega (arith, p.1, length-map slots step_of))
 
--- each key has the value that stands at its place
+-- each key has the value at its index
 abbrev pub HaveValues : {X : Type 0} → (ℕ → Option X) → List ℕ → List X → Type 0
 HaveValues at [] [] = Unit {0}
 HaveValues at [] (x ∷ xs) = ⊥
@@ -74,7 +74,7 @@ HaveValues at (k ∷ ks) [] = ⊥
 HaveValues at (k ∷ ks) (x ∷ xs) = (at k ≡ Some x) × HaveValues at ks xs
 
 module _ {T : Type 0} where
-  -- under each new key there are new cells with the steps of the segment that stood at its place
+  -- each new key has new cells, with the steps of the segment at its index
   abbrev pub AreCopied : (ℕ → Option (Piece T)) → (ℕ → Option (Piece T)) → ℕ → List ℕ → List ℕ → Type 0
   AreCopied at new n [] [] = Unit {0}
   AreCopied at new n [] (j ∷ js) = ⊥
@@ -82,7 +82,7 @@ module _ {T : Type 0} where
   AreCopied at new n (k ∷ ks) (j ∷ js) =
       (new j ≡ Some (piece (renumbered n (slots_of (at k))) None)) × AreCopied at new (n + length (slots_of (at k))) ks js
 
-  -- one more copy
+  -- one more copy is made
   copies_last : (at : ℕ → Option (Piece T)) (n : ℕ) (ks : List ℕ) (ss : List (Segment T)) (k : ℕ) (s : Segment T) → AreCopies at n ks ss
       → s.slots.items ≡ renumbered (n + length (line at ks)) (slots_of (at k)) → s.note ≡ None → AreCopies at n (ks ++ k ∷ []) (ss ++ s ∷ [])
   copies_last at n [] [] k s h slots note = (slots ∙ ap (λ m. renumbered m (slots_of (at k))) (omega arith), note, tt)

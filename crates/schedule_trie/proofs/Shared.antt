@@ -10,14 +10,14 @@ use Rattle.indexmap.specs.IndexMap.{IsUnique}
 use Rattle.schedule_trie.specs.declared.slot.Slot.{Slot}
 use Rattle.schedule_trie.specs.declared.trie.Trie.TheInside.{Inside}
 use Rattle.schedule_trie.specs.Forest.{cell_of, slots_in, ShareUpTo, IsForest}
-use Rattle.schedule_trie.specs.Cut.{Piece, Strand, forest, piece_at, slots_of, line, branches_on, keys_in, has_cell, Once, Linked, IsSound}
-use Rattle.schedule_trie.specs.Held.{cut_of, IsHeld}
+use Rattle.schedule_trie.specs.Cut.{Piece, Strand, forest, piece_at, slots_of, line, branches_on, keys_in, has_cell, Once, Linked, IsSoundCut}
+use Rattle.schedule_trie.specs.Held.{cut_of, IsHeldCut}
 use Rattle.schedule_trie.proofs.Lines.{slots_in_on, slice_get_left, slice_get_right, once_at, given_at}
 use Rattle.schedule_trie.proofs.Changes.{has_cell_get}
 use Rattle.schedule_trie.proofs.Positions.{one_place, before_place}
 use Rattle.schedule_trie.proofs.Apart.{branches_apart}
 
--- one more element is taken
+-- taking one more item adds the item at that index
 pub take_more : {X : Type 0} (xs : List X) (n : ℕ) (x : X) → slice_get xs n ≡ Some x → take (suc n) xs ≡ take n xs ++ x ∷ []
 take_more [] n x e = absurd (cc)
 take_more (y ∷ xs) zero x e = let same : y ≡ x = cc in ap (λ z. z ∷ []) same
@@ -35,7 +35,7 @@ same_before above xs ys (suc n) k a b e f =
     let there : slice_get ys n ≡ Some p.0 = q.1 ∙ ap Some (sym same) in
     take_more xs n p.0 p.1 ∙ ap (λ l. l ++ p.0 ∷ []) (same_before above xs ys n p.0 a b p.1 there) ∙ sym (take_more ys n p.0 there)
 
--- a cell lies at one place of a segment
+-- a cell has only one offset in a segment
 one_offset : (slots : List Slot) (m n : ℕ) (s t : Slot) → Once (map cell_of slots) → slice_get slots m ≡ Some s → slice_get slots n ≡ Some t
     → s.cell ≡ t.cell → m ≡ n
 one_offset [] m n s t once e f same = absurd (cc)
@@ -51,7 +51,7 @@ one_offset (z ∷ zs) (suc m) zero s t once e f same =
 one_offset (z ∷ zs) (suc m) (suc n) s t once e f same = ap suc (one_offset zs m n s t once.1 e f same)
 
 module _ {T : Type 0} (at : ℕ → Option (Piece T)) where
-  -- where the cell at a place of a line lies, and what comes before it
+  -- the segment and the offset of the cell at a place of a line, and what precedes it
   pub record LiesIn (keys : List ℕ) (place : ℕ) (s : Slot) : Type 0 where
     pub count : ℕ
     pub key : ℕ
@@ -92,7 +92,7 @@ module _ {T : Type 0} (at : ℕ → Option (Piece T)) where
                 ∙ sym (append_assoc (slots_of (at k)) (line at (take p.count ks)) (take (suc p.offset) (slots_of (at p.key))));
           }
 
-  module _ (strands : List Strand) (made : ℕ) (sound : IsSound at strands made) where
+  module _ (strands : List Strand) (made : ℕ) (sound : IsSoundCut at strands made) where
     lies_on : (i k : ℕ) (s : Slot) → slice_get (slots_in (branches_on at strands) i) k ≡ Some s → LiesIn (keys_in strands i) k s
     lies_on i k s e = lies_in (keys_in strands i) k s (ap (λ l. slice_get l k) (sym (slots_in_on at strands i)) ∙ e)
 
@@ -126,8 +126,8 @@ module _ {T : Type 0} (at : ℕ → Option (Piece T)) where
         by None e = tt
         by (Some s) e = let p = lies_on i k s e in given_at at made sound.segments sound.apart p.key s.cell (has_cell_get (slots_of (at p.key)) p.offset s p.cell)
 
--- what the fields tell of the forest
-pub is_forest : {T : Type 0} (t : Inside T) → IsHeld t → IsUnique (pointwise nat_eq) t.branches → IsForest (forest (cut_of t))
+-- the forest, in terms of the fields
+pub is_forest : {T : Type 0} (t : Inside T) → IsHeldCut t → IsUnique (pointwise nat_eq) t.branches → IsForest (forest (cut_of t))
 is_forest t held unique = record {
   apart = branches_apart t unique;
   shared = shared_up_to (piece_at (cut_of t).pieces) (cut_of t).strands t.made held.whole.sound;

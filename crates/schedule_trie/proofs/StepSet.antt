@@ -1,4 +1,4 @@
--- A step is set in a segment of a trie.
+-- Setting a step in a segment of a trie.
 use Rattle.std.proofs.Common.{map, ◌++◌, ◌≡◌, ℕ, ◌<◌, Bool, true, false, nat_eq, nat_le, zero, suc, ◌≤◌, List, [], ◌∷◌, length, slice_get, slice_index_or, Option, Some, None, IsSome, Ok, Err, refl, sym, ap, subst, ◌∙◌, true≢false, arith, cond, eq-eqb}
 use Rattle.std.proofs.lemmas.Bool.{eqb-true}
 use Rattle.std.proofs.lemmas.Bool.Decides.{nat_tests}
@@ -11,10 +11,10 @@ use Rattle.schedule_trie.specs.declared.slot.Slot.{Slot}
 use Rattle.schedule_trie.specs.declared.segment.Segment.{Segment}
 use Rattle.schedule_trie.specs.declared.trie.Trie.TheInside.{Inside}
 use Rattle.schedule_trie.specs.declared.refusal.Refusal.TheVariants.{NoPlace}
-use Rattle.schedule_trie.specs.Forest.{branch, cell_at, cell_by, replace_step, at_cell, on_found, replaced_by, index_of, slots_in, cell_in, cell_of, everywhere}
+use Rattle.schedule_trie.specs.Forest.{branch, cell_on_branch, cell_by, replace_step, at_cell, on_found, replaced_by, index_of, slots_in, cell_in, cell_of, everywhere}
 use Rattle.schedule_trie.specs.Slots.{set_step}
-use Rattle.schedule_trie.specs.Cut.{line, has_cell, Strand, IsNoted, with_note, branches_on, Cut, Piece, piece, piece_at, slots_of, forest, keys_in, StandsAt, note_of, IsSound, IsCut, IsWithin, IsSegment, KeepsNotesOff, HoldsCellAt, IsStepSet}
-use Rattle.schedule_trie.specs.Held.{piece_of, cut_of, IsHeld}
+use Rattle.schedule_trie.specs.Cut.{line, has_cell, Strand, IsNoted, with_note, branches_on, Cut, Piece, piece, piece_at, slots_of, forest, keys_in, IsSpotInPath, note_of, IsSoundCut, IsCut, IsWithin, IsSegment, KeepsNotesOff, HoldsCellAt, IsStepSet}
+use Rattle.schedule_trie.specs.Held.{piece_of, cut_of, IsHeldCut}
 use Rattle.schedule_trie.specs.declared.limits.Limits.{Limits}
 use Rattle.schedule_trie.specs.declared.limits.TheConstants.{MOST_CELLS_MADE}
 use Rattle.schedule_trie.proofs.Changes.{SameCells, piece_at_set, Changes, has_cell_get, sound_same, replaced_everywhere, replaced_same}
@@ -48,7 +48,7 @@ module _ {T : Type 0} where
   inside_from t key offset v c seen there h =
       subst (λ o. offset < length (slots_of o)) (ap (λ b. piece_at b.pieces key) (sym seen) ∙ piece_seen t key ∙ ap piece_of there) h
 
-  -- a segment that is seen is there
+  -- a segment that has cells exists
   pub there_from_slots : (o : Option (Segment T)) (offset : ℕ) → offset < length (slots_of (piece_of o)) → IsSome o
   there_from_slots None offset h = absurd (omega arith)
   there_from_slots (Some v) offset h = refl
@@ -74,14 +74,14 @@ module _ {T : Type 0} where
   sizes_from made None h = tt
   sizes_from made (Some p) h = (h.some, h.few)
 
-  pub cut_from_sound : (c : Cut T) (made : ℕ) → IsSound (piece_at c.pieces) c.strands made → IsCut c
+  pub cut_from_sound : (c : Cut T) (made : ℕ) → IsSoundCut (piece_at c.pieces) c.strands made → IsCut c
   cut_from_sound c made s =
       record { held = s.held; sizes = λ k. sizes_from made (piece_at c.pieces k) (s.segments k); live = s.live; shares = s.shares }
 
   pub key_within : (xs : List (Option (Segment T))) (key : ℕ) (v : Segment T) → slice_index_or xs key None ≡ Some v → key < length xs
   key_within xs key v e = get_or_within xs key v e
 
--- a segment is another one
+-- the fields, with the segment at a key replaced
 abbrev pub with_segment : {T : Type 0} → Inside T → ℕ → Segment T → Inside T
 with_segment t key w = record t { segments = with_item t.segments key w }
 
@@ -95,7 +95,7 @@ seen_with t key v w there = record {
   was = piece_seen t key ∙ ap piece_of there;
 }
 
--- limits that stay, with no more branches
+-- a trie with the same limits, and with no more branches than before, is within its limits
 pub within_still : (old new : Limits) (made branches few : ℕ) → new ≡ old → 0 < few → few ≤ branches → made ≤ old.cells → IsWithin old made branches → IsWithin new made few
 within_still old new made branches few limits some fewer fits was = record {
   cells = subst (λ l. made ≤ l.cells) (sym limits) fits;
@@ -105,7 +105,7 @@ within_still old new made branches few limits some fewer fits was = record {
   most_branches = subst (λ l. l.branches ≤ 1024) (sym limits) was.most_branches;
 }
 
-module _ {T : Type 0} (t : Inside T) (key offset : ℕ) (step : Step) (v w : Segment T) (held : IsHeld t) (there : item_at t.segments key ≡ Some v)
+module _ {T : Type 0} (t : Inside T) (key offset : ℕ) (step : Step) (v w : Segment T) (held : IsHeldCut t) (there : item_at t.segments key ≡ Some v)
     (inside : offset < length v.slots.items) (slots : w.slots.items ≡ set_step v.slots.items offset step) (note : w.note ≡ None) where
   abbrev after : Inside T
   after = with_segment t key w
@@ -119,12 +119,12 @@ module _ {T : Type 0} (t : Inside T) (key offset : ℕ) (step : Step) (v w : Seg
   first : (s : Slot) × (slice_get (slots_of (piece_at (cut_of t).pieces key)) offset ≡ Some s)
   first = let p = slice_get_some v.slots.items offset inside in (p.0, ap (λ o. slice_get (slots_of o) offset) seen.was ∙ p.1)
 
-  set_sound : IsSound (piece_at (cut_of after).pieces) (cut_of t).strands t.made
+  set_sound : IsSoundCut (piece_at (cut_of after).pieces) (cut_of t).strands t.made
   set_sound = sound_same (piece_at (cut_of t).pieces) (piece_at (cut_of after).pieces)
       (replaced_same (piece_at (cut_of t).pieces) (piece_at (cut_of after).pieces) (cut_of t).strands t.made key offset step first.0 held.whole.sound here seen.change.others first.1)
       (cut_of t).strands t.made held.whole.sound
 
-  pub set_held : IsHeld after
+  pub set_held : IsHeldCut after
   set_held = record { whole = record { sound = set_sound; within = held.whole.within }; paths = held.paths }
 
   pub set_told : IsStepSet (cut_of t) (cut_of after) key offset step
@@ -136,10 +136,10 @@ module _ {T : Type 0} (t : Inside T) (key offset : ℕ) (step : Step) (v w : Seg
     cut = cut_from_sound (cut_of after) t.made set_sound;
   }
 
--- what a command at a cell gives
+-- the result of a command at a cell
 module _ {T : Type 0} (old new : Cut T) (name : List ℕ) (place index key offset : ℕ)
     (found : index_of (forest old).branches name ≡ Some index)
-    (stands : StandsAt (piece_at old.pieces) (keys_in old.strands index) place (key, offset)) where
+    (stands : IsSpotInPath (piece_at old.pieces) (keys_in old.strands index) place (key, offset)) where
   abbrev pub the_cell : (s : Slot) × (slice_get (slots_of (piece_at old.pieces key)) offset ≡ Some s)
   the_cell = slice_get_some (slots_of (piece_at old.pieces key)) offset stands.within
 
@@ -158,10 +158,10 @@ module _ {T : Type 0} (old new : Cut T) (name : List ℕ) (place index key offse
   replace_ok step set = command_at (replaced_by step)
       ∙ sym (λ i. Ok (record { branches = set.everywhere_set the_cell.0 the_cell.1 i; made = set.made i }))
 
--- what `cell_at` gives
+-- the result of `cell_on_branch`
 pub cell_found : {T : Type 0} (c : Cut T) (name : List ℕ) (place index key offset : ℕ) (s : Slot) → index_of (forest c).branches name ≡ Some index
-    → StandsAt (piece_at c.pieces) (keys_in c.strands index) place (key, offset) → slice_get (slots_of (piece_at c.pieces key)) offset ≡ Some s
-    → cell_at (forest c) name place ≡ Some s.cell
+    → IsSpotInPath (piece_at c.pieces) (keys_in c.strands index) place (key, offset) → slice_get (slots_of (piece_at c.pieces key)) offset ≡ Some s
+    → cell_on_branch (forest c) name place ≡ Some s.cell
 cell_found c name place index key offset s found stands here =
     ap (λ o. cell_by o (forest c) place) found
     ∙ ap (λ l. option_map cell_of (slice_get l place)) (slots_in_on (piece_at c.pieces) c.strands index)
@@ -169,7 +169,7 @@ cell_found c name place index key offset s found stands here =
 
 -- the segment of the cell at a place of a branch
 pub holds_cell : {T : Type 0} (c : Cut T) (name : List ℕ) (place index key offset : ℕ) → index_of (forest c).branches name ≡ Some index
-    → StandsAt (piece_at c.pieces) (keys_in c.strands index) place (key, offset) → HoldsCellAt c name place key
+    → IsSpotInPath (piece_at c.pieces) (keys_in c.strands index) place (key, offset) → HoldsCellAt c name place key
 holds_cell c name place index key offset found stands =
     let p = slice_get_some (slots_of (piece_at c.pieces key)) offset stands.within in
     record {
@@ -178,24 +178,24 @@ holds_cell c name place index key offset found stands =
       held = has_cell_get (slots_of (piece_at c.pieces key)) offset p.0 p.1;
     }
 
--- it is one
-pub one_holder : {T : Type 0} (c : Cut T) (name : List ℕ) (place j k : ℕ) → IsSound (piece_at c.pieces) c.strands c.made
+-- only one segment has the cell at a place of a branch
+pub one_holder : {T : Type 0} (c : Cut T) (name : List ℕ) (place j k : ℕ) → IsSoundCut (piece_at c.pieces) c.strands c.made
     → HoldsCellAt c name place j → HoldsCellAt c name place k → j ≡ k
 one_holder c name place j k sound a b =
     let there : Some a.cell ≡ Some b.cell = sym a.there ∙ b.there in
     let same : a.cell ≡ b.cell = cc in
     sound.apart j k a.cell a.held (subst (λ x. has_cell x (slots_of (piece_at c.pieces k)) ≡ true) (sym same) b.held)
 
--- an edit at that cell touches it, and it alone
-pub notes_here : {T : Type 0} (old new : Cut T) (name : List ℕ) (place index key offset : ℕ) → IsSound (piece_at old.pieces) old.strands old.made
-    → index_of (forest old).branches name ≡ Some index → StandsAt (piece_at old.pieces) (keys_in old.strands index) place (key, offset)
+-- an edit at a cell touches exactly the segment that has it
+pub notes_here : {T : Type 0} (old new : Cut T) (name : List ℕ) (place index key offset : ℕ) → IsSoundCut (piece_at old.pieces) old.strands old.made
+    → index_of (forest old).branches name ≡ Some index → IsSpotInPath (piece_at old.pieces) (keys_in old.strands index) place (key, offset)
     → KeepsNotesOff old new (λ k. k ≡ key) → KeepsNotesOff old new (HoldsCellAt old name place)
 notes_here old new name place index key offset sound found stands notes =
     let here = holds_cell old name place index key offset found stands in
     notes_but old new key (HoldsCellAt old name place) (HoldsCellAt old name place) notes (λ k h. one_holder old name place k key sound h here) here
 
--- a note is set
-module _ {T : Type 0} (t : Inside T) (key : ℕ) (v w : Segment T) (held : IsHeld t) (there : item_at t.segments key ≡ Some v) (same : w.slots ≡ v.slots) where
+-- the note of a segment is set
+module _ {T : Type 0} (t : Inside T) (key : ℕ) (v w : Segment T) (held : IsHeldCut t) (there : item_at t.segments key ≡ Some v) (same : w.slots ≡ v.slots) where
   abbrev noted : Inside T
   noted = with_segment t key w
 
@@ -221,7 +221,7 @@ module _ {T : Type 0} (t : Inside T) (key : ℕ) (v w : Segment T) (held : IsHel
       by_was k true e h = subst (λ j. IsSome (piece_at (cut_of t).pieces j)) (sym (eqb-true k key e)) (subst IsSome (sym note_seen.was) refl)
       by_was k false e h = subst IsSome (note_seen.change.others k (λ f. true≢false (sym (eq-eqb k key f) ∙ e))) h
 
-  pub note_held : IsHeld noted
+  pub note_held : IsHeldCut noted
   note_held = record {
     whole = record {
       sound = sound_same (piece_at (cut_of t).pieces) (piece_at (cut_of noted).pieces) note_same (cut_of t).strands t.made held.whole.sound;

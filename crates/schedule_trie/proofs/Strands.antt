@@ -1,4 +1,4 @@
--- Branches by their names and their paths.
+-- Branches, from their names and their paths.
 use Rattle.std.proofs.Common.{◌≡◌, ℕ, zero, suc, List, [], ◌∷◌, ◌++◌, length, map, get_or, set, refl, ap, arith}
 use Rattle.std.specs.List.{remove}
 use Rattle.schedule_trie.specs.Forest.{name_of}
@@ -16,11 +16,6 @@ length-strands [] paths = refl
 length-strands (n ∷ ns) [] = ap suc (length-strands ns [])
 length-strands (n ∷ ns) (p ∷ ps) = ap suc (length-strands ns ps)
 
-no_paths : (names : List (List ℕ)) (i : ℕ) → keys_in (strands_of names []) i ≡ []
-no_paths [] i = refl
-no_paths (n ∷ ns) zero = refl
-no_paths (n ∷ ns) (suc i) = no_paths ns i
-
 -- the keys of a branch are those of its path
 pub keys_in-of : (names paths : List (List ℕ)) (i : ℕ) → length paths ≡ length names → keys_in (strands_of names paths) i ≡ get_or paths i []
 keys_in-of [] [] i e = refl
@@ -29,7 +24,7 @@ keys_in-of (n ∷ ns) [] i e = absurd (omega arith)
 keys_in-of (n ∷ ns) (p ∷ ps) zero e = refl
 keys_in-of (n ∷ ns) (p ∷ ps) (suc i) e = keys_in-of ns ps i (omega arith)
 
--- one path has other keys
+-- replacing one path replaces the keys of its branch
 pub strands-set : (names paths : List (List ℕ)) (i : ℕ) (keys : List ℕ) → length paths ≡ length names
     → strands_of names (set paths i keys) ≡ set_keys (strands_of names paths) i keys
 strands-set [] [] i keys e = refl
@@ -48,7 +43,7 @@ strands-without key [] paths = refl
 strands-without key (n ∷ ns) [] = ap (λ l. strand n [] ∷ l) (strands-without key ns [])
 strands-without key (n ∷ ns) (p ∷ ps) = ap (λ l. strand n (keys_without key p) ∷ l) (strands-without key ns ps)
 
--- a branch goes last
+-- adding a name and a path last adds their branch last
 pub strands-last : (names paths : List (List ℕ)) (name path : List ℕ) → length paths ≡ length names
     → strands_of (names ++ name ∷ []) (paths ++ path ∷ []) ≡ strands_of names paths ++ strand name path ∷ []
 strands-last [] [] name path e = refl
@@ -56,7 +51,7 @@ strands-last [] (p ∷ ps) name path e = absurd (omega arith)
 strands-last (n ∷ ns) [] name path e = absurd (omega arith)
 strands-last (n ∷ ns) (p ∷ ps) name path e = ap (λ l. strand n p ∷ l) (strands-last ns ps name path (omega arith))
 
--- a branch goes
+-- removing a name and its path removes their branch
 pub strands-remove : (names paths : List (List ℕ)) (i : ℕ) → length paths ≡ length names
     → strands_of (remove names i) (remove paths i) ≡ remove (strands_of names paths) i
 strands-remove [] [] zero e = refl

@@ -1,11 +1,11 @@
--- The segment that holds the cell at a place, or the one right before it.
+-- The segment that has the cell at a place, or the one right before it.
 use Rattle.std.proofs.Common.{◌≡◌, ℕ, zero, suc, ◌+◌, ◌-◌, ◌<◌, true, List, [], ◌∷◌, ◌++◌, length, take, drop, get_or, slice_get, Option, Some, None, IsSome, refl, sym, ap, subst, ◌∙◌, true≢false, arith, append-nil}
 use Rattle.std.specs.Option.{IfSome, option_map}
 use Rattle.std.proofs.lemmas.Option.{slice_get_within}
 use Rattle.std.proofs.lemmas.List.{length-append, take-append-drop}
 use Rattle.schedule_trie.specs.declared.slot.Slot.{Slot}
-use Rattle.schedule_trie.specs.Forest.{cell_at, cell_by, cell_of, index_of, slots_in}
-use Rattle.schedule_trie.specs.Cut.{Cut, Piece, piece_at, slots_of, line, forest, keys_in, has, has_cell, Once, StandsAt, IsSegment, IsWhole, IsEnd, HoldsCellAt, HoldsCellBefore, IsParted}
+use Rattle.schedule_trie.specs.Forest.{cell_on_branch, cell_by, cell_of, index_of, slots_in}
+use Rattle.schedule_trie.specs.Cut.{Cut, Piece, piece_at, slots_of, line, forest, keys_in, has, has_cell, Once, IsSpotInPath, IsSegment, IsWhole, IsEnd, HoldsCellAt, HoldsCellBefore, IsParted}
 use Rattle.schedule_trie.proofs.Changes.{has_cell_get}
 use Rattle.schedule_trie.proofs.Lines.{in_line, slots_in_on, line-drop, slice_get_left, slice_get_right, has-get_or}
 use Rattle.schedule_trie.proofs.Once.{has_cases, has-tail, Once-from_linked}
@@ -14,9 +14,9 @@ use Rattle.schedule_trie.proofs.StepSet.{holds_cell}
 use Rattle.schedule_trie.proofs.Whole.{has-last}
 
 module _ {T : Type 0} (at : ℕ → Option (Piece T)) where
-  -- a cell lies so far behind the cells of the segments before its own
+  -- a cell's place is its offset plus the number of cells in the segments before its own
   stands_behind : (keys : List ℕ) (count offset place : ℕ) → count < length keys → offset < length (slots_of (at (get_or keys count 0)))
-      → length (line at (take count keys)) + offset ≡ place → StandsAt at keys place (get_or keys count 0, offset)
+      → length (line at (take count keys)) + offset ≡ place → IsSpotInPath at keys place (get_or keys count 0, offset)
   stands_behind keys count offset place inside within behind = record {
     member = has-get_or keys count inside;
     within = within;
@@ -26,8 +26,8 @@ module _ {T : Type 0} (at : ℕ → Option (Piece T)) where
         ∙ ap (λ l. slice_get l place) (sym (line-append at (take count keys) (drop count keys)) ∙ ap (line at) (take-append-drop count keys));
   }
 
-  -- in the last segment
-  stands_last : (front : List ℕ) (key offset : ℕ) → offset < length (slots_of (at key)) → StandsAt at (front ++ key ∷ []) (length (line at front) + offset) (key, offset)
+  -- a cell's place in the last segment
+  stands_last : (front : List ℕ) (key offset : ℕ) → offset < length (slots_of (at key)) → IsSpotInPath at (front ++ key ∷ []) (length (line at front) + offset) (key, offset)
   stands_last front key offset within = record {
     member = has-last key front;
     within = within;
@@ -41,7 +41,7 @@ module _ {T : Type 0} (at : ℕ → Option (Piece T)) where
       ap length (line-append at front (key ∷ [])) ∙ length-append (line at front) (slots_of (at key) ++ [])
       ∙ ap (λ l. length (line at front) + length l) (append-nil (slots_of (at key)))
 
--- a segment that is there has a cell
+-- an existing segment has a cell
 pub some_slots : {T : Type 0} (made : ℕ) (o : Option (Piece T)) → IsSome o → IfSome o (IsSegment made) → 0 < length (slots_of o)
 some_slots made None h s = absurd (true≢false (sym h))
 some_slots made (Some p) h s = s.some
@@ -67,7 +67,7 @@ module _ {T : Type 0} (c : Cut T) (name : List ℕ) (index : ℕ) (found : index
     below = holds_cell c name place index (get_or keys count 0) (suc n) found (stands_behind at keys count (suc n) place inside within lies);
   }
 
-  -- the end of a branch
+  -- the last segment of a branch has the cell before the branch's length
   pub ends_before : (key place : ℕ) → IsEnd c index key → length (slots_in (forest c).branches index) ≡ place → HoldsCellBefore c name place key
   ends_before key place end all =
       let some = end.some in
@@ -77,7 +77,7 @@ module _ {T : Type 0} (c : Cut T) (name : List ℕ) (index : ℕ) (found : index
         before = length (line at end.front) + (length (slots_of (at key)) - 1);
         next = omega arith;
         holds = holds_cell c name (length (line at end.front) + (length (slots_of (at key)) - 1)) index key (length (slots_of (at key)) - 1) found
-            (subst (λ l. StandsAt at l (length (line at end.front) + (length (slots_of (at key)) - 1)) (key, length (slots_of (at key)) - 1)) (sym end.last)
+            (subst (λ l. IsSpotInPath at l (length (line at end.front) + (length (slots_of (at key)) - 1)) (key, length (slots_of (at key)) - 1)) (sym end.last)
             (stands_last at end.front key (length (slots_of (at key)) - 1) (omega arith)));
       }
 
@@ -86,7 +86,7 @@ some_cell : (o : Option Slot) (x : ℕ) → option_map cell_of o ≡ Some x → 
 some_cell None x e = absurd (cc)
 some_cell (Some s) x e = (s, refl, cc)
 
--- keys of a path's front aren't after it
+-- a key of a path's front isn't after it
 once_parts : (k : ℕ) (front back : List ℕ) → Once (front ++ back) → has k front ≡ true → has k back ≡ true → ⊥
 once_parts k [] back once h g = true≢false (sym h)
 once_parts k (f ∷ front) back once h g =
@@ -99,8 +99,8 @@ once_parts k (f ∷ front) back once h g =
     has-after j (f ∷ front) back h = has-tail j f (front ++ back) (has-after j front back h)
 
 module _ {T : Type 0} (c : Cut T) (name : List ℕ) (index place : ℕ) (found : index_of (forest c).branches name ≡ Some index) where
-  -- the cell at a place is in the branch's line
-  read_at : (x : ℕ) → cell_at (forest c) name place ≡ Some x → (s : Slot) × (slice_get (line (piece_at c.pieces) (keys_in c.strands index)) place ≡ Some s) × (s.cell ≡ x)
+  -- the cell at a place is on the branch's line
+  read_at : (x : ℕ) → cell_on_branch (forest c) name place ≡ Some x → (s : Slot) × (slice_get (line (piece_at c.pieces) (keys_in c.strands index)) place ≡ Some s) × (s.cell ≡ x)
   read_at x e = some_cell (slice_get (line (piece_at c.pieces) (keys_in c.strands index)) place) x
       (ap (λ l. option_map cell_of (slice_get l place)) (sym (slots_in_on (piece_at c.pieces) c.strands index)) ∙ ap (λ o. cell_by o (forest c) place) (sym found) ∙ e)
 
@@ -112,7 +112,7 @@ module _ {T : Type 0} (c : Cut T) (name : List ℕ) (index place : ℕ) (found :
       let long : length (line (piece_at c.pieces) (keys_in c.strands index)) ≡ place = ap length (sym (slots_in_on (piece_at c.pieces) c.strands index)) ∙ all in
       omega arith
 
--- no segment is parted where one ends
+-- no segment has cells on both sides of a place at which a segment ends
 module _ {T : Type 0} (c : Cut T) (name : List ℕ) (index place count : ℕ) (whole : IsWhole c) (found : index_of (forest c).branches name ≡ Some index)
     (long : length (line (piece_at c.pieces) (take count (keys_in c.strands index))) ≡ place) where
   abbrev front : List ℕ
@@ -124,7 +124,7 @@ module _ {T : Type 0} (c : Cut T) (name : List ℕ) (index place count : ℕ) (w
   parts : line (piece_at c.pieces) (keys_in c.strands index) ≡ line (piece_at c.pieces) front ++ line (piece_at c.pieces) back
   parts = ap (line (piece_at c.pieces)) (sym (take-append-drop count (keys_in c.strands index))) ∙ line-append (piece_at c.pieces) front back
 
-  -- a segment that has a cell of a line is in it
+  -- a segment with a cell of a line is in the line's keys
   in_keys : (keys : List ℕ) (x k offset : ℕ) (s : Slot) → slice_get (line (piece_at c.pieces) keys) offset ≡ Some s → s.cell ≡ x
       → has_cell x (slots_of (piece_at c.pieces k)) ≡ true → has k keys ≡ true
   in_keys keys x k offset s e same h =

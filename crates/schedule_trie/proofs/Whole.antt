@@ -5,14 +5,14 @@ use Rattle.std.proofs.lemmas.Bool.{eqb-true}
 use Rattle.std.proofs.lemmas.List.{map-append, length-append}
 use Rattle.frames.specs.declared.types.Step.{Step}
 use Rattle.schedule_trie.specs.Forest.{slot, cell_of, only_in, put_last}
-use Rattle.schedule_trie.specs.Cut.{Cut, Piece, Strand, piece_at, slots_of, line, forest, branches_on, keys_in, set_keys, has, has_cell, Once, SharesAbove, IsSegment, IsSound, IsWhole, KeepsNotesBut, Nowhere, IsChangedEnd, IsPushed, LackedByOthers}
+use Rattle.schedule_trie.specs.Cut.{Cut, Piece, Strand, piece_at, slots_of, line, forest, branches_on, keys_in, set_keys, has, has_cell, Once, SharesAbove, IsSegment, IsSoundCut, IsWhole, KeepsNotesBut, Nowhere, IsChangedEnd, IsPushed, LackedByOthers}
 use Rattle.schedule_trie.proofs.Once.{has-append, has-head, has-tail, has_not_from, has_cases, Once-append}
 use Rattle.schedule_trie.proofs.Changes.{Changes}
 use Rattle.schedule_trie.proofs.StepSet.{cut_from_sound}
 use Rattle.schedule_trie.proofs.Pushes.{not_equal, line_pushed, only_pushed, segments_more, apart_more}
 use Rattle.schedule_trie.specs.declared.limits.TheConstants.{MOST_CELLS_MADE}
 
--- the keys of branches, where one of them has others
+-- the keys of branches after the keys of one are replaced
 pub keys_in-set_same : (strands : List Strand) (i : ℕ) (keys : List ℕ) → i < length strands → keys_in (set_keys strands i keys) i ≡ keys
 keys_in-set_same [] i keys h = absurd (omega arith)
 keys_in-set_same (s ∷ ss) zero keys h = refl
@@ -45,7 +45,7 @@ once_front (k ∷ front) key h = has_not_from key (k ∷ front) (λ g. has_cases
     (λ e. true≢false (sym (subst (λ z. has z (front ++ key ∷ []) ≡ true) e (has-last key front)) ∙ h.0))
     (λ r. true≢false (sym r ∙ once_front front key h.1)))
 
--- a push, where the branch's keys become `front` and then the segment's key
+-- a push, after which the branch's keys are `front` and then the segment's key
 module _ {T : Type 0} (c d : Cut T) (index key : ℕ) (step : Step) (front : List ℕ) (q : Piece T) (whole : IsWhole c) (room : c.made < c.limits.cells)
     (change : Changes (piece_at c.pieces) (piece_at d.pieces) key q) (note : q.note ≡ None)
     (slots : q.slots ≡ slots_of (piece_at c.pieces key) ++ slot c.made step ∷ []) (few : length (slots_of (piece_at c.pieces key)) < 128)
@@ -129,7 +129,7 @@ module _ {T : Type 0} (c d : Cut T) (index key : ℕ) (step : Step) (front : Lis
       by true e = (index, subst (λ l. has k l ≡ true) (sym keys_here) (subst (λ z. has z (front ++ key ∷ []) ≡ true) (sym (eqb-true k key e)) (has-last key front)))
       by false e = let o = whole.sound.live k (subst IsSome (change.others k (not_equal k key e)) h) in from_old o (nat_eq o.0 index) refl
 
-  sound : IsSound (piece_at d.pieces) d.strands d.made
+  sound : IsSoundCut (piece_at d.pieces) d.strands d.made
   sound = record {
     held = held;
     segments = subst (λ n. (k : ℕ) → IfSome (piece_at d.pieces k) (IsSegment n)) (sym made)

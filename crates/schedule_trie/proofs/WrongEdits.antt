@@ -1,4 +1,4 @@
--- What wrong bodies of edits leave: each clause that refuses one is false of an example.
+-- The effects of wrong bodies of edits: each clause that refuses one is false of an example.
 use Rattle.std.proofs.Common.{◌≡◌, ℕ, true, List, [], ◌∷◌, length, Option, Some, None, inl, inr, refl, sym, ap, subst, ◌∙◌, true≢false, arith}
 use Rattle.std.specs.Prelude.{codes}
 use Rattle.frames.specs.declared.types.Step.{Step}
@@ -24,7 +24,7 @@ go = Go 1 0
 abbrev cut : List Strand → List (Option (Piece ℕ)) → ℕ → Cut ℕ
 cut strands pieces made = record { strands = strands; pieces = pieces; made = made; limits = record { cells = 64; branches = 64; log = 64 } }
 
--- `main` is one cell, in a segment with the note 7
+-- `main` has one cell, in a segment with the note 7
 abbrev one : Cut ℕ
 one = cut (strand main (0 ∷ []) ∷ []) (Some (piece (slot 0 read ∷ []) (Some 7)) ∷ []) 1
 
@@ -35,7 +35,7 @@ same_step e =
     let none : ◌≡◌ {A = Option ℕ} (Some 7) None = e.notes.notes.cleared 0 (e.notes.each 0 held) in
     cc
 
--- `main` is two segments of a cell each, with these notes; the first cell has this step
+-- `main` has two segments of one cell each, with these notes; the first cell has this step
 abbrev two : Step → Option ℕ → Option ℕ → Cut ℕ
 two step first second =
     cut (strand main (0 ∷ 1 ∷ []) ∷ []) (Some (piece (slot 0 step ∷ []) first) ∷ Some (piece (slot 1 read ∷ []) second) ∷ []) 2
@@ -54,18 +54,18 @@ thrown_away e = elim (e.notes.notes.kept 1 untouched refl) [
         let cell : 0 ≡ held.cell = cc in
         true≢false (sym (subst (λ x. has_cell x (slot 1 read ∷ []) ≡ true) (sym cell) held.held))
 
--- `main` is four cells in two segments
+-- `main` has four cells in two segments
 abbrev four : Cut ℕ
 four = cut (strand main (0 ∷ 1 ∷ []) ∷ [])
     (Some (piece (slot 0 read ∷ slot 1 read ∷ []) None) ∷ Some (piece (slot 2 read ∷ slot 3 read ∷ []) None) ∷ []) 4
 
--- each cell is in a segment of its own, and a fifth one
+-- each cell is in its own segment, and there is a fifth
 abbrev five : Cut ℕ
 five = cut (strand main (2 ∷ 0 ∷ 3 ∷ 1 ∷ 4 ∷ []) ∷ [])
     (Some (piece (slot 1 read ∷ []) None) ∷ Some (piece (slot 3 read ∷ []) None) ∷ Some (piece (slot 0 read ∷ []) None)
     ∷ Some (piece (slot 2 read ∷ []) None) ∷ Some (piece (slot 4 go ∷ []) None) ∷ []) 5
 
--- throw-all-away-cuts-anew: both segments have other cells, and one at most is touched
+-- throw-all-away-cuts-again: both segments have changed, and at most one may be touched
 pub cut_anew : IsEdited four five (Insert main 4 go) → ⊥
 cut_anew e = first (λ t. second (λ u. let same : ◌≡◌ {A = Option ℕ} (Some 0) (Some 1) = sym t ∙ u in let one : ◌≡◌ {A = ℕ} 0 1 = cc in omega (arith, one)))
   where
@@ -88,7 +88,7 @@ three = slot 0 read ∷ slot 1 go ∷ slot 2 go ∷ []
 abbrev shared : Cut ℕ
 shared = cut (strand main (0 ∷ []) ∷ strand a (0 ∷ []) ∷ []) (Some (piece three None) ∷ []) 3
 
--- leaking-insert: the end of `main` is that of `a` too
+-- leaking-insert: the end of `main` is also that of `a`
 pub leaking : IsOwnEnd shared 0 0 → ⊥
 leaking e = true≢false (e.own 1 (λ h. omega arith))
 

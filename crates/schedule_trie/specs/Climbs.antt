@@ -1,9 +1,9 @@
--- A path seen from one of its keys, upwards.
+-- A path, climbed up from one of its keys.
 pub use Rattle.lineage.specs.Family.{last_of}
 use Rattle.std.specs.Prelude.{ℕ, ◌≡◌, true, nat_eq, List, [], ◌∷◌, Option, Some, None, if◌then◌else◌}
 use Rattle.schedule_trie.specs.Cut.{has}
 
--- the keys from the first to this one
+-- the keys of a path from the first to `key`; if there is no key, no keys
 abbrev pub keys_up_to : ℕ → List ℕ → List ℕ
 keys_up_to key [] = []
 keys_up_to key (k ∷ ks) = if nat_eq key k then k ∷ [] else k ∷ keys_up_to key ks
@@ -12,7 +12,7 @@ abbrev pub keys_to : List ℕ → Option ℕ → List ℕ
 keys_to keys None = []
 keys_to keys (Some key) = keys_up_to key keys
 
--- a climb of a path has come to one of its keys, or is past the first
-abbrev pub IsReached : List ℕ → Option ℕ → Type 0
-IsReached keys None = Unit {0}
-IsReached keys (Some key) = has key keys ≡ true
+-- a climb of a path is at one of its keys, or above the first
+abbrev pub HasClimbedTo : List ℕ → Option ℕ → Type 0
+HasClimbedTo keys None = Unit {0}
+HasClimbedTo keys (Some key) = has key keys ≡ true

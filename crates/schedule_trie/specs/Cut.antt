@@ -1,4 +1,4 @@
--- A forest cut into segments that branches share.
+-- A forest, cut into segments that branches share.
 pub use Rattle.lineage.specs.Family.{has, above_key, divided_keys, other_key, keys_without}
 use Rattle.std.specs.Prelude.{ℕ, zero, suc, ◌≡◌, ◌<◌, ◌≤◌, ◌+◌, ◌⊎◌, Bool, true, false, nat_eq, List, [], ◌∷◌, ◌++◌, Option, Some, None, IsSome, IfSome, length, map, slice_get, slice_index_or, if◌then◌else◌}
 use Rattle.std.specs.Option.{option_map}
@@ -7,10 +7,10 @@ use Rattle.schedule_trie.specs.declared.slot.Slot.{Slot}
 use Rattle.schedule_trie.specs.declared.refusal.Refusal.{Refusal}
 use Rattle.schedule_trie.specs.declared.refusal.Refusal.TheVariants.{NoBranch, Memory}
 use Rattle.schedule_trie.specs.declared.limits.Limits.{Limits}
-use Rattle.schedule_trie.specs.Forest.{Forest, Branch, branch, cell_of, cell_at, len_of, index_of, slot, slots_in, replaced, without, everywhere, only_in, put_last, put_all, numbered, put_before, inserted}
+use Rattle.schedule_trie.specs.Forest.{Forest, Branch, branch, cell_of, cell_on_branch, len_of, index_of, slot, slots_in, replaced, without, everywhere, only_in, put_last, put_all, numbered, put_before, inserted}
 use Rattle.schedule_trie.specs.declared.limits.TheConstants.{MOST_CELLS_MADE}
 
--- a segment: its cells, and what is noted at it
+-- a segment: its cells, and its note
 pub record Piece (T : Type 0) : Type 0 where
   pub slots : List Slot
   pub note : Option T
@@ -20,7 +20,8 @@ pub record Strand : Type 0 where
   pub name : List ℕ
   pub keys : List ℕ
 
--- the branches in order of making, the segment at each key if there is one, how many cells were ever made, and the limits
+-- the branches in the order they were made, the segment at each key that has one, the number of
+-- cells ever made, and the limits
 pub record Cut (T : Type 0) : Type 0 where
   pub strands : List Strand
   pub pieces : List (Option (Piece T))
@@ -30,13 +31,13 @@ pub record Cut (T : Type 0) : Type 0 where
 abbrev pub strand : List ℕ → List ℕ → Strand
 strand name keys = record { name = name; keys = keys }
 
--- the keys of the branch at an index; none where there is no branch
+-- the keys of the branch at an index; no keys if there is no such branch
 abbrev pub keys_in : List Strand → ℕ → List ℕ
 keys_in [] i = []
 keys_in (s ∷ ss) zero = s.keys
 keys_in (s ∷ ss) (suc i) = keys_in ss i
 
--- the branch at an index has other keys
+-- the branches, with other keys for the branch at an index
 abbrev pub set_keys : List Strand → ℕ → List ℕ → List Strand
 set_keys [] i keys = []
 set_keys (s ∷ ss) zero keys = strand s.name keys ∷ ss
@@ -46,7 +47,7 @@ module _ {T : Type 0} where
   abbrev pub piece : List Slot → Option T → Piece T
   piece slots note = record { slots = slots; note = note }
 
-  -- the segment at a key
+  -- the segment at a key, if there is one
   abbrev pub piece_at : List (Option (Piece T)) → ℕ → Option (Piece T)
   piece_at pieces k = slice_index_or pieces k None
 
@@ -54,7 +55,7 @@ module _ {T : Type 0} where
   slots_of None = []
   slots_of (Some p) = p.slots
 
-  -- the cells of segments one after the other
+  -- the cells of segments, one segment after the other
   abbrev pub line : (ℕ → Option (Piece T)) → List ℕ → List Slot
   line at [] = []
   line at (k ∷ ks) = slots_of (at k) ++ line at ks
@@ -69,16 +70,16 @@ module _ {T : Type 0} where
   abbrev pub forest : Cut T → Forest
   forest c = record { branches = branches_on (piece_at c.pieces) c.strands; made = c.made }
 
--- no number stands twice
+-- no number is twice in a list
 abbrev pub Once : List ℕ → Type 0
 Once [] = Unit {0}
 Once (x ∷ xs) = (has x xs ≡ false) × Once xs
 
--- whether one of the cells has a number
+-- whether one of these cells has the number x
 abbrev pub has_cell : ℕ → List Slot → Bool
 has_cell x slots = has x (map cell_of slots)
 
--- each key comes right after the one that is above it, and the first after `up`
+-- each key follows the one above it, and the first follows `up`
 abbrev pub Linked : (ℕ → Option ℕ) → Option ℕ → List ℕ → Type 0
 Linked above up [] = Unit {0}
 Linked above up (k ∷ ks) = (above k ≡ up) × Linked above (Some k) ks
@@ -88,15 +89,15 @@ pub record SharesAbove (strands : List Strand) : Type 0 where
   pub above : ℕ → Option ℕ
   pub linked : (i : ℕ) → Linked above None (keys_in strands i)
 
--- a segment has 1 to 128 cells, each once, and each with a number that was given out
+-- a segment has 1 to 128 cells, no two of them have the same number, and each number was given out
 pub record IsSegment {T : Type 0} (made : ℕ) (p : Piece T) : Type 0 where
   pub some : 0 < length p.slots
   pub few : length p.slots ≤ 128
   pub once : Once (map cell_of p.slots)
   pub given : (x : ℕ) → has_cell x p.slots ≡ true → x < made
 
--- the cut of a forest
-pub record IsSound {T : Type 0} (at : ℕ → Option (Piece T)) (strands : List Strand) (made : ℕ) : Type 0 where
+-- these segments and branches cut a forest correctly
+pub record IsSoundCut {T : Type 0} (at : ℕ → Option (Piece T)) (strands : List Strand) (made : ℕ) : Type 0 where
   pub held : (i k : ℕ) → has k (keys_in strands i) ≡ true → IsSome (at k)
   pub segments : (k : ℕ) → IfSome (at k) (IsSegment made)
   pub apart : (j k x : ℕ) → has_cell x (slots_of (at j)) ≡ true → has_cell x (slots_of (at k)) ≡ true → j ≡ k
@@ -110,12 +111,12 @@ pub record IsWithin (l : Limits) (made branches : ℕ) : Type 0 where
   pub most_cells : l.cells ≤ MOST_CELLS_MADE
   pub most_branches : l.branches ≤ 1024
 
--- a cut within its limits
+-- a correct cut, within its limits
 pub record IsWhole {T : Type 0} (c : Cut T) : Type 0 where
-  pub sound : IsSound (piece_at c.pieces) c.strands c.made
+  pub sound : IsSoundCut (piece_at c.pieces) c.strands c.made
   pub within : IsWithin c.limits c.made (length c.strands)
 
--- the limits lie in their ranges
+-- the limits are in their ranges
 pub record AreLimits (l : Limits) : Type 0 where
   pub some_cells : 0 < l.cells
   pub most_cells : l.cells ≤ MOST_CELLS_MADE
@@ -124,14 +125,15 @@ pub record AreLimits (l : Limits) : Type 0 where
   pub some_log : 0 < l.log
   pub most_log : l.log ≤ 1048576
 
--- a place in a path: the key of a segment, and where in it the cell lies
-pub record StandsAt {T : Type 0} (at : ℕ → Option (Piece T)) (keys : List ℕ) (place : ℕ) (spot : ℕ × ℕ) : Type 0 where
+-- a place in a path: `spot` is the key of the segment that has the cell there, and the cell's
+-- offset in that segment
+pub record IsSpotInPath {T : Type 0} (at : ℕ → Option (Piece T)) (keys : List ℕ) (place : ℕ) (spot : ℕ × ℕ) : Type 0 where
   pub member : has spot.0 keys ≡ true
   pub within : spot.1 < length (slots_of (at spot.0))
   pub same : slice_get (slots_of (at spot.0)) spot.1 ≡ slice_get (line at keys) place
 
--- the same, with what comes before it in the path
-pub record LiesIn {T : Type 0} (at : ℕ → Option (Piece T)) (keys : List ℕ) (place : ℕ) (spot : ℕ × ℕ) : Type 0 where
+-- the same place, by the keys before the segment's key and after it
+pub record LiesInPath {T : Type 0} (at : ℕ → Option (Piece T)) (keys : List ℕ) (place : ℕ) (spot : ℕ × ℕ) : Type 0 where
   pub front : List ℕ
   pub back : List ℕ
   pub is : keys ≡ front ++ spot.0 ∷ back
@@ -139,19 +141,20 @@ pub record LiesIn {T : Type 0} (at : ℕ → Option (Piece T)) (keys : List ℕ)
   pub before : length (line at front) + spot.1 ≡ place
   pub within : spot.1 < length (slots_of (at spot.0))
 
--- how segments are cut: each has 1 to 128 cells, is in a branch, and branches that share one share all above it
+-- how segments are cut: each has 1 to 128 cells and is on a branch, and branches that share a
+-- segment share all segments above it
 pub record IsCut {T : Type 0} (c : Cut T) : Type 0 where
   pub held : (i k : ℕ) → has k (keys_in c.strands i) ≡ true → IsSome (piece_at c.pieces k)
   pub sizes : (k : ℕ) → IfSome (piece_at c.pieces k) (λ p. (0 < length p.slots) × (length p.slots ≤ 128))
   pub live : (k : ℕ) → IsSome (piece_at c.pieces k) → (i : ℕ) × (has k (keys_in c.strands i) ≡ true)
   pub shares : SharesAbove c.strands
 
--- the note of a piece, where there is a piece and it has one
+-- the note of a segment, if there is a segment and it has one
 abbrev pub note_of : {T : Type 0} → Option (Piece T) → Option T
 note_of None = None
 note_of (Some p) = p.note
 
--- nothing is noted at any segment
+-- no segment has a note
 abbrev pub IsBlank : {T : Type 0} → Cut T → Type 0
 IsBlank c = (k : ℕ) → note_of (piece_at c.pieces k) ≡ None
 
@@ -159,7 +162,7 @@ IsBlank c = (k : ℕ) → note_of (piece_at c.pieces k) ≡ None
 abbrev pub slots_by : {T : Type 0} → Option (Piece T) → Option (List Slot)
 slots_by o = option_map (λ p. p.slots) o
 
--- a segment whose cells stay keeps its note
+-- a segment whose cells don't change keeps its note
 abbrev pub KeepsUnchanged : {T : Type 0} → Cut T → Cut T → Type 0
 KeepsUnchanged old new =
     (k : ℕ) → slots_by (piece_at new.pieces k) ≡ slots_by (piece_at old.pieces k) → piece_at new.pieces k ≡ piece_at old.pieces k
@@ -168,12 +171,12 @@ KeepsUnchanged old new =
 abbrev pub HasChanged : {T : Type 0} → Cut T → Cut T → ℕ → Type 0
 HasChanged old new key = slots_of (piece_at new.pieces key) ≡ slots_of (piece_at old.pieces key) → ⊥
 
--- no branch has a cell of these any more
+-- none of these cells is on a branch any more
 abbrev pub AreGone : {T : Type 0} → Cut T → List Slot → Type 0
 AreGone new slots = (i x : ℕ) → has_cell x slots ≡ true → has_cell x (slots_in (forest new).branches i) ≡ false
 
--- an edit touches at most one segment that was there, and clears its note. Each other one stays as it is with its note, or is
--- gone with its cells; and a new one has no note
+-- An edit touches at most one existing segment, and clears that segment's note. Each other segment
+-- keeps its cells and its note, or is gone with its cells. New segments have no note.
 pub record KeepsNotes {T : Type 0} (old new : Cut T) : Type 0 where
   pub touched : Option ℕ
   pub kept : (k : ℕ) → (touched ≡ Some k → ⊥) → IsSome (piece_at old.pieces k)
@@ -181,46 +184,48 @@ pub record KeepsNotes {T : Type 0} (old new : Cut T) : Type 0 where
   pub cleared : (k : ℕ) → touched ≡ Some k → note_of (piece_at new.pieces k) ≡ None
   pub fresh : (k : ℕ) → piece_at old.pieces k ≡ None → note_of (piece_at new.pieces k) ≡ None
 
--- and it touches each segment that it must, and none but those that it may
+-- the same; and the edit touches each segment that satisfies `Must`, and only segments that satisfy
+-- `May`
 pub record KeepsNotesBut {T : Type 0} (old new : Cut T) (Must May : ℕ → Type 0) : Type 0 where
   pub notes : KeepsNotes old new
   pub each : (k : ℕ) → Must k → notes.touched ≡ Some k
   pub only : (k : ℕ) → notes.touched ≡ Some k → May k
 
--- the one that it touches is the one of which this holds
+-- the same; and the edit touches exactly the segments that satisfy `Is`
 abbrev pub KeepsNotesOff : {T : Type 0} → Cut T → Cut T → (ℕ → Type 0) → Type 0
 KeepsNotesOff old new Is = KeepsNotesBut old new Is Is
 
--- no segment has to be touched
+-- a condition that no segment satisfies
 abbrev pub Nowhere : ℕ → Type 0
 Nowhere k = ⊥
 
--- a segment holds the cell at a place of the branch of a name
+-- a segment has the cell at a place of the named branch
 pub record HoldsCellAt {T : Type 0} (c : Cut T) (name : List ℕ) (place key : ℕ) : Type 0 where
   pub cell : ℕ
-  pub there : cell_at (forest c) name place ≡ Some cell
+  pub there : cell_on_branch (forest c) name place ≡ Some cell
   pub held : has_cell cell (slots_of (piece_at c.pieces key)) ≡ true
 
--- a segment holds the cell right before a place
+-- a segment has the cell right before a place
 pub record HoldsCellBefore {T : Type 0} (c : Cut T) (name : List ℕ) (place key : ℕ) : Type 0 where
   pub before : ℕ
   pub next : before + 1 ≡ place
   pub holds : HoldsCellAt c name before key
 
--- a segment holds the cells on both sides of a place: a fork there cuts it
+-- a segment has the cells on both sides of a place, so that a fork there cuts it
 pub record IsParted {T : Type 0} (c : Cut T) (name : List ℕ) (place key : ℕ) : Type 0 where
   pub above : HoldsCellBefore c name place key
   pub below : HoldsCellAt c name place key
 
--- a segment into which a new cell at a place can go: that of the cell there, or at the branch's length that of its last cell
+-- a segment that may receive a new cell at a place: it has the cell there; or the place is the
+-- branch's length, and the segment has the branch's last cell
 abbrev pub CanGrowAt : {T : Type 0} → Cut T → List ℕ → ℕ → ℕ → Type 0
 CanGrowAt c name place key = HoldsCellAt c name place key ⊎ ((len_of (forest c) name ≡ Some place) × HoldsCellBefore c name place key)
 
--- an edit touches no segment that was there
+-- an edit touches no existing segment
 abbrev pub KeepsAllNotes : {T : Type 0} → Cut T → Cut T → Type 0
 KeepsAllNotes old new = (notes : KeepsNotes old new) × (notes.touched ≡ None)
 
--- a cell of a segment has another step: so it has in each branch
+-- the cell at an offset of a segment has another step, in each branch that has the cell
 pub record IsStepSet {T : Type 0} (old new : Cut T) (key offset : ℕ) (step : Step) : Type 0 where
   pub everywhere_set : (s : Slot) → slice_get (slots_of (piece_at old.pieces key)) offset ≡ Some s
       → (forest new).branches ≡ everywhere (replaced s.cell step) (forest old).branches
@@ -229,7 +234,7 @@ pub record IsStepSet {T : Type 0} (old new : Cut T) (key offset : ℕ) (step : S
   pub notes : KeepsNotesOff old new (λ k. k ≡ key)
   pub cut : IsCut new
 
--- a cell of a segment goes: it goes from each branch
+-- the cell at an offset of a segment is removed from each branch
 pub record IsRemoved {T : Type 0} (old new : Cut T) (key offset : ℕ) : Type 0 where
   pub everywhere_gone : (s : Slot) → slice_get (slots_of (piece_at old.pieces key)) offset ≡ Some s
       → (forest new).branches ≡ everywhere (without s.cell) (forest old).branches
@@ -238,18 +243,18 @@ pub record IsRemoved {T : Type 0} (old new : Cut T) (key offset : ℕ) : Type 0 
   pub notes : KeepsNotesOff old new (λ k. k ≡ key)
   pub cut : IsCut new
 
--- no branch but that at an index has a segment
+-- no branch but the one at an index has the segment
 abbrev pub LackedByOthers : List Strand → ℕ → ℕ → Type 0
 LackedByOthers strands index key = (j : ℕ) → (j ≡ index → ⊥) → has key (keys_in strands j) ≡ false
 
--- the last segment of a branch, which no other has, and which has room
+-- the last segment of the branch at an index; no other branch has this segment, and it isn't full
 pub record IsOwnEnd {T : Type 0} (c : Cut T) (index key : ℕ) : Type 0 where
   pub front : List ℕ
   pub last : keys_in c.strands index ≡ front ++ key ∷ []
   pub own : LackedByOthers c.strands index key
   pub room : length (slots_of (piece_at c.pieces key)) < 128
 
--- the last segment of the branch at an index, with its cells
+-- the last segment of the branch at an index; the segment has cells
 pub record IsEnd {T : Type 0} (c : Cut T) (index key : ℕ) : Type 0 where
   pub front : List ℕ
   pub last : keys_in c.strands index ≡ front ++ key ∷ []
@@ -259,7 +264,7 @@ pub record IsEnd {T : Type 0} (c : Cut T) (index key : ℕ) : Type 0 where
 abbrev pub IsChangedEnd : {T : Type 0} → Cut T → Cut T → ℕ → ℕ → Type 0
 IsChangedEnd old new index key = IsEnd old index key × HasChanged old new key
 
--- a step is put last in the branch at an index, as a new cell
+-- a step is added at the end of the branch at an index, as a new cell
 pub record IsPushed {T : Type 0} (old new : Cut T) (index : ℕ) (step : Step) : Type 0 where
   pub branches : (forest new).branches ≡ only_in index (put_last (slot old.made step)) (forest old).branches
   pub made : new.made ≡ old.made + 1
@@ -268,7 +273,7 @@ pub record IsPushed {T : Type 0} (old new : Cut T) (index : ℕ) (step : Step) :
   pub notes : KeepsNotesBut old new Nowhere (IsChangedEnd old new index)
   pub cut : IsCut new
 
--- steps are put last in the branch at an index, as new cells
+-- steps are added at the end of the branch at an index, as new cells
 pub record ArePushed {T : Type 0} (old new : Cut T) (index : ℕ) (steps : List Step) : Type 0 where
   pub branches : (forest new).branches ≡ only_in index (put_all (numbered old.made steps)) (forest old).branches
   pub made : new.made ≡ old.made + length steps
@@ -277,7 +282,8 @@ pub record ArePushed {T : Type 0} (old new : Cut T) (index : ℕ) (steps : List 
   pub blank : IsBlank old → IsBlank new
   pub cut : IsCut old → IsCut new
 
--- a new cell is put before a cell of a segment: so it is in each branch that holds that one
+-- a new cell is inserted before the cell at an offset of a segment, in each branch that has that
+-- cell
 pub record IsPutBefore {T : Type 0} (old new : Cut T) (key offset : ℕ) (step : Step) : Type 0 where
   pub everywhere_put : (s : Slot) → slice_get (slots_of (piece_at old.pieces key)) offset ≡ Some s
       → (forest new).branches ≡ everywhere (put_before s.cell (slot old.made step)) (forest old).branches
@@ -287,7 +293,7 @@ pub record IsPutBefore {T : Type 0} (old new : Cut T) (key offset : ℕ) (step :
   pub changed : HasChanged old new key
   pub cut : IsCut new
 
--- a new cell is put at a place of the branch at an index
+-- a new cell is inserted at a place of the branch at an index
 pub record IsInserted {T : Type 0} (old new : Cut T) (index place : ℕ) (step : Step) : Type 0 where
   pub forest_is : forest new ≡ inserted (forest old) index place step
   pub limits : new.limits ≡ old.limits
@@ -300,7 +306,7 @@ abbrev pub keys_by : Option ℕ → List Strand → Option (List ℕ)
 keys_by None strands = None
 keys_by (Some i) strands = Some (keys_in strands i)
 
--- NoBranch where there is none, and else want of memory
+-- why a query whose result is an option is refused: NoBranch if that is None, else Memory
 abbrev pub if_lacks : {X : Type 0} → Option X → Refusal
 if_lacks None = NoBranch
 if_lacks (Some x) = Memory
@@ -308,7 +314,7 @@ if_lacks (Some x) = Memory
 abbrev pub with_note : {T : Type 0} → Option T → Piece T → Piece T
 with_note note p = piece p.slots note
 
--- a segment has this note, if there is such a segment; nothing else is changed
+-- the segment at a key, if there is one, has this note; nothing else changes
 pub record IsNoted {T : Type 0} (old new : Cut T) (key : ℕ) (note : Option T) : Type 0 where
   pub here : piece_at new.pieces key ≡ option_map (with_note note) (piece_at old.pieces key)
   pub others : (j : ℕ) → (j ≡ key → ⊥) → piece_at new.pieces j ≡ piece_at old.pieces j
@@ -316,12 +322,13 @@ pub record IsNoted {T : Type 0} (old new : Cut T) (key : ℕ) (note : Option T) 
   pub limits : new.limits ≡ old.limits
   pub unchanged : forest new ≡ forest old
 
--- what comes right before a key in a path; `up` before the first
+-- the key right before `key` in a path; `up` if `key` is the first; None if `key` isn't there
 abbrev pub before_key : ℕ → Option ℕ → List ℕ → Option ℕ
 before_key key up [] = None
 before_key key up (k ∷ ks) = if nat_eq key k then up else before_key key (Some k) ks
 
--- the segment above a segment, on the first branch that has it; none for a branch's first, and where no branch has it
+-- the key of the segment right above a segment, on the first branch that has the segment; None if
+-- the segment is the first of that branch, or if no branch has it
 abbrev pub above_of : List Strand → ℕ → Option ℕ
 above_of [] key = None
 above_of (s ∷ ss) key = if has key s.keys then before_key key None s.keys else above_of ss key

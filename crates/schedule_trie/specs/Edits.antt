@@ -1,4 +1,4 @@
--- Edits of branches as data, and what each makes of a cut.
+-- Edits of branches as data, and their effect on a cut.
 use Rattle.std.specs.Prelude.{ℕ, ◌≡◌, List, Result, Ok, Err}
 use Rattle.frames.specs.declared.types.Step.{Step}
 use Rattle.schedule_trie.specs.declared.refusal.Refusal.{Refusal}
@@ -6,8 +6,9 @@ use Rattle.schedule_trie.specs.declared.limits.Limits.{Limits}
 use Rattle.schedule_trie.specs.Forest.{Forest, insert, remove_cell, replace_step, fork, detach, drop_branch, IsRefused}
 use Rattle.schedule_trie.specs.Cut.{Cut, forest, IsCut, KeepsNotesBut, KeepsNotesOff, KeepsUnchanged, KeepsAllNotes, HoldsCellAt, CanGrowAt, IsParted}
 
--- an edit of the branch of a name: a new cell at a place; the cell there taken out, or given another step; a new branch, of
--- another name, of the cells before a place; cells of its own for the branch; or the branch dropped
+-- an edit of a named branch: insert a new cell at a place; remove the cell there, or replace its
+-- step; add a branch that shares the cells before a place; replace all cells by new ones; or drop
+-- the branch
 pub data Edit : Type 0 where
   Insert : List ℕ → ℕ → Step → Edit
   Remove : List ℕ → ℕ → Edit
@@ -16,7 +17,7 @@ pub data Edit : Type 0 where
   Detach : List ℕ → Edit
   Drop : List ℕ → Edit
 
--- the forest after an edit, or the first reason that refuses it
+-- the forest after an edit, or the first reason to refuse it
 abbrev pub edited : Limits → Forest → Edit → Result Forest Refusal
 edited limits f (Insert name place step) = insert limits f name place step
 edited limits f (Remove name place) = remove_cell f name place
@@ -25,8 +26,9 @@ edited limits f (Fork name place new) = fork limits f name place new
 edited limits f (Detach name) = detach limits f name
 edited limits f (Drop name) = drop_branch f name
 
--- an edit touches at most one segment that was there: that of the cell at its place, or the one that a fork cuts; an insert at
--- the branch's length may touch the last one, and none whose cells stay
+-- An edit touches at most one existing segment: the one with the cell at the edit's place, or the
+-- one that a fork cuts. An insert at the branch's length may touch the branch's last segment. No
+-- insert touches a segment whose cells don't change. Detach and drop touch no segment.
 abbrev pub KeepsNotesBy : {T : Type 0} → Edit → Cut T → Cut T → Type 0
 KeepsNotesBy (Insert name place step) old new = KeepsNotesBut old new (HoldsCellAt old name place) (CanGrowAt old name place) × KeepsUnchanged old new
 KeepsNotesBy (Remove name place) old new = KeepsNotesOff old new (HoldsCellAt old name place)
@@ -35,14 +37,15 @@ KeepsNotesBy (Fork name place made) old new = KeepsNotesOff old new (IsParted ol
 KeepsNotesBy (Detach name) old new = KeepsAllNotes old new
 KeepsNotesBy (Drop name) old new = KeepsAllNotes old new
 
--- an edit is made
+-- an edit is made, not refused
 pub record IsEdited {T : Type 0} (old new : Cut T) (edit : Edit) : Type 0 where
   pub forest : edited old.limits (forest old) edit ≡ Ok (forest new)
   pub notes : KeepsNotesBy edit old new
   pub cut : IsCut new
   pub limits : new.limits ≡ old.limits
 
--- why an edit is refused: for the first reason that holds; or, where it takes memory, for want of it where none does
+-- why an edit is refused: the first reason that holds; or,
+-- if the edit allocates and no other reason holds, Memory
 abbrev pub WhyRefused : Edit → Result Forest Refusal → Refusal → Type 0
 WhyRefused (Insert name place step) model e = IsRefused model e
 WhyRefused (Remove name place) model e = model ≡ Err e
@@ -51,7 +54,7 @@ WhyRefused (Fork name place new) model e = IsRefused model e
 WhyRefused (Detach name) model e = IsRefused model e
 WhyRefused (Drop name) model e = model ≡ Err e
 
--- an edit is refused, and nothing is changed
+-- an edit is refused, and nothing changes
 pub record IsUnedited {T : Type 0} (old new : Cut T) (edit : Edit) (e : Refusal) : Type 0 where
   pub why : WhyRefused edit (edited old.limits (forest old) edit) e
   pub unchanged : new ≡ old

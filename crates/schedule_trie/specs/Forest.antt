@@ -1,4 +1,4 @@
--- The forest of branches, and what each command leaves of it.
+-- The forest of branches, and the effect of each command on it.
 use Rattle.std.specs.Prelude.{◌≡◌, ◌<◌, ◌⊎◌, IsOk, ℕ, zero, suc, ◌+◌, Bool, not, nat_eq, nat_le, nat_lt, List, [], ◌∷◌, ◌++◌, Option, Some, None, Result, Ok, Err, length, map, filter, take, position, IfSome, slice_index, slice_get, codes, if◌then◌else◌}
 use Rattle.std.specs.List.{flat_map, remove, list_any}
 use Rattle.std.specs.Option.{option_map}
@@ -10,12 +10,13 @@ use Rattle.schedule_trie.specs.declared.refusal.Refusal.{Refusal}
 use Rattle.schedule_trie.specs.declared.refusal.Refusal.TheVariants.{NoBranch, NameTaken, BadName, NoPlace, Full, LastBranch, TooManyBranches, Memory}
 use Rattle.schedule_trie.specs.Names.{is_well_formed}
 
--- a branch: its name, and its cells in order, each with its step. A cell has the same step in each branch that holds it
+-- a branch: its name, and its cells in order, each with its step. A cell has the same step in each
+-- branch that has it
 pub record Branch : Type 0 where
   pub name : List ℕ
   pub slots : List Slot
 
--- the branches in order of making, and how many cells were ever made
+-- the branches in the order they were made, and the number of cells ever made
 pub record Forest : Type 0 where
   pub branches : List Branch
   pub made : ℕ
@@ -35,55 +36,56 @@ step_of s = s.step
 abbrev pub name_of : Branch → List ℕ
 name_of b = b.name
 
--- so many steps, as cells with numbers from this one on
+-- cells with these steps, numbered from n on
 abbrev pub numbered : ℕ → List Step → List Slot
 numbered n [] = []
 numbered n (s ∷ ss) = slot n s ∷ numbered (suc n) ss
 
--- the forest at first: `main` alone
-abbrev pub opening : List Step → Forest
-opening steps = record { branches = branch (codes "main") (numbered 0 steps) ∷ []; made = length steps }
+-- the initial forest: `main` alone
+abbrev pub opening_forest : List Step → Forest
+opening_forest steps = record { branches = branch (codes "main") (numbered 0 steps) ∷ []; made = length steps }
 
--- one branch alone, of a name
-abbrev pub alone : List ℕ → List Step → Forest
-alone name steps = record { branches = branch name (numbered 0 steps) ∷ []; made = length steps }
+-- a forest of one branch, with this name
+abbrev pub lone_branch : List ℕ → List Step → Forest
+lone_branch name steps = record { branches = branch name (numbered 0 steps) ∷ []; made = length steps }
 
--- opening within limits
+-- the initial forest, or Full if it has more cells than the limit
 abbrev pub opened : Limits → List Step → Result Forest Refusal
-opened limits steps = if nat_lt limits.cells (length steps) then Err Full else Ok (opening steps)
+opened limits steps = if nat_lt limits.cells (length steps) then Err Full else Ok (opening_forest steps)
 
--- where the branch of a name stands
+-- the index of the named branch
 abbrev pub index_of : List Branch → List ℕ → Option ℕ
 index_of branches name = position (pointwise nat_eq name) (map name_of branches)
 
--- the cells of a branch by its place in the order of making; none where there is no such branch
+-- the cells of the branch at an index; no cells if there is no such branch
 abbrev pub slots_in : List Branch → ℕ → List Slot
 slots_in [] i = []
 slots_in (b ∷ bs) zero = b.slots
 slots_in (b ∷ bs) (suc i) = slots_in bs i
 
--- the name of a branch by where it stands
+-- the name of the branch at an index, if there is one
 abbrev pub name_in : List Branch → ℕ → Option (List ℕ)
 name_in branches i = slice_get (map name_of branches) i
 
--- no two branches have the same name: each is found by its own
+-- no two branches have the same name: each branch is found by its name
 abbrev pub AreNamedApart : List Branch → Type 0
 AreNamedApart branches = (i : ℕ) → IfSome (name_in branches i) (λ name. index_of branches name ≡ Some i)
 
--- two branches with a common cell have the same cells up to it, with the same steps; so a branch has a cell once
+-- two branches with a common cell have the same cells up to it, with the same steps; so no cell is
+-- twice on a branch
 abbrev pub ShareUpTo : List Branch → Type 0
 ShareUpTo branches =
     (i j k l : ℕ) (s t : Slot) → slice_get (slots_in branches i) k ≡ Some s → slice_get (slots_in branches j) l ≡ Some t
     → s.cell ≡ t.cell → take (suc k) (slots_in branches i) ≡ take (suc l) (slots_in branches j)
 
--- what every command keeps of a forest: its branches have names of their own, share what comes before a common cell, and have
--- cells with numbers that were given out
+-- the invariant of every command: branches have different names, branches with a common cell have
+-- the same cells up to it, and the number of each cell was given out
 pub record IsForest (f : Forest) : Type 0 where
   pub apart : AreNamedApart f.branches
   pub shared : ShareUpTo f.branches
   pub given : (i k : ℕ) → IfSome (slice_get (slots_in f.branches i) k) (λ s. s.cell < f.made)
 
--- how many cells the branch of a name has
+-- the number of cells of the named branch
 abbrev pub len_of : Forest → List ℕ → Option ℕ
 len_of f name = option_map (λ i. length (slots_in f.branches i)) (index_of f.branches name)
 
@@ -91,15 +93,15 @@ len_of f name = option_map (λ i. length (slots_in f.branches i)) (index_of f.br
 abbrev pub cell_in : List Slot → ℕ → ℕ
 cell_in slots k = slice_index (map cell_of slots) k
 
--- the number of the cell at a place of the branch of a name, if there are both
+-- the number of the cell at a place of the named branch; None if there is no such branch or cell
 abbrev pub cell_by : Option ℕ → Forest → ℕ → Option ℕ
 cell_by None f place = None
 cell_by (Some i) f place = option_map cell_of (slice_get (slots_in f.branches i) place)
 
-abbrev pub cell_at : Forest → List ℕ → ℕ → Option ℕ
-cell_at f name place = cell_by (index_of f.branches name) f place
+abbrev pub cell_on_branch : Forest → List ℕ → ℕ → Option ℕ
+cell_on_branch f name place = cell_by (index_of f.branches name) f place
 
--- the place of a cell on the branch of a name, if it is there
+-- the place of cell x on the named branch, if the cell is there
 abbrev pub is_cell : ℕ → Slot → Bool
 is_cell x s = nat_eq s.cell x
 
@@ -110,7 +112,7 @@ place_by (Some i) f cell = position (is_cell cell) (slots_in f.branches i)
 abbrev pub place_of : Forest → List ℕ → ℕ → Option ℕ
 place_of f name cell = place_by (index_of f.branches name) f cell
 
--- the steps of the branch of a name, if there is one
+-- the steps of the named branch, if there is one
 abbrev pub path_by : Option ℕ → Forest → Option (List Step)
 path_by None f = None
 path_by (Some i) f = Some (map step_of (slots_in f.branches i))
@@ -118,7 +120,7 @@ path_by (Some i) f = Some (map step_of (slots_in f.branches i))
 abbrev pub path_of : Forest → List ℕ → Option (List Step)
 path_of f name = path_by (index_of f.branches name) f
 
--- each branch, or one of them, with its cells changed
+-- g applied to the cells of a branch, of each branch, and of the branch at an index alone
 abbrev pub changed : (List Slot → List Slot) → Branch → Branch
 changed g b = branch b.name (g b.slots)
 
@@ -130,7 +132,7 @@ only_in i g [] = []
 only_in zero g (b ∷ bs) = changed g b ∷ bs
 only_in (suc i) g (b ∷ bs) = b ∷ only_in i g bs
 
--- a new cell right before cell x, where that is
+-- the cells of a branch, with a new cell right before cell x; unchanged if x isn't there
 abbrev pub before_cell : ℕ → Slot → Slot → List Slot
 before_cell x new s = if nat_eq s.cell x then new ∷ s ∷ [] else s ∷ []
 
@@ -143,21 +145,21 @@ put_last new slots = slots ++ new ∷ []
 abbrev pub put_all : List Slot → List Slot → List Slot
 put_all new slots = slots ++ new
 
--- cell x is gone
+-- the cells of a branch, without cell x
 abbrev pub is_other : ℕ → Slot → Bool
 is_other x s = not (nat_eq s.cell x)
 
 abbrev pub without : ℕ → List Slot → List Slot
 without x slots = filter (is_other x) slots
 
--- cell x has another step
+-- the cells of a branch, with another step in cell x
 abbrev pub with_step : ℕ → Step → Slot → Slot
 with_step x step s = if nat_eq s.cell x then slot s.cell step else s
 
 abbrev pub replaced : ℕ → Step → List Slot → List Slot
 replaced x step slots = map (with_step x step) slots
 
--- what a command on the branch of a name gives: NoBranch where there is none
+-- the result of a command on the named branch; NoBranch if there is no such branch
 abbrev pub on_found : Option ℕ → (ℕ → Result Forest Refusal) → Result Forest Refusal
 on_found None command = Err NoBranch
 on_found (Some i) command = command i
@@ -165,7 +167,8 @@ on_found (Some i) command = command i
 abbrev pub on_branch : Forest → List ℕ → (ℕ → Result Forest Refusal) → Result Forest Refusal
 on_branch f name command = on_found (index_of f.branches name) command
 
--- insert at a place: before the cell there, in each branch that holds it; at the length, in that branch alone
+-- insert a new cell at a place: before the cell there, in each branch that has that cell; at the
+-- branch's length, at the end of this branch alone
 abbrev pub inserted : Forest → ℕ → ℕ → Step → Forest
 inserted f i place step =
     record {
@@ -184,7 +187,7 @@ insert_at limits f place step i =
 abbrev pub insert : Limits → Forest → List ℕ → ℕ → Step → Result Forest Refusal
 insert limits f name place step = on_branch f name (insert_at limits f place step)
 
--- remove and replace: the cell at a place, in each branch that holds it
+-- remove and replace change the cell at a place, in each branch that has this cell
 abbrev pub at_cell : Forest → ℕ → (ℕ → List Slot → List Slot) → ℕ → Result Forest Refusal
 at_cell f place change i =
     if nat_le (length (slots_in f.branches i)) place then Err NoPlace
@@ -199,7 +202,7 @@ replaced_by step x slots = replaced x step slots
 abbrev pub replace_step : Forest → List ℕ → ℕ → Step → Result Forest Refusal
 replace_step f name place step = on_branch f name (at_cell f place (replaced_by step))
 
--- fork: a new last branch of the first cells, shared
+-- fork: add a last branch, which shares the first `place` cells of the branch at an index
 abbrev pub fork_at : Limits → Forest → ℕ → List ℕ → ℕ → Result Forest Refusal
 fork_at limits f place name i =
     if list_any (pointwise nat_eq name) (map name_of f.branches) then Err NameTaken
@@ -211,7 +214,7 @@ fork_at limits f place name i =
 abbrev pub fork : Limits → Forest → List ℕ → ℕ → List ℕ → Result Forest Refusal
 fork limits f name place new = on_branch f name (fork_at limits f place new)
 
--- detach: the branch's cells become new ones with the same steps
+-- detach: replace each cell of the branch by a new one with the same step
 abbrev pub renumbered : ℕ → List Slot → List Slot
 renumbered n slots = numbered n (map step_of slots)
 
@@ -223,7 +226,7 @@ detach_at limits f i =
 abbrev pub detach : Limits → Forest → List ℕ → Result Forest Refusal
 detach limits f name = on_branch f name (detach_at limits f)
 
--- drop: the branch goes, unless it is the only one
+-- drop: remove the branch, unless it is the only one
 abbrev pub drop_at : Forest → ℕ → Result Forest Refusal
 drop_at f i =
     if nat_le (length f.branches) 1 then Err LastBranch
@@ -232,6 +235,6 @@ drop_at f i =
 abbrev pub drop_branch : Forest → List ℕ → Result Forest Refusal
 drop_branch f name = on_branch f name (drop_at f)
 
--- why a call that may want memory is refused: for the first reason that holds, or for want of memory where none does
+-- why a call that allocates is refused: the first reason that holds; or, if none does, Memory
 abbrev pub IsRefused : Result Forest Refusal → Refusal → Type 0
 IsRefused model e = (model ≡ Err e) ⊎ ((e ≡ Memory) × IsOk model)

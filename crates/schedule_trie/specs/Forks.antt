@@ -1,17 +1,18 @@
--- A fork, by what the cut becomes.
+-- A fork, as a change of the cut.
 use Rattle.std.specs.Prelude.{ℕ, ◌≡◌, List, [], ◌∷◌, ◌++◌, Some, length, take}
 use Rattle.schedule_trie.specs.Forest.{branch, index_of, slots_in}
 use Rattle.schedule_trie.specs.Cut.{Cut, forest, strand, keys_in, IsCut, KeepsNotesOff, IsParted}
 
--- a branch of this name goes last, with the first cells of the branch at an index
-pub record IsForked {T : Type 0} (old new : Cut T) (index place : ℕ) (name : List ℕ) : Type 0 where
+-- a branch of this name is added last, with the first `place` cells of the branch at an index
+pub record IsBranchForked {T : Type 0} (old new : Cut T) (index place : ℕ) (name : List ℕ) : Type 0 where
   pub branches : (forest new).branches ≡ (forest old).branches ++ branch name (take place (slots_in (forest old).branches index)) ∷ []
   pub made : new.made ≡ old.made
   pub limits : new.limits ≡ old.limits
   pub notes : (source : List ℕ) → index_of (forest old).branches source ≡ Some index → KeepsNotesOff old new (IsParted old source place)
   pub cut : IsCut new
 
--- a branch of this name goes last, with the segments of the branch at an index, and each segment is as it was
+-- a branch of this name is added last, with all segments
+-- of the branch at an index; no segment changes
 pub record IsForkedWhole {T : Type 0} (old new : Cut T) (index : ℕ) (name : List ℕ) : Type 0 where
   pub strands : new.strands ≡ old.strands ++ strand name (keys_in old.strands index) ∷ []
   pub pieces : new.pieces ≡ old.pieces

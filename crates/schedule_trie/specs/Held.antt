@@ -1,4 +1,4 @@
--- What a trie's fields hold: its cut.
+-- The meaning of a trie's fields, as a cut.
 use Rattle.std.specs.Prelude.{ℕ, ◌≡◌, true, List, [], ◌∷◌, Option, Some, None, IfSome, length, map, slice_get}
 use Rattle.std.specs.List.{list_all}
 use Rattle.std.specs.Map.{keys_of}
@@ -16,22 +16,22 @@ module _ {T : Type 0} where
   abbrev pub pieces_of : List (Option (Segment T)) → List (Option (Piece T))
   pieces_of items = map piece_of items
 
--- branches by their names, and by the keys of their paths
+-- branches, from their names and the keys of their paths
 abbrev pub strands_of : List (List ℕ) → List (List ℕ) → List Strand
 strands_of [] paths = []
 strands_of (n ∷ ns) [] = strand n [] ∷ strands_of ns []
 strands_of (n ∷ ns) (p ∷ ps) = strand n p ∷ strands_of ns ps
 
--- the length that is kept with a branch, if one is
+-- the cached length in a branch's entry, if there is one
 abbrev pub kept_in : Option (List ℕ × Option ℕ) → Option ℕ
 kept_in None = None
 kept_in (Some entry) = entry.1
 
--- each length that is kept is how many cells the branch has
+-- each cached length is the number of the branch's cells
 abbrev pub AreLengths : List (List ℕ × Option ℕ) → List Branch → Type 0
 AreLengths entries branches = (i : ℕ) → IfSome (kept_in (slice_get entries i)) (λ n. n ≡ length (slots_in branches i))
 
--- names have the form of a branch's
+-- each name has the form of a branch's name
 abbrev pub AreNames : List (List ℕ) → Type 0
 AreNames names = list_all is_name names ≡ true
 
@@ -43,12 +43,13 @@ module _ {T : Type 0} where
   cut_of t = record { strands = strands_of (names_of t) t.segments.paths; pieces = pieces_of t.segments.items; made = t.made; limits = t.limits }
 
   -- the cut is whole, and each branch has a path
-  pub record IsHeld (t : Inside T) : Type 0 where
+  pub record IsHeldCut (t : Inside T) : Type 0 where
     pub whole : IsWhole (cut_of t)
     pub paths : length t.segments.paths ≡ length (names_of t)
 
-  -- and the lengths that are kept are right, and names have their form
+  -- the invariant of a trie: its cut is held, cached lengths are right, and each name has the form
+  -- of a branch's name
   pub record IsKept (t : Inside T) : Type 0 where
-    pub held : IsHeld t
+    pub held : IsHeldCut t
     pub lengths : AreLengths t.branches.entries (forest (cut_of t)).branches
     pub names : AreNames (names_of t)

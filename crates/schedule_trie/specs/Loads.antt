@@ -1,11 +1,12 @@
--- A limb that grows on a cut.
+-- Adding a limb to a cut.
 use Rattle.std.specs.Prelude.{◌≡◌, ◌<◌, ◌≤◌, ◌+◌, true, None, length}
 use Rattle.schedule_trie.specs.declared.limb.Limb.{Limb}
 use Rattle.schedule_trie.specs.Forest.{index_of, slots_in}
 use Rattle.schedule_trie.specs.Cut.{Cut, forest, IsBlank, IsCut}
 use Rattle.schedule_trie.specs.Limbs.{is_name, grown}
 
--- a branch has the cells that a limb shares, none has its name, and there is room for it
+-- a limb can be added: the branch that it is from has the cells that it shares, no branch has its
+-- name, and the limits leave room for it
 pub record CanGrow {T : Type 0} (c : Cut T) (l : Limb) : Type 0 where
   pub from : l.from < length c.strands
   pub place : l.shared ≤ length (slots_in (forest c).branches l.from)
@@ -14,7 +15,7 @@ pub record CanGrow {T : Type 0} (c : Cut T) (l : Limb) : Type 0 where
   pub room : length c.strands < c.limits.branches
   pub cells : c.made + length l.steps ≤ c.limits.cells
 
--- its branch goes last, and nothing is noted
+-- the limb's branch is added last, and no note is set
 pub record IsGrown {T : Type 0} (old new : Cut T) (l : Limb) : Type 0 where
   pub forest_is : forest new ≡ grown (forest old) l
   pub limits : new.limits ≡ old.limits

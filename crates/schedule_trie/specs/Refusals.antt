@@ -1,28 +1,28 @@
--- The refusals by number and name.
+-- The refusals, by number and name.
 use Rattle.std.specs.Prelude.{ℕ, List, codes}
 use Rattle.schedule_trie.specs.declared.refusal.Refusal.{Refusal}
 use Rattle.schedule_trie.specs.declared.refusal.Refusal.TheVariants.{NoBranch, NameTaken, BadName, NoPlace, Full, LastBranch, TooManyBranches, BadStep, Occupied, NoBreak, NoSession, Newer, LogFull, BadLine, Memory}
 
--- each with its number and its name
-abbrev pub told : Refusal → ℕ × List ℕ
-told NoBranch = (20, codes "NoBranch")
-told NameTaken = (21, codes "NameTaken")
-told BadName = (22, codes "BadName")
-told NoPlace = (23, codes "NoPlace")
-told Full = (24, codes "Full")
-told LastBranch = (25, codes "LastBranch")
-told TooManyBranches = (26, codes "TooManyBranches")
-told BadStep = (30, codes "BadStep")
-told Occupied = (31, codes "Occupied")
-told NoBreak = (32, codes "NoBreak")
-told NoSession = (33, codes "NoSession")
-told (Newer edits) = (34, codes "Newer")
-told LogFull = (35, codes "LogFull")
-told BadLine = (36, codes "BadLine")
-told Memory = (40, codes "Memory")
+-- each refusal's number and name
+abbrev pub number_and_name : Refusal → ℕ × List ℕ
+number_and_name NoBranch = (20, codes "NoBranch")
+number_and_name NameTaken = (21, codes "NameTaken")
+number_and_name BadName = (22, codes "BadName")
+number_and_name NoPlace = (23, codes "NoPlace")
+number_and_name Full = (24, codes "Full")
+number_and_name LastBranch = (25, codes "LastBranch")
+number_and_name TooManyBranches = (26, codes "TooManyBranches")
+number_and_name BadStep = (30, codes "BadStep")
+number_and_name Occupied = (31, codes "Occupied")
+number_and_name NoBreak = (32, codes "NoBreak")
+number_and_name NoSession = (33, codes "NoSession")
+number_and_name (Newer edits) = (34, codes "Newer")
+number_and_name LogFull = (35, codes "LogFull")
+number_and_name BadLine = (36, codes "BadLine")
+number_and_name Memory = (40, codes "Memory")
 
-abbrev pub number : Refusal → ℕ
-number r = (told r).0
+abbrev pub refusal_number : Refusal → ℕ
+refusal_number r = (number_and_name r).0
 
-abbrev pub name : Refusal → List ℕ
-name r = (told r).1
+abbrev pub refusal_name : Refusal → List ℕ
+refusal_name r = (number_and_name r).1

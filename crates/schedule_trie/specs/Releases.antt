@@ -1,9 +1,9 @@
--- A branch that goes.
+-- Dropping a branch.
 use Rattle.std.specs.Prelude.{◌≡◌, ℕ}
 use Rattle.std.specs.List.{remove}
 use Rattle.schedule_trie.specs.Cut.{Cut, forest, IsCut, KeepsAllNotes}
 
--- the branch at an index is gone, with the segments that it alone had
+-- the branch at an index is gone, and so are the segments that no other branch had
 pub record IsDropped {T : Type 0} (old new : Cut T) (index : ℕ) : Type 0 where
   pub branches : (forest new).branches ≡ remove (forest old).branches index
   pub made : new.made ≡ old.made

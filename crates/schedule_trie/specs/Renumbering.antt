@@ -1,13 +1,14 @@
--- Renumbering: two forests that are the same but for the numbers of their cells.
+-- Renumbering: two forests that are equal except for the numbers of their cells.
 use Rattle.std.specs.Prelude.{◌≡◌, ◌<◌, ℕ, Bool, nat_eq, List, length, map}
 use Rattle.schedule_trie.specs.Forest.{Forest, Branch, slots_in, step_of, cell_in, name_of}
 
--- whether one cell stands at both places: the k-th of branch i, and the m-th of branch j
+-- whether the cell at place k of branch i is also the one at place m of branch j
 abbrev pub is_one_cell : List Branch → ℕ → ℕ → ℕ → ℕ → Bool
 is_one_cell branches i k j m = nat_eq (cell_in (slots_in branches i) k) (cell_in (slots_in branches j) m)
 
--- two forests are the same but for the numbers of their cells: they have the same names in the same order, the same steps on each
--- branch, and one cell at two places in the one just where in the other
+-- Two forests are equal except for the numbers of their cells. They have the same names in the same
+-- order, and the same steps on each branch. Two places have the same cell in one forest exactly if
+-- they have the same cell in the other.
 pub record IsRenumbered (f g : Forest) : Type 0 where
   pub names : map name_of f.branches ≡ map name_of g.branches
   pub steps : (i : ℕ) → map step_of (slots_in f.branches i) ≡ map step_of (slots_in g.branches i)

@@ -5,7 +5,7 @@ use Rattle.frames.specs.declared.types.Step.TheVariants.{Read, Write, Go}
 use Rattle.schedule_trie.specs.declared.limits.Limits.{Limits}
 use Rattle.schedule_trie.specs.declared.refusal.Refusal.{Refusal}
 use Rattle.schedule_trie.specs.declared.refusal.Refusal.TheVariants.{Full}
-use Rattle.schedule_trie.specs.Forest.{Forest, branch, slot, opening, insert, remove_cell, fork, detach, replace_step}
+use Rattle.schedule_trie.specs.Forest.{Forest, branch, slot, opening_forest, insert, remove_cell, fork, detach, replace_step}
 
 abbrev after : Result Forest Refusal → (Forest → Result Forest Refusal) → Result Forest Refusal
 after (Ok f) command = command f
@@ -32,8 +32,8 @@ go = Go 1 0
 abbrev write : Step
 write = Write 0 1
 
--- an insert in a shared prefix is seen in both branches
-shared-insert : after (fork plenty (opening (read ∷ go ∷ go ∷ [])) main 3 a) (λ f. insert plenty f main 1 write)
+-- an insert in a shared prefix appears in both branches
+shared-insert : after (fork plenty (opening_forest (read ∷ go ∷ go ∷ [])) main 3 a) (λ f. insert plenty f main 1 write)
     ≡ Ok (record {
       branches = branch main (slot 0 read ∷ slot 3 write ∷ slot 1 go ∷ slot 2 go ∷ [])
           ∷ branch a (slot 0 read ∷ slot 3 write ∷ slot 1 go ∷ slot 2 go ∷ []) ∷ [];
@@ -41,8 +41,8 @@ shared-insert : after (fork plenty (opening (read ∷ go ∷ go ∷ [])) main 3 
     })
 shared-insert = refl
 
--- an insert at a branch's end is its own
-parent-end : after (fork plenty (opening (read ∷ go ∷ go ∷ [])) main 3 a) (λ f. insert plenty f main 3 read)
+-- an insert at a branch's end is in that branch alone
+parent-end : after (fork plenty (opening_forest (read ∷ go ∷ go ∷ [])) main 3 a) (λ f. insert plenty f main 3 read)
     ≡ Ok (record {
       branches = branch main (slot 0 read ∷ slot 1 go ∷ slot 2 go ∷ slot 3 read ∷ [])
           ∷ branch a (slot 0 read ∷ slot 1 go ∷ slot 2 go ∷ []) ∷ [];
@@ -50,20 +50,20 @@ parent-end : after (fork plenty (opening (read ∷ go ∷ go ∷ [])) main 3 a) 
     })
 parent-end = refl
 
--- a cell that is removed is not given out again
-remove-insert : after (remove_cell (opening (write ∷ go ∷ go ∷ [])) main 1) (λ f. insert plenty f main 1 go)
+-- the number of a removed cell isn't given out again
+remove-insert : after (remove_cell (opening_forest (write ∷ go ∷ go ∷ [])) main 1) (λ f. insert plenty f main 1 go)
     ≡ Ok (record { branches = branch main (slot 0 write ∷ slot 3 go ∷ slot 2 go ∷ []) ∷ []; made = 4 })
 remove-insert = refl
 
--- the fifth cell doesn't fit, and a detach makes cells
-cells-full : after (fork four (opening (read ∷ read ∷ read ∷ read ∷ [])) main 2 a) (λ f. detach four f a) ≡ Err Full
+-- a fifth cell exceeds the limit, and a detach makes new cells too
+cells-full : after (fork four (opening_forest (read ∷ read ∷ read ∷ read ∷ [])) main 2 a) (λ f. detach four f a) ≡ Err Full
 cells-full = refl
 
-fifth-cell : insert four (opening (read ∷ read ∷ read ∷ read ∷ [])) main 0 read ≡ Err Full
+fifth-cell : insert four (opening_forest (read ∷ read ∷ read ∷ read ∷ [])) main 0 read ≡ Err Full
 fifth-cell = refl
 
--- a detached branch has cells of its own, so that a replace in the other isn't seen in it
-detach-replace : after (after (fork plenty (opening (read ∷ go ∷ [])) main 2 a) (λ f. detach plenty f a)) (λ f. replace_step f main 1 (Go 1 1))
+-- a detached branch has its own cells, so that a replace in the other doesn't change it
+detach-replace : after (after (fork plenty (opening_forest (read ∷ go ∷ [])) main 2 a) (λ f. detach plenty f a)) (λ f. replace_step f main 1 (Go 1 1))
     ≡ Ok (record {
       branches = branch main (slot 0 read ∷ slot 1 (Go 1 1) ∷ []) ∷ branch a (slot 2 read ∷ slot 3 go ∷ []) ∷ [];
       made = 4;

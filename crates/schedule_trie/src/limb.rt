@@ -1,4 +1,4 @@
-//! Limbs: what a file keeps of a branch.
+//! Limbs: what a file stores of a branch.
 
 ghost use Rattle.std.specs.Prelude.{◌≡◌, ◌∷◌, [], ◌++◌, OnOk, IfErr, nat_lt};
 ghost use Rattle.schedule_trie.specs.Limbs as spec;
@@ -8,7 +8,7 @@ use frames::types::Step;
 use std::alloc::AllocError;
 use std::marker::Model;
 
-/// Steps in order. Contracts see the list of them, and nothing of the room that it has.
+/// A list of steps. Contracts see the steps in order, but not the list's capacity.
 #[derive(Debug, Drop)]
 pub struct Steps {
     items: Vec<Step>,
@@ -24,14 +24,14 @@ impl Model for Steps {
 }
 
 impl Steps {
-    /// These steps. It takes no memory.
+    /// The list of these steps. Never allocates.
     pub fn new(items: Vec<Step>) -> Steps
         ensures { result ≡ items.items }
     {
         Steps { items }
     }
 
-    /// Adds a step behind them.
+    /// Adds a step at the end.
     pub fn push(&mut self, step: Step) -> Result<(), AllocError>
         ensures pushed { OnOk result (self.new ≡ self.old ++ step ∷ []) }
         ensures kept { IfErr result (λ _. self.new ≡ self.old) }
@@ -48,7 +48,8 @@ impl Steps {
     }
 }
 
-/// A branch: its name, the branch from which it has its first cells, how many it has from there, and the steps of its own cells.
+/// A branch as a file stores it: its name; the index `from` of the branch with which it shares its
+/// first `shared` cells; and the steps of its own cells, which follow these.
 #[derive(Debug, Drop)]
 pub struct Limb {
     pub name: Name,
@@ -57,8 +58,8 @@ pub struct Limb {
     pub steps: Steps,
 }
 
-/// Whether a limb may come behind these, as far as what it shares goes: nothing, or cells of which the last is an
-/// own one of the branch that it is from.
+/// Whether `limb` may follow `limbs`, by what it shares: `from` and `shared` are 0, or the last
+/// shared cell is one of the own cells of the branch at `from`.
 pub fn may_share(limbs: &[Limb], limb: &Limb) -> bool
     ensures { result ≡ spec.may_share limbs.now limb.now }
 {
@@ -72,7 +73,7 @@ pub fn may_share(limbs: &[Limb], limb: &Limb) -> bool
         && (limb.shared - parent.shared) as usize <= parent.steps.as_slice().len()
 }
 
-/// Whether limbs bring more cells than so many.
+/// Whether these limbs have more than `most` own cells in total.
 pub(crate) fn bring_more(limbs: &[Limb], most: u32) -> bool
     ensures { result ≡ nat_lt most (spec.cells_of limbs.now) }
 {

@@ -1,10 +1,10 @@
-//! How much a trie may hold.
+//! The limits of a trie, and of the list of logged commands.
 
-/// The most cells that are ever made, in any trie.
+/// The greatest value that `cells` may have in a trie's limits.
 pub const MOST_CELLS_MADE: u32 = 1 << 28;
 
-/// How many cells are ever made at most (1 to 2^28), how many branches there are at most (1 to 1,024), and how many
-/// commands are logged at most (1 to 2^20).
+/// At most `cells` cells are ever made, there are at most `branches` branches, and at most `log`
+/// commands are logged. The ranges are 1 to 2^28, 1 to 1,024, and 1 to 2^20.
 #[derive(Clone, Copy, Debug, PartialEq, Eq)]
 pub struct Limits {
     pub cells: u32,

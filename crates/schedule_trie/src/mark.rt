@@ -1,6 +1,7 @@
-//! Marks of segments, while limbs are told.
+//! Marks of segments, used while limbs are listed.
 
-/// Of a segment: the first branch that has it, and how many cells that branch has down to the segment's end.
+/// The mark of a segment: `branch` is the index of the first branch that has the segment, and
+/// `cells` the number of that branch's cells down to the segment's end.
 #[derive(Clone, Copy, Debug, PartialEq, Eq)]
 pub(crate) struct Mark {
     pub(crate) branch: u32,

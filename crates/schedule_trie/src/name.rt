@@ -7,16 +7,16 @@ ghost use Rattle.std.specs.List.{list_all};
 ghost use Rattle.std.specs.Cmp.Lexicographic.{pointwise, nat_list_eq_equiv};
 ghost use Rattle.std.specs.Cmp.{partial_equiv_from_equiv};
 ghost use Rattle.std.specs.Cmp.Rules.{hashing};
-ghost use Rattle.schedule_trie.specs.Names.{name, is_letter, is_letter_or_digit, is_well_formed};
+ghost use Rattle.schedule_trie.specs.Names.{name_of_bytes, is_letter, is_letter_or_digit, is_well_formed};
 
 use std::alloc::AllocError;
 use std::hash::{Hash, Hasher};
 use std::marker::Model;
 
-/// The most bytes of a name.
+/// The greatest length of a name, in bytes.
 const MOST_BYTES: usize = 16;
 
-/// A name: at most 16 bytes, held inline. A contract sees it as its bytes.
+/// A name of at most 16 bytes, stored inline. Contracts see its bytes.
 #[derive(Debug, Drop)]
 pub struct Name {
     bytes: [u8; MOST_BYTES],
@@ -73,7 +73,7 @@ impl Hash for Name {
 }
 
 impl Name {
-    /// The name of the branch that is opened with steps alone.
+    /// The name `main`, of the branch that `Trie::new` makes.
     pub fn main() -> Name
         ensures { result ≡ codes "main" }
     {
@@ -83,9 +83,9 @@ impl Name {
         }
     }
 
-    /// The name of these bytes; none where there are more than 16.
+    /// The name with these bytes; `None` if there are more than 16.
     pub fn new(text: &[u8]) -> Option<Name>
-        ensures { result ≡ name text.now }
+        ensures { result ≡ name_of_bytes text.now }
     {
         if text.len() > MOST_BYTES {
             return None;
@@ -106,7 +106,8 @@ impl Name {
         &self.bytes[..self.len]
     }
 
-    /// Whether it is a lower-case letter, then lower-case letters or digits, as a new branch's name is.
+    /// Whether the name is a lower-case letter, followed by lower-case letters or digits. A new
+    /// branch has to have such a name.
     pub fn is_well_formed(&self) -> bool
         ensures { result ≡ is_well_formed self.now }
     {

@@ -7,60 +7,61 @@ use std::alloc::AllocError;
 use std::fmt;
 use thiserror::Error;
 
-/// Why a call is refused. Each has a number, its own for good, and the name that it has here.
+/// Why a call is refused. Each refusal has its own number, which never changes, and a name.
 #[derive(Clone, Copy, Debug, PartialEq, Eq, Error)]
 pub enum Refusal {
     /// No branch has this name.
     NoBranch,
-    /// A branch has the new one's name.
+    /// There is already a branch with the new branch's name.
     NameTaken,
-    /// The new name hasn't the form of one: 1 to 16 bytes, a lower-case letter, then such letters or digits.
+    /// The new name isn't a lower-case letter followed by at most 15 lower-case letters or digits.
     BadName,
-    /// The branch is shorter than this place; for a step to be removed or replaced, no longer than it.
+    /// The branch is shorter than the place; or it has no cell there to remove or to replace.
     NoPlace,
-    /// More cells would be made than may be.
+    /// The number of cells ever made would exceed its limit.
     Full,
     /// The branch to be dropped is the only one.
     LastBranch,
-    /// There are as many branches as may be.
+    /// The number of branches is at its limit.
     TooManyBranches,
-    /// The step doesn't fit the register: its process, or its value, or who may write and read.
+    /// The step doesn't fit the register: there is no such process, value or choice, or the process
+    /// may not write or may not read.
     BadStep,
-    /// A cursor stands on the branch to be dropped.
+    /// A cursor is on the branch to be dropped.
     Occupied,
     /// The break to be cleared isn't set.
     NoBreak,
     /// There is no such session, or it hasn't joined.
     NoSession,
-    /// A guard isn't the edit count, which is told.
+    /// The command's guard differs from the edit count, which is the number here.
     Newer(u64),
-    /// As many commands are logged as may be.
+    /// The number of logged commands is at its limit.
     LogFull,
-    /// A line of a script is no call.
+    /// A line of a script can't be read as a call.
     BadLine,
-    /// Memory was refused.
+    /// Out of memory.
     Memory,
 }
 
 impl Refusal {
     /// Its number.
     pub fn number(self) -> u32
-        ensures { result ≡ spec.number self }
+        ensures { result ≡ spec.refusal_number self }
     {
-        self.told().0
+        self.reported().0
     }
 
     /// Its name.
     pub fn name(self) -> &'static str
-        ensures { result.now ≡ spec.name self }
+        ensures { result.now ≡ spec.refusal_name self }
     {
-        self.told().1
+        self.reported().1
     }
 
     /// Its number and its name.
-    fn told(self) -> (u32, &'static str)
-        ensures number { result.0 ≡ spec.number self }
-        ensures name { result.1.now ≡ spec.name self }
+    fn reported(self) -> (u32, &'static str)
+        ensures number { result.0 ≡ spec.refusal_number self }
+        ensures name { result.1.now ≡ spec.refusal_name self }
     {
         match self {
             Refusal::NoBranch => (20, "NoBranch"),

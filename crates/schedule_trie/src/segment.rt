@@ -9,13 +9,13 @@ use crate::slot::Slot;
 use frames::types::Step;
 use std::alloc::{AllocError, Global};
 
-/// The most cells of a segment.
+/// The greatest number of cells in a segment.
 pub(crate) const MOST_SLOTS: usize = 128;
 
 /// The key of a segment.
 pub type SegKey = usize;
 
-/// Cells one after the other, and what is noted at them.
+/// Consecutive cells of a branch, and the segment's note, if it has one.
 #[derive(Debug, Drop)]
 pub(crate) struct Segment<T> {
     pub(crate) slots: Vec<Slot>,
@@ -23,7 +23,7 @@ pub(crate) struct Segment<T> {
 }
 
 impl<T: Drop> Segment<T> {
-    /// One cell, with no note.
+    /// A segment of one cell, with no note.
     pub(crate) fn new(alloc: Global, slot: Slot) -> Result<Segment<T>, AllocError>
         ensures slots { IfOk result (λ s. s.slots.items ≡ slot ∷ []) }
         ensures note { IfOk result (λ s. s.note ≡ None) }
@@ -33,7 +33,7 @@ impl<T: Drop> Segment<T> {
         Ok(Segment { slots, note: None })
     }
 
-    /// As many cells with the same steps and numbers from `first` on, with no note.
+    /// A segment of new cells, numbered from `first` on, with the steps of `slots`, and no note.
     pub(crate) fn renumbered(
         alloc: Global,
         slots: &[Slot],
@@ -58,7 +58,7 @@ impl<T: Drop> Segment<T> {
         })
     }
 
-    /// Puts a cell last, and clears the note.
+    /// Adds a cell at the end, and clears the note.
     pub(crate) fn push(&mut self, slot: Slot) -> Result<(), AllocError>
         ensures slots { OnOk result (self.new.slots.items ≡ self.old.slots.items ++ slot ∷ []) }
         ensures note { OnOk result (self.new.note ≡ None) }
@@ -70,7 +70,7 @@ impl<T: Drop> Segment<T> {
         Ok(())
     }
 
-    /// Puts a cell at an offset, before those from there on, and clears the note.
+    /// Inserts a cell at an offset, and clears the note.
     pub(crate) fn insert(&mut self, offset: usize, slot: Slot) -> Result<(), AllocError>
         requires { offset ≤ length self.old.slots.items }
         ensures slots { OnOk result (self.new.slots.items
@@ -84,7 +84,7 @@ impl<T: Drop> Segment<T> {
         Ok(())
     }
 
-    /// Has other cells instead, and clears the note.
+    /// Replaces the cells, and clears the note.
     pub(crate) fn set_slots(&mut self, slots: Vec<Slot>)
         ensures slots { self.new.slots ≡ slots }
         ensures note { self.new.note ≡ None }
@@ -93,7 +93,7 @@ impl<T: Drop> Segment<T> {
         self.clear_note();
     }
 
-    /// Gives a cell another step, and clears the note.
+    /// Replaces a cell's step, and clears the note.
     pub(crate) fn set_step(&mut self, offset: usize, step: Step)
         requires { offset < length self.old.slots.items }
         ensures slots { self.new.slots.items ≡ set_step self.old.slots.items offset step }
@@ -103,7 +103,7 @@ impl<T: Drop> Segment<T> {
         self.clear_note();
     }
 
-    /// Takes a cell out, and clears the note.
+    /// Removes a cell, and clears the note.
     pub(crate) fn remove(&mut self, offset: usize)
         requires { offset < length self.old.slots.items }
         ensures slots { self.new.slots.items ≡ remove self.old.slots.items offset }
@@ -113,7 +113,7 @@ impl<T: Drop> Segment<T> {
         self.clear_note();
     }
 
-    /// Notes something else, or nothing.
+    /// Replaces the note.
     pub(crate) fn set_note(&mut self, note: Option<T>)
         ensures slots { self.new.slots ≡ self.old.slots }
         ensures note { self.new.note ≡ note }

@@ -4,10 +4,10 @@ ghost use Rattle.std.specs.Prelude.{ℕ, List, ◌∷◌, ◌<◌, ◌≤◌, le
 ghost use Rattle.std.specs.Option.{option_map, option_copied};
 ghost use Rattle.schedule_trie.specs.Climbs.{last_of};
 ghost use Rattle.std.specs.List.{position};
-ghost use Rattle.schedule_trie.specs.Forest.{path_of, step_of, cell_at, place_of, is_cell, opened, opening, alone, IsRefused, index_of, slots_in, name_in, len_of, AreNamedApart, IsForest};
+ghost use Rattle.schedule_trie.specs.Forest.{path_of, step_of, cell_on_branch, place_of, is_cell, opened, opening_forest, lone_branch, IsRefused, index_of, slots_in, name_in, len_of, AreNamedApart, IsForest};
 ghost use Rattle.schedule_trie.specs.Edits.{Replace, IsEdited, IsUnedited};
 ghost use Rattle.schedule_trie.specs.Limbs.{is_name, HaveNames};
-ghost use Rattle.schedule_trie.specs.Cut.{IsBlank, IsNoted, IsWhole, above_of, before_key, keys_by, if_lacks, note_of, AreLimits, has, IsOwnEnd, IsPushed, LackedByOthers, forest, IsCut, IsStepSet, piece_at, slots_of, keys_in, line, StandsAt};
+ghost use Rattle.schedule_trie.specs.Cut.{IsBlank, IsNoted, IsWhole, above_of, before_key, keys_by, if_lacks, note_of, AreLimits, has, IsOwnEnd, IsPushed, LackedByOthers, forest, IsCut, IsStepSet, piece_at, slots_of, keys_in, line, IsSpotInPath};
 ghost use Rattle.schedule_trie.specs.declared.limits.TheConstants.{MOST_CELLS_MADE};
 
 mod climb;
@@ -33,7 +33,7 @@ use lineage::lineage::Lineage;
 use std::alloc::{AllocError, Global};
 use std::marker::Model;
 
-/// Branches of a schedule that share their steps, with a note of type T or none for each segment.
+/// Branches of a schedule that share their steps. Each segment may have a note of type `T`.
 #[derive(Drop)]
 pub struct Trie<T> {
     segments: Lineage<Segment<T>>,
@@ -55,11 +55,11 @@ impl<T> Model for Trie<T> {
 }
 
 impl<T: Drop> Trie<T> {
-    /// A trie of these steps on the branch `main`.
+    /// A trie with one branch, `main`, which has these steps.
     ///
     /// # Errors
     ///
-    /// Full where there are more steps than cells may be made; Memory.
+    /// Full if there are more steps than `limits.cells`; Memory.
     pub fn new(alloc: Global, limits: Limits, steps: &[Step]) -> Result<Trie<T>, Refusal>
         requires { AreLimits limits }
         ensures ok { IfOk result (λ t. opened limits steps.now ≡ Ok (forest t)) }
@@ -74,7 +74,7 @@ impl<T: Drop> Trie<T> {
         Ok(Trie::with_steps(alloc, limits, Name::main(), steps)?)
     }
 
-    /// A trie of steps that fit, on one branch of this name.
+    /// A trie with one branch, which has this name and these steps. The steps are within the limit.
     fn with_steps(
         alloc: Global,
         limits: Limits,
@@ -84,7 +84,7 @@ impl<T: Drop> Trie<T> {
         requires limits { AreLimits limits }
         requires name { is_name name ≡ true }
         requires few { length steps.now ≤ limits.cells }
-        ensures forest { IfOk result (λ t. forest t ≡ alone name steps.now) }
+        ensures forest { IfOk result (λ t. forest t ≡ lone_branch name steps.now) }
         ensures limits { IfOk result (λ t. t.limits ≡ limits) }
         ensures cut { IfOk result IsCut }
         ensures blank { IfOk result IsBlank }
@@ -95,11 +95,11 @@ impl<T: Drop> Trie<T> {
         Ok(trie)
     }
 
-    /// One branch, of this name, with no cells.
+    /// A trie with one branch, which has this name and no cells.
     fn alone(alloc: Global, limits: Limits, name: Name) -> Result<Trie<T>, AllocError>
         requires limits { AreLimits limits }
         requires name { is_name name ≡ true }
-        ensures forest { IfOk result (λ t. forest t ≡ alone name []) }
+        ensures forest { IfOk result (λ t. forest t ≡ lone_branch name []) }
         ensures limits { IfOk result (λ t. t.limits ≡ limits) }
         ensures count { IfOk result (λ t. length t.strands ≡ 1) }
         ensures cut { IfOk result IsCut }
@@ -117,7 +117,7 @@ impl<T: Drop> Trie<T> {
         })
     }
 
-    /// How many cells were ever made. No branch has more segments.
+    /// The number of cells ever made. No branch has more segments than this.
     pub fn made(&self) -> u32
         ensures made { result ≡ (forest self.now).made }
         ensures few { (i : ℕ) → length (keys_in self.now.strands i) ≤ result }
@@ -125,7 +125,7 @@ impl<T: Drop> Trie<T> {
         self.made
     }
 
-    /// How many branches there are, at least one. No two have the same name.
+    /// The number of branches, at least one. No two have the same name.
     pub fn branches(&self) -> u32
         ensures count { result ≡ length (forest self.now).branches }
         ensures some { 0 < result }
@@ -134,8 +134,8 @@ impl<T: Drop> Trie<T> {
         self.branches.len() as u32
     }
 
-    /// What a trie keeps by its type: its branches are a forest, their names have a name's form, and it is within its limits. It
-    /// does nothing: callers learn this by its contract.
+    /// Does nothing. Its contract states what the type guarantees: the branches are a forest, their
+    /// names are well-formed, and the trie is within its limits.
     pub fn held(&self)
         ensures forest { IsForest (forest self.now) }
         ensures names { HaveNames (forest self.now).branches }
@@ -144,7 +144,8 @@ impl<T: Drop> Trie<T> {
         let _count = self.branches.len();
     }
 
-    /// The name of a branch, in order of making.
+    /// The name of the branch at `index`; `None` if there is no such branch. Branches have indices
+    /// from 0 in the order they were made.
     pub fn name_at(&self, index: u32) -> Option<Name>
         ensures { result ≡ name_in (forest self.now).branches index }
     {
@@ -152,7 +153,7 @@ impl<T: Drop> Trie<T> {
         Some(*name)
     }
 
-    /// How many cells a branch has; none where there is no such branch.
+    /// The number of a branch's cells; `None` if there is no such branch.
     pub fn len(&self, branch: &Name) -> Option<u32>
         ensures { result ≡ len_of (forest self.now) branch.now }
     {
@@ -160,9 +161,9 @@ impl<T: Drop> Trie<T> {
         Some(self.len_at(index))
     }
 
-    /// The number of the cell at a place of a branch; none where there is no such branch or cell.
+    /// The number of the cell at a place of a branch; `None` if there is no such branch or cell.
     pub fn cell_at(&self, branch: &Name, place: u32) -> Option<u32>
-        ensures { result ≡ cell_at (forest self.now) branch.now place }
+        ensures { result ≡ cell_on_branch (forest self.now) branch.now place }
     {
         let index = self.index(branch)?;
         let (key, offset) = self.find_cell(index, place)?;
@@ -170,7 +171,8 @@ impl<T: Drop> Trie<T> {
         Some(slot.cell)
     }
 
-    /// The place of a cell on a branch; none where there is no such branch, or it hasn't the cell.
+    /// The place on a branch of the cell with this number; `None` if there is no such branch, or if
+    /// the branch doesn't have the cell.
     pub fn place_of(&self, branch: &Name, cell: u32) -> Option<u32>
         ensures { result ≡ place_of (forest self.now) branch.now cell }
     {
@@ -203,7 +205,7 @@ impl<T: Drop> Trie<T> {
         self.steps_of(alloc, &keys)
     }
 
-    /// The steps of segments, in order.
+    /// The steps of the segments with these keys, in order.
     fn steps_of(&self, alloc: Global, keys: &[SegKey]) -> Result<Vec<Step>, AllocError>
         ensures { IfOk result
             (λ steps. steps.items ≡ map step_of (line (piece_at self.now.pieces) keys.now)) }
@@ -234,8 +236,8 @@ impl<T: Drop> Trie<T> {
         Ok(self.keys_at(alloc, index)?)
     }
 
-    /// The key of the segment right above a segment, the same on each branch that has it; none for a branch's first segment,
-    /// and where no segment has the key.
+    /// The key of the segment right above the one with this key. It is the same on each branch.
+    /// `None` if the segment is the first of a branch, or if no segment has the key.
     pub fn above(&self, key: SegKey) -> Option<SegKey>
         ensures first { result ≡ above_of self.now.strands key }
         ensures each { (i : ℕ) (front back : List ℕ)
@@ -244,7 +246,7 @@ impl<T: Drop> Trie<T> {
         self.segments.above(key)
     }
 
-    /// The cells of a segment, in order; none where no segment has the key.
+    /// The cells of a segment, in order; `None` if no segment has the key.
     pub fn cells_of(&self, key: SegKey) -> Option<&[Slot]>
         ensures { option_map (λ slots. slots.now) result
             ≡ option_map (λ p. p.slots) (piece_at self.now.pieces key) }
@@ -253,14 +255,14 @@ impl<T: Drop> Trie<T> {
         Some(segment.slots.as_slice())
     }
 
-    /// What is noted at a segment; none where nothing is, or no segment has the key.
+    /// The note of a segment; `None` if the segment has no note, or if no segment has the key.
     pub fn note(&self, key: SegKey) -> Option<&T>
         ensures { option_copied result ≡ note_of (piece_at self.now.pieces key) }
     {
         self.segments.item(key)?.note.as_ref()
     }
 
-    /// What is noted at a segment, and the key of the segment right above it, each as above, by one look at the segment.
+    /// The results of `note` and `above`, found with one access to the segment.
     #[inline(always)]
     pub fn step_up(&self, key: SegKey) -> (Option<&T>, Option<SegKey>)
         ensures note { option_copied result.0 ≡ note_of (piece_at self.now.pieces key) }
@@ -274,7 +276,7 @@ impl<T: Drop> Trie<T> {
         }
     }
 
-    /// What `step_up` tells, of a segment that is there.
+    /// The same as `step_up`, for a segment that exists.
     #[inline(always)]
     pub fn step_up_from(&self, key: SegKey) -> (Option<&T>, Option<SegKey>)
         requires { IsSome (piece_at self.now.pieces key) }
@@ -287,7 +289,8 @@ impl<T: Drop> Trie<T> {
         (segment.note.as_ref(), above.get())
     }
 
-    /// Notes something else at a segment, or nothing. Where no segment has the key nothing is changed. It takes no memory.
+    /// Sets the note of a segment, or clears it if `note` is `None`. If no segment has the key,
+    /// nothing changes. Never allocates.
     pub fn set_note(&mut self, key: SegKey, note: Option<T>)
         ensures { IsNoted self.old self.new key note }
     {
@@ -297,12 +300,12 @@ impl<T: Drop> Trie<T> {
         self.segments.item_mut(key).set_note(note);
     }
 
-    /// Gives the cell at a place of a branch another step, in each branch that holds it; it stays the same cell. It takes no
-    /// memory.
+    /// Replaces the step of the cell at a place of a branch, in each branch that has the cell. The
+    /// cell keeps its number. Never allocates.
     ///
     /// # Errors
     ///
-    /// NoBranch; NoPlace where the branch has no cell there. Then nothing is changed.
+    /// NoBranch; NoPlace if the branch has no cell there. Then nothing changes.
     pub fn replace(&mut self, branch: &Name, place: u32, step: Step) -> Result<(), Refusal>
         ensures ok { OnOk result (IsEdited self.old self.new (Replace branch.now place step)) }
         ensures err { IfErr result (IsUnedited self.old self.new (Replace branch.now place step)) }
@@ -318,7 +321,7 @@ impl<T: Drop> Trie<T> {
         Ok(())
     }
 
-    /// Where a branch stands in order of making; none where there is no such branch.
+    /// The index of the branch with this name; `None` if there is no such branch.
     pub fn index(&self, branch: &Name) -> Option<usize>
         ensures index { result ≡ index_of (forest self.now).branches branch.now }
         ensures within { IfSome result (λ i. i < length self.now.strands) }
@@ -326,14 +329,16 @@ impl<T: Drop> Trie<T> {
         self.branches.get_index_of(branch)
     }
 
-    /// The key of the last segment of the branch at an index; none if there is no such branch, or it has no cell.
+    /// The key of the last segment of the branch at an index; `None` if there is no such branch, or
+    /// if the branch has no cell.
     pub fn last_at(&self, index: usize) -> Option<SegKey>
         ensures { result ≡ last_of (keys_in self.now.strands index) }
     {
         self.segments.last(index)
     }
 
-    /// The keys of the segments of the branch at an index, in order; none where there is no such branch.
+    /// The keys of the segments of the branch at an index, in order; empty if there is no such
+    /// branch.
     pub fn keys_at(&self, alloc: Global, index: usize) -> Result<Vec<SegKey>, AllocError>
         ensures keys { IfOk result (λ keys. keys.items ≡ keys_in self.now.strands index) }
         ensures short { IfOk result
@@ -343,7 +348,7 @@ impl<T: Drop> Trie<T> {
         self.segments.keys(alloc, index)
     }
 
-    /// The cells of a segment.
+    /// The cells of a segment; no cells if no segment has the key.
     fn slots_at(&self, key: SegKey) -> &[Slot]
         ensures { result.now ≡ slots_of (piece_at self.now.pieces key) }
     {
@@ -353,7 +358,7 @@ impl<T: Drop> Trie<T> {
         }
     }
 
-    /// Gives a cell of a segment another step, and clears the segment's note.
+    /// Replaces the step of a cell of a segment, and clears the segment's note.
     fn set_step(&mut self, key: SegKey, offset: usize, step: Step)
         requires { offset < length (slots_of (piece_at self.old.pieces key)) }
         ensures { IsStepSet self.old self.new key offset step }
@@ -362,7 +367,7 @@ impl<T: Drop> Trie<T> {
     }
 }
 
-/// Puts the steps of cells behind others.
+/// Adds the steps of `slots` at the end of `steps`.
 fn push_steps(steps: &mut Vec<Step>, slots: &[Slot]) -> Result<(), AllocError>
     ensures { OnOk result (steps.new.items ≡ steps.old.items ++ map step_of slots.now) }
 {

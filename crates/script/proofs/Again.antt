@@ -15,12 +15,12 @@ use Rattle.views.specs.declared.query.Query.TheVariants.{State, Process, Bits, P
 use Rattle.sessions.specs.declared.command.Command.{Command}
 use Rattle.sessions.specs.declared.command.Command.TheVariants as command
 use Rattle.words.specs.Words.{next, after_next, number, one_number, two_numbers}
-use Rattle.words.specs.Steps.{step_of}
+use Rattle.words.specs.Steps.{step_of_words}
 use Rattle.words.proofs.Numbers.{number-decimal}
 use Rattle.script.specs.declared.call.Request.{Request}
 use Rattle.script.specs.declared.call.Request.TheVariants.{Act, Look, Fill}
 use Rattle.script.specs.declared.call.Call.{Call}
-use Rattle.script.specs.Lines.{branch, branch_of, place_of, process_at, step_at, fork_of, break_of, command_of, unguarded, guarded, request_of, call_of}
+use Rattle.script.specs.Lines.{branch_word, only_branch, branch_and_place, process_at, step_at, fork_of, break_of, command_of, unguarded, guarded, request_of, call_of}
 use Rattle.script.specs.Spelling.{Word, spelled, step_words, break_words, place_words, command_words, query_words, request_words, call_words, is_visible, is_sound, IsOwn}
 use Rattle.script.proofs.Shapes.{call_with}
 use Rattle.script.specs.Spelling.{Text, Number, Guard}
@@ -40,13 +40,13 @@ number_again n h = number-decimal n (lt_is n (10 ^ 9) h)
 some_bytes : (n : ℕ) → nat_le 1 n ≡ true → (n == 0) ≡ false
 some_bytes n h = grind (arith, nat_tests)
 
-branch_again : (b : List ℕ) → is_sound (Text b) ≡ true → branch b ≡ Some b
+branch_again : (b : List ℕ) → is_sound (Text b) ≡ true → branch_word b ≡ Some b
 branch_again b h =
     let a = and_parts (nat_le 1 (length b) && nat_le (length b) 16) (list_all is_visible b) h in
     let c = and_parts (nat_le 1 (length b)) (nat_le (length b) 16) a.0 in
     ap (λ t. cond t None (cond (nat_le (length b) 16) (Some b) None)) (some_bytes (length b) c.0) ∙ ap (λ t. cond t (Some b) None) c.1
 
--- ---- the words behind a command's
+-- ---- the words after a command's
 
 one_again : (n : ℕ) → AreSound (Number n ∷ []) → one_number (decimal n ∷ []) ≡ Some n
 one_again n h = rw (number_again n (both (Number n) [] h).0) refl
@@ -56,11 +56,11 @@ two_again m n h =
     let a = both (Number m) (Number n ∷ []) h in
     rw (number_again m a.0, number_again n (both (Number n) [] a.1).0) refl
 
-branch_of_again : (b : List ℕ) → AreSound (Text b ∷ []) → branch_of (b ∷ []) ≡ Some b
+branch_of_again : (b : List ℕ) → AreSound (Text b ∷ []) → only_branch (b ∷ []) ≡ Some b
 branch_of_again b h = ap (λ (o : Option (List ℕ)). option_and_then (λ (x : List ℕ). Some x) o) (branch_again b (both (Text b) [] h).0)
 
 module _ (b : List ℕ) (k : ℕ) where
-  place_again : AreSound (place_words b k) → place_of (b ∷ decimal k ∷ []) ≡ Some (b, k)
+  place_again : AreSound (place_words b k) → branch_and_place (b ∷ decimal k ∷ []) ≡ Some (b, k)
   place_again h =
       let a = both (Text b) (Number k ∷ []) h in
       ap (option_and_then (λ (x : List ℕ). option_and_then (λ (n : ℕ). Some (x, n)) (number (decimal k)))) (branch_again b a.0)
@@ -78,11 +78,11 @@ module _ (b : List ℕ) (k : ℕ) where
   fork_again name h =
       let a = both (Text b) (Number k ∷ Text name ∷ []) h in
       let c = both (Number k) (Text name ∷ []) a.1 in
-      ap (option_and_then (λ (x : List ℕ). option_and_then (λ (n : ℕ). option_and_then (λ (m : List ℕ). Some (x, n, m)) (branch name)) (number (decimal k)))) (branch_again b a.0)
-      ∙ ap (option_and_then (λ (n : ℕ). option_and_then (λ (m : List ℕ). Some (b, n, m)) (branch name))) (number_again k c.0)
+      ap (option_and_then (λ (x : List ℕ). option_and_then (λ (n : ℕ). option_and_then (λ (m : List ℕ). Some (x, n, m)) (branch_word name)) (number (decimal k)))) (branch_again b a.0)
+      ∙ ap (option_and_then (λ (n : ℕ). option_and_then (λ (m : List ℕ). Some (b, n, m)) (branch_word name))) (number_again k c.0)
       ∙ ap (option_and_then (λ (m : List ℕ). Some (b, k, m))) (branch_again name (both (Text name) [] c.1).0)
 
-step_again : (s : Step) → AreSound (step_words s) → step_of (map spelled (step_words s)) ≡ Some s
+step_again : (s : Step) → AreSound (step_words s) → step_of_words (map spelled (step_words s)) ≡ Some s
 step_again (step.Write p v) h = ap (option_map (λ (n : ℕ × ℕ). step.Write n.0 n.1)) (two_again p v (both (Text (codes "w")) (Number p ∷ Number v ∷ []) h).1)
 step_again (step.Read p) h = ap (option_map (λ (n : ℕ). step.Read n)) (one_again p (both (Text (codes "r")) (Number p ∷ []) h).1)
 step_again (step.Go p c) h = ap (option_map (λ (n : ℕ × ℕ). step.Go n.0 n.1)) (two_again p c (both (Text (codes "g")) (Number p ∷ Number c ∷ []) h).1)
@@ -93,8 +93,8 @@ step_at_again b k s h =
     let a = both (Text b) (Number k ∷ step_words s) h in
     let c = both (Number k) (step_words s) a.1 in
     let ws = map spelled (step_words s) in
-    ap (option_and_then (λ (x : List ℕ). option_and_then (λ (n : ℕ). option_and_then (λ (m : Step). Some (x, n, m)) (step_of ws)) (number (decimal k)))) (branch_again b a.0)
-    ∙ ap (option_and_then (λ (n : ℕ). option_and_then (λ (m : Step). Some (b, n, m)) (step_of ws))) (number_again k c.0)
+    ap (option_and_then (λ (x : List ℕ). option_and_then (λ (n : ℕ). option_and_then (λ (m : Step). Some (x, n, m)) (step_of_words ws)) (number (decimal k)))) (branch_again b a.0)
+    ∙ ap (option_and_then (λ (n : ℕ). option_and_then (λ (m : Step). Some (b, n, m)) (step_of_words ws))) (number_again k c.0)
     ∙ ap (option_and_then (λ (m : Step). Some (b, k, m))) (step_again s c.1)
 
 break_again : (br : Break) → AreSound (break_words br) → break_of (map spelled (break_words br)) ≡ Some br

@@ -10,12 +10,12 @@ use Rattle.words.specs.Words.{words, number}
 use Rattle.words.proofs.Digits.{digit_bounds}
 use Rattle.words.proofs.Numbers.{decimal-number, digits-decimal, nine_digits, digit_first}
 use Rattle.words.proofs.Texts.{all_weaker, all_append, is_not, cut_at, no_cut}
-use Rattle.script.specs.Lines.{is_plain}
+use Rattle.script.specs.Lines.{is_call_byte}
 use Rattle.script.specs.Spelling.{Word, spelled, is_visible, is_sound}
 use Rattle.script.specs.Spelling.{Text, Number, Guard}
 use Rattle.script.proofs.Shapes.{is_small}
 
--- bytes of words are all visible
+-- the bytes of these words are all visible
 abbrev pub are_visible : List (List ℕ) → Bool
 are_visible ws = list_all (list_all is_visible) ws
 
@@ -25,10 +25,10 @@ lt_is m n h = grind (arith, nat_tests)
 le_is : (m n : ℕ) → nat_le m n ≡ true → m ≤ n
 le_is m n h = grind (arith, nat_tests)
 
-visible_byte : (b : ℕ) → is_plain b ≡ true → (b == 32) ≡ false → is_visible b ≡ true
+visible_byte : (b : ℕ) → is_call_byte b ≡ true → (b == 32) ≡ false → is_visible b ≡ true
 visible_byte b h k = grind (arith, nat_tests)
 
-visible_is_plain : (b : ℕ) → is_visible b ≡ true → is_plain b ≡ true
+visible_is_plain : (b : ℕ) → is_visible b ≡ true → is_call_byte b ≡ true
 visible_is_plain b h = grind (arith, nat_tests)
 
 visible_stays : (b : ℕ) → is_visible b ≡ true → is_not 32 b ≡ true
@@ -45,14 +45,14 @@ onto_visible b (w ∷ ws) h k =
     let a = and_parts (list_all is_visible w) (are_visible ws) k in
     and_from (is_visible b && list_all is_visible w) (are_visible ws) (and_from (is_visible b) (list_all is_visible w) h a.0) a.1
 
-by_byte : (b : ℕ) (ws : List (List ℕ)) (t : Bool) → (b == 32) ≡ t → is_plain b ≡ true → are_visible ws ≡ true → are_visible (cond t ([] ∷ ws) (onto_first b ws)) ≡ true
+by_byte : (b : ℕ) (ws : List (List ℕ)) (t : Bool) → (b == 32) ≡ t → is_call_byte b ≡ true → are_visible ws ≡ true → are_visible (cond t ([] ∷ ws) (onto_first b ws)) ≡ true
 by_byte b ws true e h k = k
 by_byte b ws false e h k = onto_visible b ws (visible_byte b h e) k
 
-pub visible_words : (text : List ℕ) → list_all is_plain text ≡ true → are_visible (words text) ≡ true
+pub visible_words : (text : List ℕ) → list_all is_call_byte text ≡ true → are_visible (words text) ≡ true
 visible_words [] h = refl
 visible_words (b ∷ bs) h =
-    let a = and_parts (is_plain b) (list_all is_plain bs) h in
+    let a = and_parts (is_call_byte b) (list_all is_call_byte bs) h in
     by_byte b (words bs) (b == 32) refl a.0 (visible_words bs a.1)
 
 -- words that are within their sizes and visible are sound
@@ -107,15 +107,15 @@ words-join w (v ∷ vs) h =
     let a = and_parts (list_all is_visible w) (are_visible (v ∷ vs)) h in
     cut_at 32 w (join_with_byte 32 (v ∷ vs)) (all_weaker is_visible (is_not 32) visible_stays w a.0) ∙ ap (λ rest. w ∷ rest) (words-join v vs a.1)
 
-pub plain-join : (w : List ℕ) (ws : List (List ℕ)) → are_visible (w ∷ ws) ≡ true → list_all is_plain (join_with_byte 32 (w ∷ ws)) ≡ true
+pub plain-join : (w : List ℕ) (ws : List (List ℕ)) → are_visible (w ∷ ws) ≡ true → list_all is_call_byte (join_with_byte 32 (w ∷ ws)) ≡ true
 plain-join w [] h =
     let a = and_parts (list_all is_visible w) true h in
-    all_weaker is_visible is_plain visible_is_plain w a.0
+    all_weaker is_visible is_call_byte visible_is_plain w a.0
 plain-join w (v ∷ vs) h =
     let a = and_parts (list_all is_visible w) (are_visible (v ∷ vs)) h in
-    all_append is_plain w (32 ∷ join_with_byte 32 (v ∷ vs)) (all_weaker is_visible is_plain visible_is_plain w a.0) (plain-join v vs a.1)
+    all_append is_call_byte w (32 ∷ join_with_byte 32 (v ∷ vs)) (all_weaker is_visible is_call_byte visible_is_plain w a.0) (plain-join v vs a.1)
 
--- so many words have at most 17 bytes each, with the space behind it
+-- n sound words, each with a space after it, have at most 17 bytes per word
 pub short-join : (x : Word) (xs : List Word) → list_all is_sound (x ∷ xs) ≡ true → length (join_with_byte 32 (map spelled (x ∷ xs))) + 1 ≤ length (x ∷ xs) * 17
 short-join x [] h =
     let a = and_parts (is_sound x) true h in
@@ -130,7 +130,7 @@ short-join x (y ∷ ys) h =
 no_comment : (b : ℕ) → is_ascii_digit b ≡ true → (b == 35) ≡ false
 no_comment b h = let d = digit_bounds b h in grind (arith, nat_tests, d)
 
--- a text that begins so says something
+-- a text that is neither empty nor a comment
 pub record Speaks (text : List ℕ) : Type 0 where
   pub first : ℕ
   pub others : List ℕ

@@ -1,4 +1,4 @@
--- What is read of a line is what it says.
+-- A line is read as what it says.
 use Rattle.std.proofs.Common.{◌≡◌, ◌==◌, ℕ, ◌≤◌, Bool, true, false, cond, ◌&&◌, nat_le, List, [], ◌∷◌, length, map, Option, Some, None, refl, sym, ap, ◌∙◌, subst, arith}
 use Rattle.std.specs.Fmt.{decimal}
 use Rattle.std.specs.List.{list_all, join_with_byte}
@@ -9,8 +9,8 @@ use Rattle.words.specs.Words.{words}
 use Rattle.script.specs.declared.call.Call.{Call}
 use Rattle.script.specs.declared.call.Line.{Line}
 use Rattle.script.specs.declared.call.Line.TheVariants as line
-use Rattle.script.specs.Lines.{call_of, is_plain, call_or_bad, called, read_line}
-use Rattle.script.specs.Spelling.{Number, spelled, call_words, request_words, call_text, is_sound, SpellsCall, IsBlank, Says}
+use Rattle.script.specs.Lines.{call_of, is_call_byte, call_or_bad, called, read_line}
+use Rattle.script.specs.Spelling.{Number, spelled, call_words, request_words, call_text, is_sound, SpellsCall, IsBlankLine, LineSays}
 use Rattle.script.proofs.Sound.{call_shows}
 use Rattle.script.proofs.Again.{number_again, call_again, few_words}
 use Rattle.script.proofs.Bytes.{are_visible, visible_words, sound_words, sound_visible, words-join, plain-join, short-join, Speaks, speaks}
@@ -22,12 +22,12 @@ call_is_read None c h = absurd cc
 call_is_read (Some x) c h = cc
 
 called_is : (text : List ℕ) (c : Call) → called text ≡ line.Call c → SpellsCall text c
-called_is text c h = by (nat_le (length text) 255 && list_all is_plain text) refl h
+called_is text c h = by (nat_le (length text) 255 && list_all is_call_byte text) refl h
   where
-    by : (t : Bool) → (nat_le (length text) 255 && list_all is_plain text) ≡ t → cond t (call_or_bad (call_of (words text))) line.Bad ≡ line.Call c → SpellsCall text c
+    by : (t : Bool) → (nat_le (length text) 255 && list_all is_call_byte text) ≡ t → cond t (call_or_bad (call_of (words text))) line.Bad ≡ line.Call c → SpellsCall text c
     by false e k = absurd cc
     by true e k =
-        let plain = (and_parts (nat_le (length text) 255) (list_all is_plain text) e).1 in
+        let plain = (and_parts (nat_le (length text) 255) (list_all is_call_byte text) e).1 in
         let shows = call_shows (words text) c (call_is_read (call_of (words text)) c k) in
         record {
           own = shows.1;
@@ -45,8 +45,8 @@ called_again c text s =
     let ws = map spelled (request_words c.request) in
     let visible = sound_visible (call_words c) s.sound in
     let short : nat_le (length (call_text c)) 255 ≡ true = le_true (length (call_text c)) 255 (omega (arith, short-join (Number c.session) (request_words c.request) s.sound, few_words c)) in
-    let good : (nat_le (length (call_text c)) 255 && list_all is_plain (call_text c)) ≡ true =
-    and_from (nat_le (length (call_text c)) 255) (list_all is_plain (call_text c)) short (plain-join (decimal c.session) ws visible) in
+    let good : (nat_le (length (call_text c)) 255 && list_all is_call_byte (call_text c)) ≡ true =
+    and_from (nat_le (length (call_text c)) 255) (list_all is_call_byte (call_text c)) short (plain-join (decimal c.session) ws visible) in
     ap called s.spelled_so
     ∙ ap (λ t. cond t (call_or_bad (call_of (words (call_text c)))) line.Bad) good
     ∙ ap (λ ws. call_or_bad (call_of ws)) (words-join (decimal c.session) ws visible)
@@ -67,18 +67,18 @@ reads_call c text s =
 
 -- ---- both
 
-blank_is : (text : List ℕ) → IsBlank text → read_line text ≡ line.Blank
+blank_is : (text : List ℕ) → IsBlankLine text → read_line text ≡ line.Blank
 blank_is [] h = refl
 blank_is (b ∷ bs) h = ap (λ t. cond t line.Blank (called (b ∷ bs))) (eq-eqb b 35 h)
 
-by_bad : (text : List ℕ) → read_line text ≡ line.Bad → Says text line.Bad
+by_bad : (text : List ℕ) → read_line text ≡ line.Bad → LineSays text line.Bad
 by_bad text h = (
   λ blank. let clash : line.Bad ≡ line.Blank = sym h ∙ blank_is text blank in absurd cc,
   λ c s. let clash : line.Bad ≡ line.Call c = sym h ∙ reads_call c text s in absurd cc,
 )
 
 not_blank : (text : List ℕ) → called text ≡ line.Blank → ⊥
-not_blank text h = by (nat_le (length text) 255 && list_all is_plain text) h
+not_blank text h = by (nat_le (length text) 255 && list_all is_call_byte text) h
   where
     other : (o : Option Call) → call_or_bad o ≡ line.Blank → ⊥
     other None k = absurd cc
@@ -88,7 +88,7 @@ not_blank text h = by (nat_le (length text) 255 && list_all is_plain text) h
     by true k = other (call_of (words text)) k
     by false k = absurd cc
 
-by_blank : (text : List ℕ) → read_line text ≡ line.Blank → IsBlank text
+by_blank : (text : List ℕ) → read_line text ≡ line.Blank → IsBlankLine text
 by_blank [] h = tt
 by_blank (b ∷ bs) h = by (b == 35) refl h
   where
@@ -104,12 +104,12 @@ by_call (b ∷ bs) c h = by (b == 35) h
     by true k = absurd cc
     by false k = called_is (b ∷ bs) c k
 
-pub says_what_is_read : (text : List ℕ) (l : Line) → read_line text ≡ l → Says text l
+pub says_what_is_read : (text : List ℕ) (l : Line) → read_line text ≡ l → LineSays text l
 says_what_is_read text line.Blank h = by_blank text h
 says_what_is_read text line.Bad h = by_bad text h
 says_what_is_read text (line.Call c) h = by_call text c h
 
-pub reads_what_is_said : (text : List ℕ) (l : Line) → Says text l → read_line text ≡ l
+pub reads_what_is_said : (text : List ℕ) (l : Line) → LineSays text l → read_line text ≡ l
 reads_what_is_said text line.Blank h = blank_is text h
 reads_what_is_said text (line.Call c) h = reads_call c text h
 reads_what_is_said text line.Bad h = by (read_line text) refl

@@ -1,4 +1,4 @@
--- Words that show a shape: each is spelled so, and as long as it may be.
+-- Words of a given shape: each is spelled as the shape has it, and is within its size.
 use Rattle.std.proofs.Common.{◌≡◌, ◌==◌, ℕ, ◌<◌, ◌^◌, Bool, true, false, cond, ◌&&◌, nat_le, nat_lt, List, [], ◌∷◌, length, map, Option, Some, None, refl, sym, ap, ◌∙◌, subst, arith}
 use Rattle.std.specs.Option.{option_map, option_and_then}
 use Rattle.std.specs.List.{list_all}
@@ -11,7 +11,7 @@ use Rattle.words.proofs.Numbers.{decimal-number}
 use Rattle.words.proofs.Steps.{some_then, mapped, is_word}
 use Rattle.script.specs.declared.call.Request.{Request}
 use Rattle.script.specs.declared.call.Call.{Call}
-use Rattle.script.specs.Lines.{branch, alone}
+use Rattle.script.specs.Lines.{branch_word, if_no_more}
 use Rattle.script.specs.Spelling.{Word, spelled}
 use Rattle.script.specs.Spelling.{Text, Number, Guard}
 
@@ -41,16 +41,16 @@ pub at_end : (ws : List (List ℕ)) → is_end ws ≡ true → Shows ws []
 at_end [] h = record { same = refl; small = refl }
 at_end (w ∷ ws) h = absurd cc
 
--- a word that stands so
+-- words that begin with this text have a shape that begins with it
 pub keyword : (ws : List (List ℕ)) (v : List ℕ) (shape : List Word) → is_small (Text v) ≡ true → bytes_eq (next ws) v ≡ true → Shows (after_next ws) shape → Shows ws (Text v ∷ shape)
 keyword [] v shape s e h =
     let bad : is_small (Text []) ≡ true = subst (λ (x : List ℕ). is_small (Text x) ≡ true) (sym (is_word [] v e)) s in
     absurd cc
 keyword (w ∷ ws) v shape s e h = one_more w ws (Text v) shape (is_word w v e) s h
 
--- ---- what was read, by how
+-- ---- what was read, and how
 
--- the first word, and the rest
+-- a reading that succeeds has read a first word, and then the rest
 pub first_word : {A B : Type 0} (read : List ℕ → Option A) (f : A → Option B) (ws : List (List ℕ)) (y : B) → read [] ≡ None → option_and_then f (read (next ws)) ≡ Some y
     → (w : List ℕ) × (x : A) × (ws ≡ w ∷ after_next ws) × (read w ≡ Some x) × (f x ≡ Some y)
 first_word {A} read f [] y none h =
@@ -74,7 +74,7 @@ mapped_to P f sub c h k =
     let a = mapped f sub c k in
     subst P a.2 (h a.0 a.1)
 
-pub alone_to : {A : Type 0} (P : A → Type 0) (it c : A) (ws : List (List ℕ)) → (is_end ws ≡ true → P it) → alone it ws ≡ Some c → P c
+pub alone_to : {A : Type 0} (P : A → Type 0) (it c : A) (ws : List (List ℕ)) → (is_end ws ≡ true → P it) → if_no_more it ws ≡ Some c → P c
 alone_to P it c ws h k =
     let a = cond_some (is_end ws) it c k in
     subst P a.1 (h a.0)
@@ -95,7 +95,7 @@ number_shows w n h =
     let d = decimal-number w n h in
     (d.1, lt_true n (10 ^ 9) d.0)
 
-pub branch_shows : (w b : List ℕ) → branch w ≡ Some b → (w ≡ spelled (Text b)) × (is_small (Text b) ≡ true)
+pub branch_shows : (w b : List ℕ) → branch_word w ≡ Some b → (w ≡ spelled (Text b)) × (is_small (Text b) ≡ true)
 branch_shows w b h = by (length w == 0) refl h
   where
     by : (t : Bool) → (length w == 0) ≡ t → cond t None (cond (nat_le (length w) 16) (Some w) None) ≡ Some b → (w ≡ spelled (Text b)) × (is_small (Text b) ≡ true)

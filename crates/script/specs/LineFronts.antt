@@ -1,4 +1,4 @@
--- A line reads as its first bytes do, as many as are kept of it.
+-- Only the front of a line is kept, and the line is read and answered by its front.
 use Rattle.std.proofs.Common.{◌≡◌, ℕ, ◌<◌, Bool, false, cond, ◌&&◌, nat_le, ◌==◌, List, [], ◌∷◌, length, take, refl, sym, ap, ◌∙◌, arith, inl, inr}
 use Rattle.std.proofs.lemmas.List.{take_all, length-take}
 use Rattle.std.proofs.lemmas.Bool.{cases_lt}
@@ -7,7 +7,7 @@ use Rattle.std.specs.List.{list_all}
 use Rattle.conversation.specs.declared.limits.TheConstants.{KEPT_BYTES}
 use Rattle.words.specs.Words.{words}
 use Rattle.script.specs.declared.call.Line.TheVariants as line
-use Rattle.script.specs.Lines.{called, call_or_bad, call_of, read_line, is_plain}
+use Rattle.script.specs.Lines.{called, call_or_bad, call_of, read_line, is_call_byte}
 use Rattle.sessions.specs.World.{World}
 use Rattle.script.specs.Answers.{answer_line, answer_to}
 
@@ -15,7 +15,7 @@ le_false : (m n : ℕ) → n < m → nat_le m n ≡ false
 le_false m n h = grind (arith, nat_tests)
 
 called_long : (text : List ℕ) → 255 < length text → called text ≡ line.Bad
-called_long text h = ap (λ b. cond (b && list_all is_plain text) (call_or_bad (call_of (words text))) line.Bad) (le_false (length text) 255 h)
+called_long text h = ap (λ b. cond (b && list_all is_call_byte text) (call_or_bad (call_of (words text))) line.Bad) (le_false (length text) 255 h)
 
 called-front : (b : ℕ) (bs : List ℕ) → called (b ∷ take 255 bs) ≡ called (b ∷ bs)
 called-front b bs = elim (cases_lt (length bs) 255) [
@@ -23,9 +23,11 @@ called-front b bs = elim (cases_lt (length bs) 255) [
   | inr long ↦ called_long (b ∷ take 255 bs) (omega (arith, length-take 255 bs)) ∙ sym (called_long (b ∷ bs) (omega arith))
 ]
 
+-- a line is read by its front
 pub read_line-front : (text : List ℕ) → read_line (take KEPT_BYTES text) ≡ read_line text
 read_line-front [] = refl
 read_line-front (b ∷ bs) = ap (λ l. cond (b == 35) line.Blank l) (called-front b bs)
 
+-- a line is answered by its front
 pub answer_line-front : {P : Type 0} (memory : Bool) (n : ℕ) (text : List ℕ) (w : World P) → answer_line memory n (take KEPT_BYTES text) w ≡ answer_line memory n text w
 answer_line-front memory n text w = ap (λ l. answer_to memory n l w) (read_line-front text)

@@ -4,7 +4,7 @@ use Rattle.std.specs.Option.{option_map}
 use Rattle.std.specs.List.{list_all}
 use Rattle.std.specs.Str.{bytes_eq}
 use Rattle.frames.specs.declared.types.Step.{Step}
-use Rattle.schedule_trie.specs.Names.{name}
+use Rattle.schedule_trie.specs.Names.{name_of_bytes}
 use Rattle.views.specs.declared.breakpoint.Break.{Break}
 use Rattle.views.specs.declared.breakpoint.Break.TheVariants as break
 use Rattle.views.specs.declared.query.Query.{Query}
@@ -12,34 +12,34 @@ use Rattle.views.specs.declared.query.Query.TheVariants.{State, Process, Bits, P
 use Rattle.sessions.specs.declared.command.Command.{Command}
 use Rattle.sessions.specs.declared.command.Command.TheVariants as command
 use Rattle.words.specs.Words.{◌>>=◌, words, next, after_next, is_end, number, one_number, two_numbers}
-use Rattle.words.specs.Steps.{step_of}
+use Rattle.words.specs.Steps.{step_of_words}
 use Rattle.script.specs.declared.call.Request.{Request}
 use Rattle.script.specs.declared.call.Request.TheVariants.{Act, Look, Fill}
 use Rattle.script.specs.declared.call.Call.{Call}
 use Rattle.script.specs.declared.call.Line.{Line}
 use Rattle.script.specs.declared.call.Line.TheVariants as line
 
--- a branch: 1 to 16 bytes
-abbrev pub branch : List ℕ → Option (List ℕ)
-branch word = if length word == 0 then None else name word
+-- the name of a branch, 1 to 16 bytes
+abbrev pub branch_word : List ℕ → Option (List ℕ)
+branch_word word = if length word == 0 then None else name_of_bytes word
 
 -- a branch, and no more words
-abbrev pub branch_of : List (List ℕ) → Option (List ℕ)
-branch_of ws = do
-  b ← branch (next ws)
+abbrev pub only_branch : List (List ℕ) → Option (List ℕ)
+only_branch ws = do
+  b ← branch_word (next ws)
   if is_end (after_next ws) then Some b else None
 
 -- a branch and a place, and no more words
-abbrev pub place_of : List (List ℕ) → Option (List ℕ × ℕ)
-place_of ws = do
-  b ← branch (next ws)
+abbrev pub branch_and_place : List (List ℕ) → Option (List ℕ × ℕ)
+branch_and_place ws = do
+  b ← branch_word (next ws)
   k ← number (next (after_next ws))
   if is_end (after_next (after_next ws)) then Some (b, k) else None
 
 -- a branch, a place and a process, and no more words
 abbrev pub process_at : List (List ℕ) → Option (List ℕ × ℕ × ℕ)
 process_at ws = do
-  b ← branch (next ws)
+  b ← branch_word (next ws)
   k ← number (next (after_next ws))
   p ← number (next (after_next (after_next ws)))
   if is_end (after_next (after_next (after_next ws))) then Some (b, k, p) else None
@@ -47,22 +47,22 @@ process_at ws = do
 -- a branch, a place and a step
 abbrev pub step_at : List (List ℕ) → Option (List ℕ × ℕ × Step)
 step_at ws = do
-  b ← branch (next ws)
+  b ← branch_word (next ws)
   k ← number (next (after_next ws))
-  s ← step_of (after_next (after_next ws))
+  s ← step_of_words (after_next (after_next ws))
   Some (b, k, s)
 
--- a branch, a place and the name of a branch, and no more words
+-- a branch, a place and the name of a new branch, and no more words
 abbrev pub fork_of : List (List ℕ) → Option (List ℕ × ℕ × List ℕ)
 fork_of ws = do
-  b ← branch (next ws)
+  b ← branch_word (next ws)
   k ← number (next (after_next ws))
-  n ← branch (next (after_next (after_next ws)))
+  n ← branch_word (next (after_next (after_next ws)))
   if is_end (after_next (after_next (after_next ws))) then Some (b, k, n) else None
 
--- this, where the words end here
-abbrev pub alone : {A : Type 0} → A → List (List ℕ) → Option A
-alone it ws = if is_end ws then Some it else None
+-- `it`, if there are no more words
+abbrev pub if_no_more : {A : Type 0} → A → List (List ℕ) → Option A
+if_no_more it ws = if is_end ws then Some it else None
 
 -- a break that is one word
 abbrev pub kind_of : List ℕ → Option Break
@@ -79,13 +79,13 @@ break_of ws =
     else (if bytes_eq (next ws) (codes "bit") then option_map (λ n. break.Bit n.0 n.1) (two_numbers (after_next ws))
     else (if is_end (after_next ws) then kind_of (next ws) else None))
 
--- the words with which a look at a place begins, and at no one process
+-- the words that begin a look at a place as a whole, not at one process
 abbrev pub is_place_look : List ℕ → Bool
 is_place_look word =
     bytes_eq word (codes "state") || (bytes_eq word (codes "pending") || (bytes_eq word (codes "bits")
     || (bytes_eq word (codes "history") || bytes_eq word (codes "verdict"))))
 
--- the words with which a look begins
+-- the words that begin a look
 abbrev pub is_look : List ℕ → Bool
 is_look word =
     bytes_eq word (codes "branches") || (bytes_eq word (codes "cursor") || (bytes_eq word (codes "steps")
@@ -101,17 +101,19 @@ query_at word b place =
     else (if bytes_eq word (codes "verdict") then Some (Verdict b place)
     else None))))
 
+-- a look at a place as a whole: its word, a branch and a place, and no more words
 abbrev pub place_look_of : List ℕ → List (List ℕ) → Option Query
 place_look_of word ws = do
-  p ← place_of ws
+  p ← branch_and_place ws
   query_at word p.0 p.1
 
--- a session's look by its word: `branches`, `cursor`, `steps B`, `process B K P`, or another word with `B K`
+-- a session's look by its word: `branches`, `cursor`, `steps B`, `process B K P`, or a look at a
+-- place with `B K`
 abbrev pub look_of : ℕ → List ℕ → List (List ℕ) → Option Query
 look_of session word ws =
-    if bytes_eq word (codes "branches") then alone Branches ws
-    else (if bytes_eq word (codes "cursor") then alone (Cursor session) ws
-    else (if bytes_eq word (codes "steps") then option_map Steps (branch_of ws)
+    if bytes_eq word (codes "branches") then if_no_more Branches ws
+    else (if bytes_eq word (codes "cursor") then if_no_more (Cursor session) ws
+    else (if bytes_eq word (codes "steps") then option_map Steps (only_branch ws)
     else (if bytes_eq word (codes "process") then option_map (λ p. Process p.0 p.1 p.2) (process_at ws)
     else place_look_of word ws)))
 
@@ -119,15 +121,15 @@ look_of session word ws =
 abbrev pub branch_command_of : List ℕ → List (List ℕ) → Option Command
 branch_command_of word ws =
     if bytes_eq word (codes "fork") then option_map (λ p. command.Fork p.0 p.1 p.2) (fork_of ws)
-    else (if bytes_eq word (codes "detach") then option_map command.Detach (branch_of ws)
-    else (if bytes_eq word (codes "drop") then option_map command.Drop (branch_of ws)
+    else (if bytes_eq word (codes "detach") then option_map command.Detach (only_branch ws)
+    else (if bytes_eq word (codes "drop") then option_map command.Drop (only_branch ws)
     else None))
 
 -- an edit: `insert B K STEP`, `remove B K`, `replace B K STEP`, or one of a branch as a whole
 abbrev pub cell_command_of : List ℕ → List (List ℕ) → Option Command
 cell_command_of word ws =
     if bytes_eq word (codes "insert") then option_map (λ p. command.Insert p.0 p.1 p.2) (step_at ws)
-    else (if bytes_eq word (codes "remove") then option_map (λ p. command.Remove p.0 p.1) (place_of ws)
+    else (if bytes_eq word (codes "remove") then option_map (λ p. command.Remove p.0 p.1) (branch_and_place ws)
     else (if bytes_eq word (codes "replace") then option_map (λ p. command.Replace p.0 p.1 p.2) (step_at ws)
     else branch_command_of word ws))
 
@@ -141,25 +143,25 @@ break_command_of word ws =
 -- a command by its word: `join`, `leave`, `seek`, `back`, `go B K`, or another
 abbrev pub command_of : List ℕ → List (List ℕ) → Option Command
 command_of word ws =
-    if bytes_eq word (codes "join") then alone command.Join ws
-    else (if bytes_eq word (codes "leave") then alone command.Leave ws
-    else (if bytes_eq word (codes "seek") then alone command.Seek ws
-    else (if bytes_eq word (codes "back") then alone command.Back ws
-    else (if bytes_eq word (codes "go") then option_map (λ p. command.Go p.0 p.1) (place_of ws)
+    if bytes_eq word (codes "join") then if_no_more command.Join ws
+    else (if bytes_eq word (codes "leave") then if_no_more command.Leave ws
+    else (if bytes_eq word (codes "seek") then if_no_more command.Seek ws
+    else (if bytes_eq word (codes "back") then if_no_more command.Back ws
+    else (if bytes_eq word (codes "go") then option_map (λ p. command.Go p.0 p.1) (branch_and_place ws)
     else break_command_of word ws))))
 
 -- a command without a guard
 abbrev pub unguarded : List ℕ → List (List ℕ) → Option Request
 unguarded word ws = option_map (Act None) (command_of word ws)
 
--- a guard, a number, and a command
+-- a command with a guard, which is a number
 abbrev pub guarded : List ℕ → List (List ℕ) → Option Request
 guarded guard ws = do
   edits ← number guard
   c ← command_of (next ws) (after_next ws)
   Some (Act (Some edits) c)
 
--- a command, with `@N` before it if it is guarded
+-- a command, after `@N` if it has a guard
 abbrev pub act_of : List ℕ → List (List ℕ) → Option Request
 act_of [] ws = unguarded [] ws
 act_of (b ∷ bs) ws = if b == 64 then guarded bs ws else unguarded (b ∷ bs) ws
@@ -168,10 +170,10 @@ act_of (b ∷ bs) ws = if b == 64 then guarded bs ws else unguarded (b ∷ bs) w
 abbrev pub request_of : ℕ → List ℕ → List (List ℕ) → Option Request
 request_of session word ws =
     if is_look word then option_map Look (look_of session word ws)
-    else (if bytes_eq word (codes "fill") then option_map Fill (branch_of ws)
+    else (if bytes_eq word (codes "fill") then option_map Fill (only_branch ws)
     else act_of word ws)
 
--- a call: the number of a session, and what it asks for
+-- a call: the number of a session, and its request
 abbrev pub call_of : List (List ℕ) → Option Call
 call_of ws = do
   s ← number (next ws)
@@ -179,19 +181,20 @@ call_of ws = do
   Some (record { session = s; request = r })
 
 -- a byte of a call: 0x20 to 0x7E
-abbrev pub is_plain : ℕ → Bool
-is_plain b = nat_le 32 b && nat_le b 126
+abbrev pub is_call_byte : ℕ → Bool
+is_call_byte b = nat_le 32 b && nat_le b 126
 
--- what a call or none of its shapes says
+-- the call that was read, or a bad line if none was
 abbrev pub call_or_bad : Option Call → Line
 call_or_bad None = line.Bad
 call_or_bad (Some c) = line.Call c
 
--- what a line calls: at most 255 plain bytes that spell a call
+-- what a line says that isn't blank: the call that it spells, if it has at most 255 bytes and all
+-- are call bytes; else it is bad
 abbrev pub called : List ℕ → Line
-called text = if nat_le (length text) 255 && list_all is_plain text then call_or_bad (call_of (words text)) else line.Bad
+called text = if nat_le (length text) 255 && list_all is_call_byte text then call_or_bad (call_of (words text)) else line.Bad
 
--- what a line says: nothing where it is empty or begins with `#`
+-- what a line says: nothing if it is empty or begins with `#`, else a call, or that it is bad
 abbrev pub read_line : List ℕ → Line
 read_line [] = line.Blank
 read_line (b ∷ bs) = if b == 35 then line.Blank else called (b ∷ bs)

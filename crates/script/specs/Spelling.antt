@@ -15,24 +15,26 @@ use Rattle.script.specs.declared.call.Call.{Call}
 use Rattle.script.specs.declared.call.Line.{Line}
 use Rattle.script.specs.declared.call.Line.TheVariants as line
 
--- a word of a call: a text, a command's word or a branch's name; a number; a guard
+-- a word of a call: a text, which is a command's word or a branch's name; a number; or a guard
 pub data Word : Type 0 where
   Text : List ℕ → Word
   Number : ℕ → Word
   Guard : ℕ → Word
 
--- numbers are in decimal, and a guard has an `@` before it
+-- the bytes of a word: numbers are in decimal, and a guard has an `@` before it
 abbrev pub spelled : Word → List ℕ
 spelled (Text t) = t
 spelled (Number n) = decimal n
 spelled (Guard n) = codes "@" ++ decimal n
 
+-- the words of a step
 abbrev pub step_words : Step → List Word
 step_words (step.Write p v) = Text (codes "w") ∷ Number p ∷ Number v ∷ []
 step_words (step.Read p) = Text (codes "r") ∷ Number p ∷ []
 step_words (step.Go p c) = Text (codes "g") ∷ Number p ∷ Number c ∷ []
 step_words (step.Stop p) = Text (codes "x") ∷ Number p ∷ []
 
+-- the words of a break
 abbrev pub break_words : Break → List Word
 break_words (break.Returns p) = Text (codes "returns") ∷ Number p ∷ []
 break_words (break.Bit j v) = Text (codes "bit") ∷ Number j ∷ Number v ∷ []
@@ -40,9 +42,11 @@ break_words break.Chosen = Text (codes "chosen") ∷ []
 break_words break.Void = Text (codes "void") ∷ []
 break_words break.Refused = Text (codes "refused") ∷ []
 
+-- the words of a place of a branch
 abbrev pub place_words : List ℕ → ℕ → List Word
 place_words branch place = Text branch ∷ Number place ∷ []
 
+-- the words of a command
 abbrev pub command_words : Command → List Word
 command_words command.Join = Text (codes "join") ∷ []
 command_words command.Leave = Text (codes "leave") ∷ []
@@ -58,6 +62,7 @@ command_words command.Back = Text (codes "back") ∷ []
 command_words (command.Break br) = Text (codes "break") ∷ break_words br
 command_words (command.Clear br) = Text (codes "clear") ∷ break_words br
 
+-- the words of a look
 abbrev pub query_words : Query → List Word
 query_words (State b k) = Text (codes "state") ∷ place_words b k
 query_words (Process b k p) = Text (codes "process") ∷ Text b ∷ Number k ∷ Number p ∷ []
@@ -69,18 +74,18 @@ query_words Branches = Text (codes "branches") ∷ []
 query_words (Cursor who) = Text (codes "cursor") ∷ []
 query_words (Steps b) = Text (codes "steps") ∷ Text b ∷ []
 
--- a guard stands before a command alone
+-- the words of a request: only a command can have a guard, which comes first
 abbrev pub request_words : Request → List Word
 request_words (Act None c) = command_words c
 request_words (Act (Some edits) c) = Guard edits ∷ command_words c
 request_words (Look query) = query_words query
 request_words (Fill b) = Text (codes "fill") ∷ Text b ∷ []
 
--- the number of a session, and what it asks for
+-- the words of a call: the number of a session, and its request
 abbrev pub call_words : Call → List Word
 call_words c = Number c.session ∷ request_words c.request
 
--- the text of a call: its words, with one space between each two
+-- the text of a call: its words, with one space between them
 abbrev pub call_text : Call → List ℕ
 call_text c = join_with_byte 32 (map spelled (call_words c))
 
@@ -88,30 +93,32 @@ call_text c = join_with_byte 32 (map spelled (call_words c))
 abbrev pub is_visible : ℕ → Bool
 is_visible b = nat_le 33 b && nat_le b 126
 
--- a text has 1 to 16 such bytes, and a number at most 9 digits
+-- a text has 1 to 16 visible bytes; a number and a guard have at most 9 digits
 abbrev pub is_sound : Word → Bool
 is_sound (Text t) = (nat_le 1 (length t) && nat_le (length t) 16) && list_all is_visible t
 is_sound (Number n) = nat_lt n (10 ^ 9)
 is_sound (Guard n) = nat_lt n (10 ^ 9)
 
--- a session looks at its own cursor alone
+-- a session looks only at its own cursor
 abbrev pub IsOwn : ℕ → Request → Type 0
 IsOwn session (Look (Cursor who)) = who ≡ session
 IsOwn session r = ⊤
 
--- This text spells this call.
+-- a text spells a call: it is the call's text, its words are sound, and a cursor that is looked at
+-- is the session's own
 pub record SpellsCall (text : List ℕ) (c : Call) : Type 0 where
   pub own : IsOwn c.session c.request
   pub sound : list_all is_sound (call_words c) ≡ true
   pub spelled_so : text ≡ call_text c
 
--- a line that says nothing is empty, or begins with `#`
-abbrev pub IsBlank : List ℕ → Type 0
-IsBlank [] = ⊤
-IsBlank (b ∷ bs) = b ≡ 35
+-- a line is blank: it is empty, or begins with `#`
+abbrev pub IsBlankLine : List ℕ → Type 0
+IsBlankLine [] = ⊤
+IsBlankLine (b ∷ bs) = b ≡ 35
 
--- What a line says: nothing, or the call that it spells; one that spells none is bad.
-abbrev pub Says : List ℕ → Line → Type 0
-Says text line.Blank = IsBlank text
-Says text line.Bad = (IsBlank text → ⊥) × ((c : Call) → SpellsCall text c → ⊥)
-Says text (line.Call c) = SpellsCall text c
+-- What a line says: nothing, or the call that it spells. A line that isn't blank and spells no call
+-- is bad.
+abbrev pub LineSays : List ℕ → Line → Type 0
+LineSays text line.Blank = IsBlankLine text
+LineSays text line.Bad = (IsBlankLine text → ⊥) × ((c : Call) → SpellsCall text c → ⊥)
+LineSays text (line.Call c) = SpellsCall text c

@@ -3,23 +3,25 @@ use Rattle.std.specs.Prelude.{ℕ, List, [], ◌++◌, codes}
 use Rattle.std.specs.Fmt.{decimal}
 use Rattle.schedule_trie.specs.declared.refusal.Refusal.{Refusal}
 use Rattle.schedule_trie.specs.declared.refusal.Refusal.TheVariants.{Newer, BadLine}
-use Rattle.schedule_trie.specs.Refusals.{number, name}
+use Rattle.schedule_trie.specs.Refusals.{refusal_number, refusal_name}
 use Rattle.sessions.specs.declared.reply.Reply.{Reply}
 use Rattle.sessions.specs.declared.reply.Reply.TheVariants.{Joined, Left, Edited, Moved, NoHit, BreakSet, BreakCleared, No}
 use Rattle.views.specs.page.Head.{line_end}
 
--- what a refusal tells behind its name: the edit count, where that refuses
-abbrev pub told : Refusal → List ℕ
-told (Newer edits) = codes " " ++ decimal edits
-told r = []
+-- what follows a refusal's name: for Newer, the edit count
+abbrev pub refusal_detail : Refusal → List ℕ
+refusal_detail (Newer edits) = codes " " ++ decimal edits
+refusal_detail r = []
 
+-- a refusal: its number, its name and, for Newer, the edit count
 abbrev pub refusal_text : Refusal → List ℕ
-refusal_text r = codes "refused " ++ decimal (number r) ++ codes " " ++ name r ++ told r
+refusal_text r = codes "refused " ++ decimal (refusal_number r) ++ codes " " ++ refusal_name r ++ refusal_detail r
 
--- where a cursor stands now
+-- the place of a cursor that has moved
 abbrev pub place_text : List ℕ → ℕ → List ℕ
 place_text branch place = codes "at " ++ branch ++ codes " " ++ decimal place
 
+-- a reply, without the session's number
 abbrev pub reply_text : Reply → List ℕ
 reply_text Joined = codes "joined"
 reply_text Left = codes "left"
@@ -30,14 +32,14 @@ reply_text BreakSet = codes "break set"
 reply_text BreakCleared = codes "break cleared"
 reply_text (No r) = refusal_text r
 
--- a reply to a session
+-- the line that answers a session with a reply
 abbrev pub answer_text : ℕ → Reply → List ℕ
 answer_text session reply = decimal session ++ codes ": " ++ reply_text reply ++ line_end
 
--- the answer to a fill that isn't refused
+-- the answer to a fill that wasn't refused
 abbrev pub filled_text : ℕ → List ℕ
 filled_text session = decimal session ++ codes ": filled" ++ line_end
 
--- the refusal of a line that calls nothing
+-- the answer to a bad line, given the line's number
 abbrev pub bad_line_text : ℕ → List ℕ
 bad_line_text line = codes "line " ++ decimal line ++ codes ": " ++ refusal_text BadLine ++ line_end

@@ -1,13 +1,14 @@
-//! What a line of a script says.
+//! What a line of a script can say.
 
 use schedule_trie::name::Name;
 use sessions::command::Command;
 use views::query::Query;
 
-/// What a session asks for.
+/// A session's request.
 #[derive(Clone, Copy, Debug, PartialEq, Eq)]
 pub enum Request {
-    /// A command, which is logged, with its guard if it has one: the edit count at which alone it is done.
+    /// A command, which is logged. If it has a guard, it is carried out only if the guard equals
+    /// the edit count.
     Act {
         if_at: Option<u64>,
         command: Command,
@@ -18,7 +19,7 @@ pub enum Request {
     Fill(Name),
 }
 
-/// What a session asks for, and its number.
+/// A session's number, and its request.
 #[derive(Clone, Copy, Debug, PartialEq, Eq)]
 pub struct Call {
     pub session: u32,
@@ -28,9 +29,9 @@ pub struct Call {
 /// What a line of a script says.
 #[derive(Clone, Copy, Debug, PartialEq, Eq)]
 pub enum Line {
-    /// Nothing: it is empty, or begins with `#`.
+    /// Nothing: the line is empty, or begins with `#`.
     Blank,
-    /// None of the shapes of a call.
+    /// The line is neither blank nor a call.
     Bad,
     /// A call.
     Call(Call),

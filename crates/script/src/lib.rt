@@ -1,4 +1,4 @@
-//! Scripts: what a line says, and the lines of answers, in bytes.
+//! Scripts: what a line says, and the lines of answers as bytes.
 #![tactic(auto)]
 
 pub mod call;
@@ -6,3 +6,6 @@ pub mod laws;
 pub mod line;
 pub mod look;
 pub mod text;
+
+pub use call::{Call, Line, Request};
+pub use line::read_line;

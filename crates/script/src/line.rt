@@ -4,7 +4,7 @@ ghost use Rattle.std.specs.Prelude.{◌≡◌};
 ghost use Rattle.std.specs.List.{list_all};
 ghost use Rattle.script.specs.declared.call.Line.{Line};
 ghost use Rattle.script.specs.Lines as spec;
-ghost use Rattle.script.specs.Spelling.{Says};
+ghost use Rattle.script.specs.Spelling.{LineSays};
 
 use crate::call::{Call, Line, Request};
 use crate::look::{branch, branch_of, is_look, look_of, place_of};
@@ -22,9 +22,9 @@ const MOST_BYTES: usize = 255;
 /// Reads a line.
 pub fn read_line(line: &[u8]) -> Line
     ensures read { result ≡ spec.read_line line.now }
-    // It is what the line says by the texts of calls, and a line says one thing alone.
-    ensures says { Says line.now result }
-    ensures only { (said : Line) → Says line.now said → result ≡ said }
+    // The result is what the line says by the texts of calls, and a line says only one thing.
+    ensures says { LineSays line.now result }
+    ensures only { (said : Line) → LineSays line.now said → result ≡ said }
 {
     reading(line)
 }
@@ -54,9 +54,9 @@ fn called(line: &[u8]) -> Line
 
 /// Whether each byte is one of 0x20 to 0x7E.
 fn all_plain(line: &[u8]) -> bool
-    ensures { result ≡ list_all spec.is_plain line.now }
+    ensures { result ≡ list_all spec.is_call_byte line.now }
 {
-    // There is no early way out, so that many bytes are looked at together.
+    // Without an early exit, so that many bytes are tested at once.
     let mut plain = true;
     for byte in line {
         plain &= 0x20 <= *byte && *byte <= 0x7e;
@@ -64,7 +64,7 @@ fn all_plain(line: &[u8]) -> bool
     plain
 }
 
-/// Reads the number of a session, and what it asks for.
+/// Reads the number of a session, and the session's request.
 fn call_of(words: &mut Parts<'_>) -> Option<Call>
     ensures { result ≡ spec.call_of words.old }
 {
@@ -74,7 +74,7 @@ fn call_of(words: &mut Parts<'_>) -> Option<Call>
     Some(Call { session, request })
 }
 
-/// Reads what a session asks for, which begins with this word.
+/// Reads a session's request that begins with this word.
 fn request_of(session: u32, word: &[u8], words: &mut Parts<'_>) -> Option<Request>
     ensures { result ≡ spec.request_of session word.now words.old }
 {
@@ -92,7 +92,7 @@ fn request_of(session: u32, word: &[u8], words: &mut Parts<'_>) -> Option<Reques
     }
 }
 
-/// Reads a guard, and a command.
+/// Reads a command that has a guard; `guard` is the text after `@`.
 fn guarded(guard: &[u8], words: &mut Parts<'_>) -> Option<Request>
     ensures { result ≡ spec.guarded guard.now words.old }
 {
@@ -105,7 +105,7 @@ fn guarded(guard: &[u8], words: &mut Parts<'_>) -> Option<Request>
     })
 }
 
-/// Reads a command without a guard, which begins with this word.
+/// Reads a command that begins with this word and has no guard.
 fn unguarded(word: &[u8], words: &mut Parts<'_>) -> Option<Request>
     ensures { result ≡ spec.unguarded word.now words.old }
 {
@@ -116,7 +116,7 @@ fn unguarded(word: &[u8], words: &mut Parts<'_>) -> Option<Request>
     })
 }
 
-/// Reads a command that begins with this word: one on the session itself, or an edit.
+/// Reads a command that begins with this word.
 fn command_of(word: &[u8], words: &mut Parts<'_>) -> Option<Command>
     ensures { result ≡ spec.command_of word.now words.old }
 {
@@ -133,13 +133,13 @@ fn command_of(word: &[u8], words: &mut Parts<'_>) -> Option<Command>
         return words.is_end().then_some(Command::Back);
     }
     if is(word, "go") {
-        let (branch, place) = place_of(words)?;
-        return Some(Command::Go { branch, place });
+        let (b, k) = place_of(words)?;
+        return Some(Command::Go { b, k });
     }
     break_command_of(word, words)
 }
 
-/// Reads a command on a break that begins with this word, or an edit.
+/// Reads a command that begins with this word and sets or clears a break, or that is an edit.
 fn break_command_of(word: &[u8], words: &mut Parts<'_>) -> Option<Command>
     ensures { result ≡ spec.break_command_of word.now words.old }
 {
@@ -154,57 +154,45 @@ fn break_command_of(word: &[u8], words: &mut Parts<'_>) -> Option<Command>
     cell_command_of(word, words)
 }
 
-/// Reads an edit of a cell that begins with this word, or of a branch as a whole.
+/// Reads an edit that begins with this word: of a cell, or of a branch as a whole.
 fn cell_command_of(word: &[u8], words: &mut Parts<'_>) -> Option<Command>
     ensures { result ≡ spec.cell_command_of word.now words.old }
 {
     if is(word, "insert") {
-        let (branch, place, step) = step_at(words)?;
-        return Some(Command::Insert {
-            branch,
-            place,
-            step,
-        });
+        let (b, k, step) = step_at(words)?;
+        return Some(Command::Insert { b, k, step });
     }
     if is(word, "remove") {
-        let (branch, place) = place_of(words)?;
-        return Some(Command::Remove { branch, place });
+        let (b, k) = place_of(words)?;
+        return Some(Command::Remove { b, k });
     }
     if is(word, "replace") {
-        let (branch, place, step) = step_at(words)?;
-        return Some(Command::Replace {
-            branch,
-            place,
-            step,
-        });
+        let (b, k, step) = step_at(words)?;
+        return Some(Command::Replace { b, k, step });
     }
     branch_command_of(word, words)
 }
 
-/// Reads an edit of a branch as a whole that begins with this word.
+/// Reads an edit that begins with this word and is of a branch as a whole.
 fn branch_command_of(word: &[u8], words: &mut Parts<'_>) -> Option<Command>
     ensures { result ≡ spec.branch_command_of word.now words.old }
 {
     if is(word, "fork") {
-        let (branch, place, name) = fork_of(words)?;
-        return Some(Command::Fork {
-            branch,
-            place,
-            name,
-        });
+        let (b, k, name) = fork_of(words)?;
+        return Some(Command::Fork { b, k, name });
     }
     if is(word, "detach") {
-        let branch = branch_of(words)?;
-        return Some(Command::Detach { branch });
+        let b = branch_of(words)?;
+        return Some(Command::Detach { b });
     }
     if is(word, "drop") {
-        let branch = branch_of(words)?;
-        return Some(Command::Drop { branch });
+        let b = branch_of(words)?;
+        return Some(Command::Drop { b });
     }
     None
 }
 
-/// Reads a break, and no more words.
+/// Reads a break, after which the line has to end.
 fn break_of(words: &mut Parts<'_>) -> Option<Break>
     ensures { result ≡ spec.break_of words.old }
 {
@@ -220,7 +208,7 @@ fn break_of(words: &mut Parts<'_>) -> Option<Break>
     if words.is_end() { kind_of(word) } else { None }
 }
 
-/// The break that a word alone calls.
+/// The break that consists of this word alone.
 fn kind_of(word: &[u8]) -> Option<Break>
     ensures { result ≡ spec.kind_of word.now }
 {
@@ -245,7 +233,7 @@ fn step_at(words: &mut Parts<'_>) -> Option<(Name, u32, Step)>
     Some((branch, place, step))
 }
 
-/// Reads a branch, a place and the name of a branch, and no more words.
+/// Reads a branch, a place and the name of a new branch, after which the line has to end.
 fn fork_of(words: &mut Parts<'_>) -> Option<(Name, u32, Name)>
     ensures { result ≡ spec.fork_of words.old }
 {

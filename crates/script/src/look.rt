@@ -9,7 +9,7 @@ use words::number::number;
 use words::parts::Parts;
 use words::step::is;
 
-/// Whether a look begins with this word.
+/// Whether this word begins a look.
 pub(crate) fn is_look(word: &[u8]) -> bool
     ensures { result ≡ spec.is_look word.now }
 {
@@ -20,7 +20,7 @@ pub(crate) fn is_look(word: &[u8]) -> bool
         || is_place_look(word)
 }
 
-/// Whether a look at a place, and at no one process, begins with this word.
+/// Whether this word begins a look at a place as a whole, not at one process.
 fn is_place_look(word: &[u8]) -> bool
     ensures { result ≡ spec.is_place_look word.now }
 {
@@ -42,58 +42,54 @@ pub(crate) fn look_of(session: u32, word: &[u8], words: &mut Parts<'_>) -> Optio
         return words.is_end().then_some(Query::Cursor { who: session });
     }
     if is(word, "steps") {
-        let branch = branch_of(words)?;
-        return Some(Query::Steps { branch });
+        let b = branch_of(words)?;
+        return Some(Query::Steps { b });
     }
     if is(word, "process") {
-        let (branch, place, process) = process_at(words)?;
-        return Some(Query::Process {
-            branch,
-            place,
-            process,
-        });
+        let (b, k, p) = process_at(words)?;
+        return Some(Query::Process { b, k, p });
     }
-    let (branch, place) = place_of(words)?;
-    query_at(word, branch, place)
+    let (b, k) = place_of(words)?;
+    query_at(word, b, k)
 }
 
-/// The look at a place that a word calls.
-fn query_at(word: &[u8], branch: Name, place: u32) -> Option<Query>
-    ensures { result ≡ spec.query_at word.now branch place }
+/// The look with this word, at place `k` of branch `b`.
+fn query_at(word: &[u8], b: Name, k: u32) -> Option<Query>
+    ensures { result ≡ spec.query_at word.now b k }
 {
     if is(word, "state") {
-        Some(Query::State { branch, place })
+        Some(Query::State { b, k })
     } else if is(word, "pending") {
-        Some(Query::Pending { branch, place })
+        Some(Query::Pending { b, k })
     } else if is(word, "bits") {
-        Some(Query::Bits { branch, place })
+        Some(Query::Bits { b, k })
     } else if is(word, "history") {
-        Some(Query::History { branch, place })
+        Some(Query::History { b, k })
     } else if is(word, "verdict") {
-        Some(Query::Verdict { branch, place })
+        Some(Query::Verdict { b, k })
     } else {
         None
     }
 }
 
-/// Reads a branch, and no more words.
+/// Reads a branch, after which the line has to end.
 pub(crate) fn branch_of(words: &mut Parts<'_>) -> Option<Name>
-    ensures { result ≡ spec.branch_of words.old }
+    ensures { result ≡ spec.only_branch words.old }
 {
     let branch = branch(words.next())?;
     words.is_end().then_some(branch)
 }
 
-/// Reads a branch and a place, and no more words.
+/// Reads a branch and a place, after which the line has to end.
 pub(crate) fn place_of(words: &mut Parts<'_>) -> Option<(Name, u32)>
-    ensures { result ≡ spec.place_of words.old }
+    ensures { result ≡ spec.branch_and_place words.old }
 {
     let branch = branch(words.next())?;
     let place = number(words.next())?;
     words.is_end().then_some((branch, place))
 }
 
-/// Reads a branch, a place and a process, and no more words.
+/// Reads a branch, a place and a process, after which the line has to end.
 fn process_at(words: &mut Parts<'_>) -> Option<(Name, u32, u32)>
     ensures { result ≡ spec.process_at words.old }
 {
@@ -103,9 +99,9 @@ fn process_at(words: &mut Parts<'_>) -> Option<(Name, u32, u32)>
     words.is_end().then_some((branch, place, process))
 }
 
-/// Reads the name of a branch, 1 to 16 bytes.
+/// Reads the name of a branch, which has 1 to 16 bytes.
 pub(crate) fn branch(word: &[u8]) -> Option<Name>
-    ensures { result ≡ spec.branch word.now }
+    ensures { result ≡ spec.branch_word word.now }
 {
     if word.is_empty() {
         return None;

@@ -8,7 +8,7 @@ use schedule_trie::refusal::Refusal;
 use sessions::reply::Reply;
 use words::text::{Pushed, push_bytes, push_labelled, push_number, push_text, push_word};
 
-/// Adds a reply to a session.
+/// Adds the line that answers a session with a reply.
 pub fn push_reply(out: &mut Vec<u8>, session: u32, reply: &Reply) -> Pushed
     ensures { OnOk result (out.new.items ≡ out.old.items ++ spec.answer_text session reply.now) }
 {
@@ -18,7 +18,7 @@ pub fn push_reply(out: &mut Vec<u8>, session: u32, reply: &Reply) -> Pushed
     push_text(out, "\n")
 }
 
-/// Adds the answer to a fill that isn't refused.
+/// Adds the answer to a fill that wasn't refused.
 pub fn push_filled(out: &mut Vec<u8>, session: u32) -> Pushed
     ensures { OnOk result (out.new.items ≡ out.old.items ++ spec.filled_text session) }
 {
@@ -27,7 +27,7 @@ pub fn push_filled(out: &mut Vec<u8>, session: u32) -> Pushed
     push_text(out, ": filled\n")
 }
 
-/// Adds the refusal of a line that calls nothing.
+/// Adds the answer to a bad line, given the line's number.
 pub fn push_bad_line(out: &mut Vec<u8>, line: u32) -> Pushed
     ensures { OnOk result (out.new.items ≡ out.old.items ++ spec.bad_line_text line) }
 {
@@ -37,7 +37,7 @@ pub fn push_bad_line(out: &mut Vec<u8>, line: u32) -> Pushed
     push_text(out, "\n")
 }
 
-/// Adds a reply without its session.
+/// Adds a reply, without the session's number.
 fn push_words(out: &mut Vec<u8>, reply: &Reply) -> Pushed
     ensures { OnOk result (out.new.items ≡ out.old.items ++ spec.reply_text reply.now) }
 {
@@ -53,7 +53,7 @@ fn push_words(out: &mut Vec<u8>, reply: &Reply) -> Pushed
     }
 }
 
-/// Adds where a cursor stands now.
+/// Adds the place of a cursor that has moved.
 fn push_place(out: &mut Vec<u8>, branch: &Name, place: u32) -> Pushed
     ensures { OnOk result (out.new.items ≡ out.old.items ++ spec.place_text branch.now place) }
 {
@@ -62,18 +62,18 @@ fn push_place(out: &mut Vec<u8>, branch: &Name, place: u32) -> Pushed
     push_labelled(out, " ", u64::from(place))
 }
 
-/// Adds a refusal, and the edit count where that refuses.
+/// Adds a refusal: its number, its name and, for Newer, the edit count.
 fn push_refusal(out: &mut Vec<u8>, refusal: Refusal) -> Pushed
     ensures { OnOk result (out.new.items ≡ out.old.items ++ spec.refusal_text refusal) }
 {
     push_labelled(out, "refused ", u64::from(refusal.number()))?;
     push_word(out, refusal.name())?;
-    push_told(out, refusal)
+    push_detail(out, refusal)
 }
 
-/// Adds what a refusal tells behind its name.
-fn push_told(out: &mut Vec<u8>, refusal: Refusal) -> Pushed
-    ensures { OnOk result (out.new.items ≡ out.old.items ++ spec.told refusal) }
+/// Adds what follows a refusal's name: for Newer, the edit count.
+fn push_detail(out: &mut Vec<u8>, refusal: Refusal) -> Pushed
+    ensures { OnOk result (out.new.items ≡ out.old.items ++ spec.refusal_detail refusal) }
 {
     match refusal {
         Refusal::Newer(edits) => push_labelled(out, " ", edits),

@@ -1,4 +1,4 @@
--- What a command leaves of a book.
+-- What a book is after a command.
 use Rattle.std.proofs.Common.{◌≡◌, ℕ, ◌+◌, ◌<◌, Bool, true, false, List, [], ◌∷◌, ◌++◌, cond, nat_le, length, refl, sym, ap, subst, ◌∙◌, arith}
 use Rattle.std.proofs.lemmas.List.{length_push}
 use Rattle.frames.specs.Behaviour.{Behaviour}
@@ -8,9 +8,9 @@ use Rattle.schedule_trie.specs.Cut.{forest}
 use Rattle.sessions.specs.declared.log.Entry.{Entry}
 use Rattle.sessions.specs.declared.reply.Reply.TheVariants.{No}
 use Rattle.sessions.specs.World.{opening}
-use Rattle.sessions.specs.Acts.{acted, is_full}
+use Rattle.sessions.specs.Acts.{command_result, is_full}
 use Rattle.sessions.specs.Logs.{IsLegal, is_logged, world_after, acted_by}
-use Rattle.sessions.specs.Held.{Held, IsHeld, Staged, Acts, opening_of, world_of}
+use Rattle.sessions.specs.Held.{Held, IsHeld, Staged, ActsOnBook, opening_of, world_of}
 use Rattle.std.specs.Prelude.{◌-◌, vec_capacity, vec_len}
 use Rattle.std.specs.Global.{Vec}
 use Rattle.cutoff.specs.Held.{Charted}
@@ -20,13 +20,13 @@ use Rattle.sessions.proofs.Ordinary.{acted_logged, acted_full}
 pub below : (a b : ℕ) (t : Bool) → nat_le a b ≡ t → t ≡ false → b < a
 below a b t e f = grind (arith, e, f)
 
--- what lies in a book's fields
+-- a book, from its fields
 abbrev pub kept : {R P : Type 0} → Charted R P → Staged R P → Vec Entry → Held R P
 kept first now log = record { first = first; now = now; log = log.items; room = vec_capacity log - vec_len log }
 
 module _ {R P : Type 0} (is : R → Behaviour P) (old new : Held R P) (e : Entry) where
-  -- the log is full
-  pub full_acts : is_full (world_of is old.now) ≡ true → e.reply ≡ No LogFull → new ≡ old → Acts is old new e
+  -- if the log is full, a command changes nothing
+  pub full_acts : is_full (world_of is old.now) ≡ true → e.reply ≡ No LogFull → new ≡ old → ActsOnBook is old new e
   full_acts full told same =
       let world : world_of is old.now ≡ world_of is new.now = ap (λ h. world_of is h.now) (sym same) in
       let reply : No LogFull ≡ e.reply = sym told in
@@ -35,12 +35,12 @@ module _ {R P : Type 0} (is : R → Behaviour P) (old new : Held R P) (e : Entry
         logs = ap (λ h. h.log) same ∙ ap (λ r. cond (is_logged r) (old.log ++ e ∷ []) old.log) reply;
       }
 
-  module _ (room : is_full (world_of is old.now) ≡ false) (acts : acted e.who e.if_at e.command (world_of is old.now) ≡ record { world = world_of is new.now; reply = e.reply })
+  module _ (room : is_full (world_of is old.now) ≡ false) (acts : command_result e.who e.if_at e.command (world_of is old.now) ≡ record { world = world_of is new.now; reply = e.reply })
       (more : new.log ≡ old.log ++ e ∷ []) where
     told : is_logged e.reply ≡ true
     told = ap (λ a. is_logged a.reply) (sym acts) ∙ (acted_logged e.who (world_of is old.now) e.if_at e.command room).0
 
-    pub done_acts : Acts is old new e
+    pub done_acts : ActsOnBook is old new e
     done_acts = record { acts = acts; logs = more ∙ ap (λ t. cond t (old.log ++ e ∷ []) old.log) (sym told) }
 
     pub same_limits : new.now.limits ≡ old.now.limits
@@ -69,7 +69,7 @@ module _ {R P : Type 0} (is : R → Behaviour P) (old new : Held R P) (e : Entry
           most_log = omega (arith, log, h.most_log);
         }
 
--- a book whose log and world are as before
+-- a book still has what its type guarantees if log and world stay the same
 pub held_same : {R P : Type 0} (is : R → Behaviour P) (first : Charted R P) (old now : Staged R P) (log same : List Entry)
     (m n : ℕ) → same ≡ log → world_of is now ≡ world_of is old → IsHeld is (record { first = first; now = old; log = log; room = m })
     → IsHeld is (record { first = first; now = now; log = same; room = n })

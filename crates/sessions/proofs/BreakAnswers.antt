@@ -12,18 +12,18 @@ use Rattle.sessions.specs.declared.reply.Reply.{Reply}
 use Rattle.sessions.specs.declared.reply.Reply.TheVariants.{BreakSet, BreakCleared}
 use Rattle.sessions.specs.Acts.{first_refusal, refused_if}
 use Rattle.sessions.specs.BreakLists.{breaks_at, has_break, with_break, without_break}
-use Rattle.sessions.specs.Held.{Staged, IsStaged, Does, Done, Undone, world_of}
+use Rattle.sessions.specs.Held.{Staged, IsStaged, Does, IsCarriedOut, Undone, world_of}
 
 module _ {R P : Type 0} (is : R → Behaviour P) (old : Staged R P) (who : ℕ) (b : Break) (new : List Break) where
   pub break_set : new ≡ with_break b (breaks_at old.breaks who)
-      → Done is who (command.Break b) old (record old { breaks = slice_set old.breaks who new; logged = old.logged + 1 }) BreakSet
+      → IsCarriedOut is who (command.Break b) old (record old { breaks = slice_set old.breaks who new; logged = old.logged + 1 }) BreakSet
   break_set e = record {
     fine = refl;
     leaves = λ i. world_of is (record old { breaks = slice_set old.breaks who (sym e i); logged = old.logged + 1 });
     replies = refl;
   }
 
-  -- memory is wanting
+  -- a break that finds no memory is refused as Memory, and nothing is changed
   pub break_unset : (r : Result Reply Refusal) (Is : Refusal → Type 0) → IsErrAnd r Is → ((x : Refusal) → Is x → x ≡ Memory)
       → slice_set old.breaks who new ≡ old.breaks
       → Does is who (command.Break b) old (record old { breaks = slice_set old.breaks who new }) r
@@ -34,7 +34,7 @@ module _ {R P : Type 0} (is : R → Behaviour P) (old : Staged R P) (who : ℕ) 
   }
 
   pub break_cleared : has_break b (breaks_at old.breaks who) ≡ true → new ≡ without_break b (breaks_at old.breaks who)
-      → Done is who (command.Clear b) old (record old { breaks = slice_set old.breaks who new; logged = old.logged + 1 }) BreakCleared
+      → IsCarriedOut is who (command.Clear b) old (record old { breaks = slice_set old.breaks who new; logged = old.logged + 1 }) BreakCleared
   break_cleared has e = record {
     fine = ap (λ h. first_refusal (refused_if (not h) NoBreak ∷ [])) has;
     leaves = λ i. world_of is (record old { breaks = slice_set old.breaks who (sym e i); logged = old.logged + 1 });
@@ -47,7 +47,7 @@ module _ {R P : Type 0} (is : R → Behaviour P) (old : Staged R P) (who : ℕ) 
     same_limits = held.same_limits;
     in_range = held.in_range;
     few_cells = held.few_cells;
-    stand = held.stand;
+    all_placed = held.all_placed;
     cursors = held.cursors;
     breaks = length-set old.breaks who new ∙ held.breaks;
     few_edits = omega (arith, held.few_edits);

@@ -1,4 +1,4 @@
--- How a command that edits is answered, and what it keeps of a stage.
+-- How a command that edits is answered, and what it keeps of the stage.
 use Rattle.std.proofs.Common.{◌≡◌, ℕ, ◌+◌, ◌<◌, Bool, true, false, cond, ◌&&◌, ◌⊎◌, nat_lt, nat_le, List, [], ◌∷◌, length, Option, None, Some, IsSome, Result, Ok, Err, IsOk, is_some, inl, inr, refl, sym, ap, subst, ◌∙◌, arith}
 use Rattle.std.specs.Option.{option_map}
 use Rattle.std.specs.List.{remove}
@@ -21,10 +21,10 @@ use Rattle.sessions.specs.declared.command.Command.TheVariants as command
 use Rattle.sessions.specs.declared.reply.Reply.{Reply}
 use Rattle.sessions.specs.declared.reply.Reply.TheVariants.{Edited}
 use Rattle.sessions.specs.World.{World}
-use Rattle.sessions.specs.Cursors.{shifted, is_occupied, AllStand, StandsIn}
+use Rattle.sessions.specs.Cursors.{shifted, is_occupied, AreAtPlaces, IsAtPlace}
 use Rattle.sessions.specs.Edits.{edit_of, moved_by, moved_if, drops_occupied, is_held_up}
 use Rattle.sessions.specs.Acts.{late_by, first_refusal, refusal_in, refused_if, left_by, reply_to, edited_world, kept_or}
-use Rattle.sessions.specs.Held.{Staged, IsStaged, Changes, Does, Done, IsLate, world_of}
+use Rattle.sessions.specs.Held.{Staged, IsStaged, Changes, Does, IsCarriedOut, IsLate, world_of}
 use Rattle.sessions.proofs.Standing.{edited_stand, made_within, put_stands}
 use Rattle.views.specs.declared.breakpoint.Break.{Break}
 use Rattle.std.specs.Prelude.{slice_set, IfSome}
@@ -122,12 +122,12 @@ module _ {P : Type 0} (who : ℕ) (c : Command) (w : World P) where
       by (command.Break break) h = absurd (cc)
       by (command.Clear break) h = absurd (cc)
 
--- no cursor holds it up
+-- no cursor prevents a drop in a stage if none does in an equal stage
 pub not_held_up : {R P : Type 0} (o : Option Edit) (old now : Staged R P) (t : Bool) → old ≡ now → t ≡ is_held_up o (forest now.chart.cut) now.cursors → t ≡ false
     → is_held_up o (forest old.chart.cut) old.cursors ≡ false
 not_held_up o old now t same is free = ap (λ s. is_held_up o (forest s.chart.cut) s.cursors) same ∙ sym is ∙ free
 
--- a stage behind an edit
+-- the stage after an edit
 abbrev pub after : {R P : Type 0} → Staged R P → Charted R P → List (Option Cursor) → Staged R P
 after old chart cursors = record { chart = chart; limits = old.limits; cursors = cursors; breaks = old.breaks; edits = old.edits + 1; logged = old.logged + 1 }
 
@@ -140,7 +140,7 @@ sixteen (Detach name) f cursors = refl
 sixteen (Drop name) f cursors = refl
 
 module _ {R P : Type 0} (is : R → Behaviour P) (old : Staged R P) (chart : Charted R P) (cursors : List (Option Cursor)) (held : IsStaged old) where
-  -- nothing is changed
+  -- a refused edit changes nothing
   pub unchanged : (o : Option Edit) (e : Refusal) → IsSome o → Changes o old.chart chart (Err e) → chart ≡ old.chart
   unchanged (Some edit) e some h = h.unchanged
   unchanged None e some h = absurd (cc)
@@ -155,13 +155,13 @@ module _ {R P : Type 0} (is : R → Behaviour P) (old : Staged R P) (chart : Cha
     staged_after (Some edit) done some h e m =
         let made : edited old.limits (forest old.chart.cut) edit ≡ Ok (forest chart.cut) = edits edit e.0 in
         let stays = free old.limits (forest old.chart.cut) (forest chart.cut) edit old.cursors made h in
-        let moved = edited_stand old.limits (forest old.chart.cut) (forest chart.cut) before behind.apart old.cursors held.stand edit made stays in
+        let moved = edited_stand old.limits (forest old.chart.cut) (forest chart.cut) before behind.apart old.cursors held.all_placed edit made stays in
         let long : length cursors ≡ length old.cursors = ap length m ∙ sixteen edit (forest old.chart.cut) old.cursors in
         record {
           same_limits = e.0.limits ∙ held.same_limits;
           in_range = held.in_range;
           few_cells = made_within old.limits (forest old.chart.cut) held.few_cells (forest chart.cut) edit made;
-          stand = subst (AllStand (forest chart.cut)) (sym m) moved;
+          all_placed = subst (AreAtPlaces (forest chart.cut)) (sym m) moved;
           cursors = long ∙ held.cursors;
           breaks = held.breaks;
           few_edits = omega (arith, held.few_edits);
@@ -170,7 +170,7 @@ module _ {R P : Type 0} (is : R → Behaviour P) (old : Staged R P) (chart : Cha
 
   module _ (who : ℕ) (c : Command) where
     done_by : (o : Option Edit) (done : Unit {0}) → edit_of c ≡ o → IsSome o → is_held_up o (forest old.chart.cut) old.cursors ≡ false → Changes o old.chart chart (Ok done)
-        → cursors ≡ moved_if o (forest old.chart.cut) old.cursors → Done is who c old (after old chart cursors) (Edited (old.edits + 1))
+        → cursors ≡ moved_if o (forest old.chart.cut) old.cursors → IsCarriedOut is who c old (after old chart cursors) (Edited (old.edits + 1))
     done_by None done is_edit some h e m = absurd (cc)
     done_by (Some edit) done is_edit some h e m =
         let w = world_of is old in
@@ -198,7 +198,7 @@ module _ {R P : Type 0} (is : R → Behaviour P) (old : Staged R P) (chart : Cha
         }
 
     pub done_edit : (done : Unit {0}) → IsSome (edit_of c) → is_held_up (edit_of c) (forest old.chart.cut) old.cursors ≡ false → Changes (edit_of c) old.chart chart (Ok done)
-        → cursors ≡ moved_if (edit_of c) (forest old.chart.cut) old.cursors → Done is who c old (after old chart cursors) (Edited (old.edits + 1))
+        → cursors ≡ moved_if (edit_of c) (forest old.chart.cut) old.cursors → IsCarriedOut is who c old (after old chart cursors) (Edited (old.edits + 1))
     done_edit done some h e m = done_by (edit_of c) done refl some h e m
 
     why_by : (o : Option Edit) (e : Refusal) → IsSome o → Changes o old.chart chart (Err e)
@@ -210,7 +210,7 @@ module _ {R P : Type 0} (is : R → Behaviour P) (old : Staged R P) (chart : Cha
     pub why_edit : (e : Refusal) → IsSome (edit_of c) → Changes (edit_of c) old.chart chart (Err e) → IsLate who c (world_of is old) e
     why_edit e some h = why_by (edit_of c) e some h
 
-    -- it is refused, or wants memory
+    -- an edit that is refused, or runs out of memory
     pub undone_edit : (r : Result Reply Refusal) (e : Refusal) (Is : Refusal → Type 0) → IsErrAnd r Is
         → ((x : Refusal) → Is x → x ≡ e) → IsSome (edit_of c) → Changes (edit_of c) old.chart chart (Err e) → cursors ≡ old.cursors
         → Does is who c old (record old { chart = chart; cursors = cursors }) r
@@ -222,12 +222,8 @@ module _ {R P : Type 0} (is : R → Behaviour P) (old : Staged R P) (chart : Cha
           same = λ i. world_of is (record old { chart = same i; cursors = kept i });
         }
 
-    -- a cursor holds it up
-    pub held_up : is_held_up (edit_of c) (forest old.chart.cut) old.cursors ≡ true → IsLate who c (world_of is old) Occupied
-    held_up h = inl (held_up_by who c (world_of is old) (edit_of c) h)
-
--- a stage behind a command that puts a session's cursor
-pub put_staged : {R P : Type 0} (s : Staged R P) (who : ℕ) (o : Option Cursor) (breaks : List (List Break)) → IsStaged s → who < 16 → IfSome o (StandsIn (forest s.chart.cut)) → length breaks ≡ 16
+-- the stage after a command that puts a session's cursor keeps what stages guarantee
+pub put_staged : {R P : Type 0} (s : Staged R P) (who : ℕ) (o : Option Cursor) (breaks : List (List Break)) → IsStaged s → who < 16 → IfSome o (IsAtPlace (forest s.chart.cut)) → length breaks ≡ 16
     → s.logged < s.limits.log
     → IsStaged (record { chart = s.chart; limits = s.limits; cursors = slice_set s.cursors who o; breaks = breaks; edits = s.edits; logged = s.logged + 1 })
 put_staged s who o breaks held few one long room =
@@ -236,7 +232,7 @@ put_staged s who o breaks held few one long room =
       same_limits = held.same_limits;
       in_range = held.in_range;
       few_cells = held.few_cells;
-      stand = put_stands (forest s.chart.cut) s.cursors who o (omega (arith, held.cursors)) one held.stand;
+      all_placed = put_stands (forest s.chart.cut) s.cursors who o (omega (arith, held.cursors)) one held.all_placed;
       cursors = same ∙ held.cursors;
       breaks = long;
       few_edits = omega (arith, held.few_edits);

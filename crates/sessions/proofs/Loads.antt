@@ -1,4 +1,4 @@
--- What a book opens with where it is loaded, and what is saved of it.
+-- The opening of a book that is loaded, and the limbs of a book.
 use Rattle.std.proofs.Common.{◌≡◌, ◌≤◌, Bool, true, false, cond, nat_lt, ◌<◌, ℕ, List, length, Result, Ok, Err, IfOk, refl, sym, subst, arith}
 use Rattle.std.proofs.lemmas.Bool.Decides.{nat_tests}
 use Rattle.frames.specs.Behaviour.{Behaviour}
@@ -9,7 +9,7 @@ use Rattle.schedule_trie.specs.declared.refusal.Refusal.TheVariants.{Full, TooMa
 use Rattle.schedule_trie.specs.Forest.{Forest, opened}
 use Rattle.schedule_trie.specs.Forest as forests
 use Rattle.schedule_trie.specs.Cut.{forest}
-use Rattle.schedule_trie.specs.Limbs.{FitLimits, IsLawful, cells_of, forest_of, limbs, loaded}
+use Rattle.schedule_trie.specs.Limbs.{FitLimits, AreLawfulLimbs, cells_of, forest_of, limbs, loaded}
 use Rattle.schedule_trie.proofs.LimbLaws.{forest_made}
 use Rattle.cutoff.specs.Held.{Charted, LimbsFit}
 use Rattle.sessions.specs.World.{opening}
@@ -28,23 +28,23 @@ loaded_is limits ls f e = by (nat_lt limits.cells (cells_of ls)) refl (nat_lt li
         let few : cells_of ls ≤ limits.cells = grind (arith, nat_tests) in
         (sym same, subst (λ g. g.made ≤ limits.cells) same (subst (λ n. n ≤ limits.cells) (sym (forest_made ls)) few))
 
-pub opened_is : (limits : Limits) (steps : List Step) (f : Forest) → opened limits steps ≡ Ok f → f ≡ forests.opening steps
+pub opened_is : (limits : Limits) (steps : List Step) (f : Forest) → opened limits steps ≡ Ok f → f ≡ forests.opening_forest steps
 opened_is limits steps f e = by (nat_lt limits.cells (length steps)) e
   where
-    by : (full : Bool) → cond full (Err Full) (Ok (forests.opening steps)) ≡ Ok f → f ≡ forests.opening steps
+    by : (full : Bool) → cond full (Err Full) (Ok (forests.opening_forest steps)) ≡ Ok f → f ≡ forests.opening_forest steps
     by true h = absurd (cc)
     by false h = cc
 
--- the opening over a chart is that of what the chart was made of
+-- the opening over a chart is that of its register, value and branches
 pub opening_so : {R P : Type 0} (is : R → Behaviour P) (chart : Charted R P) (register : R) (value : ℕ) (limits : Limits)
     (f : Forest) → chart.start.register ≡ register → chart.value ≡ value → forest chart.cut ≡ f
     → opening_over is chart limits ≡ opening (is register) value limits f
 opening_so is chart register value limits f same_register same_value same =
     λ i. opening (is (same_register i)) (same_value i) limits (same i)
 
--- what a chart tells of its limbs
+-- a chart's limbs are what is saved of its world
 pub saved_so : {R P A E : Type 0} (is : R → Behaviour P) (s : Staged R P) (items : A → List Limb) (told : Result A E) → s.chart.cut.limits ≡ s.limits
-    → IfOk told (λ r. items r ≡ limbs (forest s.chart.cut)) → IfOk told (λ r. IsLawful (items r)) → IfOk told (λ r. 0 < length (items r))
+    → IfOk told (λ r. items r ≡ limbs (forest s.chart.cut)) → IfOk told (λ r. AreLawfulLimbs (items r)) → IfOk told (λ r. 0 < length (items r))
     → IfOk told (λ r. FitLimits s.chart.cut.limits (items r)) → IfOk told (λ r. LimbsFit (is s.chart.start.register) (items r))
     → IfOk told (λ r. IsSaved (world_of is s) (items r))
 saved_so is s items (Ok r) limits same lawful some near fit =

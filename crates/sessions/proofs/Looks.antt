@@ -9,10 +9,10 @@ use Rattle.views.specs.Looks.{is_at_branch}
 use Rattle.sessions.specs.World.{World}
 use Rattle.sessions.specs.declared.cursor.Cursor as declared
 use Rattle.sessions.specs.Cursors.{cursor_at}
-use Rattle.sessions.specs.Looks.{lacks_cursor, shown_in, looked}
+use Rattle.sessions.specs.Looks.{lacks_cursor, shown_in, looked_in}
 
 alike_at : {P : Type 0} (w : World P) (query : Query) → is_at_branch query ≡ true
-    → (views.page_of w.tower w.value w.forest query ≡ shown_in w query) × (views.looked query w.forest ≡ looked w query)
+    → (views.page_of w.tower w.value w.forest query ≡ shown_in w query) × (views.looked query w.forest ≡ looked_in w query)
 alike_at w Branches h = absurd (cc)
 alike_at w (Cursor who) h = absurd (cc)
 alike_at w query h = (refl, refl)
@@ -20,13 +20,13 @@ alike_at w query h = (refl, refl)
 pub shown_at : {P : Type 0} (w : World P) (query : Query) → is_at_branch query ≡ true → views.page_of w.tower w.value w.forest query ≡ shown_in w query
 shown_at w query h = (alike_at w query h).0
 
-pub looked_at : {P : Type 0} (w : World P) (query : Query) → is_at_branch query ≡ true → views.looked query w.forest ≡ looked w query
+pub looked_at : {P : Type 0} (w : World P) (query : Query) → is_at_branch query ≡ true → views.looked query w.forest ≡ looked_in w query
 looked_at w query h = (alike_at w query h).1
 
 not_past : (who : ℕ) → who < 16 → nat_lt 15 who ≡ false
 not_past who h = grind (arith, nat_tests)
 
--- where a session stands
+-- a session's cursor
 module _ (inside now : List (Option declared.Cursor)) (who : ℕ) (default : Option declared.Cursor) (cursor : declared.Cursor)
     (same : inside ≡ now) (sixteen : length inside ≡ 16) (within : who < 16) (here : get_or inside who default ≡ Some cursor) where
   pub stands_at : cursor_at now who ≡ Some cursor

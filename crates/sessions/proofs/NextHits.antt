@@ -1,4 +1,4 @@
--- Where a seek comes to is hit, and no place between is.
+-- The place that a seek finds is a hit, and no place that it passes on the way is one.
 use Rattle.std.proofs.Common.{◌≡◌, ℕ, zero, suc, ◌+◌, ◌<◌, Bool, true, false, ◌&&◌, cond, nat_lt, [], ◌∷◌, Option, Some, None, MatchOption, IfSome, inl, inr, refl, sym, ap, subst, ◌∙◌, arith, reverse}
 use Rattle.std.specs.List.{find}
 use Rattle.std.specs.Option.{option_or}
@@ -6,7 +6,7 @@ use Rattle.std.proofs.lemmas.Bool.{cases_lt}
 use Rattle.std.proofs.lemmas.List.Folds.{find-append}
 use Rattle.sessions.specs.declared.way.Way.{Way}
 use Rattle.sessions.specs.declared.way.Way.TheVariants.{Forth, Back}
-use Rattle.sessions.specs.Seeks.{places_with, next_of, is_ahead, IsNextHit}
+use Rattle.sessions.specs.Seeks.{places_with, next_place, is_ahead, IsNextHit}
 use Rattle.sessions.proofs.Searches.{places_more, find_one, find_last}
 
 both : (a b : Bool) → (a && b) ≡ true → (a ≡ true) × (b ≡ true)
@@ -55,7 +55,7 @@ module _ (test : ℕ → Bool) (from : ℕ) where
   by_found n None h = by_here n (test n && nat_lt from n) refl h
   by_found n (Some k) h = kept_forth n k h
 
-  forth : (n : ℕ) → Found Forth n (next_of Forth from (places_with test n))
+  forth : (n : ℕ) → Found Forth n (next_place Forth from (places_with test n))
   forth zero = λ j h. absurd (omega (arith, h))
   forth (suc n) =
       let next : n + 1 ≡ suc n = omega arith in
@@ -91,7 +91,7 @@ module _ (test : ℕ → Bool) (from : ℕ) where
       }
   by_last n false o e h = kept_back n o e h
 
-  back : (n : ℕ) → Found Back n (next_of Back from (places_with test n))
+  back : (n : ℕ) → Found Back n (next_place Back from (places_with test n))
   back zero = λ j h. absurd (omega (arith, h))
   back (suc n) =
       let p : ℕ → Bool = λ k. nat_lt k from in
@@ -100,7 +100,7 @@ module _ (test : ℕ → Bool) (from : ℕ) where
       ap (λ m. find p (reverse (places_with test m))) (sym next) ∙ ap (λ l. find p (reverse l)) (places_more test n) ∙ find_last test p (places_with test n) n (test n) in
       subst (Found Back (suc n)) (sym parted) (by_last n (test n && nat_lt n from) (find p (reverse (places_with test n))) refl (back n))
 
-  told : (way : Way) (n : ℕ) → Found way n (next_of way from (places_with test n))
+  told : (way : Way) (n : ℕ) → Found way n (next_place way from (places_with test n))
   told Forth n = forth n
   told Back n = back n
 
@@ -108,6 +108,6 @@ module _ (test : ℕ → Bool) (from : ℕ) where
   some_hit way n None h = tt
   some_hit way n (Some k) h = h
 
-  -- where a seek comes to
-  pub next_is_hit : (way : Way) (n : ℕ) (o : Option ℕ) → o ≡ next_of way from (places_with test n) → IfSome o (λ k. IsNextHit way test n from k)
+  -- the place that a seek finds
+  pub next_is_hit : (way : Way) (n : ℕ) (o : Option ℕ) → o ≡ next_place way from (places_with test n) → IfSome o (λ k. IsNextHit way test n from k)
   next_is_hit way n o e = some_hit way n o (subst (Found way n) (sym e) (told way n))

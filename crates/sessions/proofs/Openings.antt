@@ -1,4 +1,4 @@
--- What a log leaves of its opening: the register and the initial value.
+-- No command of a log changes the opening's register or initial value.
 use Rattle.std.proofs.Common.{◌≡◌, ℕ, List, [], ◌∷◌, Option, Some, None, refl, ap, ◌∙◌}
 use Rattle.frames.specs.Behaviour.{Behaviour}
 use Rattle.frames.specs.Configuration.{initial_configuration}
@@ -36,7 +36,7 @@ module _ {P : Type 0} where
       let here = answered_same (first_refusal (refusals e.who e.if_at e.command w)) e.who e.command w in
       (more.0 ∙ here.0, more.1 ∙ here.1)
 
--- a chart that begins from an initial configuration begins from the opening's
+-- a book's chart that begins from an initial configuration begins from that of the opening
 pub begins_so : {R P : Type 0} (is : R → Behaviour P) (h : Held R P) → IsHeld is h
     → h.now.chart.start ≡ initial_configuration (is h.now.chart.start.register) h.now.chart.start.register h.now.chart.value → BeginsAtOpening is h
 begins_so is h held begins =

@@ -17,7 +17,7 @@ use Rattle.sessions.specs.declared.reply.Reply.{Reply}
 use Rattle.sessions.specs.declared.reply.Reply.TheVariants.{No}
 use Rattle.sessions.specs.declared.way.Way.TheVariants as way
 use Rattle.sessions.specs.World.{World}
-use Rattle.sessions.specs.Acts.{acted, answered, refusals, late_refusals, first_refusal, refused_if, refusal_in, refused, reply_to, hit_reply, hit_of, is_full, lacks_session, is_missed, fits_command, lacks_break, looked_by, late_by, left_by}
+use Rattle.sessions.specs.Acts.{command_result, answered, refusals, late_refusals, first_refusal, refused_if, refusal_in, refused, reply_to, hit_reply, hit_of, is_full, lacks_session, is_missed, fits_command, lacks_break, looked_by, late_by, left_by}
 use Rattle.sessions.specs.Edits.{edit_of, drops_occupied}
 use Rattle.sessions.specs.Logs.{is_logged}
 use Rattle.sessions.specs.Held.{IsLate}
@@ -76,15 +76,6 @@ late_ordinary None who c w =
     first_of (refusal_in (looked_by w.forest c)) _ (looked_ordinary w.forest c)
     (first_of (refused_if (lacks_break who c w.breaks) NoBreak) [] (if_so (lacks_break who c w.breaks) NoBreak refl) tt)
 
--- want of memory is no late refusal
-pub memory_last : {P : Type 0} (who : ℕ) (c : Command) (w : World P) (r : Refusal) → IsLate who c w r → r ≡ Memory
-    → first_refusal (late_refusals who c w) ≡ None
-memory_last who c w r (inl e) memory =
-    let ordinary : IsOrdinary (first_refusal (late_refusals who c w)) = late_ordinary (edit_of c) who c w in
-    let logged : is_logged (No Memory) ≡ true = subst IsOrdinary (e ∙ ap Some memory) ordinary in
-    absurd (cc)
-memory_last who c w r (inr m) memory = m.1
-
 hit_logged : (o : Option Cursor) → is_logged (hit_reply o) ≡ true
 hit_logged None = refl
 hit_logged (Some c) = refl
@@ -128,7 +119,7 @@ module _ {P : Type 0} (who : ℕ) (w : World P) where
   by_first c (Some r) h = (h, refused_counted r h, refused_limits r)
 
   pub acted_logged : (guard : Option ℕ) (c : Command) → is_full w ≡ false
-      → (is_logged (acted who guard c w).reply ≡ true) × ((acted who guard c w).world.logged ≡ w.logged + 1) × ((acted who guard c w).world.limits ≡ w.limits)
+      → (is_logged (command_result who guard c w).reply ≡ true) × ((command_result who guard c w).world.logged ≡ w.logged + 1) × ((command_result who guard c w).world.limits ≡ w.limits)
   acted_logged guard c room =
       by_first c (first_refusal (refusals who guard c w))
       (first_of (refused_if (is_full w) LogFull) _ (subst (λ t. IsOrdinary (refused_if t LogFull)) (sym room) tt)
@@ -137,12 +128,12 @@ module _ {P : Type 0} (who : ℕ) (w : World P) where
       (first_of (refused_if (not (fits_command w.tower c)) BadStep) _ (if_so (not (fits_command w.tower c)) BadStep refl)
       (late_ordinary (edit_of c) who c w)))))
 
-  -- it is no want of memory
+  -- the reply to a command that can be logged is never Memory
   pub never_memory : (guard : Option ℕ) (c : Command) (after : World P) (reply : Reply) → is_full w ≡ false
-      → acted who guard c w ≡ record { world = after; reply = reply } → reply ≡ No Memory → ⊥
+      → command_result who guard c w ≡ record { world = after; reply = reply } → reply ≡ No Memory → ⊥
   never_memory guard c after reply room acts memory =
       let logged : is_logged (No Memory) ≡ true = ap is_logged (sym (ap (λ a. a.reply) acts ∙ memory)) ∙ (acted_logged guard c room).0 in
       cc
 
-  pub acted_full : (guard : Option ℕ) (c : Command) → is_full w ≡ true → acted who guard c w ≡ record { world = w; reply = No LogFull }
+  pub acted_full : (guard : Option ℕ) (c : Command) → is_full w ≡ true → command_result who guard c w ≡ record { world = w; reply = No LogFull }
   acted_full guard c full = rw full refl

@@ -13,7 +13,7 @@ use Rattle.sessions.specs.declared.command.Command.TheVariants as command
 use Rattle.sessions.specs.declared.reply.Reply.{Reply}
 use Rattle.sessions.specs.declared.reply.Reply.TheVariants.{Edited, Moved, NoHit, BreakCleared, No}
 use Rattle.sessions.specs.World.{World, opening}
-use Rattle.sessions.specs.Acts.{acted}
+use Rattle.sessions.specs.Acts.{command_result}
 
 abbrev main : List ℕ
 main = codes "main"
@@ -24,20 +24,20 @@ a = codes "a"
 abbrev limits : Limits
 limits = record { cells = 65536; branches = 2; log = 1000 }
 
--- session 0 behind its commands
+-- the world after commands of session 0
 abbrev behind : List Command → World SafePoint → World SafePoint
 behind [] w = w
-behind (c ∷ cs) w = behind cs (acted 0 None c w).world
+behind (c ∷ cs) w = behind cs (command_result 0 None c w).world
 
 abbrev at_first : World SafePoint
-at_first = opening safe_behaviour 0 limits (forests.opening (step.Read 1 ∷ step.Go 1 0 ∷ step.Go 1 0 ∷ []))
+at_first = opening safe_behaviour 0 limits (forests.opening_forest (step.Read 1 ∷ step.Go 1 0 ∷ step.Go 1 0 ∷ []))
 
 abbrev joined : World SafePoint
 joined = behind (command.Join ∷ []) at_first
 
 -- a reply to session 0
 abbrev says : Command → World SafePoint → Reply
-says c w = (acted 0 None c w).reply
+says c w = (command_result 0 None c w).reply
 
 no_branch : says (command.Remove (codes "zed") 0) joined ≡ No NoBranch
 no_branch = refl
@@ -60,16 +60,16 @@ last_branch = refl
 no_break : says (command.Clear break.Void) joined ≡ No NoBreak
 no_break = refl
 
-no_session : (acted 5 None command.Seek joined).reply ≡ No NoSession
+no_session : (command_result 5 None command.Seek joined).reply ≡ No NoSession
 no_session = refl
 
-no_such_session : (acted 16 None command.Join joined).reply ≡ No NoSession
+no_such_session : (command_result 16 None command.Join joined).reply ≡ No NoSession
 no_such_session = refl
 
-newer : (acted 0 (Some 9) (command.Drop main) joined).reply ≡ No (Newer 0)
+newer : (command_result 0 (Some 9) (command.Drop main) joined).reply ≡ No (Newer 0)
 newer = refl
 
--- a branch that is forked, and dropped once no cursor stands on it
+-- a branch that is forked, and dropped once no cursor is on it
 abbrev forked : World SafePoint
 forked = behind (command.Fork main 0 a ∷ command.Go a 0 ∷ []) joined
 
@@ -86,7 +86,7 @@ dropped = refl
 abbrev overlapped : World SafePoint
 overlapped =
     behind (command.Join ∷ [])
-    (opening safe_behaviour 0 limits (forests.opening (step.Write 0 1 ∷ step.Go 0 0 ∷ step.Read 1 ∷ step.Go 1 0 ∷ step.Go 0 0 ∷ step.Go 1 0 ∷ [])))
+    (opening safe_behaviour 0 limits (forests.opening_forest (step.Write 0 1 ∷ step.Go 0 0 ∷ step.Read 1 ∷ step.Go 1 0 ∷ step.Go 0 0 ∷ step.Go 1 0 ∷ [])))
 
 chosen : says command.Seek (behind (command.Break break.Chosen ∷ []) overlapped) ≡ Moved main 6
 chosen = refl
@@ -108,7 +108,7 @@ cleared = refl
 
 -- a log of one entry
 abbrev one_logged : World SafePoint
-one_logged = behind (command.Join ∷ []) (opening safe_behaviour 0 (record { cells = 65536; branches = 2; log = 1 }) (forests.opening []))
+one_logged = behind (command.Join ∷ []) (opening safe_behaviour 0 (record { cells = 65536; branches = 2; log = 1 }) (forests.opening_forest []))
 
 log_full : says command.Join one_logged ≡ No LogFull
 log_full = refl

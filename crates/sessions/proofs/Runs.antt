@@ -1,4 +1,4 @@
--- What the runs of a branch tell of its places.
+-- What the runs of a branch say about its places.
 use Rattle.std.proofs.Common.{◌≡◌, ℕ, zero, suc, ◌+◌, ◌-◌, ◌<◌, ◌≤◌, Bool, true, false, nat_eq, cond, List, [], ◌∷◌, ◌++◌, length, map, take, refl, sym, ap, subst, ◌∙◌, arith, append_assoc, get_or, slice_index_or}
 use Rattle.std.specs.List.{list_any}
 use Rattle.std.specs.declared.sync.Arc.{Arc}
@@ -14,7 +14,7 @@ use Rattle.schedule_trie.specs.Forest.{step_of}
 use Rattle.schedule_trie.specs.Cut.{Cut, piece_at, slots_of, line, forest}
 use Rattle.cutoff.specs.Fitting.{StoredRun, RunPart, RunFits, Settles, steps_at, reached, counted, part_of}
 use Rattle.cutoff.specs.Held.{Charted, IsSettled, keys_named}
-use Rattle.cutoff.specs.Links.{alone}
+use Rattle.cutoff.specs.Links.{without_register}
 use Rattle.cutoff.proofs.Fits.{register_kept, alone_same}
 use Rattle.views.specs.declared.breakpoint.Break.{Break}
 use Rattle.views.specs.Breaks.{is_met}
@@ -23,7 +23,7 @@ use Rattle.views.specs.Looks.{steps_in}
 use Rattle.views.proofs.Spots.{steps_named}
 use Rattle.views.proofs.Alone.{replayed_alone, history_alone, replayed-append, history-append}
 use Rattle.sessions.specs.Seeks.{no_events, events_before, is_hit}
-use Rattle.sessions.specs.Walks.{Tells, TellAll, is_on_bit, records_any}
+use Rattle.sessions.specs.Walks.{ReportsPart, ReportParts, is_on_bit, records_any}
 use Rattle.sessions.proofs.Searches.{met_by_records}
 
 module _ {R P : Type 0} (b : Behaviour P) where
@@ -31,7 +31,7 @@ module _ {R P : Type 0} (b : Behaviour P) where
   length-history c [] = refl
   length-history c (s ∷ steps) = ap suc (length-history (stepped b c s) steps)
 
--- a step of a segment that stands on a branch behind a front
+-- a step in a segment of a branch, after the steps `before`
 module _ {P : Type 0} (b : Behaviour P) (value : ℕ) (breaks : List Break) (before segment behind steps : List Step) (all : steps ≡ before ++ (segment ++ behind)) where
   at : Alone P
   at = shown b value before
@@ -78,13 +78,13 @@ module _ {R P : Type 0} (E : R → R → Bool) (is : R → Behaviour P) (alike :
   along_more : (k : ℕ) (ks : List ℕ) → along (k ∷ ks) ≡ steps_at old k ++ along ks
   along_more k ks = map-append step_of (slots_of (piece_at old.pieces k)) (line (piece_at old.pieces) ks)
 
-  -- a run that stands behind a front, and counts whole
-  one : (before : List Step) (c : Configuration R P) (k : ℕ) (ks : List ℕ) (part : RunPart R P) → is c.register ≡ b → alone c ≡ shown b value before
+  -- a run that follows a front, and counts whole
+  one : (before : List Step) (c : Configuration R P) (k : ℕ) (ks : List ℕ) (part : RunPart R P) → is c.register ≡ b → without_register c ≡ shown b value before
       → steps ≡ before ++ along (k ∷ ks) → RunFits E c (steps_at old k) part.run → part.count ≡ length (steps_at old k)
-      → Tells is breaks (is_hit b value steps breaks) (length before) part
+      → ReportsPart is breaks (is_hit b value steps breaks) (length before) part
   one before c k ks part home comes all fits count =
       let own : is part.run.entry.register ≡ b = alike part.run.entry.register c.register fits.entry.register ∙ home in
-      let entry : alone part.run.entry ≡ shown b value before = alone_same E part.run.entry c fits.entry ∙ comes in
+      let entry : without_register part.run.entry ≡ shown b value before = alone_same E part.run.entry c fits.entry ∙ comes in
       let parted : steps ≡ before ++ (part.run.steps ++ along ks) =
       all ∙ ap (λ l. before ++ l) (along_more k ks ∙ ap (λ l. l ++ along ks) (sym fits.steps)) in
       let long : part.count ≡ length part.run.steps = count ∙ ap length (sym fits.steps) in
@@ -94,56 +94,56 @@ module _ {R P : Type 0} (E : R → R → Bool) (is : R → Behaviour P) (alike :
             hit_in b value breaks before part.run.steps (along ks) steps parted i (omega (arith, h, long))
             ∙ sym (ap (λ d. is_met breaks (slice_index_or (history d part.run.entry part.run.steps) i no_events) (replayed d part.run.entry (take (i + 1) part.run.steps)).memory) own
             ∙ ap (λ events. is_met breaks (slice_index_or events i no_events) (replayed b part.run.entry (take (i + 1) part.run.steps)).memory) (history_alone b part.run.entry part.run.steps)
-            ∙ ap (λ d. is_met breaks (slice_index_or (history b (alone part.run.entry) part.run.steps) i no_events) d.memory) (replayed_alone b part.run.entry (take (i + 1) part.run.steps))
+            ∙ ap (λ d. is_met breaks (slice_index_or (history b (without_register part.run.entry) part.run.steps) i no_events) d.memory) (replayed_alone b part.run.entry (take (i + 1) part.run.steps))
             ∙ ap (λ d. is_met breaks (slice_index_or (history b d part.run.steps) i no_events) (replayed b d (take (i + 1) part.run.steps)).memory) entry);
       }
 
-  nothing : (place : ℕ) (parts : List (RunPart R P)) → parts ≡ [] → TellAll is breaks (is_hit b value steps breaks) place parts
-  nothing place parts e = subst (TellAll is breaks (is_hit b value steps breaks) place) (sym e) tt
+  nothing : (place : ℕ) (parts : List (RunPart R P)) → parts ≡ [] → ReportParts is breaks (is_hit b value steps breaks) place parts
+  nothing place parts e = subst (ReportParts is breaks (is_hit b value steps breaks) place) (sym e) tt
 
-  -- the runs of a settle of all that is behind a front
-  told : (before : List Step) (c : Configuration R P) (keys : List ℕ) (rest : ℕ) (parts : List (RunPart R P)) (n : ℕ) → is c.register ≡ b → alone c ≡ shown b value before
+  -- the runs of a settle of all that follows a front
+  told : (before : List Step) (c : Configuration R P) (keys : List ℕ) (rest : ℕ) (parts : List (RunPart R P)) (n : ℕ) → is c.register ≡ b → without_register c ≡ shown b value before
       → steps ≡ before ++ along keys → rest ≡ length (along keys) → Settles E b old new c rest (reached old rest keys) parts n
-      → TellAll is breaks (is_hit b value steps breaks) (length before) parts
+      → ReportParts is breaks (is_hit b value steps breaks) (length before) parts
   told before c [] rest parts n home comes all long h = nothing (length before) parts h.0
   told before c (k ∷ ks) rest parts n home comes all long h = by (λ before' c' rest' parts' n'. told before' c' ks rest' parts' n') (nat_eq rest 0) parts h
     where
       Later : Type 0
-      Later = (before' : List Step) (c' : Configuration R P) (rest' : ℕ) (parts' : List (RunPart R P)) (n' : ℕ) → is c'.register ≡ b → alone c' ≡ shown b value before'
+      Later = (before' : List Step) (c' : Configuration R P) (rest' : ℕ) (parts' : List (RunPart R P)) (n' : ℕ) → is c'.register ≡ b → without_register c' ≡ shown b value before'
           → steps ≡ before' ++ along ks → rest' ≡ length (along ks) → Settles E b old new c' rest' (reached old rest' ks) parts' n'
-          → TellAll is breaks (is_hit b value steps breaks) (length before') parts'
+          → ReportParts is breaks (is_hit b value steps breaks) (length before') parts'
 
       some : Later → (part : RunPart R P) (parts' : List (RunPart R P)) → Settles E b old new c rest (k ∷ reached old (rest - length (steps_at old k)) ks) (part ∷ parts') n
-          → TellAll is breaks (is_hit b value steps breaks) (length before) (part ∷ parts')
+          → ReportParts is breaks (is_hit b value steps breaks) (length before) (part ∷ parts')
       some later part parts' s =
           let segment : List Step = steps_at old k in
           let total : rest ≡ length segment + length (along ks) = long ∙ ap length (along_more k ks) ∙ length-append segment (along ks) in
           let count : part.count ≡ length segment = s.3.count ∙ omega (arith, total) in
           let parted : steps ≡ (before ++ segment) ++ along ks = all ∙ ap (λ l. before ++ l) (along_more k ks) ∙ sym (append_assoc before segment (along ks)) in
-          let next : alone (replayed b c segment) ≡ shown b value (before ++ segment) =
+          let next : without_register (replayed b c segment) ≡ shown b value (before ++ segment) =
           replayed_alone b c segment ∙ ap (λ d. replayed b d segment) comes ∙ sym (replayed-append b (first_configuration b value) before segment) in
           let place : length (before ++ segment) ≡ length before + part.count = length-append before segment ∙ ap (λ m. length before + m) (sym count) in (
             one before c k ks part home comes all s.3.fits count,
-            subst (λ m. TellAll is breaks (is_hit b value steps breaks) m parts') place
+            subst (λ m. ReportParts is breaks (is_hit b value steps breaks) m parts') place
                 (later (before ++ segment) (replayed b c segment) (rest - length segment) parts' s.1 (ap is (register_kept b c segment) ∙ home) next parted (omega (arith, total)) s.4),
           )
 
       by : Later → (t : Bool) (parts' : List (RunPart R P)) → Settles E b old new c rest (cond t [] (k ∷ reached old (rest - length (steps_at old k)) ks)) parts' n
-          → TellAll is breaks (is_hit b value steps breaks) (length before) parts'
+          → ReportParts is breaks (is_hit b value steps breaks) (length before) parts'
       by later true parts' s = nothing (length before) parts' s.0
       by later false [] s = absurd s
       by later false (part ∷ parts') s = some later part parts' s
 
 module _ {R P : Type 0} (E : R → R → Bool) (is : R → Behaviour P) (alike : (x y : R) → E x y ≡ true → is x ≡ is y) where
-  -- what a settle of a whole branch answers
+  -- the runs that a settle of a whole branch gives agree with the test of its places
   pub runs_tell : (old new : Charted R P) (name : List ℕ) (len : ℕ) (parts : List (RunPart R P)) (n : ℕ) (breaks : List Break) → len ≡ length (steps_in (forest old.cut) name)
       → old.start ≡ initial_configuration (is old.start.register) old.start.register old.value
       → IsSettled E (is old.start.register) old new name len parts n
-      → TellAll is breaks (is_hit (is old.start.register) old.value (steps_in (forest old.cut) name) breaks) 0 parts
+      → ReportParts is breaks (is_hit (is old.start.register) old.value (steps_in (forest old.cut) name) breaks) 0 parts
   runs_tell old new name len parts n breaks long begins h =
       let b = is old.start.register in
       let named = steps_named old.cut name in
-      told E is alike b old.cut new.cut old.value breaks (steps_in (forest old.cut) name) [] old.start (keys_named old.cut name) len parts n refl (ap alone begins) named
+      told E is alike b old.cut new.cut old.value breaks (steps_in (forest old.cut) name) [] old.start (keys_named old.cut name) len parts n refl (ap without_register begins) named
       (long ∙ ap length named) h.settles
 
 -- one step of many
@@ -169,8 +169,8 @@ module _ {R P : Type 0} (b : Behaviour P) where
   recorded_front c (x ∷ steps) (suc count) zero h = refl
   recorded_front c (x ∷ steps) (suc count) (suc i) h = recorded_front (stepped b c x) steps count i (omega (arith, h))
 
--- what a run tells of its places
-module _ {R P : Type 0} (is : R → Behaviour P) (breaks : List Break) (test : ℕ → Bool) (place : ℕ) (run : SegmentRun R P) (count : ℕ) (tells : Tells is breaks test place (record { run = run; count = count })) where
+-- what a run says about its places
+module _ {R P : Type 0} (is : R → Behaviour P) (breaks : List Break) (test : ℕ → Bool) (place : ℕ) (run : SegmentRun R P) (count : ℕ) (tells : ReportsPart is breaks test place (record { run = run; count = count })) where
   pub events_tell : IsRun (is run.entry.register) run → list_any is_on_bit breaks ≡ false → (i : ℕ) → i < length (take count run.events)
       → test ((place + 1) + i) ≡ records_any breaks (slice_index_or (take count run.events) i no_events)
   events_tell true_run none i h =
@@ -200,7 +200,7 @@ module _ {R P : Type 0} (is : R → Behaviour P) (breaks : List Break) (test : �
   pub steps_count : length (take count run.steps) ≡ count
   steps_count = omega (arith, length-take count run.steps, tells.within)
 
--- runs one after the other
+-- runs that follow one another
 module _ {R P Z : Type 0} where
   pub counted_split : (runs : List (Arc (SegmentRun R P) Z × ℕ)) (i : ℕ) (x : Arc (SegmentRun R P) Z × ℕ) → i < length runs → x ≡ get_or runs i x
       → counted (map part_of (take (i + 1) runs)) ≡ counted (map part_of (take i runs)) + x.1
@@ -216,12 +216,12 @@ module _ {R P Z : Type 0} where
   counted_within (y ∷ runs) (suc n) = omega (arith, counted_within runs n)
 
   pub tells_at : (is : R → Behaviour P) (breaks : List Break) (test : ℕ → Bool) (place : ℕ) (runs : List (Arc (SegmentRun R P) Z × ℕ)) (i : ℕ) (x : Arc (SegmentRun R P) Z × ℕ)
-      → i < length runs → x ≡ get_or runs i x → TellAll is breaks test place (map part_of runs) → Tells is breaks test (place + counted (map part_of (take i runs))) (part_of x)
+      → i < length runs → x ≡ get_or runs i x → ReportParts is breaks test place (map part_of runs) → ReportsPart is breaks test (place + counted (map part_of (take i runs))) (part_of x)
   tells_at is breaks test place [] i x h e t = absurd (omega (arith, h))
   tells_at is breaks test place (y ∷ runs) zero x h e t =
       let none : place ≡ place + 0 = omega arith in
       let same : y ≡ x = sym e in
-      subst (λ n. Tells is breaks test n (part_of x)) none (subst (λ (z : Arc (SegmentRun R P) Z × ℕ). Tells is breaks test place (part_of z)) same t.0)
+      subst (λ n. ReportsPart is breaks test n (part_of x)) none (subst (λ (z : Arc (SegmentRun R P) Z × ℕ). ReportsPart is breaks test place (part_of z)) same t.0)
   tells_at is breaks test place (y ∷ runs) (suc i) x h e t =
       let next : (place + y.1) + counted (map part_of (take i runs)) ≡ place + (y.1 + counted (map part_of (take i runs))) = omega arith in
-      subst (λ n. Tells is breaks test n (part_of x)) next (tells_at is breaks test (place + y.1) runs i x (omega (arith, h)) e t.1)
+      subst (λ n. ReportsPart is breaks test n (part_of x)) next (tells_at is breaks test (place + y.1) runs i x (omega (arith, h)) e t.1)

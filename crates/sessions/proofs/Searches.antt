@@ -1,4 +1,4 @@
--- What a search has found behind one more place.
+-- What a search has found after one more place.
 use Rattle.std.proofs.Common.{◌≡◌, ℕ, zero, suc, ◌+◌, Bool, true, false, ◌&&◌, ◌||◌, cond, nat_lt, List, [], ◌∷◌, ◌++◌, ◌<◌, length, get_or, drop, drop-cons, Option, Some, None, refl, sym, ap, ◌∙◌, arith, append-nil, reverse}
 use Rattle.std.specs.List.{find, filter, list_any, range_with_len}
 use Rattle.std.specs.Option.{option_or}
@@ -13,8 +13,8 @@ use Rattle.frames.specs.declared.types.Event.{Event}
 use Rattle.views.specs.Breaks.{is_met, is_in, is_recorded, is_shown}
 use Rattle.sessions.specs.declared.way.Way.{Way}
 use Rattle.sessions.specs.declared.way.Way.TheVariants.{Forth, Back}
-use Rattle.sessions.specs.Seeks.{places_with, least_above, greatest_below, next_of}
-use Rattle.sessions.specs.Walks.{is_on_bit, records_any, TellsEvents}
+use Rattle.sessions.specs.Seeks.{places_with, least_above, greatest_below, next_place}
+use Rattle.sessions.specs.Walks.{is_on_bit, records_any, ReportsEvents}
 
 range_more : (a n : ℕ) → range_with_len a (suc n) ≡ range_with_len a n ++ (a + n) ∷ []
 range_more a zero = let e : a ≡ a + 0 = omega arith in ap (λ m. m ∷ []) e
@@ -63,14 +63,14 @@ module _ (test : ℕ → Bool) where
   or_none None = refl
   or_none (Some x) = refl
 
-  -- behind a place at which nothing is met
-  pub none_more : (way : Way) (from place : ℕ) (hit : Bool) (found : Option ℕ) → hit ≡ false → test place ≡ hit → found ≡ next_of way from (places_with test place)
-      → found ≡ next_of way from (places_with test (place + 1))
+  -- a place at which no break is met leaves the search as it was
+  pub none_more : (way : Way) (from place : ℕ) (hit : Bool) (found : Option ℕ) → hit ≡ false → test place ≡ hit → found ≡ next_place way from (places_with test place)
+      → found ≡ next_place way from (places_with test (place + 1))
   none_more way from place true found none told before = cc
   none_more Forth from place false found none told before = forth_more from place false found found told before (or_none found)
   none_more Back from place false found none told before = back_more from place false found found told before refl
 
--- no break is met by no event
+-- without an event no break is met
 pub none_in : (breaks : List Break) → false ≡ list_any (λ break. is_in break None) breaks
 none_in [] = refl
 none_in (b ∷ bs) = none_in bs
@@ -82,7 +82,7 @@ or_apart false true false ys = refl
 or_apart false false true ys = refl
 or_apart false false false ys = refl
 
--- breaks that are met by one of two events
+-- a break is met by one of two events if it is met by the first or by the second
 pub either_in : (first second : Option Event) (breaks : List Break)
     → (list_any (λ break. is_in break first) breaks || list_any (λ break. is_in break second) breaks) ≡ list_any (λ break. is_in break first || is_in break second) breaks
 either_in first second [] = refl
@@ -113,20 +113,20 @@ met_by_records (break ∷ breaks) events m e =
     ap (λ b. b || is_met breaks events m) (or_nothing (is_recorded break events) (is_shown break m) (shown_false break m none.0))
     ∙ ap (λ b. is_recorded break events || b) (met_by_records breaks events m none.1)
 
--- a test that tells of steps tells of the first of them, and of those behind it
-pub tells_first : (breaks : List Break) (test : ℕ → Bool) (place : ℕ) (events : StepEvents) (later : List StepEvents) → TellsEvents breaks test place (events ∷ later)
+-- if a test agrees with steps, it agrees with the first of them, and with those after it
+pub tells_first : (breaks : List Break) (test : ℕ → Bool) (place : ℕ) (events : StepEvents) (later : List StepEvents) → ReportsEvents breaks test place (events ∷ later)
     → test (place + 1) ≡ records_any breaks events
 tells_first breaks test place events later tells =
     let here : place + 1 ≡ (place + 1) + 0 = omega arith in
     ap test here ∙ tells 0 (omega arith)
 
-pub tells_behind : (breaks : List Break) (test : ℕ → Bool) (place : ℕ) (events : StepEvents) (later : List StepEvents) → TellsEvents breaks test place (events ∷ later)
-    → TellsEvents breaks test (place + 1) later
+pub tells_behind : (breaks : List Break) (test : ℕ → Bool) (place : ℕ) (events : StepEvents) (later : List StepEvents) → ReportsEvents breaks test place (events ∷ later)
+    → ReportsEvents breaks test (place + 1) later
 tells_behind breaks test place events later tells i within =
     let next : ((place + 1) + 1) + i ≡ (place + 1) + suc i = omega arith in
     ap test next ∙ tells (suc i) (omega (arith, within))
 
--- whether one break is met decides of all from it on
+-- whether a break is met, or one of the breaks after it
 module _ (breaks : List Break) (events : StepEvents) (store m : Memory) (i : ℕ) (default : Break) (t : Bool)
     (within : i < length breaks) (same : store ≡ m)
     (here : t ≡ (is_recorded (get_or breaks i default) events || is_shown (get_or breaks i default) store))

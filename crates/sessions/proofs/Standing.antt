@@ -1,4 +1,4 @@
--- Cursors stand within their branches, also behind an edit.
+-- Cursors are within their branches, also after an edit.
 use Rattle.std.proofs.Common.{◌≡◌, ℕ, zero, suc, ◌+◌, ◌<◌, ◌≤◌, Bool, true, false, not, ◌&&◌, ◌||◌, cond, nat_eq, nat_lt, nat_le, List, [], ◌∷◌, ◌++◌, length, map, take, slice_get, get_or, Option, Some, None, Result, Ok, Err, IfOk, is_some, refl, sym, ap, subst, ◌∙◌, true≢false, arith}
 use Rattle.std.specs.Option.{option_map, IfSome}
 use Rattle.std.specs.List.{position, position_or_len, remove, list_any}
@@ -21,7 +21,7 @@ use Rattle.schedule_trie.specs.declared.refusal.Refusal.TheVariants.{NoPlace, Fu
 use Rattle.schedule_trie.specs.Names.{is_well_formed}
 use Rattle.schedule_trie.specs.Edits.{Edit, Insert, Remove, Replace, Fork, Detach, Drop, edited}
 use Rattle.schedule_trie.specs.Forest as forests
-use Rattle.schedule_trie.specs.Forest.{Forest, Branch, IsForest, AreNamedApart, ShareUpTo, index_of, slots_in, name_in, name_of, changed, everywhere, only_in, before_cell, put_before, put_last, without, is_cell, is_other, cell_in, cell_of, cell_at, cell_by, place_of, place_by, len_of}
+use Rattle.schedule_trie.specs.Forest.{Forest, Branch, IsForest, AreNamedApart, ShareUpTo, index_of, slots_in, name_in, name_of, changed, everywhere, only_in, before_cell, put_before, put_last, without, is_cell, is_other, cell_in, cell_of, cell_on_branch, cell_by, place_of, place_by, len_of}
 use Rattle.cutoff.specs.Held.{looked_at}
 use Rattle.views.specs.Looks.{steps_in}
 use Rattle.views.proofs.Spots.{length_told}
@@ -30,7 +30,7 @@ use Rattle.sessions.specs.declared.cursor.Shift.{Shift}
 use Rattle.sessions.specs.declared.cursor.Shift.TheVariants as shift
 use Rattle.sessions.specs.Edits.{moved_by, drops_occupied}
 use Rattle.sessions.specs.Bounds.{AreWithin}
-use Rattle.sessions.specs.Cursors.{AllStand, first_cursor, StandsIn, cursor_at, each_cursor, is_occupied, stands_on, cursor, acts_in, is_behind, shifted, shifted_place}
+use Rattle.sessions.specs.Cursors.{AreAtPlaces, first_cursor, IsAtPlace, cursor_at, each_cursor, is_occupied, is_on_branch, cursor, acts_in, is_shifted_by, shifted, shifted_place}
 use Rattle.schedule_trie.specs.declared.limits.TheConstants.{MOST_CELLS_MADE}
 
 lt_false : (a b : ℕ) → b ≤ a → nat_lt a b ≡ false
@@ -61,7 +61,7 @@ same_name (x ∷ xs) (y ∷ ys) e = by (same_name xs ys) (nat_eq x y) refl e
         cc
     by rest false h g = cc
 
--- a cursor's branch by where it stands among the others, and its place within
+-- a cursor is at a place that exists: its branch has this index, and is long enough
 pub record Stands (bs : List Branch) (c : Cursor) : Type 0 where
   pub index : ℕ
   pub named : name_in bs index ≡ Some c.branch
@@ -81,7 +81,7 @@ looked f place (Some i) e = (i, refl, by (nat_lt (length (slots_in f.branches i)
     by true h g = absurd (cc)
     by false h g = not_above (length (slots_in f.branches i)) place h
 
-pub stands : (f : Forest) (c : Cursor) → StandsIn f c → Stands f.branches c
+pub stands : (f : Forest) (c : Cursor) → IsAtPlace f c → Stands f.branches c
 stands f c e =
     let p = looked f c.place (index_of f.branches c.branch) e in
     record { index = p.0; named = named_at c.branch f.branches p.0 p.1; within = p.2 }
@@ -93,12 +93,12 @@ found_apart bs i name apart e = by (name_in bs i) e (apart i)
     by None h g = absurd (cc)
     by (Some n) h g = let same : n ≡ name = cc in subst (λ m. index_of bs m ≡ Some i) same g
 
-pub stands_in : (f : Forest) (c : Cursor) → AreNamedApart f.branches → Stands f.branches c → StandsIn f c
+pub stands_in : (f : Forest) (c : Cursor) → AreNamedApart f.branches → Stands f.branches c → IsAtPlace f c
 stands_in f c apart s =
     ap (λ o. forests.on_found o (looked_at f c.place)) (found_apart f.branches s.index c.branch apart s.named)
     ∙ ap (λ b. cond b (Err NoPlace) (Ok f)) (lt_false (length (slots_in f.branches s.index)) c.place s.within)
 
--- branches of the same names in which nothing is lost
+-- a cursor's place still exists if the branches keep their names and none of them is shorter
 pub stands_longer : (bs cs : List Branch) (c : Cursor) → map name_of cs ≡ map name_of bs → ((j : ℕ) → length (slots_in bs j) ≤ length (slots_in cs j)) → Stands bs c → Stands cs c
 stands_longer bs cs c names longer s =
     let more = longer s.index in
@@ -125,7 +125,7 @@ longer_only_in zero g (b ∷ bs) h (suc j) = omega arith
 longer_only_in (suc i) g (b ∷ bs) h zero = omega arith
 longer_only_in (suc i) g (b ∷ bs) h (suc j) = longer_only_in i g bs h j
 
--- a cell before each that has a number
+-- a branch with a cell added before the one with number `x`
 module _ (x : ℕ) (new : Slot) where
   pub put_longer : (slots : List Slot) → length slots ≤ length (put_before x new slots)
   put_longer [] = omega arith
@@ -148,10 +148,11 @@ module _ (x : ℕ) (new : Slot) where
       by rest true = omega arith
       by rest false = omega arith
 
--- no cell has a number, or one at most
+-- no cell has this number
 abbrev pub Lacks : ℕ → List Slot → Type 0
 Lacks x slots = (k : ℕ) (s : Slot) → slice_get slots k ≡ Some s → s.cell ≡ x → ⊥
 
+-- at most one cell has this number
 abbrev pub HasOnce : ℕ → List Slot → Type 0
 HasOnce x slots = (k l : ℕ) (s t : Slot) → slice_get slots k ≡ Some s → slice_get slots l ≡ Some t → s.cell ≡ x → t.cell ≡ x → k ≡ l
 
@@ -174,7 +175,7 @@ one_gone x (y ∷ ys) h = by (one_gone x ys (λ k l s t d e a b. let same : suc 
     by rest true e = let all = none_gone x ys (lacks (same_number y.cell x e)) in omega arith
     by rest false e = omega arith
 
--- where the cell of a number stands
+-- the cell at the place that was found for a number has that number
 pub cell_found : (x k : ℕ) (slots : List Slot) (d : Slot) → position (is_cell x) slots ≡ Some k → (s : Slot) × (slice_get slots k ≡ Some s) × (s.cell ≡ x)
 cell_found x k slots d e =
     let p = position-Some (is_cell x) slots k d e in
@@ -237,14 +238,14 @@ module _ (f : Forest) (held : IsForest f) (name : List ℕ) (place i : ℕ) (fou
   placed : (x : ℕ) → place_of f c.branch x ≡ position (is_cell x) there
   placed x = ap (λ o. place_by o f x) (found_apart f.branches s.index c.branch held.apart s.named)
 
-  cell_is : (t : Slot) → slice_get here place ≡ Some t → cell_at f name place ≡ Some t.cell
+  cell_is : (t : Slot) → slice_get here place ≡ Some t → cell_on_branch f name place ≡ Some t.cell
   cell_is t e = ap (λ o. cell_by o f place) found ∙ ap (option_map cell_of) e
 
-  cell_none : length here ≤ place → cell_at f name place ≡ None
+  cell_none : length here ≤ place → cell_on_branch f name place ≡ None
   cell_none past = ap (λ o. cell_by o f place) found ∙ ap (option_map cell_of) (slice_get_past here place past)
 
-  -- at the end of a branch no cursor stands behind the place
-  last_behind : length here ≤ place → is_behind f name place c ≡ true → ⊥
+  -- at the end of a branch no cursor is after the place
+  last_behind : length here ≤ place → is_shifted_by f name place c ≡ true → ⊥
   last_behind past e =
       let p = both (pointwise nat_eq name c.branch) (nat_lt place c.place) (ap (λ o. acts_in o f name c.branch && nat_lt place c.place) (sym (cell_none past)) ∙ e) in
       let same : name ≡ c.branch = same_name name c.branch p.0 in
@@ -254,17 +255,17 @@ module _ (f : Forest) (held : IsForest f) (name : List ℕ) (place i : ℕ) (fou
       let ahead : place < c.place = above place c.place p.1 in
       omega (arith, s.within)
 
-  -- a cursor behind a cell stands on a branch that has it
-  has_behind : (t : Slot) → slice_get here place ≡ Some t → is_behind f name place c ≡ true → ((k : ℕ) × (position (is_cell t.cell) there ≡ Some k)) × (place < c.place)
+  -- a cursor after a cell is on a branch that has it
+  has_behind : (t : Slot) → slice_get here place ≡ Some t → is_shifted_by f name place c ≡ true → ((k : ℕ) × (position (is_cell t.cell) there ≡ Some k)) × (place < c.place)
   has_behind t at e =
       let p = both (is_some (place_of f c.branch t.cell)) (nat_lt place c.place) (ap (λ o. acts_in o f name c.branch && nat_lt place c.place) (sym (cell_is t at)) ∙ e) in
       (some_at (position (is_cell t.cell) there) (ap is_some (sym (placed t.cell)) ∙ p.0), above place c.place p.1)
 
-  goes : (cs : List Branch) (sh : Shift) → (is_behind f name place c ≡ true → Stands cs (cursor c.branch (shifted_place sh c.place)))
-      → (is_behind f name place c ≡ false → Stands cs c) → Stands cs (shifted sh f name place c)
-  goes cs sh up down = by (is_behind f name place c) refl
+  goes : (cs : List Branch) (sh : Shift) → (is_shifted_by f name place c ≡ true → Stands cs (cursor c.branch (shifted_place sh c.place)))
+      → (is_shifted_by f name place c ≡ false → Stands cs c) → Stands cs (shifted sh f name place c)
+  goes cs sh up down = by (is_shifted_by f name place c) refl
     where
-      by : (b : Bool) → is_behind f name place c ≡ b → Stands cs (cond b (cursor c.branch (shifted_place sh c.place)) c)
+      by : (b : Bool) → is_shifted_by f name place c ≡ b → Stands cs (cond b (cursor c.branch (shifted_place sh c.place)) c)
       by true e = up e
       by false e = down e
 
@@ -293,7 +294,7 @@ module _ (f : Forest) (held : IsForest f) (name : List ℕ) (place i : ℕ) (fou
   once : (x : ℕ) → HasOnce x there
   once x k l a b e d m n = same_place f held s.index k l a b e d (m ∙ sym n)
 
-  -- a cell stands at the same place in each branch that has it
+  -- a cell has the same place in each branch that has it
   one_place : (t : Slot) → slice_get here place ≡ Some t → (k : ℕ) → position (is_cell t.cell) there ≡ Some k → (k ≡ place) × (k < length there)
   one_place t at k e =
       let q = cell_found t.cell k there t e in
@@ -305,7 +306,7 @@ module _ (f : Forest) (held : IsForest f) (name : List ℕ) (place i : ℕ) (fou
       let lengths : length (take (suc place) here) ≡ length (take (suc k) there) = ap length shared in
       (omega arith, within_k)
 
-  stays : (t : Slot) → slice_get here place ≡ Some t → is_behind f name place c ≡ false → (o : Option ℕ) → position (is_cell t.cell) there ≡ o
+  stays : (t : Slot) → slice_get here place ≡ Some t → is_shifted_by f name place c ≡ false → (o : Option ℕ) → position (is_cell t.cell) there ≡ o
       → (n : ℕ) → n ≡ length (without t.cell there) → length there ≤ suc (length (without t.cell there)) → c.place ≤ n
   stays t at e None h n same few = let all = none_gone t.cell there (cell_lacked t.cell there h) in omega (arith, s.within)
   stays t at e (Some k) h n same few =
@@ -377,10 +378,10 @@ not_there : (name : List ℕ) (cursors : List (Option Cursor)) (who : ℕ) (c : 
 not_there name cursors who c free at = by (pointwise nat_eq name c.branch) refl
   where
     by : (b : Bool) → pointwise nat_eq name c.branch ≡ b → b ≡ false
-    by true e = absurd (true≢false (sym (list_any_at (stands_on name) cursors who None (cursor_within cursors who c at) (ap (stands_on name) at ∙ e)) ∙ free))
+    by true e = absurd (true≢false (sym (list_any_at (is_on_branch name) cursors who None (cursor_within cursors who c at) (ap (is_on_branch name) at ∙ e)) ∙ free))
     by false e = refl
 
--- what holds of what an edit gives, once it has found its branch and its tests have passed
+-- what holds of an edit's result, once its branch is found and its tests have passed
 module _ (P : Forest → Type 0) where
   found_ok : (o : Option ℕ) (command : ℕ → Result Forest Refusal) → ((i : ℕ) → o ≡ Some i → IfOk (command i) P) → IfOk (forests.on_found o command) P
   found_ok None command h = tt
@@ -408,7 +409,7 @@ on_cursor (Insert name place step) f c = shifted shift.Up f name place c
 on_cursor (Remove name place) f c = shifted shift.Down f name place c
 on_cursor edit f c = c
 
--- no cursor stands on a branch that is dropped
+-- no cursor is on a branch that is dropped
 abbrev Stays : Edit → Cursor → Type 0
 Stays (Drop name) c = pointwise nat_eq name c.branch ≡ false
 Stays edit c = Unit {0}
@@ -507,28 +508,28 @@ module _ (limits : Limits) (f : Forest) (few : f.made ≤ limits.cells) where
   made_within g edit e = from_ok IsFew (edited limits f edit) g e (few_after edit)
 
 -- of all cursors
-each_stands : (f g : Forest) (change : Cursor → Cursor) (cursors : List (Option Cursor)) → ((who : ℕ) (c : Cursor) → cursor_at cursors who ≡ Some c → StandsIn f c → StandsIn g (change c))
-    → AllStand f cursors → AllStand g (each_cursor change cursors)
+each_stands : (f g : Forest) (change : Cursor → Cursor) (cursors : List (Option Cursor)) → ((who : ℕ) (c : Cursor) → cursor_at cursors who ≡ Some c → IsAtPlace f c → IsAtPlace g (change c))
+    → AreAtPlaces f cursors → AreAtPlaces g (each_cursor change cursors)
 each_stands f g change cursors one all who =
-    subst (λ o. IfSome o (StandsIn g)) (sym (get_or-map (option_map change) cursors who None)) (by (cursor_at cursors who) refl (all who))
+    subst (λ o. IfSome o (IsAtPlace g)) (sym (get_or-map (option_map change) cursors who None)) (by (cursor_at cursors who) refl (all who))
   where
-    by : (o : Option Cursor) → cursor_at cursors who ≡ o → IfSome o (StandsIn f) → IfSome (option_map change o) (StandsIn g)
+    by : (o : Option Cursor) → cursor_at cursors who ≡ o → IfSome o (IsAtPlace f) → IfSome (option_map change o) (IsAtPlace g)
     by None e h = tt
     by (Some c) e h = one who c e h
 
-all_kept : (f g : Forest) (cursors : List (Option Cursor)) → ((who : ℕ) (c : Cursor) → cursor_at cursors who ≡ Some c → StandsIn f c → StandsIn g c) → AllStand f cursors → AllStand g cursors
+all_kept : (f g : Forest) (cursors : List (Option Cursor)) → ((who : ℕ) (c : Cursor) → cursor_at cursors who ≡ Some c → IsAtPlace f c → IsAtPlace g c) → AreAtPlaces f cursors → AreAtPlaces g cursors
 all_kept f g cursors one all who = by (cursor_at cursors who) refl (all who)
   where
-    by : (o : Option Cursor) → cursor_at cursors who ≡ o → IfSome o (StandsIn f) → IfSome o (StandsIn g)
+    by : (o : Option Cursor) → cursor_at cursors who ≡ o → IfSome o (IsAtPlace f) → IfSome o (IsAtPlace g)
     by None e h = tt
     by (Some c) e h = one who c e h
 
-module _ (limits : Limits) (f g : Forest) (held : IsForest f) (apart : AreNamedApart g.branches) (cursors : List (Option Cursor)) (all : AllStand f cursors) where
-  one_stands : (edit : Edit) → edited limits f edit ≡ Ok g → (c : Cursor) → Stays edit c → StandsIn f c → StandsIn g (on_cursor edit f c)
+module _ (limits : Limits) (f g : Forest) (held : IsForest f) (apart : AreNamedApart g.branches) (cursors : List (Option Cursor)) (all : AreAtPlaces f cursors) where
+  one_stands : (edit : Edit) → edited limits f edit ≡ Ok g → (c : Cursor) → Stays edit c → IsAtPlace f c → IsAtPlace g (on_cursor edit f c)
   one_stands edit e c stays here = stands_in g (on_cursor edit f c) apart (from_ok (Goes limits f held c (stands f c here) edit) (edited limits f edit) g e (edited_one limits f held c (stands f c here) edit stays))
 
-  -- where no cursor stood on a branch that is dropped
-  pub edited_stand : (edit : Edit) → edited limits f edit ≡ Ok g → drops_occupied edit cursors ≡ false → AllStand g (moved_by edit f cursors)
+  -- after an edit that drops no branch with a cursor on it, each cursor is at a place that exists
+  pub edited_stand : (edit : Edit) → edited limits f edit ≡ Ok g → drops_occupied edit cursors ≡ false → AreAtPlaces g (moved_by edit f cursors)
   unfolding on_cursor
   edited_stand (Insert name place step) e h = each_stands f g (shifted shift.Up f name place) cursors (λ who c at. one_stands (Insert name place step) e c tt) all
   edited_stand (Remove name place) e h = each_stands f g (shifted shift.Down f name place) cursors (λ who c at. one_stands (Remove name place) e c tt) all
@@ -537,26 +538,26 @@ module _ (limits : Limits) (f g : Forest) (held : IsForest f) (apart : AreNamedA
   edited_stand (Detach name) e h = all_kept f g cursors (λ who c at. one_stands (Detach name) e c tt) all
   edited_stand (Drop name) e h = all_kept f g cursors (λ who c at. one_stands (Drop name) e c (not_there name cursors who c h at)) all
 
--- a cursor that is put
-pub put_stands : (f : Forest) (cursors : List (Option Cursor)) (who : ℕ) (o : Option Cursor) → who < length cursors → IfSome o (StandsIn f) → AllStand f cursors
-    → AllStand f (slice_set cursors who o)
+-- after a session's cursor is put at a place that exists, all cursors are at such places
+pub put_stands : (f : Forest) (cursors : List (Option Cursor)) (who : ℕ) (o : Option Cursor) → who < length cursors → IfSome o (IsAtPlace f) → AreAtPlaces f cursors
+    → AreAtPlaces f (slice_set cursors who o)
 put_stands f cursors who o h one all k = by (nat_eq k who) refl
   where
-    by : (b : Bool) → nat_eq k who ≡ b → IfSome (cursor_at (slice_set cursors who o) k) (StandsIn f)
+    by : (b : Bool) → nat_eq k who ≡ b → IfSome (cursor_at (slice_set cursors who o) k) (IsAtPlace f)
     by true e =
         let here : cursor_at (slice_set cursors who o) k ≡ o = ap (cursor_at (slice_set cursors who o)) (same_number k who e) ∙ get_or-set_same cursors who o None h in
-        subst (λ p. IfSome p (StandsIn f)) (sym here) one
-    by false e = subst (λ p. IfSome p (StandsIn f)) (sym (get_or-set_other cursors who k o None (other_number k who e))) (all k)
+        subst (λ p. IfSome p (IsAtPlace f)) (sym here) one
+    by false e = subst (λ p. IfSome p (IsAtPlace f)) (sym (get_or-set_other cursors who k o None (other_number k who e))) (all k)
 
--- at the beginning of the first branch
-pub first_stands : (f : Forest) → AreNamedApart f.branches → IfSome (first_cursor f) (StandsIn f)
+-- the first cursor of a session that joins is at a place that exists
+pub first_stands : (f : Forest) → AreNamedApart f.branches → IfSome (first_cursor f) (IsAtPlace f)
 first_stands f apart = by (name_in f.branches 0) refl
   where
-    by : (o : Option (List ℕ)) → name_in f.branches 0 ≡ o → IfSome (option_map (λ name. cursor name 0) o) (StandsIn f)
+    by : (o : Option (List ℕ)) → name_in f.branches 0 ≡ o → IfSome (option_map (λ name. cursor name 0) o) (IsAtPlace f)
     by None e = tt
     by (Some name) e = stands_in f (cursor name 0) apart (record { index = 0; named = e; within = omega arith })
 
--- no branch has more cells than were made, of which each has once
+-- no branch has more cells than were made, since it has each at most once
 cells_apart : (slots : List Slot) → ((k l : ℕ) (s t : Slot) → slice_get slots k ≡ Some s → slice_get slots l ≡ Some t → s.cell ≡ t.cell → k ≡ l) → IsDistinct nat_eq (map cell_of slots)
 unfolding IsDistinct
 cells_apart [] h = tt
@@ -587,23 +588,23 @@ few_within f held j =
     let same : length (map cell_of slots) ≡ length slots = length-map slots cell_of in
     omega arith
 
-pub are_within : (f : Forest) (cursors : List (Option Cursor)) → IsForest f → f.made ≤ MOST_CELLS_MADE → AllStand f cursors → AreWithin cursors
+pub are_within : (f : Forest) (cursors : List (Option Cursor)) → IsForest f → f.made ≤ MOST_CELLS_MADE → AreAtPlaces f cursors → AreWithin cursors
 are_within f cursors held few all who = by (cursor_at cursors who) (all who)
   where
-    by : (o : Option Cursor) → IfSome o (StandsIn f) → IfSome o (λ c. c.place ≤ MOST_CELLS_MADE)
+    by : (o : Option Cursor) → IfSome o (IsAtPlace f) → IfSome o (λ c. c.place ≤ MOST_CELLS_MADE)
     by None h = tt
     by (Some c) h = let s = stands f c h in omega (arith, s.within, few_within f held s.index, few)
 
--- where there was a cursor
-pub goes_within : (f : Forest) (c : Cursor) (place n : ℕ) → StandsIn f c → len_of f c.branch ≡ Some n → place ≤ n → StandsIn f (cursor c.branch place)
+-- a place that is at most a branch's length exists, if a cursor is on that branch
+pub goes_within : (f : Forest) (c : Cursor) (place n : ℕ) → IsAtPlace f c → len_of f c.branch ≡ Some n → place ≤ n → IsAtPlace f (cursor c.branch place)
 goes_within f c place n h len few =
     let p = looked f c.place (index_of f.branches c.branch) h in
     let lengths : Some (length (slots_in f.branches p.0)) ≡ Some n = ap (option_map (λ i. length (slots_in f.branches i))) (sym p.1) ∙ len in
     let same : length (slots_in f.branches p.0) ≡ n = cc in
     ap (λ o. forests.on_found o (looked_at f place)) p.1 ∙ ap (λ b. cond b (Err NoPlace) (Ok f)) (lt_false (length (slots_in f.branches p.0)) place (omega arith))
 
--- where a branch is long enough
-pub goes_to : (f : Forest) (branch : List ℕ) (place n : ℕ) → len_of f branch ≡ Some n → place ≤ n → StandsIn f (cursor branch place)
+-- a place that is at most a branch's length exists
+pub goes_to : (f : Forest) (branch : List ℕ) (place n : ℕ) → len_of f branch ≡ Some n → place ≤ n → IsAtPlace f (cursor branch place)
 goes_to f branch place n = by (index_of f.branches branch)
   where
     by : (o : Option ℕ) → option_map (λ i. length (slots_in f.branches i)) o ≡ Some n → place ≤ n
@@ -613,9 +614,9 @@ goes_to f branch place n = by (index_of f.branches branch)
         let same : length (slots_in f.branches i) ≡ n = cc in
         ap (λ b. cond b (Err NoPlace) (Ok f)) (lt_false (length (slots_in f.branches i)) place (omega (arith, same, few)))
 
--- where a seek found a hit
-pub hit_stands : (f : Forest) (c : Cursor) (place : ℕ) → StandsIn f c → place < length (steps_in f c.branch) + 1
-    → StandsIn f (cursor c.branch place)
+-- the place of a hit exists
+pub hit_stands : (f : Forest) (c : Cursor) (place : ℕ) → IsAtPlace f c → place < length (steps_in f c.branch) + 1
+    → IsAtPlace f (cursor c.branch place)
 hit_stands f c place h within =
     let p = looked f c.place (index_of f.branches c.branch) h in
     let n = length (slots_in f.branches p.0) in
@@ -623,8 +624,8 @@ hit_stands f c place h within =
     let long = length_told f c.branch n (sym len) in
     goes_within f c place n h len (omega (arith, long, within))
 
--- before anybody has joined
-pub none_stand : (f : Forest) (n who : ℕ) → IfSome (cursor_at (replicate n None) who) (StandsIn f)
+-- before any session has joined, each cursor is at a place that exists
+pub none_stand : (f : Forest) (n who : ℕ) → IfSome (cursor_at (replicate n None) who) (IsAtPlace f)
 none_stand f zero who = tt
 none_stand f (suc n) zero = tt
 none_stand f (suc n) (suc who) = none_stand f n who

@@ -7,7 +7,7 @@ use Rattle.schedule_trie.specs.Edits.{Edit}
 use Rattle.sessions.specs.declared.command.Command.{Command}
 use Rattle.sessions.specs.declared.log.Entry.{Entry}
 use Rattle.sessions.specs.World.{World}
-use Rattle.sessions.specs.Acts.{acted, answered, first_refusal, left_by, refusals, refused}
+use Rattle.sessions.specs.Acts.{command_result, answered, first_refusal, left_by, refusals, refused}
 use Rattle.sessions.specs.Edits.{edit_of}
 use Rattle.sessions.specs.Logs.{acted_by, world_after}
 use Rattle.sessions.specs.Held.{Held, IsHeld, opening_of, world_of}
@@ -25,11 +25,11 @@ module _ {P : Type 0} (who : ℕ) (c : Command) (w : World P) where
   answered_tower None = left_tower (edit_of c)
   answered_tower (Some r) = refused_tower r
 
--- commands leave it
+-- no command changes the register of a world
 pub tower_after : {P : Type 0} (w : World P) (log : List Entry) → (world_after w log).tower ≡ w.tower
 tower_after w [] = refl
 tower_after w (e ∷ log) = tower_after (acted_by e w).world log ∙ answered_tower e.who e.command w (first_refusal (refusals e.who e.if_at e.command w))
 
--- and so a book is still on the register that it opened with
+-- a book is still on the register that it opened with
 pub same_tower : {R P : Type 0} (is : R → Behaviour P) (h : Held R P) → IsHeld is h → (opening_of is h).tower ≡ (world_of is h.now).tower
 same_tower is h held = sym (ap (λ w. w.tower) held.after ∙ tower_after (opening_of is h) h.log)

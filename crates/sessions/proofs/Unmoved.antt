@@ -1,12 +1,12 @@
--- Where no cursor stands behind an edit's place, the edit moves none.
+-- If no cursor is after an edit's place, the edit moves none.
 use Rattle.std.proofs.Common.{◌≡◌, ℕ, Bool, true, false, not, ◌&&◌, ◌||◌, nat_lt, List, [], ◌∷◌, Option, Some, None, if◌then◌else◌, refl, sym, ap, ◌∙◌}
 use Rattle.std.specs.Option.{option_map}
 use Rattle.std.specs.List.{list_any}
-use Rattle.schedule_trie.specs.Forest.{Forest, cell_at}
+use Rattle.schedule_trie.specs.Forest.{Forest, cell_on_branch}
 use Rattle.schedule_trie.specs.Edits.{Edit}
 use Rattle.sessions.specs.declared.cursor.Cursor.{Cursor}
 use Rattle.sessions.specs.declared.cursor.Shift.{Shift}
-use Rattle.sessions.specs.Cursors.{acts_in, cursor, each_cursor, shifted, shifted_place, stands_behind}
+use Rattle.sessions.specs.Cursors.{acts_in, cursor, each_cursor, shifted, shifted_place, is_after_place}
 use Rattle.sessions.specs.Edits.{IsShift, moved_if}
 
 as_it_was : {A : Type 0} (a b : Bool) (x y : A) → b ≡ false → (if a && b then x else y) ≡ y
@@ -14,17 +14,17 @@ as_it_was true b x y h = ap (λ t. if t then x else y) h
 as_it_was false b x y h = refl
 
 module _ (way : Shift) (f : Forest) (branch : List ℕ) (place : ℕ) where
-  one_stays : (o : Option Cursor) → stands_behind place o ≡ false → option_map (shifted way f branch place) o ≡ o
+  one_stays : (o : Option Cursor) → is_after_place place o ≡ false → option_map (shifted way f branch place) o ≡ o
   one_stays None h = refl
   one_stays (Some c) h =
-      ap Some (as_it_was (acts_in (cell_at f branch place) f branch c.branch) (nat_lt place c.place) (cursor c.branch (shifted_place way c.place)) c h)
+      ap Some (as_it_was (acts_in (cell_on_branch f branch place) f branch c.branch) (nat_lt place c.place) (cursor c.branch (shifted_place way c.place)) c h)
 
-  all_stay : (cursors : List (Option Cursor)) → list_any (stands_behind place) cursors ≡ false → each_cursor (shifted way f branch place) cursors ≡ cursors
+  all_stay : (cursors : List (Option Cursor)) → list_any (is_after_place place) cursors ≡ false → each_cursor (shifted way f branch place) cursors ≡ cursors
   all_stay [] h = refl
-  all_stay (o ∷ rest) h = by (all_stay rest) (stands_behind place o) refl h
+  all_stay (o ∷ rest) h = by (all_stay rest) (is_after_place place o) refl h
     where
-      by : (list_any (stands_behind place) rest ≡ false → each_cursor (shifted way f branch place) rest ≡ rest) → (b : Bool) → stands_behind place o ≡ b
-          → (b || list_any (stands_behind place) rest) ≡ false → each_cursor (shifted way f branch place) (o ∷ rest) ≡ o ∷ rest
+      by : (list_any (is_after_place place) rest ≡ false → each_cursor (shifted way f branch place) rest ≡ rest) → (b : Bool) → is_after_place place o ≡ b
+          → (b || list_any (is_after_place place) rest) ≡ false → each_cursor (shifted way f branch place) (o ∷ rest) ≡ o ∷ rest
       by others true e g = absurd (cc)
       by others false e g = ap (λ x. x ∷ each_cursor (shifted way f branch place) rest) (one_stays o e) ∙ ap (λ xs. o ∷ xs) (others g)
 
@@ -33,5 +33,5 @@ none_is true h = absurd (cc)
 none_is false h = refl
 
 pub unmoved : (edit : Option Edit) (at : List ℕ × ℕ × Shift) (cursors : List (Option Cursor)) (t : Bool) → IsShift edit (Some at)
-    → t ≡ list_any (stands_behind at.1) cursors → not t ≡ true → (f : Forest) → cursors ≡ moved_if edit f cursors
+    → t ≡ list_any (is_after_place at.1) cursors → not t ≡ true → (f : Forest) → cursors ≡ moved_if edit f cursors
 unmoved edit at cursors t is any none f = sym (is f cursors ∙ all_stay at.2 f at.0 at.1 cursors (sym any ∙ none_is t none))

@@ -1,4 +1,4 @@
--- What a command does: why it is refused, and else what it leaves and replies.
+-- What a command does: the reason why it is refused, or else its reply and the world after it.
 use Rattle.std.specs.Prelude.{ℕ, ◌+◌, Bool, true, false, not, ◌==◌, ◌&&◌, ◌||◌, nat_le, nat_lt, List, [], ◌∷◌, ◌++◌, Option, Some, None, Result, Ok, Err, is_none, slice_set, option_and_then, if◌then◌else◌}
 use Rattle.std.specs.Option.{option_map}
 use Rattle.frames.specs.Behaviour.{Behaviour}
@@ -20,10 +20,10 @@ use Rattle.sessions.specs.declared.reply.Reply.TheVariants.{Joined, Left, Edited
 use Rattle.sessions.specs.Cursors.{cursor, cursor_at, first_cursor}
 use Rattle.sessions.specs.Edits.{edit_of, moved_by, drops_occupied}
 use Rattle.sessions.specs.BreakLists.{breaks_at, has_break, with_break, without_break}
-use Rattle.sessions.specs.Seeks.{hits, next_of}
+use Rattle.sessions.specs.Seeks.{hits, next_place}
 use Rattle.sessions.specs.World.{World}
 
--- a command of a session that has joined; the others are any session's
+-- whether a command needs its session to have joined
 abbrev pub needs_session : Command → Bool
 needs_session command.Leave = true
 needs_session (command.Go branch place) = true
@@ -33,49 +33,52 @@ needs_session (command.Break break) = true
 needs_session (command.Clear break) = true
 needs_session c = false
 
+-- whether there is no such session, or the session hasn't joined and the command needs it to
 abbrev pub lacks_session : ℕ → Command → List (Option Cursor) → Bool
 lacks_session who c cursors = nat_lt 15 who || (needs_session c && is_none (cursor_at cursors who))
 
--- a guard that was given, and isn't the edit count
+-- whether a guard is given and differs from the edit count
 abbrev pub is_missed : Option ℕ → ℕ → Bool
 is_missed None edits = false
 is_missed (Some guard) edits = not (guard == edits)
 
--- the step that a command brings, if any, fits
+-- whether a command's step, if it has one, fits the register
 abbrev pub fits_command : {P : Type 0} → Behaviour P → Command → Bool
 fits_command b (command.Insert branch place step) = fits_step b step
 fits_command b (command.Replace branch place step) = fits_step b step
 fits_command b c = true
 
--- a go only looks
+-- the branches, unchanged; or the refusal of a go to a place that isn't there
 abbrev pub looked_by : Forest → Command → Result Forest Refusal
 looked_by f (command.Go branch place) = look f branch place
 looked_by f c = Ok f
 
--- a clear of a break that isn't there
+-- whether a command clears a break that isn't there
 abbrev pub lacks_break : ℕ → Command → List (List Break) → Bool
 lacks_break who (command.Clear break) breaks = not (has_break break (breaks_at breaks who))
 lacks_break who c breaks = false
 
+-- this refusal, if the condition holds
 abbrev pub refused_if : Bool → Refusal → Option Refusal
 refused_if condition r = if condition then Some r else None
 
+-- the refusal of a result, or `None` if the result is a forest
 abbrev pub refusal_in : Result Forest Refusal → Option Refusal
 refusal_in (Ok f) = None
 refusal_in (Err r) = Some r
 
--- the first refusal of a list
+-- the first refusal of a list, if any
 abbrev pub first_refusal : List (Option Refusal) → Option Refusal
 first_refusal [] = None
 first_refusal (None ∷ rs) = first_refusal rs
 first_refusal (Some r ∷ rs) = Some r
 
 module _ {P : Type 0} where
-  -- no more commands can be logged
+  -- whether no more commands can be logged
   abbrev pub is_full : World P → Bool
   is_full w = nat_le w.limits.log w.logged
 
-  -- why a command is refused, in order
+  -- the reasons to refuse a command before its branch is looked up, in order
   abbrev pub early_refusals : ℕ → Option ℕ → Command → World P → List (Option Refusal)
   early_refusals who guard c w =
       refused_if (is_full w) LogFull
@@ -84,42 +87,47 @@ module _ {P : Type 0} where
       ∷ refused_if (not (fits_command w.tower c)) BadStep
       ∷ []
 
-  -- of an edit, and of another command
+  -- the reasons to refuse an edit after that, in order
   abbrev pub edit_refusals : Edit → World P → List (Option Refusal)
   edit_refusals edit w =
       refusal_in (edited w.limits w.forest edit)
       ∷ refused_if (drops_occupied edit w.cursors) Occupied
       ∷ []
 
+  -- the reasons to refuse another command after that, in order
   abbrev pub other_refusals : ℕ → Command → World P → List (Option Refusal)
   other_refusals who c w =
       refusal_in (looked_by w.forest c)
       ∷ refused_if (lacks_break who c w.breaks) NoBreak
       ∷ []
 
+  -- the reasons to refuse any command after that, given its edit, if it is one
   abbrev pub late_by : Option Edit → ℕ → Command → World P → List (Option Refusal)
   late_by (Some edit) who c w = edit_refusals edit w
   late_by None who c w = other_refusals who c w
 
+  -- the reasons to refuse a command once its branch is looked up, in order
   abbrev pub late_refusals : ℕ → Command → World P → List (Option Refusal)
   late_refusals who c w = late_by (edit_of c) who c w
 
+  -- all reasons to refuse a command, in order
   abbrev pub refusals : ℕ → Option ℕ → Command → World P → List (Option Refusal)
   refusals who guard c w = early_refusals who guard c w ++ late_refusals who c w
 
-  -- where a seek takes a session's cursor, if there is a hit on its way
+  -- a cursor at the next hit of a seek from the cursor `c`, if there is a hit
   abbrev pub hit_from : Way → World P → List Break → Cursor → Option Cursor
-  hit_from towards w breaks c = option_map (cursor c.branch) (next_of towards c.place (hits w.tower w.value (steps_in w.forest c.branch) breaks))
+  hit_from towards w breaks c = option_map (cursor c.branch) (next_place towards c.place (hits w.tower w.value (steps_in w.forest c.branch) breaks))
 
+  -- the same for a seek from a session's cursor
   abbrev pub hit_of : Way → World P → ℕ → Option Cursor
   hit_of towards w who = option_and_then (hit_from towards w (breaks_at w.breaks who)) (cursor_at w.cursors who)
 
--- a cursor goes where a seek takes it; where it takes it nowhere nothing moves
+-- the cursors after a seek of session `who`, whose cursor moves to the hit, if there is one
 abbrev pub put_cursor : ℕ → Option Cursor → List (Option Cursor) → List (Option Cursor)
 put_cursor who None cursors = cursors
 put_cursor who (Some c) cursors = slice_set cursors who (Some c)
 
--- the cursors after a command that is no edit and isn't refused
+-- the cursors after a command that isn't an edit and isn't refused
 abbrev pub cursors_after : {P : Type 0} → ℕ → Command → World P → List (Option Cursor)
 cursors_after who command.Join w = slice_set w.cursors who (first_cursor w.forest)
 cursors_after who command.Leave w = slice_set w.cursors who None
@@ -128,7 +136,7 @@ cursors_after who command.Seek w = put_cursor who (hit_of way.Forth w who) w.cur
 cursors_after who command.Back w = put_cursor who (hit_of way.Back w who) w.cursors
 cursors_after who c w = w.cursors
 
--- the breaks after it
+-- the breaks after a command that isn't refused
 abbrev pub breaks_after : ℕ → Command → List (List Break) → List (List Break)
 breaks_after who command.Join breaks = slice_set breaks who []
 breaks_after who command.Leave breaks = slice_set breaks who []
@@ -136,11 +144,12 @@ breaks_after who (command.Break break) breaks = slice_set breaks who (with_break
 breaks_after who (command.Clear break) breaks = slice_set breaks who (without_break break (breaks_at breaks who))
 breaks_after who c breaks = breaks
 
+-- the reply to a seek
 abbrev pub hit_reply : Option Cursor → Reply
 hit_reply None = NoHit
 hit_reply (Some c) = Moved c.branch c.place
 
--- the reply to it
+-- the reply to a command that isn't refused
 abbrev pub reply_to : {P : Type 0} → ℕ → Command → World P → Reply
 reply_to who command.Join w = Joined
 reply_to who command.Leave w = Left
@@ -151,15 +160,16 @@ reply_to who (command.Break break) w = BreakSet
 reply_to who (command.Clear break) w = BreakCleared
 reply_to who edit w = Edited (w.edits + 1)
 
+-- the forest of a result, or `f` if the result is a refusal
 abbrev pub kept_or : Result Forest Refusal → Forest → Forest
 kept_or (Ok new) f = new
 kept_or (Err r) f = f
 
--- a command is counted
-abbrev pub counted : {P : Type 0} → World P → World P
-counted w = record w { logged = w.logged + 1 }
+-- the world with one more command counted
+abbrev pub with_one_logged : {P : Type 0} → World P → World P
+with_one_logged w = record w { logged = w.logged + 1 }
 
--- an edit that isn't refused leaves this
+-- the world after an edit that isn't refused
 abbrev pub edited_world : {P : Type 0} → Edit → World P → World P
 edited_world edit w =
     record w {
@@ -169,7 +179,7 @@ edited_world edit w =
       logged = w.logged + 1;
     }
 
--- another command leaves this
+-- the world after a command that isn't an edit and isn't refused
 abbrev pub moved_world : {P : Type 0} → ℕ → Command → World P → World P
 moved_world who c w =
     record w {
@@ -178,28 +188,30 @@ moved_world who c w =
       logged = w.logged + 1;
     }
 
+-- the world after a command that isn't refused, given its edit, if it is one
 abbrev pub left_by : {P : Type 0} → Option Edit → ℕ → Command → World P → World P
 left_by (Some edit) who c w = edited_world edit w
 left_by None who c w = moved_world who c w
 
--- a command that isn't refused
+-- the world after a command that isn't refused
 abbrev pub left : {P : Type 0} → ℕ → Command → World P → World P
 left who c w = left_by (edit_of c) who c w
 
--- a refused command is counted and changes nothing else; where the log is full it isn't counted
+-- a refused command is counted and changes nothing else; it isn't counted if the log is full
 abbrev pub refused : {P : Type 0} → Refusal → World P → World P
 refused LogFull w = w
-refused r w = counted w
+refused r w = with_one_logged w
 
--- what a command leaves and replies
-pub record Acted (P : Type 0) : Type 0 where
+-- the world after a command, and its reply
+pub record CommandResult (P : Type 0) : Type 0 where
   pub world : World P
   pub reply : Reply
 
-abbrev pub answered : {P : Type 0} → Option Refusal → ℕ → Command → World P → Acted P
+-- what a command does, given its first refusal, if any
+abbrev pub answered : {P : Type 0} → Option Refusal → ℕ → Command → World P → CommandResult P
 answered None who c w = record { world = left who c w; reply = reply_to who c w }
 answered (Some r) who c w = record { world = refused r w; reply = No r }
 
--- a session's command, with its guard
-abbrev pub acted : {P : Type 0} → ℕ → Option ℕ → Command → World P → Acted P
-acted who guard c w = answered (first_refusal (refusals who guard c w)) who c w
+-- what a session's command with its guard does
+abbrev pub command_result : {P : Type 0} → ℕ → Option ℕ → Command → World P → CommandResult P
+command_result who guard c w = answered (first_refusal (refusals who guard c w)) who c w

@@ -9,10 +9,10 @@ use Rattle.schedule_trie.specs.declared.limits.TheConstants.{MOST_CELLS_MADE}
 abbrev pub CanLog : {R P : Type 0} → Staged R P → Type 0
 CanLog s = s.logged < s.limits.log
 
--- a place that a look can name
+-- a place fits in 32 bits
 abbrev pub IsPlace : ℕ → Type 0
 IsPlace place = place < 2 ^ 32
 
--- no cursor stands behind more cells than can ever be made
+-- each cursor's place is at most the number of cells that can ever be made
 abbrev pub AreWithin : List (Option Cursor) → Type 0
 AreWithin cursors = (who : ℕ) → IfSome (cursor_at cursors who) (λ c. c.place ≤ MOST_CELLS_MADE)

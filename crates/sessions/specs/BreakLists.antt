@@ -4,6 +4,7 @@ use Rattle.std.specs.List.{list_any}
 use Rattle.views.specs.declared.breakpoint.Break.{Break}
 use Rattle.views.specs.declared.breakpoint.Break.TheVariants.{Returns, Bit, Chosen, Void, Refused}
 
+-- whether two breaks are equal
 abbrev pub is_same : Break → Break → Bool
 is_same (Returns p) (Returns q) = p == q
 is_same (Bit j v) (Bit k w) = (j == k) && (v == w)
@@ -16,16 +17,18 @@ is_same Chosen other = false
 is_same Void other = false
 is_same Refused other = false
 
--- the breaks of a session of these
+-- the breaks of one session
 abbrev pub breaks_at : List (List Break) → ℕ → List Break
 breaks_at breaks who = slice_index_or breaks who []
 
+-- whether a break is one of these
 abbrev pub has_break : Break → List Break → Bool
 has_break break breaks = list_any (is_same break) breaks
 
--- a break is added last, where it isn't there
+-- these breaks with one more at the end, unless it is already one of them
 abbrev pub with_break : Break → List Break → List Break
 with_break break breaks = if has_break break breaks then breaks else breaks ++ break ∷ []
 
+-- these breaks except one
 abbrev pub without_break : Break → List Break → List Break
 without_break break breaks = filter (λ other. not (is_same break other)) breaks

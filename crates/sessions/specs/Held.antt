@@ -1,4 +1,4 @@
--- What a book keeps.
+-- What a book guarantees by its type.
 use Rattle.std.specs.Prelude.{ℕ, ◌≡◌, ◌≤◌, ◌⊎◌, false, List, Option, Some, None, Result, Ok, Err, length}
 use Rattle.frames.specs.Behaviour.{Behaviour}
 use Rattle.frames.specs.Configuration.{initial_configuration}
@@ -18,12 +18,12 @@ use Rattle.sessions.specs.declared.way.Way.TheVariants.{Forth, Back}
 use Rattle.sessions.specs.declared.reply.Reply.{Reply}
 use Rattle.sessions.specs.declared.reply.Reply.TheVariants.{No}
 use Rattle.sessions.specs.declared.log.Entry.{Entry}
-use Rattle.sessions.specs.Cursors.{AllStand}
+use Rattle.sessions.specs.Cursors.{AreAtPlaces}
 use Rattle.sessions.specs.World.{World, opening}
-use Rattle.sessions.specs.Acts.{acted, first_refusal, refusals, late_refusals, is_full, left, reply_to}
+use Rattle.sessions.specs.Acts.{command_result, first_refusal, refusals, late_refusals, is_full, left, reply_to}
 use Rattle.sessions.specs.Logs.{IsLegal, world_after, logged}
 
--- a world by a chart, of a register whose type tells what each of its registers does
+-- a world with its chart; in what follows, `is` gives the behaviour of a register
 pub record Staged (R P : Type 0) : Type 0 where
   pub chart : Charted R P
   pub limits : Limits
@@ -32,7 +32,7 @@ pub record Staged (R P : Type 0) : Type 0 where
   pub edits : ℕ
   pub logged : ℕ
 
--- the world of a stage: what its chart, its sessions and its counts tell, register and value first
+-- the world of a stage, as commands see it
 abbrev pub world_of : {R P : Type 0} → (R → Behaviour P) → Staged R P → World P
 world_of is s =
     record {
@@ -46,39 +46,42 @@ world_of is s =
       logged = s.logged;
     }
 
--- what it keeps: its limits are its branches' and lie in their ranges, there are sixteen sessions, whose cursors stand within
--- the branches, and its counts are within the log
+-- what a stage guarantees by its type: its limits are those of its chart, and are in their ranges;
+-- it has sixteen sessions, whose cursors are at places that exist; each edit is a logged command;
+-- and the limits allow the cells that were made and the commands that were logged
 pub record IsStaged {R P : Type 0} (s : Staged R P) : Type 0 where
   pub same_limits : s.chart.cut.limits ≡ s.limits
   pub in_range : AreLimits s.limits
   pub few_cells : (forest s.chart.cut).made ≤ s.limits.cells
-  pub stand : AllStand (forest s.chart.cut) s.cursors
+  pub all_placed : AreAtPlaces (forest s.chart.cut) s.cursors
   pub cursors : length s.cursors ≡ 16
   pub breaks : length s.breaks ≡ 16
   pub few_edits : s.edits ≤ s.logged
   pub few_logged : s.logged ≤ s.limits.log
 
--- a book: the chart of its opening, the world as it now is, the log between them, and for how many more entries that has memory
+-- a book: the chart that it opened with, its world now, the log in between, and how many further
+-- entries have memory reserved
 pub record Held (R P : Type 0) : Type 0 where
   pub first : Charted R P
   pub now : Staged R P
   pub log : List Entry
   pub room : ℕ
 
--- the world that a book opened at, before its first command
+-- the world at the opening of a book, before its first command
 abbrev pub opening_of : {R P : Type 0} → (R → Behaviour P) → Held R P → World P
 opening_of is h = opening (is h.first.start.register) h.first.value h.now.limits (forest h.first.cut)
 
--- its chart begins from the initial configuration that the opening's register and value give
+-- a book's chart begins from the initial configuration of the opening's register and value
 abbrev pub BeginsAtOpening : {R P : Type 0} → (R → Behaviour P) → Held R P → Type 0
 BeginsAtOpening is h =
     h.now.chart.start ≡ initial_configuration (opening_of is h).tower h.now.chart.start.register (opening_of is h).value
 
--- the world of a chart within these limits before the first command
+-- the world of a chart within these limits, before the first command
 abbrev pub opening_over : {R P : Type 0} → (R → Behaviour P) → Charted R P → Limits → World P
 opening_over is chart limits = opening (is chart.start.register) chart.value limits (forest chart.cut)
 
--- the log is legal from the opening on, the world is the one after it, and its entries are counted
+-- a book's log is legal from the opening, leads to the present world, and is as long as that world
+-- counts; this count is within its limit
 pub record IsHeld {R P : Type 0} (is : R → Behaviour P) (h : Held R P) : Type 0 where
   pub legal : IsLegal (opening_of is h) h.log
   pub after : world_of is h.now ≡ world_after (opening_of is h) h.log
@@ -86,59 +89,64 @@ pub record IsHeld {R P : Type 0} (is : R → Behaviour P) (h : Held R P) : Type 
   pub few : h.now.logged ≤ h.now.limits.log
   pub most_log : h.now.limits.log ≤ 1048576
 
--- a command acts on a book: reply and world are those of the world before, and it is logged unless the log is full. Or memory is
--- wanting, and neither world nor log is changed
-pub record Acts {R P : Type 0} (is : R → Behaviour P) (old new : Held R P) (e : Entry) : Type 0 where
-  pub acts : acted e.who e.if_at e.command (world_of is old.now) ≡ record { world = world_of is new.now; reply = e.reply }
+-- a command acts on a book: its reply and the new world are those that the old world gives, and it
+-- is logged unless the log is full
+pub record ActsOnBook {R P : Type 0} (is : R → Behaviour P) (old new : Held R P) (e : Entry) : Type 0 where
+  pub acts : command_result e.who e.if_at e.command (world_of is old.now) ≡ record { world = world_of is new.now; reply = e.reply }
   pub logs : new.log ≡ logged e old.log
 
-pub record Wants {R P : Type 0} (is : R → Behaviour P) (old new : Held R P) (reply : Reply) : Type 0 where
+-- memory runs out for a command: neither world nor log is changed
+pub record LacksMemory {R P : Type 0} (is : R → Behaviour P) (old new : Held R P) (reply : Reply) : Type 0 where
   pub replies : reply ≡ No Memory
   pub world : world_of is new.now ≡ world_of is old.now
   pub log : new.log ≡ old.log
 
--- nothing refuses a command, or nothing late
+-- there is no reason to refuse a command
 abbrev pub NoneDue : {P : Type 0} → ℕ → Option ℕ → Command → World P → Type 0
 NoneDue who guard c w = first_refusal (refusals who guard c w) ≡ None
 
+-- `late_refusals` has no reason to refuse a command
 abbrev pub NoneDueLate : {P : Type 0} → ℕ → Command → World P → Type 0
 NoneDueLate who c w = first_refusal (late_refusals who c w) ≡ None
 
--- memory may be wanting for a command: for its entry, where the log isn't full and has no room left; or for its work, where
--- nothing else refuses it
-pub record MayWant {R P : Type 0} (is : R → Behaviour P) (h : Held R P) (who : ℕ) (guard : Option ℕ) (c : Command) : Type 0 where
+-- memory can run out for a command: the log isn't full, and either no memory is reserved for one
+-- more entry, or there is no reason to refuse the command
+pub record MayLackMemory {R P : Type 0} (is : R → Behaviour P) (h : Held R P) (who : ℕ) (guard : Option ℕ) (c : Command) : Type 0 where
   pub first : is_full (world_of is h.now) ≡ false
   pub last : (h.room ≡ 0) ⊎ NoneDue who guard c (world_of is h.now)
 
--- Memory is replied only then
-abbrev pub TellsMemoryLast : {R P : Type 0} → (R → Behaviour P) → Held R P → ℕ → Option ℕ → Command → Reply → Type 0
-TellsMemoryLast is h who guard c reply = reply ≡ No Memory → MayWant is h who guard c
+-- the reply is Memory only if memory can run out for the command
+abbrev pub RefusesMemoryLast : {R P : Type 0} → (R → Behaviour P) → Held R P → ℕ → Option ℕ → Command → Reply → Type 0
+RefusesMemoryLast is h who guard c reply = reply ≡ No Memory → MayLackMemory is h who guard c
 
--- why a command isn't done: for the first late refusal, or for want of memory where there is none
+-- why a command that has no early refusal isn't carried out: its first late refusal, or Memory if
+-- it has none
 abbrev pub IsLate : {P : Type 0} → ℕ → Command → World P → Refusal → Type 0
 IsLate who c w r = (first_refusal (late_refusals who c w) ≡ Some r) ⊎ ((r ≡ Memory) × NoneDueLate who c w)
 
--- an edit, if there is one, changes a chart or is refused; otherwise nothing is changed
+-- an edit changes the chart or is refused; without an edit the chart is unchanged
 abbrev pub Changes : {R P : Type 0} → Option Edit → Charted R P → Charted R P → Result (Unit {0}) Refusal → Type 0
 Changes (Some edit) old new (Ok done) = IsEdited old.cut new.cut edit × KeepsBeginning old new
 Changes (Some edit) old new (Err e) = IsUneditedChart old new edit e
 Changes None old new result = new ≡ old
 
--- work on a command that nothing refuses early: it is done, or a late refusal or want of memory changes nothing that a command sees
-pub record Done {R P : Type 0} (is : R → Behaviour P) (who : ℕ) (c : Command) (old new : Staged R P) (reply : Reply) : Type 0 where
+-- a command is carried out: it has no late refusal, and `left` and `reply_to` give world and reply
+pub record IsCarriedOut {R P : Type 0} (is : R → Behaviour P) (who : ℕ) (c : Command) (old new : Staged R P) (reply : Reply) : Type 0 where
   pub fine : first_refusal (late_refusals who c (world_of is old)) ≡ None
   pub leaves : left who c (world_of is old) ≡ world_of is new
   pub replies : reply_to who c (world_of is old) ≡ reply
 
+-- a command isn't carried out, for such a reason, and the world is unchanged
 pub record Undone {R P : Type 0} (is : R → Behaviour P) (who : ℕ) (c : Command) (old new : Staged R P) (r : Refusal) : Type 0 where
   pub why : IsLate who c (world_of is old) r
   pub same : world_of is new ≡ world_of is old
 
+-- a command that has no early refusal is carried out, or isn't
 abbrev pub Does : {R P : Type 0} → (R → Behaviour P) → ℕ → Command → Staged R P → Staged R P → Result Reply Refusal → Type 0
-Does is who c old new (Ok reply) = Done is who c old new reply
+Does is who c old new (Ok reply) = IsCarriedOut is who c old new reply
 Does is who c old new (Err r) = Undone is who c old new r
 
--- the command that seeks on a way
-abbrev pub command_of : Way → Command
-command_of Forth = command.Seek
-command_of Back = command.Back
+-- the command that seeks in a direction
+abbrev pub seek_command : Way → Command
+seek_command Forth = command.Seek
+seek_command Back = command.Back

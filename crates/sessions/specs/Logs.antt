@@ -1,4 +1,4 @@
--- Logs: each reply is what the command before it comes to.
+-- Logs: each reply is the one that its command gets in the world after the entries before it.
 use Rattle.std.specs.Prelude.{ℕ, ◌≡◌, Bool, true, false, List, [], ◌∷◌, ◌++◌, Option, if◌then◌else◌}
 use Rattle.schedule_trie.specs.declared.refusal.Refusal.TheVariants.{LogFull, Memory}
 use Rattle.sessions.specs.declared.command.Command.{Command}
@@ -6,13 +6,13 @@ use Rattle.sessions.specs.declared.log.Entry.{Entry}
 use Rattle.sessions.specs.declared.reply.Reply.{Reply}
 use Rattle.sessions.specs.declared.reply.Reply.TheVariants.{No}
 use Rattle.sessions.specs.World.{World}
-use Rattle.sessions.specs.Acts.{Acted, acted}
+use Rattle.sessions.specs.Acts.{CommandResult, command_result}
 
--- a call as the log has it: under its chair, its session's number and its guard, with its command and its reply
+-- the entry of a call: its chair, its session, its guard, its command and its reply
 abbrev pub entry : ℕ → ℕ → Option ℕ → Command → Reply → Entry
 entry chair who guard c reply = record { chair = chair; who = who; if_at = guard; command = c; reply = reply }
 
--- every reply is logged but these two
+-- every reply except LogFull and Memory is logged
 abbrev pub is_logged : Reply → Bool
 is_logged (No LogFull) = false
 is_logged (No Memory) = false
@@ -24,15 +24,16 @@ logged e log = if is_logged e.reply then log ++ e ∷ [] else log
 
 module _ {P : Type 0} where
   -- what an entry's command does
-  abbrev pub acted_by : Entry → World P → Acted P
-  acted_by e w = acted e.who e.if_at e.command w
+  abbrev pub acted_by : Entry → World P → CommandResult P
+  acted_by e w = command_result e.who e.if_at e.command w
 
-  -- the world after entries
+  -- the world after the commands of these entries
   abbrev pub world_after : World P → List Entry → World P
   world_after w [] = w
   world_after w (e ∷ log) = world_after (acted_by e w).world log
 
-  -- each reply is that of its command after the entries before it, and is one that is logged
+  -- a log is legal: each entry's reply is the one that its command gets in the world after the
+  -- entries before it, and is neither LogFull nor Memory
   abbrev pub IsLegal : World P → List Entry → Type 0
   IsLegal w [] = Unit {0}
   IsLegal w (e ∷ log) = ((acted_by e w).reply ≡ e.reply) × (is_logged e.reply ≡ true) × IsLegal (acted_by e w).world log

@@ -1,4 +1,4 @@
--- Looks at a world: why one is refused, and the page that it shows.
+-- Looks at a world: why a look is refused, or which page it shows.
 use Rattle.std.specs.Prelude.{ℕ, Bool, ◌||◌, nat_lt, List, Option, Some, None, Result, Ok, Err, is_none, if◌then◌else◌}
 use Rattle.schedule_trie.specs.declared.refusal.Refusal.{Refusal}
 use Rattle.schedule_trie.specs.declared.refusal.Refusal.TheVariants.{NoSession}
@@ -15,22 +15,23 @@ use Rattle.sessions.specs.Cursors.{cursor_at}
 use Rattle.sessions.specs.BreakLists.{breaks_at}
 use Rattle.sessions.specs.World.{World}
 
--- where a session stands, and its breaks; none where it hasn't joined
+-- the page of a session's cursor and breaks; `None` if the session hasn't joined
 abbrev pub cursor_page : Option declared.Cursor → List Break → Option Page
 cursor_page None breaks = None
 cursor_page (Some c) breaks = Some (page.Cursor (record { branch = c.branch; place = c.place; breaks = breaks }))
 
--- there is no such session, or it hasn't joined
+-- whether there is no such session, or it hasn't joined
 abbrev pub lacks_cursor : ℕ → List (Option declared.Cursor) → Bool
 lacks_cursor who cursors = nat_lt 15 who || is_none (cursor_at cursors who)
 
 module _ {P : Type 0} where
-  -- a look leaves the branches: NoSession for the cursor of a session that hasn't joined; NoBranch, NoPlace
-  abbrev pub looked : World P → Query → Result Forest Refusal
-  looked w (Cursor who) = if lacks_cursor who w.cursors then Err NoSession else Ok w.forest
-  looked w query = views.looked query w.forest
+  -- the branches, which a look leaves unchanged, or why the look is refused: NoSession for the
+  -- cursor of a session that hasn't joined; NoBranch; NoPlace
+  abbrev pub looked_in : World P → Query → Result Forest Refusal
+  looked_in w (Cursor who) = if lacks_cursor who w.cursors then Err NoSession else Ok w.forest
+  looked_in w query = views.looked query w.forest
 
-  -- the page of a look, where it isn't refused
+  -- the page of a look, if it isn't refused
   abbrev pub shown_in : World P → Query → Option Page
   shown_in w Branches = Some (page.Branches (branches_page w.edits w.forest))
   shown_in w (Cursor who) = cursor_page (cursor_at w.cursors who) (breaks_at w.breaks who)

@@ -1,4 +1,4 @@
--- The places of a branch at which a break is met, and the one that a seek comes to.
+-- The places of a branch at which a break is met, and the one that a seek finds.
 use Rattle.std.specs.Prelude.{ℕ, zero, suc, ◌+◌, ◌≡◌, ◌<◌, Bool, true, false, nat_lt, List, Option, None, length, filter, take, reverse, slice_index_or}
 use Rattle.std.specs.List.{find, range_with_len}
 use Rattle.frames.specs.declared.types.Step.{Step}
@@ -11,10 +11,11 @@ use Rattle.frames.specs.Recorded.{first_configuration, shown}
 use Rattle.sessions.specs.declared.way.Way.{Way}
 use Rattle.sessions.specs.declared.way.Way.TheVariants.{Forth, Back}
 
+-- no events at all
 abbrev pub no_events : StepEvents
 no_events = record { first = None; second = None }
 
--- the places below a number that pass a test, in order
+-- the places below `n` that pass a test, in order
 abbrev pub places_with : (ℕ → Bool) → ℕ → List ℕ
 places_with test n = filter test (range_with_len 0 n)
 
@@ -24,32 +25,34 @@ module _ {P : Type 0} (b : Behaviour P) (value : ℕ) (steps : List Step) where
   events_before zero = no_events
   events_before (suc k) = slice_index_or (history b (first_configuration b value) steps) k no_events
 
-  -- a place is hit: the step before it records the event of a break, or the configuration there has the bit of one
+  -- whether a place is a hit: the step before it records an event that meets a break, or the
+  -- configuration there meets a break on a bit
   abbrev pub is_hit : List Break → ℕ → Bool
   is_hit breaks place = is_met breaks (events_before place) (shown b value (take place steps)).memory
 
-  -- the places that are hit, in order
+  -- the hits, in order
   abbrev pub hits : List Break → List ℕ
   hits breaks = places_with (is_hit breaks) (length steps + 1)
 
--- of places in order, the least above a place, and the greatest below it
+-- the least of these places that is above `place`, if they are in order
 abbrev pub least_above : ℕ → List ℕ → Option ℕ
 least_above place places = find (nat_lt place) places
 
+-- the greatest of these places that is below `place`, if they are in order
 abbrev pub greatest_below : ℕ → List ℕ → Option ℕ
 greatest_below place places = find (λ k. nat_lt k place) (reverse places)
 
--- where a way leads from a place
-abbrev pub next_of : Way → ℕ → List ℕ → Option ℕ
-next_of Forth place places = least_above place places
-next_of Back place places = greatest_below place places
+-- the next of these places after `place` in a direction, if they are in order
+abbrev pub next_place : Way → ℕ → List ℕ → Option ℕ
+next_place Forth place places = least_above place places
+next_place Back place places = greatest_below place places
 
--- a place lies on a way from another
+-- whether `place` is ahead of `from` in a direction
 abbrev pub is_ahead : Way → ℕ → ℕ → Bool
 is_ahead Forth from place = nat_lt from place
 is_ahead Back from place = nat_lt place from
 
--- of the places below n, the next on a way that passes a test: it does, it lies on the way, and none between does
+-- `place` is the next below `n` that is ahead of `from` and passes a test: none between passes it
 pub record IsNextHit (way : Way) (test : ℕ → Bool) (n from place : ℕ) : Type 0 where
   pub within : place < n
   pub hit : test place ≡ true

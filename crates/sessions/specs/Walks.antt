@@ -1,4 +1,5 @@
--- What a walk over stored runs needs of them, and what it finds: each tells of its places what a test says.
+-- What a walk over stored runs requires of the runs, and what it finds. `test` says whether a place
+-- is a hit.
 use Rattle.std.specs.Prelude.{ℕ, ◌+◌, ◌≡◌, ◌<◌, ◌≤◌, Bool, true, false, List, [], ◌∷◌, Option, length, take, slice_index_or}
 use Rattle.std.specs.List.{list_any}
 use Rattle.frames.specs.declared.types.StepEvents.{StepEvents}
@@ -10,42 +11,46 @@ use Rattle.views.specs.declared.breakpoint.Break.{Break}
 use Rattle.views.specs.declared.breakpoint.Break.TheVariants.{Bit}
 use Rattle.views.specs.Breaks.{is_met, is_recorded}
 use Rattle.sessions.specs.declared.seek.Search.{Search}
-use Rattle.sessions.specs.Seeks.{next_of, no_events, places_with}
+use Rattle.sessions.specs.Seeks.{next_place, no_events, places_with}
 
--- what a search finds among the places below a number that pass a test
+-- what a search finds among the places below n that pass a test
 abbrev pub found_below : Search → (ℕ → Bool) → ℕ → Option ℕ
-found_below search test n = next_of search.way search.from (places_with test n)
+found_below search test n = next_place search.way search.from (places_with test n)
 
--- what a search had found up to a place, it has found so many places further
-abbrev pub GoesOn : Search → (ℕ → Bool) → ℕ → ℕ → Option ℕ → Option ℕ → Type 0
-GoesOn search test place count found result = found ≡ found_below search test (place + 1) → result ≡ found_below search test ((place + count) + 1)
+-- if `found` is a search's result up to `place`, `result` is its result `count` places further on
+abbrev pub SearchGoesOn : Search → (ℕ → Bool) → ℕ → ℕ → Option ℕ → Option ℕ → Type 0
+SearchGoesOn search test place count found result = found ≡ found_below search test (place + 1) → result ≡ found_below search test ((place + count) + 1)
 
+-- whether a break is on a bit
 abbrev pub is_on_bit : Break → Bool
 is_on_bit (Bit j v) = true
 is_on_bit break = false
 
--- a step that records these events meets one of the breaks
+-- whether a step that records these events meets one of the breaks
 abbrev pub records_any : List Break → StepEvents → Bool
 records_any breaks events = list_any (λ break. is_recorded break events) breaks
 
--- a test says of the places behind steps from a place on, which record these events, where a break is recorded
-abbrev pub TellsEvents : List Break → (ℕ → Bool) → ℕ → List StepEvents → Type 0
-TellsEvents breaks test place events = (i : ℕ) → i < length events → test ((place + 1) + i) ≡ records_any breaks (slice_index_or events i no_events)
+-- the test agrees with the events of successive steps, the first of which is at `place`: at the
+-- place after a step, it says whether the step's events meet a break
+abbrev pub ReportsEvents : List Break → (ℕ → Bool) → ℕ → List StepEvents → Type 0
+ReportsEvents breaks test place events = (i : ℕ) → i < length events → test ((place + 1) + i) ≡ records_any breaks (slice_index_or events i no_events)
 
--- and behind steps that are made from a configuration, where a break is met
-abbrev pub TellsSteps : {R P : Type 0} → Behaviour P → List Break → (ℕ → Bool) → ℕ → Configuration R P → List Step → Type 0
-TellsSteps b breaks test place c steps =
+-- the test agrees with the replay of steps from a configuration at `place`: at the place after a
+-- step, it says whether a break is met
+abbrev pub ReportsSteps : {R P : Type 0} → Behaviour P → List Break → (ℕ → Bool) → ℕ → Configuration R P → List Step → Type 0
+ReportsSteps b breaks test place c steps =
     (i : ℕ) → i < length steps → test ((place + 1) + i) ≡ is_met breaks (slice_index_or (history b c steps) i no_events) (replayed b c (take (i + 1) steps)).memory
 
 module _ {R P : Type 0} (is : R → Behaviour P) (breaks : List Break) (test : ℕ → Bool) where
-  -- a part that begins at a place: the test says of each place in it whether a break is met there
-  pub record Tells (place : ℕ) (part : RunPart R P) : Type 0 where
+  -- the test agrees with a part of a run that begins at `place`: at the place after each of its
+  -- steps, it says whether a break is met
+  pub record ReportsPart (place : ℕ) (part : RunPart R P) : Type 0 where
     pub within : part.count ≤ length part.run.steps
     pub each : (i : ℕ) → i < part.count
         → test ((place + 1) + i) ≡ is_met breaks (slice_index_or (history (is part.run.entry.register) part.run.entry part.run.steps) i no_events)
         (replayed (is part.run.entry.register) part.run.entry (take (i + 1) part.run.steps)).memory
 
-  -- parts one after the other
-  abbrev pub TellAll : ℕ → List (RunPart R P) → Type 0
-  TellAll place [] = Unit {0}
-  TellAll place (part ∷ parts) = Tells place part × TellAll (place + part.count) parts
+  -- the same for successive parts
+  abbrev pub ReportParts : ℕ → List (RunPart R P) → Type 0
+  ReportParts place [] = Unit {0}
+  ReportParts place (part ∷ parts) = ReportsPart place part × ReportParts (place + part.count) parts

@@ -6,8 +6,9 @@ use Rattle.schedule_trie.specs.Forest.{Forest}
 use Rattle.views.specs.declared.breakpoint.Break.{Break}
 use Rattle.sessions.specs.declared.cursor.Cursor.{Cursor}
 
--- the register that is worked on and its initial value; the limits; the branches; the cursor of each of sixteen sessions, none
--- where it isn't joined, and its breaks in the order in which they were set; how many edits were accepted, and how many commands logged
+-- the register and its initial value; the limits; the branches; for each of sixteen sessions, its
+-- cursor (`None` if it hasn't joined) and its breaks in the order they were set; the numbers of
+-- accepted edits and of logged commands
 pub record World (P : Type 0) : Type 0 where
   pub tower : Behaviour P
   pub value : ℕ
@@ -18,7 +19,7 @@ pub record World (P : Type 0) : Type 0 where
   pub edits : ℕ
   pub logged : ℕ
 
--- the world before the first command: nobody has joined
+-- the world before the first command: no session has joined
 abbrev pub opening : {P : Type 0} → Behaviour P → ℕ → Limits → Forest → World P
 opening b value limits f =
     record { tower = b; value = value; limits = limits; forest = f; cursors = replicate 16 None; breaks = replicate 16 []; edits = 0; logged = 0 }

@@ -1,4 +1,4 @@
-//! The book: the world of a desk, and the log that tells how it came to be.
+//! The book: the world of a desk, and the log of the commands that led to it.
 
 ghost use Rattle.std.specs.Prelude.{◌≡◌, ◌<◌, ◌≤◌, ◌⊎◌, Some, Ok, OnOk, IfOk, IfErr, IsSome, [], ◌∷◌, ◌++◌, length, vec_capacity};
 ghost use Rattle.std.specs.Arc.{arc_value};
@@ -12,8 +12,8 @@ ghost use Rattle.sessions.specs.World.{opening};
 ghost use Rattle.views.specs.Strays.{IsRegularOrAtomic, ShowsNoStray};
 ghost use Rattle.sessions.specs.Logs.{IsLegal, world_after};
 ghost use Rattle.sessions.specs.Logs as spec;
-ghost use Rattle.sessions.specs.Looks.{looked, shown_in};
-ghost use Rattle.sessions.specs.Held.{Acts, BeginsAtOpening, IsHeld, TellsMemoryLast, Wants, opening_of, opening_over, world_of};
+ghost use Rattle.sessions.specs.Looks.{looked_in, shown_in};
+ghost use Rattle.sessions.specs.Held.{ActsOnBook, BeginsAtOpening, IsHeld, RefusesMemoryLast, LacksMemory, opening_of, opening_over, world_of};
 
 mod limbs;
 
@@ -38,7 +38,7 @@ use std::sync::Arc;
 use views::query::Query;
 use views::slip::Slip;
 
-/// The world of a desk and its log. Proofs remember how it opened.
+/// A desk's world and the log of its commands. Proofs also see the chart that it opened with.
 #[derive(Drop)]
 pub struct Book<R: Register> {
     first: Snapshot<Chart<R>>,
@@ -54,15 +54,16 @@ impl<R: Register> Model for Book<R> {
 
     ghost view = { λ b. record { first = b.first.value; now = b.stage; log = b.log.items; room = vec_capacity b.log - vec_len b.log } };
 
-    ghost invariant = { λ b. IsHeld R.is (record { first = b.first.value; now = b.stage; log = b.log.items; room = vec_capacity b.log - vec_len b.log }) };
+    ghost invariant = { λ b. IsHeld R.behaviour (record { first = b.first.value; now = b.stage; log = b.log.items; room = vec_capacity b.log - vec_len b.log }) };
 }
 
 impl<R: Register> Book<R> {
-    /// The book before the first command: a register at a value, the limits, and steps that fit the register.
+    /// A book before its first command, with one branch that has these steps. `value` is the
+    /// register's initial value; the steps have to fit the register.
     ///
     /// # Errors
     ///
-    /// Full where there are more steps than cells may be made; Memory.
+    /// Full if there are more steps than the limits allow cells; Memory.
     pub fn new(
         alloc: Global,
         register: R,
@@ -70,30 +71,32 @@ impl<R: Register> Book<R> {
         limits: Limits,
         steps: &[Step],
     ) -> Result<Book<R>, Refusal>
-        requires value { value < (R.is register).values }
+        requires value { value < (R.behaviour register).values }
         requires limits { AreLimits limits }
-        requires fits { AllFit (R.is register) steps.now }
-        ensures world { let first = opening (R.is register) value limits (forests.opening steps.now)
-            in IfOk result (λ book. world_of R.is book.now ≡ first) }
-        ensures opening { let first = opening (R.is register) value limits
-            (forests.opening steps.now) in IfOk result (λ book. opening_of R.is book ≡ first) }
+        requires fits { AllFit (R.behaviour register) steps.now }
+        ensures world { let first = opening (R.behaviour register) value limits
+            (forests.opening_forest steps.now)
+            in IfOk result (λ book. world_of R.behaviour book.now ≡ first) }
+        ensures opening { let first = opening (R.behaviour register) value limits
+            (forests.opening_forest steps.now) in IfOk result
+            (λ book. opening_of R.behaviour book ≡ first) }
         ensures log { IfOk result (λ book. book.log ≡ []) }
-        ensures ok { OnOk result (opened limits steps.now ≡ Ok (forests.opening steps.now)) }
+        ensures ok { OnOk result (opened limits steps.now ≡ Ok (forests.opening_forest steps.now)) }
         ensures err { IfErr result (IsRefused (opened limits steps.now)) }
     {
         let chart = Chart::new(alloc, register, value, limits, steps)?;
         Ok(Book::over(alloc, chart, limits)?)
     }
 
-    /// The book before the first command, of a chart within these limits.
+    /// A book before its first command, over a chart with these limits.
     fn over(alloc: Global, chart: Chart<R>, limits: Limits) -> Result<Book<R>, AllocError>
         requires limits { AreLimits limits }
         requires same_limits { chart.cut.limits ≡ limits }
         requires few_cells { (forest chart.cut).made ≤ limits.cells }
-        ensures world { let first = opening_over R.is chart limits
-            in IfOk result (λ book. world_of R.is book.now ≡ first) }
-        ensures opening { let first = opening_over R.is chart limits
-            in IfOk result (λ book. opening_of R.is book ≡ first) }
+        ensures world { let first = opening_over R.behaviour chart limits
+            in IfOk result (λ book. world_of R.behaviour book.now ≡ first) }
+        ensures opening { let first = opening_over R.behaviour chart limits
+            in IfOk result (λ book. opening_of R.behaviour book ≡ first) }
         ensures log { IfOk result (λ book. book.log ≡ []) }
     {
         let first = Snapshot::of(&chart);
@@ -105,8 +108,9 @@ impl<R: Register> Book<R> {
         })
     }
 
-    /// Answers a session's command, which a chair brought with its guard, and logs it unless the log is full. Want of memory
-    /// changes nothing that a command sees.
+    /// Answers a command of session `who`, and logs the command and its reply with the number of
+    /// the calling chair. If a guard `if_at` is given and differs from the edit count, the command
+    /// is refused. If the log is full or memory runs out, neither world nor log is changed.
     pub fn act(
         &mut self,
         alloc: Global,
@@ -115,10 +119,11 @@ impl<R: Register> Book<R> {
         if_at: Option<u64>,
         command: &Command,
     ) -> Reply
-        ensures acts { Acts R.is self.old self.new (spec.entry chair who if_at command.now result)
-            ⊎ Wants R.is self.old self.new result }
-        ensures memory { TellsMemoryLast R.is self.old who if_at command.now result }
-        ensures opening { opening_of R.is self.new ≡ opening_of R.is self.old }
+        ensures acts { ActsOnBook R.behaviour self.old self.new
+            (spec.entry chair who if_at command.now result)
+            ⊎ LacksMemory R.behaviour self.old self.new result }
+        ensures memory { RefusesMemoryLast R.behaviour self.old who if_at command.now result }
+        ensures opening { opening_of R.behaviour self.new ≡ opening_of R.behaviour self.old }
     {
         if self.stage.is_full() {
             return Reply::No(Refusal::LogFull);
@@ -133,38 +138,40 @@ impl<R: Register> Book<R> {
         reply
     }
 
-    /// Looks at the branches, or at a session, as the logged commands have left them, whatever was planned and installed between. What
-    /// it answers stands for the page as it now is; on a regular or an atomic register it shows no stray read.
+    /// Looks at the branches, or at a session, as the logged commands left them; plans and installs
+    /// since then make no difference. The slip's page may be made later, but shows what was there
+    /// at the time of the look. On a regular or an atomic register it shows no stray read.
     ///
     /// # Errors
     ///
-    /// NoSession for the cursor of a session that hasn't joined; NoBranch; NoPlace where the branch is shorter; Memory. World and log
-    /// stay in any case.
+    /// NoSession if the query is for the cursor of a session that hasn't joined; NoBranch; NoPlace
+    /// if the branch is shorter; Memory. World and log are unchanged, with or without an error.
     pub fn look(&mut self, alloc: Global, query: Query) -> Result<Slip<R>, Refusal>
-        ensures page { let w = world_after (opening_of R.is self.old) self.old.log in
+        ensures page { let w = world_after (opening_of R.behaviour self.old) self.old.log in
             IfOk result (λ slip. Some slip.page ≡ shown_in w query) }
-        ensures found { let w = world_after (opening_of R.is self.old) self.old.log in
-            OnOk result (looked w query ≡ Ok w.forest) }
-        ensures err { let w = world_after (opening_of R.is self.old) self.old.log in
-            IfErr result (IsRefused (looked w query)) }
-        ensures never_stray { IsRegularOrAtomic (opening_of R.is self.old).tower
+        ensures found { let w = world_after (opening_of R.behaviour self.old) self.old.log in
+            OnOk result (looked_in w query ≡ Ok w.forest) }
+        ensures err { let w = world_after (opening_of R.behaviour self.old) self.old.log in
+            IfErr result (IsRefused (looked_in w query)) }
+        ensures never_stray { IsRegularOrAtomic (opening_of R.behaviour self.old).tower
             → IfOk result (λ slip. ShowsNoStray slip.page) }
-        ensures world { world_of R.is self.new.now ≡ world_of R.is self.old.now }
-        ensures opening { opening_of R.is self.new ≡ opening_of R.is self.old }
+        ensures world { world_of R.behaviour self.new.now ≡ world_of R.behaviour self.old.now }
+        ensures opening { opening_of R.behaviour self.new ≡ opening_of R.behaviour self.old }
         ensures log { self.new.log ≡ self.old.log }
     {
         self.stage.look(alloc, query)
     }
 
-    /// The segments that no stored run fits where their branch comes to them: the first of the named branch, and that of each
-    /// other branch in order of making, each once. None where stored runs fit them all.
+    /// The jobs to run ahead of looks: for each branch, its first segment that no stored run fits.
+    /// The branch called `branch` comes first, then the others in the order they were made; no
+    /// segment appears twice. The list is empty if stored runs fit all segments.
     ///
     /// # Errors
     ///
     /// NoBranch; Memory.
     pub fn plan(&self, alloc: Global, branch: &Name) -> Result<Vec<Job<R>>, Refusal>
         ensures ok { let chart = self.now.now.chart in IfOk result
-            (λ jobs. IsPlan R.PartialEq.eq (R.is chart.start.register) chart branch.now
+            (λ jobs. IsPlan R.PartialEq.eq (R.behaviour chart.start.register) chart branch.now
             jobs.items) }
         ensures found { OnOk result
             (IsSome (index_of (forest self.now.now.chart.cut).branches branch.now)) }
@@ -174,33 +181,34 @@ impl<R: Register> Book<R> {
         self.stage.chart().plan(alloc, branch)
     }
 
-    /// Stores a run that was made elsewhere, if it fits its segment and stored runs fit all segments above. It takes no
-    /// memory. World and log stay.
+    /// Stores a run that was replayed elsewhere, if it fits the segment with this key and stored
+    /// runs fit all segments above that one. Allocates nothing. World and log are unchanged.
     pub fn install(&mut self, key: SegKey, run: Arc<Run<R>>) -> Installation
         ensures installs { let old = self.old.now.chart in
-            Installs R.PartialEq.eq (R.is old.start.register) old self.new.now.chart key
+            Installs R.PartialEq.eq (R.behaviour old.start.register) old self.new.now.chart key
             (arc_value run) result }
-        ensures world { world_of R.is self.new.now ≡ world_of R.is self.old.now }
-        ensures opening { opening_of R.is self.new ≡ opening_of R.is self.old }
+        ensures world { world_of R.behaviour self.new.now ≡ world_of R.behaviour self.old.now }
+        ensures opening { opening_of R.behaviour self.new ≡ opening_of R.behaviour self.old }
         ensures log { self.new.log ≡ self.old.log }
     {
         self.stage.install(key, run)
     }
 
-    /// How many commands are logged. A book is kept by its type: its log is legal, and its world is the one after it.
+    /// How many commands are logged. The contract also gives what a book's type guarantees.
     pub fn len(&self) -> u32
         ensures count { result ≡ length self.now.log }
-        ensures kept { IsHeld R.is self.now }
+        ensures kept { IsHeld R.behaviour self.now }
     {
         self.log.len() as u32
     }
 
-    /// What a book keeps by its type: its log is legal, and its world is the one after it. Its chart is cut into segments, and
-    /// begins from the initial configuration that its opening gives. It does nothing: callers learn this by its contract.
+    /// Does nothing, but its contract gives callers what a book's type guarantees: the log is legal
+    /// and leads from the opening to the present world; the chart is cut into segments, and begins
+    /// from the opening's initial configuration.
     pub fn held(&self)
-        ensures log { IsHeld R.is self.now }
+        ensures log { IsHeld R.behaviour self.now }
         ensures cut { IsCut self.now.now.chart.cut }
-        ensures begins { BeginsAtOpening R.is self.now }
+        ensures begins { BeginsAtOpening R.behaviour self.now }
     {
         self.stage.chart().held();
     }
@@ -212,17 +220,17 @@ impl<R: Register> Book<R> {
         self.stage.edits()
     }
 
-    /// The log, which is legal from the opening on.
+    /// The log, which is legal from the opening.
     pub fn into_log(self) -> Log
         ensures log { result ≡ self.log }
-        ensures legal { IsLegal (opening_of R.is self) result }
+        ensures legal { IsLegal (opening_of R.behaviour self) result }
     {
         let Self { log, .. } = self;
         Log::new(log)
     }
 }
 
-/// The entry of a command with its reply.
+/// The log entry of a command and its reply.
 fn entry(chair: u32, who: u32, if_at: Option<u64>, command: &Command, reply: &Reply) -> Entry
     ensures { result ≡ spec.entry chair who if_at command.now reply.now }
 {
@@ -235,11 +243,11 @@ fn entry(chair: u32, who: u32, if_at: Option<u64>, command: &Command, reply: &Re
     }
 }
 
-/// Adds an item to a list that has room for it.
+/// Adds an item to a list that has memory reserved for it.
 fn push_within<T: Copy>(list: &mut Vec<T>, item: T)
     requires { length list.old.items < vec_capacity list.old }
     ensures { list.new.items ≡ list.old.items ++ item ∷ [] }
 {
-    // A list with room takes no memory, so that this can't fail.
+    // The memory is reserved, so this can't fail.
     let _ = list.push(item);
 }

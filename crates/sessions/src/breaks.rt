@@ -7,7 +7,7 @@ use std::alloc::{AllocError, Global};
 use std::marker::Model;
 use views::breakpoint::Break;
 
-/// Breaks in the order in which they were set, none twice.
+/// Breaks in the order in which they were set, without duplicates.
 #[derive(Drop)]
 pub(crate) struct Breaks {
     list: Vec<Break>,
@@ -32,20 +32,21 @@ impl Breaks {
         }
     }
 
+    /// The breaks, in order.
     pub(crate) fn as_slice(&self) -> &[Break]
         ensures { result.now ≡ self.now }
     {
         &self.list
     }
 
-    /// Whether a break is among them.
+    /// Whether `sought` is one of these breaks.
     pub(crate) fn has(&self, sought: Break) -> bool
         ensures { result ≡ spec.has_break sought self.now }
     {
         self.list.iter().any(|other| is_same(sought, *other))
     }
 
-    /// Adds a break, where it isn't there.
+    /// Adds a break at the end, unless it is already one of these.
     pub(crate) fn add(&mut self, added: Break) -> Result<(), AllocError>
         ensures ok { OnOk result (self.new ≡ spec.with_break added self.old) }
         ensures err { OnErr result (self.new ≡ self.old) }
@@ -56,7 +57,7 @@ impl Breaks {
         Ok(())
     }
 
-    /// Takes a break away.
+    /// Removes a break, if it is one of these.
     pub(crate) fn remove(&mut self, gone: Break)
         ensures { self.new ≡ spec.without_break gone self.old }
     {
@@ -64,14 +65,14 @@ impl Breaks {
     }
 }
 
-/// Whether two breaks are the same.
+/// Whether two breaks are equal.
 fn is_same(one: Break, other: Break) -> bool
     ensures { result ≡ spec.is_same one other }
 {
     one == other
 }
 
-/// Whether they differ.
+/// Whether two breaks differ.
 fn is_other(one: Break, other: Break) -> bool
     ensures { result ≡ not (spec.is_same one other) }
 {

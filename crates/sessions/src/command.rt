@@ -1,58 +1,37 @@
-//! What a session calls.
+//! The commands of a session.
 
 use frames::types::Step;
 use schedule_trie::name::Name;
 use views::breakpoint::Break;
 
-/// A command. A place is after so many steps of a branch.
+/// A command. `b` is the name of a branch, and `k` the place after the first `k` steps of it.
 #[derive(Clone, Copy, Debug, PartialEq, Eq)]
 pub enum Command {
     /// The session begins, with its cursor at the beginning of the first branch and no breaks.
     Join,
     /// The session ends.
     Leave,
-    /// Puts a new cell before the cell at a place, or at the end.
-    Insert {
-        branch: Name,
-        place: u32,
-        step: Step,
-    },
-    /// Takes out the cell at a place.
-    Remove {
-        branch: Name,
-        place: u32,
-    },
-    /// Gives the cell at a place another step.
-    Replace {
-        branch: Name,
-        place: u32,
-        step: Step,
-    },
-    /// Makes a new last branch of the first cells, up to a place.
-    Fork {
-        branch: Name,
-        place: u32,
-        name: Name,
-    },
-    /// Gives the branch cells of its own.
-    Detach {
-        branch: Name,
-    },
+    /// Adds a cell with this step before the cell at the place, or at the end of the branch.
+    Insert { b: Name, k: u32, step: Step },
+    /// Removes the cell at the place.
+    Remove { b: Name, k: u32 },
+    /// Gives the cell at the place another step.
+    Replace { b: Name, k: u32, step: Step },
+    /// Adds a branch called `name` that shares the cells before the place. It becomes
+    /// the last branch.
+    Fork { b: Name, k: u32, name: Name },
+    /// Gives the branch new cells with the same steps, which it shares with no other branch.
+    Detach { b: Name },
     /// Drops the branch.
-    Drop {
-        branch: Name,
-    },
-    /// Moves the cursor.
-    Go {
-        branch: Name,
-        place: u32,
-    },
-    /// Moves the cursor to the next place at which a break is met.
+    Drop { b: Name },
+    /// Moves the cursor to the place.
+    Go { b: Name, k: u32 },
+    /// Moves the cursor forward to the next place at which a break of the session is met.
     Seek,
-    /// Moves the cursor to the last place before it at which a break is met.
+    /// Moves the cursor back to the next place at which a break of the session is met.
     Back,
-    /// Adds a break.
+    /// Sets a break of the session.
     Break(Break),
-    /// Takes a break away.
+    /// Removes a break of the session.
     Clear(Break),
 }

@@ -1,9 +1,9 @@
-//! Cursors of sessions.
+//! The cursors of sessions.
 
 ghost use Rattle.std.specs.Prelude.{◌≡◌, ◌<◌, ◌≤◌, IfSome, length};
 ghost use Rattle.std.specs.List.{list_any};
 ghost use Rattle.std.specs.Option.{option_map};
-ghost use Rattle.schedule_trie.specs.Forest.{cell_at};
+ghost use Rattle.schedule_trie.specs.Forest.{cell_on_branch};
 ghost use Rattle.schedule_trie.specs.Cut.{forest};
 ghost use Rattle.sessions.specs.Bounds.{AreWithin};
 ghost use Rattle.sessions.specs.Cursors as spec;
@@ -18,26 +18,27 @@ use schedule_trie::name::Name;
 /// How many sessions there are.
 pub const SESSIONS: usize = 16;
 
-/// Where a session stands: a place of a branch.
+/// A session's position: a place of a branch.
 #[derive(Clone, Copy, Debug, PartialEq, Eq)]
 pub struct Cursor {
     pub branch: Name,
     pub place: u32,
 }
 
-/// How an edit moves the cursors behind it.
+/// How an edit moves the cursors that are after its place.
 #[derive(Clone, Copy, Debug, PartialEq, Eq)]
 pub enum Shift {
-    /// An insert.
+    /// Towards the end by one, for an insert.
     Up,
-    /// A remove.
+    /// Towards the beginning by one, for a remove.
     Down,
 }
 
 impl Shift {
-    /// The place that a place behind an edit's goes to. No branch is so long that there is none.
+    /// The new place of a cursor at `place`, which is after the edit's place. The sum can't
+    /// overflow: no branch is that long.
     fn of(self, place: u32) -> u32
-        requires behind { 0 < place }
+        requires following { 0 < place }
         requires within { place ≤ MOST_CELLS_MADE }
         ensures { result ≡ spec.shifted_place self place }
     {
@@ -48,7 +49,8 @@ impl Shift {
     }
 }
 
-/// Whether an edit at a cell of a branch acts in another.
+/// Whether an edit of `cell` changes the branch `other`. `None` is the end of `branch`: an edit
+/// there changes `branch` alone.
 fn acts_in<R: Register>(chart: &Chart<R>, cell: Option<u32>, branch: &Name, other: &Name) -> bool
     ensures { result ≡ spec.acts_in cell (forest chart.now.cut) branch.now other.now }
 {
@@ -58,7 +60,8 @@ fn acts_in<R: Register>(chart: &Chart<R>, cell: Option<u32>, branch: &Name, othe
     }
 }
 
-/// Where a cursor, if there is one, stands behind an edit at a cell of a branch, which stands at a place.
+/// The new position of a cursor, if there is one, after an edit at `place` of `branch`. The cell
+/// there is `cell`, or `None` at the branch's end.
 fn shifted_one<R: Register>(
     chart: &Chart<R>,
     cell: Option<u32>,
@@ -67,7 +70,7 @@ fn shifted_one<R: Register>(
     shift: Shift,
     cursor: &Option<Cursor>,
 ) -> Option<Cursor>
-    requires cell { cell ≡ cell_at (forest chart.now.cut) branch.now place }
+    requires cell { cell ≡ cell_on_branch (forest chart.now.cut) branch.now place }
     requires within { IfSome cursor.now (λ c. c.place ≤ MOST_CELLS_MADE) }
     ensures { result
         ≡ option_map (spec.shifted shift (forest chart.now.cut) branch.now place) cursor.now }
@@ -84,7 +87,7 @@ fn shifted_one<R: Register>(
     })
 }
 
-/// Where the cursors stand behind an edit at a place of a branch.
+/// The new positions of all cursors after an edit at `place` of `branch`.
 pub(crate) fn shifted<R: Register>(
     chart: &Chart<R>,
     cursors: &[Option<Cursor>],
@@ -106,27 +109,29 @@ pub(crate) fn shifted<R: Register>(
     moved
 }
 
-/// Where a command's edit moves cursors that stand behind a place of a branch, and how; none where it moves none.
+/// The branch and the place of a command's edit, and how it moves the cursors after that place;
+/// `None` if it moves no cursor.
 pub(crate) fn shift_of(command: &Command) -> Option<(Name, u32, Shift)>
     ensures { IsShift (edit_of command.now) result }
 {
     match command {
-        Command::Insert { branch, place, .. } => Some((*branch, *place, Shift::Up)),
-        Command::Remove { branch, place } => Some((*branch, *place, Shift::Down)),
+        Command::Insert { b, k, .. } => Some((*b, *k, Shift::Up)),
+        Command::Remove { b, k } => Some((*b, *k, Shift::Down)),
         _ => None,
     }
 }
 
-/// Whether a cursor stands behind a place, on whatever branch: an insert or a remove there moves no other.
+/// Whether some cursor, on any branch, is after `place`. If not, an edit at `place` moves no
+/// cursor.
 pub(crate) fn any_behind(cursors: &[Option<Cursor>], place: u32) -> bool
-    ensures { result ≡ list_any (spec.stands_behind place) cursors.now }
+    ensures { result ≡ list_any (spec.is_after_place place) cursors.now }
 {
-    cursors.iter().any(|cursor| stands_behind(place, cursor))
+    cursors.iter().any(|cursor| is_after_place(place, cursor))
 }
 
-/// Whether there is a cursor, and it stands behind a place.
-fn stands_behind(place: u32, cursor: &Option<Cursor>) -> bool
-    ensures { result ≡ spec.stands_behind place cursor.now }
+/// Whether there is a cursor, and it is after `place`.
+fn is_after_place(place: u32, cursor: &Option<Cursor>) -> bool
+    ensures { result ≡ spec.is_after_place place cursor.now }
 {
     match cursor {
         None => false,
@@ -134,15 +139,15 @@ fn stands_behind(place: u32, cursor: &Option<Cursor>) -> bool
     }
 }
 
-/// Whether a cursor stands on a branch.
+/// Whether some cursor is on a branch.
 pub(crate) fn is_occupied(cursors: &[Option<Cursor>], branch: &Name) -> bool
     ensures { result ≡ spec.is_occupied branch.now cursors.now }
 {
-    cursors.iter().any(|cursor| stands_on(branch, cursor))
+    cursors.iter().any(|cursor| is_on_branch(branch, cursor))
 }
 
-fn stands_on(branch: &Name, cursor: &Option<Cursor>) -> bool
-    ensures { result ≡ spec.stands_on branch.now cursor.now }
+fn is_on_branch(branch: &Name, cursor: &Option<Cursor>) -> bool
+    ensures { result ≡ spec.is_on_branch branch.now cursor.now }
 {
     match cursor {
         None => false,

@@ -1,6 +1,8 @@
-//! Sessions: the world that a desk's commands see and change, and the log that tells how it came to be.
+//! Sessions: the world that a desk's commands see and change, and the log of commands that led to
+//! it.
 //!
-//! Up to sixteen sessions have a cursor on a branch and breaks each. Every command is answered by one reply, and logged with it.
+//! Each of up to sixteen sessions has a cursor on a branch, and breaks. Each command gets one
+//! reply, and is logged with it.
 #![tactic(auto)]
 
 pub mod book;
@@ -12,3 +14,8 @@ pub mod reply;
 pub mod seek;
 mod stage;
 pub mod way;
+
+pub use book::Book;
+pub use command::Command;
+pub use log::{Entry, Log};
+pub use reply::Reply;

@@ -6,7 +6,8 @@ use crate::command::Command;
 use crate::reply::Reply;
 use std::marker::Model;
 
-/// A logged command: the chair that brought it, its session, its guard, and the reply.
+/// A logged command with its reply. `chair` is the number of the chair that made the call, `who`
+/// the session, and `if_at` the guard, if one was given.
 #[derive(Clone, Copy, Debug, PartialEq, Eq)]
 pub struct Entry {
     pub chair: u32,
@@ -16,7 +17,7 @@ pub struct Entry {
     pub reply: Reply,
 }
 
-/// Logged commands in order. A contract sees the list of them.
+/// The logged commands in order. In contracts a log is the list of its entries.
 #[derive(Drop)]
 pub struct Log {
     entries: Vec<Entry>,
@@ -32,6 +33,7 @@ impl Model for Log {
 }
 
 impl Log {
+    /// The log of these entries.
     pub(crate) fn new(entries: Vec<Entry>) -> Log
         ensures { result ≡ entries.items }
     {

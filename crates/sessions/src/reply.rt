@@ -3,23 +3,23 @@
 use schedule_trie::name::Name;
 use schedule_trie::refusal::Refusal;
 
-/// What a command answers.
+/// The reply to a command.
 #[derive(Clone, Copy, Debug, PartialEq, Eq)]
 pub enum Reply {
     /// The session has begun.
     Joined,
     /// The session has ended.
     Left,
-    /// An accepted edit, and how many there are with it.
+    /// The edit was accepted; this is the number of edits accepted so far.
     Edited(u64),
-    /// The cursor stands there now.
+    /// The cursor is now at this place of this branch.
     Moved(Name, u32),
-    /// No break is met that way; the cursor hasn't moved.
+    /// No break is met in that direction; the cursor hasn't moved.
     NoHit,
     /// The break is set.
     BreakSet,
-    /// The break is gone.
+    /// The break is removed.
     BreakCleared,
-    /// A refusal.
+    /// The command was refused, for this reason.
     No(Refusal),
 }

@@ -3,16 +3,14 @@
 ghost use Rattle.std.specs.Prelude.{ℕ, Bool, List, ◌≡◌, ◌<◌, ◌≤◌, ◌+◌, ◌&&◌, ◌||◌, nat_lt, IfOk, IfSome, length, map, if◌then◌else◌, Some, None};
 ghost use Rattle.std.specs.List.{list_any};
 ghost use Rattle.std.specs.Option.{option_or};
-ghost use Rattle.safe_bit.specs.Parts.{HasSize};
 ghost use Rattle.frames.specs.Recorded.{AllFit};
 ghost use Rattle.schedule_trie.specs.Cut.{forest};
 ghost use Rattle.cutoff.specs.Fitting.{counted, part_of};
 ghost use Rattle.views.specs.Breaks as breaks_spec;
-ghost use Rattle.views.specs.Cells.{HasCells};
-ghost use Rattle.views.specs.Looks.{IsKept, steps_in};
+ghost use Rattle.views.specs.Looks.{IsChartKept, steps_in};
 ghost use Rattle.sessions.specs.Bounds.{IsPlace};
-ghost use Rattle.sessions.specs.Seeks.{hits, next_of, no_events, IsNextHit, is_hit};
-ghost use Rattle.sessions.specs.Walks.{found_below, GoesOn, Tells, TellAll, TellsEvents, TellsSteps};
+ghost use Rattle.sessions.specs.Seeks.{hits, next_place, no_events, IsNextHit, is_hit};
+ghost use Rattle.sessions.specs.Walks.{found_below, SearchGoesOn, ReportsPart, ReportParts, ReportsEvents, ReportsSteps};
 ghost use Rattle.sessions.specs.Walks as spec;
 
 use crate::way::Way;
@@ -20,6 +18,7 @@ use checkpoints::events::EventWalk;
 use checkpoints::run::Run;
 use checkpoints::slices::front;
 use cutoff::chart::Chart;
+use cutoff::runs::Runs;
 use frames::config::Config;
 use frames::register::Register;
 use frames::types::{Event, Step, StepEvents};
@@ -29,7 +28,7 @@ use std::alloc::{AllocError, Global};
 use std::sync::Arc;
 use views::breakpoint::Break;
 
-/// A seek: the breaks that it looks for, its way, and the place from which it goes.
+/// A seek: the breaks to look for, the direction, and the place to start from.
 #[derive(Clone, Copy)]
 pub struct Search<'a> {
     pub breaks: &'a [Break],
@@ -37,7 +36,7 @@ pub struct Search<'a> {
     pub from: u32,
 }
 
-/// How far a search has gone: to which place, and what it has found.
+/// How far a search has gone: the last place searched, and the hit so far.
 #[derive(Clone, Copy)]
 struct Progress {
     place: u32,
@@ -45,7 +44,8 @@ struct Progress {
 }
 
 impl Search<'_> {
-    /// What is found behind one more place, greater than those before it.
+    /// The hit once `place` is searched as well; `found` is the hit before that, and `hit` says
+    /// whether a break is met at `place`.
     fn with_place(&self, found: Option<u32>, place: u32, hit: bool) -> Option<u32>
         ensures { (test : ℕ → Bool) → test place ≡ hit
             → found ≡ found_below self.now test place
@@ -61,7 +61,7 @@ impl Search<'_> {
     }
 }
 
-/// What was found, or else a hit, where that is above a place.
+/// The hit so far, if there is one, or else `hit` if it is after `from`.
 fn first_of(found: Option<u32>, from: u32, hit: u32) -> Option<u32>
     ensures { result ≡ option_or found (if nat_lt from hit then Some hit else None) }
 {
@@ -71,7 +71,7 @@ fn first_of(found: Option<u32>, from: u32, hit: u32) -> Option<u32>
     found
 }
 
-/// A hit, where that is below a place, or else what was found.
+/// `hit` if it is before `from`, or else the hit so far.
 fn last_of(found: Option<u32>, from: u32, hit: u32) -> Option<u32>
     ensures { result ≡ (if nat_lt hit from then Some hit else found) }
 {
@@ -110,31 +110,30 @@ fn is_in_any(breaks: &[Break], event: Option<Event>) -> bool
     }
 }
 
-/// Whether a step that records these events, or the memory behind it, of so many cells, meets a break.
-fn meets(one: &Break, events: StepEvents, store: &Store, cells: u32) -> bool
-    requires { HasCells store.now cells }
+/// Whether a break is met by a step that records these events, or by the memory after the step.
+fn meets(one: &Break, events: StepEvents, store: &Store) -> bool
     ensures { result
         ≡ (breaks_spec.is_recorded one.now events || breaks_spec.is_shown one.now store.now) }
 {
-    one.is_recorded(events) || one.is_shown(store, cells)
+    one.is_recorded(events) || one.is_shown(store)
 }
 
-/// Whether a step that records these events, or the configuration behind it, meets one of the breaks.
+/// Whether one of the breaks is met by a step that records these events, or by the configuration
+/// after the step.
 fn is_met<R: Register>(breaks: &[Break], events: StepEvents, config: &Config<R>) -> bool
-    requires { HasSize (R.is config.now.register).size config.now.memory }
     ensures { result ≡ breaks_spec.is_met breaks.now events config.now.memory }
 {
-    let cells = config.register().size().cell;
     let store = config.store();
     for one in breaks {
-        if meets(one, events, store, cells) {
+        if meets(one, events, store) {
             return true;
         }
     }
     false
 }
 
-/// Goes on over the places behind steps that record these events; the first step stands at a place.
+/// Continues a search that has reached `place`, by the events of the steps that follow. Nothing is
+/// replayed.
 fn along_events(
     search: &Search<'_>,
     events: EventWalk<'_>,
@@ -143,21 +142,22 @@ fn along_events(
 ) -> Option<u32>
     requires { IsPlace (place + length events) }
     ensures { (test : ℕ → Bool)
-        → TellsEvents search.now.breaks.now test place events.entry
-        → GoesOn search.now test place (length events.entry) found result }
+        → ReportsEvents search.now.breaks.now test place events.entry
+        → SearchGoesOn search.now test place (length events.entry) found result }
 {
     let mut left = events;
     let mut at = place;
     let mut found = found;
-    while let Some(told) = left.next() {
+    while let Some(reported) = left.next() {
         at += 1;
-        let hit = records_any(search.breaks, told);
+        let hit = records_any(search.breaks, reported);
         found = search.with_place(found, at, hit);
     }
     found
 }
 
-/// Goes on over the places behind steps that are made from a configuration at a place.
+/// Continues a search that has reached `place`, by replaying the steps that follow from the
+/// configuration there.
 fn along_steps<R: Register>(
     search: &Search<'_>,
     config: Config<R>,
@@ -165,11 +165,12 @@ fn along_steps<R: Register>(
     place: u32,
     found: Option<u32>,
 ) -> Option<u32>
-    requires fits { AllFit (R.is config.register) steps.now }
+    requires fits { AllFit (R.behaviour config.register) steps.now }
     requires room { IsPlace (place + length steps.now) }
     ensures { (test : ℕ → Bool)
-        → TellsSteps (R.is config.register) search.now.breaks.now test place config steps.now
-        → GoesOn search.now test place (length steps.now) found result }
+        → ReportsSteps (R.behaviour config.register) search.now.breaks.now test place config
+        steps.now
+        → SearchGoesOn search.now test place (length steps.now) found result }
 {
     let mut config = config;
     let mut found = found;
@@ -181,7 +182,8 @@ fn along_steps<R: Register>(
     found
 }
 
-/// Goes on over the places of a run that begins at a place, as far as it counts. Only a break on a bit makes it replay the run.
+/// Continues a search over the first `count` steps of a run. They are replayed only if one of the
+/// breaks is on a bit.
 fn along_run<R: Register>(
     alloc: Global,
     search: &Search<'_>,
@@ -191,9 +193,9 @@ fn along_run<R: Register>(
 ) -> Result<Option<u32>, AllocError>
     requires { IsPlace (progress.place + count) }
     ensures { IfOk result (λ all. (test : ℕ → Bool)
-        → Tells R.is search.now.breaks.now test progress.place
+        → ReportsPart R.behaviour search.now.breaks.now test progress.place
         (record { run = run.now; count = count })
-        → GoesOn search.now test progress.place count progress.found all) }
+        → SearchGoesOn search.now test progress.place count progress.found all) }
 {
     if any_on_bit(search.breaks) {
         let config = run.entry().copy(alloc)?;
@@ -204,18 +206,18 @@ fn along_run<R: Register>(
     Ok(along_events(search, events, progress.place, progress.found))
 }
 
-/// Goes over the places of runs one after the other, and the beginning.
+/// Searches a whole branch: its beginning, in the configuration `first`, and the places in its
+/// runs, which follow one another.
 fn along_runs<R: Register>(
     alloc: Global,
     search: &Search<'_>,
     first: &Config<R>,
     runs: &[(Arc<Run<R>>, u32)],
 ) -> Result<Option<u32>, AllocError>
-    requires size { HasSize (R.is first.now.register).size first.now.memory }
     requires room { IsPlace (counted (map part_of runs.now)) }
     ensures { let parts = map part_of runs.now in IfOk result (λ all. (test : ℕ → Bool)
         → test 0 ≡ breaks_spec.is_met search.now.breaks.now no_events first.now.memory
-        → TellAll R.is search.now.breaks.now test 0 parts
+        → ReportParts R.behaviour search.now.breaks.now test 0 parts
         → all ≡ found_below search.now test (counted parts + 1)) }
 {
     let none = StepEvents {
@@ -232,45 +234,46 @@ fn along_runs<R: Register>(
     Ok(found)
 }
 
-/// The next place of a branch on a search's way at which one of the breaks is met, if there is one.
+/// The next place of a branch, in the search's direction, at which one of the breaks is met, if
+/// any.
 pub fn next_hit<R: Register>(
     alloc: Global,
     chart: &mut Chart<R>,
     branch: &Name,
     search: &Search<'_>,
 ) -> Result<Option<u32>, AllocError>
-    ensures met { let b = R.is chart.old.start.register in
+    ensures met { let b = R.behaviour chart.old.start.register in
         let steps = steps_in (forest chart.old.cut) branch.now in
         let test = is_hit b chart.old.value steps search.now.breaks.now in IfOk result
         (λ place. IfSome place (IsNextHit search.now.way test (length steps + 1) search.now.from)) }
-    ensures hit { let all = hits (R.is chart.old.start.register) chart.old.value
+    ensures hit { let all = hits (R.behaviour chart.old.start.register) chart.old.value
         (steps_in (forest chart.old.cut) branch.now) search.now.breaks.now in
-        IfOk result (λ place. place ≡ next_of search.now.way search.now.from all) }
-    ensures kept { IsKept chart.old chart.new }
+        IfOk result (λ place. place ≡ next_place search.now.way search.now.from all) }
+    ensures kept { IsChartKept chart.old chart.new }
 {
     let runs = settled(alloc, chart, branch)?;
     let first = chart.initial().copy(alloc)?;
-    along_runs(alloc, search, &first, &runs)
+    along_runs(alloc, search, &first, runs.as_slice())
 }
 
-/// The stored runs of a whole branch; none where there is no such branch.
+/// The runs of a whole branch, once the missing ones are stored; no runs if there is no such
+/// branch.
 fn settled<R: Register>(
     alloc: Global,
     chart: &mut Chart<R>,
     branch: &Name,
-) -> Result<Vec<(Arc<Run<R>>, u32)>, AllocError>
-    ensures tells { let b = R.is chart.old.start.register in
+) -> Result<Runs<R>, AllocError>
+    ensures reports { let b = R.behaviour chart.old.start.register in
         let steps = steps_in (forest chart.old.cut) branch.now in (breaks : List Break)
         → IfOk result
-        (λ runs. TellAll R.is breaks (is_hit b chart.old.value steps breaks) 0
-        (map part_of runs.items)) }
-    ensures counts { IfOk result (λ runs. counted (map part_of runs.items)
+        (λ runs. ReportParts R.behaviour breaks (is_hit b chart.old.value steps breaks) 0 runs) }
+    ensures counts { IfOk result (λ runs. counted runs
         ≡ length (steps_in (forest chart.old.cut) branch.now)) }
-    ensures room { IfOk result (λ runs. IsPlace (counted (map part_of runs.items))) }
-    ensures kept { IsKept chart.old chart.new }
+    ensures room { IfOk result (λ runs. IsPlace (counted runs)) }
+    ensures kept { IsChartKept chart.old chart.new }
 {
     let Some(len) = chart.len(branch) else {
-        return Ok(Vec::new(alloc));
+        return Ok(Runs::new(Vec::new(alloc)));
     };
     match chart.settle(alloc, branch, len) {
         Ok(spot) => Ok(spot.runs),

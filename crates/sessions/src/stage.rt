@@ -5,7 +5,7 @@ ghost use Rattle.std.specs.Arc.{arc_value};
 ghost use Rattle.cutoff.specs.Installs.{Installs};
 ghost use Rattle.schedule_trie.specs.Cut.{AreLimits, forest};
 ghost use Rattle.sessions.specs.World.{opening};
-ghost use Rattle.sessions.specs.Acts.{acted, answered, early_refusals, first_refusal, late_refusals, refused};
+ghost use Rattle.sessions.specs.Acts.{command_result, answered, early_refusals, first_refusal, late_refusals, refused};
 ghost use Rattle.sessions.specs.Acts as spec;
 ghost use Rattle.sessions.specs.Held.{Does, NoneDue, NoneDueLate, world_of};
 ghost use Rattle.sessions.specs.Bounds.{CanLog};
@@ -32,8 +32,8 @@ use std::alloc::{AllocError, Global};
 use std::marker::Model;
 use std::sync::Arc;
 
-/// The branches of a register's schedules with their stored runs, the limits, the sessions' cursors and breaks, and the counts of
-/// edits and of logged commands.
+/// The world of a desk: the chart, which has the branches and their stored runs; the limits; the
+/// sessions' cursors and breaks; and the numbers of edits and of logged commands.
 #[derive(Drop)]
 pub struct Stage<R: Register> {
     chart: Chart<R>,
@@ -55,7 +55,7 @@ impl<R: Register> Model for Stage<R> {
 }
 
 impl<R: Register> Stage<R> {
-    /// The world before the first command, on branches with these limits.
+    /// The world before its first command, over a chart with these limits.
     pub(crate) fn new(
         alloc: Global,
         chart: Chart<R>,
@@ -64,8 +64,8 @@ impl<R: Register> Stage<R> {
         requires limits { AreLimits limits }
         requires same_limits { chart.cut.limits ≡ limits }
         requires few_cells { (forest chart.cut).made ≤ limits.cells }
-        ensures { IfOk result (λ stage. world_of R.is stage
-            ≡ opening (R.is chart.start.register) chart.value limits (forest chart.cut)) }
+        ensures { IfOk result (λ stage. world_of R.behaviour stage
+            ≡ opening (R.behaviour chart.start.register) chart.value limits (forest chart.cut)) }
     {
         let breaks = no_breaks(alloc)?;
         Ok(Stage {
@@ -94,21 +94,22 @@ impl<R: Register> Stage<R> {
 
     /// Whether no more commands can be logged.
     pub(crate) fn is_full(&self) -> bool
-        ensures { result ≡ spec.is_full (world_of R.is self.now) }
+        ensures { result ≡ spec.is_full (world_of R.behaviour self.now) }
     {
         self.logged >= self.limits.log
     }
 
-    /// Stores a run that was made elsewhere, as a chart does.
+    /// Stores a run that was replayed elsewhere, as `Chart::install` does.
     pub(crate) fn install(&mut self, key: SegKey, run: Arc<Run<R>>) -> Installation
         ensures installs { let old = self.old.chart in Installs R.PartialEq.eq
-            (R.is old.start.register) old self.new.chart key (arc_value run) result }
-        ensures world { world_of R.is self.new ≡ world_of R.is self.old }
+            (R.behaviour old.start.register) old self.new.chart key (arc_value run) result }
+        ensures world { world_of R.behaviour self.new ≡ world_of R.behaviour self.old }
     {
         self.chart.install(key, run)
     }
 
-    /// Answers a command that can be logged. Want of memory changes nothing that a command sees.
+    /// Answers a command that can be logged. If memory runs out, nothing that commands see is
+    /// changed.
     pub(crate) fn act(
         &mut self,
         alloc: Global,
@@ -117,10 +118,12 @@ impl<R: Register> Stage<R> {
         command: &Command,
     ) -> Result<Reply, AllocError>
         requires room { CanLog self.old }
-        ensures ok { IfOk result (λ reply. acted who if_at command.now (world_of R.is self.old)
-            ≡ record { world = world_of R.is self.new; reply = reply }) }
-        ensures err { OnErr result (world_of R.is self.new ≡ world_of R.is self.old) }
-        ensures memory { OnErr result (NoneDue who if_at command.now (world_of R.is self.old)) }
+        ensures ok { IfOk result
+            (λ reply. command_result who if_at command.now (world_of R.behaviour self.old)
+            ≡ record { world = world_of R.behaviour self.new; reply = reply }) }
+        ensures err { OnErr result (world_of R.behaviour self.new ≡ world_of R.behaviour self.old) }
+        ensures memory { OnErr result
+            (NoneDue who if_at command.now (world_of R.behaviour self.old)) }
     {
         match self.early_refusal(who, if_at, command) {
             Some(refusal) => Ok(self.refuse(refusal)),
@@ -128,16 +131,18 @@ impl<R: Register> Stage<R> {
         }
     }
 
-    /// Answers a command that nothing refuses early.
+    /// Answers a command that has no early refusal.
     fn answer(&mut self, alloc: Global, who: u32, command: &Command) -> Result<Reply, AllocError>
         requires room { CanLog self.old }
         requires session { who < 16 }
-        requires fits { spec.fits_command (R.is self.old.chart.start.register) command.now ≡ true }
-        ensures ok { let w = world_of R.is self.old in IfOk result
+        requires fits { spec.fits_command (R.behaviour self.old.chart.start.register) command.now
+            ≡ true }
+        ensures ok { let w = world_of R.behaviour self.old in IfOk result
             (λ reply. answered (first_refusal (late_refusals who command.now w)) who command.now w
-            ≡ record { world = world_of R.is self.new; reply = reply }) }
-        ensures err { OnErr result (world_of R.is self.new ≡ world_of R.is self.old) }
-        ensures memory { OnErr result (NoneDueLate who command.now (world_of R.is self.old)) }
+            ≡ record { world = world_of R.behaviour self.new; reply = reply }) }
+        ensures err { OnErr result (world_of R.behaviour self.new ≡ world_of R.behaviour self.old) }
+        ensures memory { OnErr result
+            (NoneDueLate who command.now (world_of R.behaviour self.old)) }
     {
         match self.work(alloc, who, command) {
             Ok(reply) => Ok(reply),
@@ -150,10 +155,11 @@ impl<R: Register> Stage<R> {
         }
     }
 
-    /// Counts a refused command, unless the log is full.
+    /// Counts a refused command as logged, unless the log is full.
     fn refuse(&mut self, refusal: Refusal) -> Reply
         requires { CanLog self.old }
-        ensures world { world_of R.is self.new ≡ refused refusal (world_of R.is self.old) }
+        ensures world { world_of R.behaviour self.new
+            ≡ refused refusal (world_of R.behaviour self.old) }
         ensures reply { result ≡ Reply.No refusal }
     {
         if refusal != Refusal::LogFull {
@@ -162,10 +168,10 @@ impl<R: Register> Stage<R> {
         Reply::No(refusal)
     }
 
-    /// Why a command is refused before its branches are looked at, if it is.
+    /// The reason, if any, to refuse a command before its branch is looked up.
     fn early_refusal(&self, who: u32, if_at: Option<u64>, command: &Command) -> Option<Refusal>
         ensures { result
-            ≡ first_refusal (early_refusals who if_at command.now (world_of R.is self.now)) }
+            ≡ first_refusal (early_refusals who if_at command.now (world_of R.behaviour self.now)) }
     {
         if self.is_full() {
             return Some(Refusal::LogFull);
@@ -183,7 +189,7 @@ impl<R: Register> Stage<R> {
         None
     }
 
-    /// Whether there is no such session, or it would have to have joined.
+    /// Whether there is no such session, or the session hasn't joined and the command needs it to.
     fn lacks_session(&self, who: u32, command: &Command) -> bool
         ensures { result ≡ spec.lacks_session who command.now self.now.cursors }
     {
@@ -191,12 +197,13 @@ impl<R: Register> Stage<R> {
         index >= SESSIONS || (needs_session(command) && self.cursors[index].is_none())
     }
 
-    /// Does a command that nothing refuses early.
+    /// Carries out a command that has no early refusal.
     fn work(&mut self, alloc: Global, who: u32, command: &Command) -> Result<Reply, Refusal>
         requires room { CanLog self.old }
         requires session { who < 16 }
-        requires fits { spec.fits_command (R.is self.old.chart.start.register) command.now ≡ true }
-        ensures { Does R.is who command.now self.old self.new result }
+        requires fits { spec.fits_command (R.behaviour self.old.chart.start.register) command.now
+            ≡ true }
+        ensures { Does R.behaviour who command.now self.old self.new result }
     {
         match command {
             Command::Join => Ok(self.join(alloc, who)),
@@ -207,7 +214,7 @@ impl<R: Register> Stage<R> {
             | Command::Fork { .. }
             | Command::Detach { .. }
             | Command::Drop { .. } => self.edit(alloc, command),
-            Command::Go { branch, place } => self.go(who, branch, *place),
+            Command::Go { b, k } => self.go(who, b, *k),
             Command::Seek => self.seek(alloc, who, Way::Forth),
             Command::Back => self.seek(alloc, who, Way::Back),
             Command::Break(added) => self.set_break(who, *added),
@@ -216,7 +223,7 @@ impl<R: Register> Stage<R> {
     }
 }
 
-/// The breaks of sessions that haven't joined.
+/// Sixteen empty lists of breaks, for sessions that haven't joined.
 fn no_breaks(alloc: Global) -> Result<Vec<Breaks>, AllocError>
     ensures { IfOk result (λ breaks. breaks.items ≡ replicate 16 []) }
 {
@@ -227,7 +234,7 @@ fn no_breaks(alloc: Global) -> Result<Vec<Breaks>, AllocError>
     Ok(breaks)
 }
 
-/// Whether a command is of a session that has joined.
+/// Whether a command needs its session to have joined.
 fn needs_session(command: &Command) -> bool
     ensures { result ≡ spec.needs_session command.now }
 {
@@ -242,7 +249,7 @@ fn needs_session(command: &Command) -> bool
     )
 }
 
-/// Whether a guard was given that isn't the edit count.
+/// Whether a guard is given and differs from the edit count.
 fn is_missed(if_at: Option<u64>, edits: u64) -> bool
     ensures { result ≡ spec.is_missed if_at edits }
 {
@@ -252,9 +259,9 @@ fn is_missed(if_at: Option<u64>, edits: u64) -> bool
     }
 }
 
-/// Whether the step that a command brings, if any, fits the register.
+/// Whether a command's step, if it has one, fits the register.
 fn fits_command<R: Register>(register: &R, command: &Command) -> bool
-    ensures { result ≡ spec.fits_command (R.is register.now) command.now }
+    ensures { result ≡ spec.fits_command (R.behaviour register.now) command.now }
 {
     match command {
         Command::Insert { step, .. } | Command::Replace { step, .. } => step_fits(register, *step),

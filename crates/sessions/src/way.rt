@@ -1,6 +1,6 @@
-//! Ways along a branch.
+//! Directions along a branch.
 
-/// Where a cursor seeks.
+/// The direction of a seek.
 #[derive(Clone, Copy, Debug, PartialEq, Eq)]
 pub enum Way {
     /// Towards the end.

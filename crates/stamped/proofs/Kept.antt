@@ -1,4 +1,4 @@
--- A stamped register over a regular one: its returned reads can be numbered.
+-- The returned reads of a stamped register over a regular one can be numbered.
 use Rattle.std.proofs.Common.{◌≡◌, ℕ, suc, Bool, true, false, Option, Some, None, ◌<◌, ◌≤◌, ◌==◌, ◌+◌, ◌*◌, IsTrue, refl, sym, ap, ◌∙◌, subst, arith, List, inl, inr}
 use Rattle.std.specs.Prelude.{◌||◌, ◌%◌, max, if◌then◌else◌}
 use Rattle.std.specs.List.{AllByRecursion}
@@ -37,13 +37,13 @@ use Rattle.layers.proofs.Law.{View, Watch, Runs, IsKept, IsUser}
 use Rattle.layers.proofs.LayerLaw.{layer_law}
 use Rattle.stamped.specs.declared.task.StampedTask.{StampedTask}
 use Rattle.stamped.specs.declared.task.StampedTask.TheVariants.{Writing, Reading}
-use Rattle.stamped.specs.Program.{stamped_program, stamped_rest, stamped_table, codes, StampedStands}
+use Rattle.stamped.specs.Program.{stamped_program, stamped_rest, stamped_table, stamped_code_count, StampedMayBeAt}
 
--- the code of the write with a number
+-- the code of write n, given the number of values
 abbrev pub code_of : ℕ → Counted → ℕ → ℕ
 code_of V c n = n * V + c.value n
 
--- the code is of a write that the read may return
+-- y is the code of a write whose value the read may return
 abbrev pub Since : ℕ → Counted → ℕ → Type 0
 Since V c y = (n : ℕ) × ((c.low ≤ n) × ((n ≤ c.begun) × (y ≡ code_of V c n)))
 
@@ -147,7 +147,7 @@ stamps_read V c s stamp best h = record {
   overlaps = λ y m. (c.begun, (h.done, (omega arith, begun_since V c s.writing y h.writing m)));
 }
 
--- what the register below gives is the code of a write that may be returned
+-- the register below gives the code of a write that the read may return
 read_since : (V x : ℕ) (c : Counted) (s : Seen) (stamp best : ℕ) → Stamps V c s stamp best → IsNotStray (record { reader = 1; value = x; fresh = s.fresh 1; overlaps = s.overlaps 1 }) → Since V c x
 read_since V x c s stamp best h g =
     let y : Returned = record { reader = 1; value = x; fresh = s.fresh 1; overlaps = s.overlaps 1 } in
@@ -161,7 +161,7 @@ read_since V x c s stamp best h g =
 code_less : (V n m a b : ℕ) → n < m → a < V → n * V + a ≤ m * V + b
 code_less V n m a b l la = let e : suc n * V ≤ m * V = mul-le-mul_right V (omega (arith, l)) in omega (arith, e, suc-mul n V, la)
 
--- the greater code is that of the greater number
+-- the greater code is that of the write with the greater number
 greater : (V x : ℕ) (c : Counted) (s : Seen) (stamp best : ℕ) → Stamps V c s stamp best → Since V c x
     → (n : ℕ) × ((c.low ≤ n) × ((n ≤ c.begun) × ((c.floor ≤ n) × (max best x ≡ code_of V c n))))
 greater V x c s stamp best h y =
@@ -201,7 +201,7 @@ module _ (V last : ℕ) where
   abbrev w : Watch StampedTask Counted
   w = stamped_watch V
 
-  -- the read below has ended
+  -- what follows after the read of the register below has ended
   runs_taken : (x : ℕ) (op : Op) (Out : Option Event → Counted → Type 0) (c : Counted) (j : View StampedTask) → StampedInv V c (record j { tasks = put 1 None j.tasks }) → Since V c x
       → ((y : ℕ) (z : Counted) → Counts (Some (Got 1 y)) c z → Out (Some (Got 1 y)) z) → Runs t w 1 op Out (stamped_rest V Reading (Value x)) j
   runs_taken x op Out c j h y og =
@@ -257,7 +257,7 @@ module _ (V last : ℕ) where
         λ o ans pass good. ends o ans pass,
       )
         where
-          ends : (o : Outcome) → Answers (codes V last) (Write ((j.words 0 + 1) * V + v)) o → IsNotSpent o
+          ends : (o : Outcome) → Answers (stamped_code_count V last) (Write ((j.words 0 + 1) * V + v)) o → IsNotSpent o
               → Runs t w 0 (Write v) (λ e. NumberedStep c (in_order (Some (Invoke 0 (Write v))) e)) (Ends o)
               (record { words = put 0 (j.words 0 + 1) j.words; tasks = j.tasks; parts = put 0 (sees (Some (ended 0 o)) (sees (Some (Invoke 0 (Write ((j.words 0 + 1) * V + v)))) (j.parts 0))) j.parts })
           ends (Value x) ans pass = absurd ans
@@ -273,7 +273,7 @@ module _ (V last : ℕ) where
         λ o ans pass good. ends o ans pass good a,
       )
     where
-      ends : (o : Outcome) → Answers (codes V last) Read o → IsNotSpent o → AllByRecursion IsNotStray (got (Some (ended 1 o)) (sees (Some (Invoke 1 Read)) (j.parts 0)))
+      ends : (o : Outcome) → Answers (stamped_code_count V last) Read o → IsNotSpent o → AllByRecursion IsNotStray (got (Some (ended 1 o)) (sees (Some (Invoke 1 Read)) (j.parts 0)))
           → Stamps V (record c { low = c.done }) (sees (Some (Invoke 1 Read)) (j.parts 0)) (j.words 0) (j.words 1)
           → Runs t w 1 Read (λ e. NumberedStep c (in_order (Some (Invoke 1 Read)) e)) (stamped_rest V Reading o)
           (record { words = j.words; tasks = j.tasks; parts = put 0 (sees (Some (ended 1 o)) (sees (Some (Invoke 1 Read)) (j.parts 0))) j.parts })
@@ -298,7 +298,7 @@ module _ (V last : ℕ) where
       (begin_read c j h)
 
   go_ends : (c : Counted) (j : View StampedTask) (p : ℕ) (op : Op) (task : StampedTask) (chosen : Option (ℕ × Bool)) (o : Outcome) → StampedInv V c j
-      → StampedStands V last p op task → Answers (codes V last) (t.asks task).op o → IsNotSpent o
+      → StampedMayBeAt V last p op task → Answers (stamped_code_count V last) (t.asks task).op o → IsNotSpent o
       → AllByRecursion IsNotStray (got (Some (ended (t.asks task).who o)) (j.parts (t.asks task).part))
       → Runs t w p op (λ e. NumberedStep c (in_order (chosen_of p chosen) e)) (stamped_rest V task o)
       (record j { parts = put (t.asks task).part (sees (Some (ended (t.asks task).who o)) (j.parts (t.asks task).part)) j.parts })
@@ -340,7 +340,7 @@ module _ (V last : ℕ) where
         idle = λ k. ap (λ s. s.writing) ep;
       }
 
-  pub stamped_kept : IsKept t (StampedStands V last) w uncounted NumberedStep
+  pub stamped_kept : IsKept t (StampedMayBeAt V last) w uncounted NumberedStep
   stamped_kept = record {
     initial = λ v l j ew et ep. at_first v l j (ew 0 (omega arith)) (ew 1 (omega arith)) (ep 0 (omega arith));
     void = λ c p reason. (refl, (c, (refl, refl)));
@@ -350,16 +350,16 @@ module _ (V last : ℕ) where
     goes = λ c j p n chosen o h mine s ans pass good. go_ends c j p n.op n.task chosen o h s ans pass good;
   }
 
-  -- each process acts as itself on the one part
-  pub stamped_user : IsUser t (StampedStands V last) (λ part who. who)
+  -- each process acts as itself on the only part
+  pub stamped_user : IsUser t (StampedMayBeAt V last) (λ part who. who)
   stamped_user p (Write v) (Writing x k) s = sym s.0
   stamped_user p Read Reading s = sym s
   stamped_user p (Write v) Reading s = absurd s
   stamped_user p Read (Writing x k) s = absurd s
 
--- what a stamped register over a regular one records can be numbered, step by step
+-- the history of a stamped register over a regular one can be numbered, step by step
 pub stamped_numbered : {P : Type 0} (b : Behaviour P) (Holds : Memory → Type 0) (Reaches : ℕ → Op → P → Type 0) (V last : ℕ) (left : StampedTask → ℕ) → IsLawful b Holds Reaches
-    → IsSoundTable (stamped_table V last) (StampedStands V last) left → FitsBelow (stamped_table V last) b → IsRegular b
+    → IsSoundTable (stamped_table V last) (StampedMayBeAt V last) left → FitsBelow (stamped_table V last) b → IsRegular b
     → (v : ℕ) (steps : List Step) → v < V → AllFit (layered (stamped_table V last) b) steps
     → Allowed NumberedStep (uncounted v) (history (layered (stamped_table V last) b) (first_configuration (layered (stamped_table V last) b) v) steps)
 stamped_numbered b Holds Reaches V last left lawful sound fit regular v steps l f =
@@ -368,7 +368,7 @@ stamped_numbered b Holds Reaches V last left lawful sound fit regular v steps l 
 
 -- a stamped register over a regular one is atomic
 pub stamped_over_regular : {P : Type 0} (b : Behaviour P) (Holds : Memory → Type 0) (Reaches : ℕ → Op → P → Type 0) (V last : ℕ) (left : StampedTask → ℕ) → IsLawful b Holds Reaches
-    → IsSoundTable (stamped_table V last) (StampedStands V last) left → FitsBelow (stamped_table V last) b → IsRegular b → IsAtomic (layered (stamped_table V last) b)
+    → IsSoundTable (stamped_table V last) (StampedMayBeAt V last) left → FitsBelow (stamped_table V last) b → IsRegular b → IsAtomic (layered (stamped_table V last) b)
 stamped_over_regular b Holds Reaches V last left lawful sound fit regular =
-    numbered_atomic (layered (stamped_table V last) b) (λ who o h. h) refl (LayerHolds (stamped_table V last) b Holds) (LayerReaches (stamped_table V last) (StampedStands V last) Reaches)
+    numbered_atomic (layered (stamped_table V last) b) (λ who o h. h) refl (LayerHolds (stamped_table V last) b Holds) (LayerReaches (stamped_table V last) (StampedMayBeAt V last) Reaches)
     (layer_lawful (over lawful sound fit)) (stamped_numbered b Holds Reaches V last left lawful sound fit regular)

@@ -1,4 +1,4 @@
--- The stamped register's table is sound, and its tasks are equal only to themselves.
+-- The stamped register's table is sound, and the test of two tasks decides whether they are equal.
 use Rattle.std.proofs.Common.{◌%◌, ◌≡◌, ◌≢◌, ℕ, ◌+◌, ◌*◌, ◌<◌, ◌≤◌, max, Bool, true, false, refl, ap, arith, nat_eq}
 use Rattle.std.specs.Bool.{Decides}
 use Rattle.std.specs.Prelude.{◌==◌, if◌then◌else◌, ◌&&◌}
@@ -20,10 +20,10 @@ use Rattle.layers.specs.laws.OneWriter as writer
 use Rattle.layers.specs.laws.Equality.{both_true}
 use Rattle.stamped.specs.declared.task.StampedTask.{StampedTask}
 use Rattle.stamped.specs.declared.task.StampedTask.TheVariants.{Writing, Reading}
-use Rattle.stamped.specs.Program.{stamped_program, stamped_table, stamped_asks, stamped_rest, stamped_frame, stamped_find, codes, StampedStands}
+use Rattle.stamped.specs.Program.{stamped_program, stamped_table, stamped_asks, stamped_rest, stamped_frame, stamped_find, stamped_code_count, StampedMayBeAt}
 
--- a code below the last stamp's
-pub code_fits : (values last stamp v : ℕ) → stamp < last → v < values → (stamp + 1) * values + v < codes values last
+-- a code whose stamp was raised, to at most the last stamp, is one of the codes
+pub code_fits : (values last stamp v : ℕ) → stamp < last → v < values → (stamp + 1) * values + v < stamped_code_count values last
 code_fits values last stamp v before lt = let h = mul-add-lt (stamp + 1) values v (last + 1) (omega arith) lt in omega (arith, h)
 
 -- a raised code has a stamp of 1 or more
@@ -31,15 +31,15 @@ pub code_stamped : (values stamp v : ℕ) → values ≤ (stamp + 1) * values + 
 code_stamped values stamp v = omega (arith, add-mul stamp 1 values)
 
 -- an initial value is a code
-pub value_fits : (values last v : ℕ) → v < values → v < codes values last
+pub value_fits : (values last v : ℕ) → v < values → v < stamped_code_count values last
 value_fits values last v lt = let h = mul-add-lt 0 values v (last + 1) (omega arith) lt in omega (arith, h)
 
 module _ (values last : ℕ) (some : LEAST_VALUES ≤ values) where
-  write_sound : (who v stamp : ℕ) → who ≡ 0 → v < values → stamp < last + 1 → IsSound (stamped_table values last) (StampedStands values last who (op.Write v)) (Answers values (op.Write v))
+  write_sound : (who v stamp : ℕ) → who ≡ 0 → v < values → stamp < last + 1 → IsSound (stamped_table values last) (StampedMayBeAt values last who (op.Write v)) (Answers values (op.Write v))
       (if stamp == last then Ends (Spent spent.Stamped) else Sets 0 (stamp + 1) (Asks (Writing v ((stamp + 1) * values + v)) Ends))
   write_sound who v stamp zero lt low = by_test (stamp == last) refl
     where
-      by_test : (end : Bool) → (stamp == last) ≡ end → IsSound (stamped_table values last) (StampedStands values last who (op.Write v)) (Answers values (op.Write v))
+      by_test : (end : Bool) → (stamp == last) ≡ end → IsSound (stamped_table values last) (StampedMayBeAt values last who (op.Write v)) (Answers values (op.Write v))
           (if end then Ends (Spent spent.Stamped) else Sets 0 (stamp + 1) (Asks (Writing v ((stamp + 1) * values + v)) Ends))
       by_test true e = tt
       by_test false e =
@@ -47,15 +47,15 @@ module _ (values last : ℕ) (some : LEAST_VALUES ≤ values) where
           let before : stamp < last = omega arith in
           (omega arith, (omega arith, ((zero, refl, mod-mul-add (stamp + 1) values v lt, code_stamped values stamp v, code_fits values last stamp v before lt), λ o. refl)))
 
-  begins_sound : (who : ℕ) (o : Op) → one_writer values 2 who o ≡ true → IsSound (stamped_table values last) (StampedStands values last who o) (Answers values o) (stamped_program values last who o)
+  begins_sound : (who : ℕ) (o : Op) → one_writer values 2 who o ≡ true → IsSound (stamped_table values last) (StampedMayBeAt values last who o) (Answers values o) (stamped_program values last who o)
   begins_sound who (op.Write v) h = (omega arith, λ stamp low. write_sound who v stamp (writer.writer_zero values 2 who v h) (writer.no_other_value values 2 who v h) low)
   begins_sound who op.Read h = (let above = writer.reader_some values 2 who h in let below = writer.reader_few values 2 who h in omega arith, λ o. refl)
 
-  greater_fits : (best code : ℕ) → best < codes values last → code < codes values last → max best code < codes values last
-  greater_fits best code p q = let n = codes values last in omega arith
+  greater_fits : (best code : ℕ) → best < stamped_code_count values last → code < stamped_code_count values last → max best code < stamped_code_count values last
+  greater_fits best code p q = let n = stamped_code_count values last in omega arith
 
-  rest_sound : (who : ℕ) (o : Op) (task : StampedTask) (outcome : Outcome) → StampedStands values last who o task → Answers (codes values last) (stamped_asks task).op outcome → IsNotSpent outcome
-      → IsSound (stamped_table values last) (StampedStands values last who o) (Answers values o) (stamped_rest values task outcome)
+  rest_sound : (who : ℕ) (o : Op) (task : StampedTask) (outcome : Outcome) → StampedMayBeAt values last who o task → Answers (stamped_code_count values last) (stamped_asks task).op outcome → IsNotSpent outcome
+      → IsSound (stamped_table values last) (StampedMayBeAt values last who o) (Answers values o) (stamped_rest values task outcome)
   rest_sound who (op.Write w) (Writing v code) Written stands answers on = tt
   rest_sound who (op.Write w) (Writing v code) (Value x) stands answers on = absurd answers
   rest_sound who (op.Write w) (Writing v code) (Spent layer) stands answers on = absurd on
@@ -66,7 +66,7 @@ module _ (values last : ℕ) (some : LEAST_VALUES ≤ values) where
   rest_sound who (op.Write w) Reading outcome stands answers on = absurd stands
   rest_sound who op.Read (Writing v code) outcome stands answers on = absurd stands
 
-  asks_fit : (who : ℕ) (o : Op) (task : StampedTask) → StampedStands values last who o task → ((stamped_asks task).part < 1) × FitsPart (codes values last) 2 (stamped_asks task).who (stamped_asks task).op
+  asks_fit : (who : ℕ) (o : Op) (task : StampedTask) → StampedMayBeAt values last who o task → ((stamped_asks task).part < 1) × FitsPart (stamped_code_count values last) 2 (stamped_asks task).who (stamped_asks task).op
   asks_fit who (op.Write w) (Writing v code) stands = (omega arith, (refl, stands.4))
   asks_fit who op.Read Reading stands = (omega arith, (omega arith, omega arith))
   asks_fit who (op.Write w) Reading stands = absurd stands
@@ -75,19 +75,19 @@ module _ (values last : ℕ) (some : LEAST_VALUES ≤ values) where
   first_words : (v k : ℕ) → v < values → k < 2 → (stamped_table values last).first_word v k < (stamped_table values last).bound k
   first_words v k lt low = by_test (k == 0)
     where
-      by_test : (first : Bool) → (if first then 0 else v) < (if first then last + 1 else codes values last)
+      by_test : (first : Bool) → (if first then 0 else v) < (if first then last + 1 else stamped_code_count values last)
       by_test true = omega arith
       by_test false = value_fits values last v lt
 
   -- nothing follows a task
-  rest_falls : (who : ℕ) (o : Op) (task : StampedTask) (outcome : Outcome) → StampedStands values last who o task → Answers (codes values last) (stamped_asks task).op outcome → IsNotSpent outcome
+  rest_falls : (who : ℕ) (o : Op) (task : StampedTask) (outcome : Outcome) → StampedMayBeAt values last who o task → Answers (stamped_code_count values last) (stamped_asks task).op outcome → IsNotSpent outcome
       → Falls {Task = StampedTask} (λ _. 0) 0 (stamped_rest values task outcome)
   rest_falls who o (Writing v code) outcome stands answers on = tt
   rest_falls who o Reading Written stands answers on = tt
   rest_falls who o Reading (Value code) stands answers on = λ best. tt
   rest_falls who o Reading (Spent layer) stands answers on = tt
 
-  stands_suits : (who : ℕ) (o : Op) (task : StampedTask) → StampedStands values last who o task → one_writer values 2 who o ≡ true
+  stands_suits : (who : ℕ) (o : Op) (task : StampedTask) → StampedMayBeAt values last who o task → one_writer values 2 who o ≡ true
   stands_suits who (op.Write w) (Writing v code) stands =
       let low : code % values < values = mod_below code values (omega arith) in
       writer.writer_suits values 2 who w stands.0 (omega arith) (omega (arith, low, stands.1, stands.2))
@@ -95,33 +95,36 @@ module _ (values last : ℕ) (some : LEAST_VALUES ≤ values) where
   stands_suits who (op.Write w) Reading stands = absurd stands
   stands_suits who op.Read (Writing v code) stands = absurd stands
 
-  frame_tells : (who : ℕ) (o : Op) (task : StampedTask) → StampedStands values last who o task → (stamped_find who (stamped_frame task) ≡ task) × ((stamped_frame task).op ≡ o)
+  frame_tells : (who : ℕ) (o : Op) (task : StampedTask) → StampedMayBeAt values last who o task → (stamped_find who (stamped_frame task) ≡ task) × ((stamped_frame task).op ≡ o)
   frame_tells who (op.Write w) (Writing v code) stands = (refl, ap op.Write stands.1)
   frame_tells who op.Read Reading stands = (refl, refl)
   frame_tells who (op.Write w) Reading stands = absurd stands
   frame_tells who op.Read (Writing v code) stands = absurd stands
 
-  pub stamped_sound : IsSoundTable (stamped_table values last) (StampedStands values last) (λ _. 0)
-  stamped_sound = writer.one_writer_sound (stamped_table values last) (StampedStands values last) (λ _. 0) (λ who o. refl) (omega arith)
+  -- the stamped register's table is sound
+  pub stamped_sound : IsSoundTable (stamped_table values last) (StampedMayBeAt values last) (λ _. 0)
+  stamped_sound = writer.one_writer_sound (stamped_table values last) (StampedMayBeAt values last) (λ _. 0) (λ who o. refl) (omega arith)
       (λ v j lt below. value_fits values last v lt) first_words
       asks_fit stands_suits frame_tells begins_sound rest_sound rest_falls
 
--- the test of two tasks
-abbrev pub task_eq : StampedTask → StampedTask → Bool
-task_eq (Writing v x) (Writing w y) = nat_eq v w && nat_eq x y
-task_eq Reading Reading = true
-task_eq (Writing v x) Reading = false
-task_eq Reading (Writing w y) = false
+-- the equality test of two tasks
+abbrev pub stamped_task_eq : StampedTask → StampedTask → Bool
+stamped_task_eq (Writing v x) (Writing w y) = nat_eq v w && nat_eq x y
+stamped_task_eq Reading Reading = true
+stamped_task_eq (Writing v x) Reading = false
+stamped_task_eq Reading (Writing w y) = false
 
-pub task_decides : (a b : StampedTask) → Decides (task_eq a b) (a ≡ b)
-task_decides (Writing v x) (Writing w y) =
+-- the test of two tasks decides whether they are equal
+pub stamped_task_decides : (a b : StampedTask) → Decides (stamped_task_eq a b) (a ≡ b)
+stamped_task_decides (Writing v x) (Writing w y) =
     Decides-like (nat_eq v w && nat_eq x y) (λ p. λ i. Writing (p.0 i) (p.1 i)) (λ p. (cc, cc)) (Decides-and (nat_eq v w) (nat_eq x y) (Decides-eqb v w) (Decides-eqb x y))
-task_decides Reading Reading = (λ h. refl, λ h. refl)
-task_decides (Writing v x) Reading = (λ h. cc, λ h. cc)
-task_decides Reading (Writing w y) = (λ h. cc, λ h. cc)
+stamped_task_decides Reading Reading = (λ h. refl, λ h. refl)
+stamped_task_decides (Writing v x) Reading = (λ h. cc, λ h. cc)
+stamped_task_decides Reading (Writing w y) = (λ h. cc, λ h. cc)
 
-pub table_alike : (v w l m : ℕ) → (nat_eq v w && nat_eq l m) ≡ true → stamped_table v l ≡ stamped_table w m
-table_alike v w l m h =
+-- stamped registers of equally many values and equal last stamps have equal tables
+pub stamped_table_alike : (v w l m : ℕ) → (nat_eq v w && nat_eq l m) ≡ true → stamped_table v l ≡ stamped_table w m
+stamped_table_alike v w l m h =
     let both = both_true (nat_eq v w) (nat_eq l m) h in
     let e = (Decides-eqb v w).0 both.0 in
     let f = (Decides-eqb l m).0 both.1 in

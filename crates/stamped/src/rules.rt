@@ -1,4 +1,4 @@
-//! The rules of a stamped register, whatever register stands below.
+//! The rules of a stamped register, over any register.
 
 ghost use Rattle.std.specs.Prelude.{◌≡◌, ℕ, ◌+◌, ◌*◌, ◌<◌, ◌≤◌, ◌^◌, MatchResult, IfOk, Some, None};
 ghost use Rattle.frames.specs.declared.limits.TheConstants.{LEAST_VALUES, MOST_VALUES};
@@ -16,15 +16,16 @@ use layers::layered::Layered;
 use layers::nested::{Ask, Continuation};
 use safe_bit::Store;
 
-/// A stamped register over a register of `(last + 1) * values` codes: a write raises the stamp and
-/// writes its code below, and is spent at the last stamp; a read keeps the greatest code that it has
-/// read, and returns its value (Lamport 1986; Herlihy and Shavit, chapter 4).
+/// A stamped register over a register of `(last + 1) * values` codes. A write raises the stamp and
+/// writes its code to the register below; at the last stamp it is spent instead. A read keeps the
+/// greatest code read so far, and returns the value of that code (Lamport 1986; Herlihy and Shavit,
+/// chapter 4).
 pub type Stamped<S> = Layered<StampedRules, S>;
 
 /// The rules of a stamped register.
 #[derive(Debug, PartialEq, Eq)]
 pub struct StampedRules {
-    /// How many values it has.
+    /// The number of values.
     pub values: u32,
     /// The last stamp.
     pub last: u32,
@@ -42,18 +43,24 @@ impl Clone for StampedRules {
 
 impl Copy for StampedRules {}
 
-impl StampedRules {
-    /// The stamped register of so many values, 2 to 512, with stamps up to `last`, at most 511, over
-    /// a register of `(last + 1) * values` values, at most 512, and 2 processes. Refused as BadSize
-    /// where one of these is broken or the register below has depth 8, else as TooManyBits where
-    /// there would be more than 4,096 cells or 65,536 words.
-    pub fn new<S: Register>(below: S, values: u32, last: u32) -> Result<Stamped<S>, LayerError>
-        ensures refused { MatchResult result (λ _. stamped_refusal values last (S.is below) ≡ None)
-            (λ e. stamped_refusal values last (S.is below) ≡ Some e) }
-        ensures built { IfOk result (λ r. ⟦<Layered<StampedRules, S> as Behaves>⟧.is r
-            ≡ layered (stamped_table values last) (S.is below)) }
-        ensures below { IfOk result (λ r. r.below ≡ below) }
-    {
+/// The trait of `Stamped::new`. It has to be in scope in each module that calls `Stamped::new`.
+pub trait NewStamped<S: Register>: Sized {
+    /// The stamped register of `values` values, with stamps up to `last`, over `below`. `values` is
+    /// 2 to 512, and `last` is at most 511. The register below has 2 processes, and it has
+    /// `(last + 1) * values` values, at most 512. Refused as BadSize if one of these limits is
+    /// broken, or if the register below has depth 8; otherwise refused as TooManyBits if there
+    /// would be more than 4,096 cells or 65,536 words.
+    fn new(below: S, values: u32, last: u32) -> Result<Stamped<S>, LayerError>
+        ensures refused { MatchResult result
+            (λ _. stamped_refusal values last (S.behaviour below) ≡ None)
+            (λ e. stamped_refusal values last (S.behaviour below) ≡ Some e) }
+        ensures built { IfOk result (λ r. ⟦<Layered<StampedRules, S> as Behaves>⟧.behaviour r
+            ≡ layered (stamped_table values last) (S.behaviour below)) }
+        ensures below { IfOk result (λ r. r.below ≡ below) };
+}
+
+impl<S: Register> NewStamped<S> for Stamped<S> {
+    fn new(below: S, values: u32, last: u32) -> Result<Stamped<S>, LayerError> {
         if values < LEAST_VALUES || values > MOST_VALUES || last >= MOST_VALUES {
             return Err(LayerError::BadSize);
         }
@@ -61,7 +68,7 @@ impl StampedRules {
             return Err(LayerError::BadSize);
         }
         let layer = StampedRules { values, last };
-        Layered::new(below, layer)
+        Layered::over(below, layer)
     }
 }
 
@@ -73,12 +80,12 @@ impl Rules for StampedRules {
 
 impl Construction for StampedRules {
     ghost use Rattle.std.specs.Prelude.{refl};
-    ghost use Rattle.stamped.specs.Program.{stamped_table, StampedStands};
-    ghost use Rattle.stamped.specs.Sound.{stamped_sound, task_eq, task_decides, table_alike};
+    ghost use Rattle.stamped.specs.Program.{stamped_table, StampedMayBeAt};
+    ghost use Rattle.stamped.specs.Sound.{stamped_sound, stamped_task_eq, stamped_task_decides, stamped_table_alike};
     ghost use Rattle.stamped.specs.declared.task.StampedTask.TheVariants.{Writing, Reading};
     ghost use Rattle.layers.specs.laws.Equality.{decides_like};
 
-    ghost Stands = { λ l. StampedStands l.values l.last };
+    ghost MayBeAt = { λ l. StampedMayBeAt l.values l.last };
 
     ghost left = { λ _ _. 0 };
 
@@ -172,7 +179,7 @@ impl Construction for StampedRules {
         }
     }
 
-    fn stands(&self, who: u32, op: Op, task: StampedTask) -> bool {
+    fn may_be_at(&self, who: u32, op: Op, task: StampedTask) -> bool {
         match (op, task) {
             (Op::Write(w), StampedTask::Writing(v, code)) => {
                 let own = code % self.values == v && code >= self.values;
@@ -185,7 +192,7 @@ impl Construction for StampedRules {
 
     ghost sound = { λ l. stamped_sound l.values l.last l.some };
 
-    ghost alike = { λ a b h. table_alike a.values b.values a.last b.last h };
+    ghost alike = { λ a b h. stamped_table_alike a.values b.values a.last b.last h };
 
-    ghost same_task = { decides_like ⟦<StampedTask as PartialEq>⟧.eq task_eq (elim [ Writing _ _ ↦ elim [ Writing _ _ ↦ refl | Reading ↦ refl ] | Reading ↦ elim [ Writing _ _ ↦ refl | Reading ↦ refl ] ]) task_decides };
+    ghost same_task = { decides_like ⟦<StampedTask as PartialEq>⟧.eq stamped_task_eq (elim [ Writing _ _ ↦ elim [ Writing _ _ ↦ refl | Reading ↦ refl ] | Reading ↦ elim [ Writing _ _ ↦ refl | Reading ↦ refl ] ]) stamped_task_decides };
 }

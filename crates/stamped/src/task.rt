@@ -1,9 +1,9 @@
 //! The points of a stamped register's programs.
 
-/// The operation of the register below that is in work.
+/// An operation of the register below.
 #[derive(Clone, Copy, Debug, PartialEq, Eq)]
 pub enum StampedTask {
-    /// A write of this value, by this code.
+    /// A write of the value in the first field, as the code in the second.
     Writing(u32, u32),
     /// A read.
     Reading,

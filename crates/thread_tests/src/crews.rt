@@ -1,5 +1,6 @@
-//! Crews at work on jobs of a plan, on jobs that square numbers and on jobs that are refused memory: which threads run them, how
-//! often, and which offers a gate sees. No contract speaks of these.
+//! Tests of crews at work on jobs of a plan, on jobs that square numbers, and on jobs that run out
+//! of memory: which threads run the jobs, how often, and which offers a gate gets. No contract
+//! covers this.
 
 ghost use Rattle.std.specs.Prelude.{◌≤◌, IfOk};
 ghost use Rattle.frames.specs.SafeBit.{safe_behaviour};
@@ -23,16 +24,16 @@ use std::thread;
 use std::thread::Threads;
 use workers::Crew;
 use workers::gate::{Gate, NoGate};
-use workers::job::{Done, Job, Outcome};
+use workers::job::{Done, JobOutcome, Runnable};
 
-/// Squares a number, or is refused memory where it has none.
+/// A job that squares a number. Without a number it fails as if memory had run out.
 #[derive(Drop)]
 struct Square {
     key: char,
     number: Option<u64>,
 }
 
-impl Job for Square {
+impl Runnable for Square {
     type Key = char;
 
     type Run = u64;
@@ -55,11 +56,11 @@ impl Job for Square {
     }
 }
 
-/// How long an offer is held, in turns.
+/// How long an offer is held at most, in iterations of a loop.
 const TURNS: u32 = 1 << 24;
 
-/// A gate that holds offer 0 until offer 1 came, and offer 1 until offer 0 came, each for so many
-/// turns at most.
+/// A gate that holds offer 0 until offer 1 has come, and offer 1 until offer 0 has come, each for
+/// at most `TURNS` iterations.
 #[derive(Drop)]
 struct Meeting {
     came: [AtomicU64; 2],
@@ -74,7 +75,7 @@ impl Meeting {
         }
     }
 
-    /// Whether both offers were let go before the limit.
+    /// Whether the two offers met before the limit.
     fn both_met(&self) -> bool {
         self.met[0].load(Ordering::SeqCst) == 1 && self.met[1].load(Ordering::SeqCst) == 1
     }
@@ -114,7 +115,7 @@ const READ: Step = Step::Read { p: 1 };
 
 const WRITE: Step = Step::Write { p: 0, v: 1 };
 
-/// Limits of two branches of a step.
+/// Limits that allow two branches of one step each.
 fn few() -> Limits
     ensures { AreLimits result }
 {
@@ -125,7 +126,8 @@ fn few() -> Limits
     }
 }
 
-/// The plan of a chart on a safe bit whose `main` is a read, and whose `a` is a write: a job for each, from the initial state.
+/// The plan of a chart on a safe bit, with a read on `main` and a write on `a`. It has a job for
+/// each branch, from the initial state.
 fn plan_of_two(rt: &impl Abort, alloc: Global) -> Result<Vec<plan::Job<Safe>>, Refusal> {
     let main = Name::new(b"main").expect(rt, "a short name");
     let a = Name::new(b"a").expect(rt, "a short name");
@@ -135,12 +137,13 @@ fn plan_of_two(rt: &impl Abort, alloc: Global) -> Result<Vec<plan::Job<Safe>>, R
     chart.plan(alloc, &main)
 }
 
-/// What a job of a chart came to.
+/// The outcome of a job of a chart.
 type Ran = Done<SegKey, Arc<Run<Safe>>>;
 
-/// The one step of a run, under its key; none where the job didn't run.
+/// The key of a job, and the one step of its run; `None` unless there is a run, and it has one
+/// step.
 fn only_step(done: &Ran) -> Option<(SegKey, Step)> {
-    let Outcome::Ran(run) = &done.outcome else {
+    let JobOutcome::Ran(run) = &done.outcome else {
         return None;
     };
     match run.steps() {
@@ -149,7 +152,8 @@ fn only_step(done: &Ran) -> Option<(SegKey, Step)> {
     }
 }
 
-/// Jobs of a plan at work by the caller and one thief; what the call promises is forgotten.
+/// Runs jobs of a plan by the caller and one thief. Unlike the crew's, this contract promises
+/// nothing about the outcomes.
 fn run_by_two<W: Threads + Wait + Sync>(
     rt: &W,
     alloc: Global,
@@ -159,9 +163,9 @@ fn run_by_two<W: Threads + Wait + Sync>(
     Crew::run(rt, alloc, jobs, 1, gate)
 }
 
-/// The caller and one thief each have one of two jobs at the same time, or the gate would hold the
-/// first until its limit. A crew that runs all jobs on one thread has the same outcomes and meets
-/// each contract: this test alone refuses it.
+/// The caller and one thief have one of two jobs each at the same time; otherwise the gate would
+/// hold the first until its limit. A crew that ran all jobs on one thread would have the same
+/// outcomes and meet each contract: only this test would fail.
 #[test]
 fn two_threads(rt: HostRuntime) -> Result<(), Fail> {
     let gate = Meeting::new();
@@ -169,14 +173,14 @@ fn two_threads(rt: HostRuntime) -> Result<(), Fail> {
     let [read, write] = jobs.as_slice() else {
         panic!(rt; "a job of each branch")
     };
-    let wanted = [Some((read.key(), READ)), Some((write.key(), WRITE))];
+    let wanted = [Some((read.key, READ)), Some((write.key, WRITE))];
     let all = run_by_two(&rt, rt.alloc(), jobs, &gate)?;
     assert!(rt; gate.both_met());
     assert!(rt; all.iter().map(only_step).eq(wanted));
     Ok(())
 }
 
-/// Jobs under the letters, one of which is refused memory.
+/// A job for each letter. The job of `q` runs out of memory.
 fn letters(alloc: Global) -> Result<Vec<Square>, AllocError> {
     let mut jobs = Vec::new(alloc);
     for (key, n) in ('a'..='z').zip(1..27u64) {
@@ -186,14 +190,14 @@ fn letters(alloc: Global) -> Result<Vec<Square>, AllocError> {
     Ok(jobs)
 }
 
-/// What becomes of them.
+/// The expected outcomes of the letters' jobs.
 fn squared_letters(alloc: Global) -> Result<Vec<Done<char, u64>>, AllocError> {
     let mut all = Vec::new(alloc);
     for (key, n) in ('a'..='z').zip(1..27u64) {
         let outcome = if key == 'q' {
-            Outcome::NoMemory
+            JobOutcome::NoMemory
         } else {
-            Outcome::Ran(n.wrapping_mul(n))
+            JobOutcome::Ran(n.wrapping_mul(n))
         };
         all.push(Done { key, outcome })?;
     }
@@ -209,7 +213,7 @@ impl Counts {
         Ok(Counts { offers })
     }
 
-    /// Whether a job has been offered.
+    /// Whether a job was offered.
     fn has_offered(&self, index: usize) -> bool {
         match self.offers.get(index) {
             Some(offers) => offers.load(Ordering::SeqCst) > 0,
@@ -225,7 +229,7 @@ impl Counts {
     }
 }
 
-/// What the jobs under the letters come to with so many thieves, and whether each was offered once.
+/// The outcomes of the letters' jobs with `thieves` thieves, and whether each job was offered once.
 fn run_letters<R: Threads + Wait + Sync>(
     rt: &R,
     alloc: Global,
@@ -239,8 +243,8 @@ fn run_letters<R: Threads + Wait + Sync>(
     Ok((all, gate.each_once()))
 }
 
-/// Any number of thieves gives the same outcomes, and each job is offered once. A job that is
-/// refused memory has its own place among the others.
+/// The outcomes are the same with any number of thieves, and each job is offered once. A job that
+/// runs out of memory keeps its place among the others.
 #[test]
 fn any_number_of_thieves(rt: HostRuntime) -> Result<(), Fail> {
     let expected = squared_letters(rt.alloc())?;
@@ -251,7 +255,8 @@ fn any_number_of_thieves(rt: HostRuntime) -> Result<(), Fail> {
     Ok(())
 }
 
-/// A job that gives a number or is refused memory, and counts its runs that begin behind its own offer.
+/// A job that gives a number, or runs out of memory. It counts how often it is run after its own
+/// offer.
 #[derive(Drop)]
 struct Watched<'a> {
     index: usize,
@@ -260,7 +265,7 @@ struct Watched<'a> {
     runs: &'a AtomicU64,
 }
 
-impl Job for Watched<'_> {
+impl Runnable for Watched<'_> {
     type Key = usize;
 
     type Run = u64;
@@ -281,7 +286,8 @@ impl Job for Watched<'_> {
     }
 }
 
-/// How many runs behind their own offers three jobs have that give a number or are refused memory, with so many thieves.
+/// How often three jobs are run after their own offers. The jobs give `number`, or run out of
+/// memory if that is `None`.
 fn runs_of_three<W: Threads + Wait + Sync>(
     rt: &W,
     alloc: Global,
@@ -305,7 +311,7 @@ fn runs_of_three<W: Threads + Wait + Sync>(
     Ok(runs.load(Ordering::SeqCst))
 }
 
-/// Each job is run once, and behind its own offer, also where it is refused memory.
+/// Each job is run once, after its own offer, even if it runs out of memory.
 #[test]
 fn each_job_runs_once_behind_its_offer(rt: HostRuntime) -> Result<(), Fail> {
     for thieves in [0, 2] {
@@ -317,7 +323,7 @@ fn each_job_runs_once_behind_its_offer(rt: HostRuntime) -> Result<(), Fail> {
     Ok(())
 }
 
-/// No jobs have no outcomes.
+/// Without jobs there are no outcomes.
 #[test]
 fn no_jobs(rt: HostRuntime) -> Result<(), Fail> {
     let jobs: Vec<Square> = Vec::new(rt.alloc());

@@ -1,11 +1,11 @@
-//! Desks on one safe bit: rows of calls, and chairs on threads of their own.
+//! Tests of desks on one safe bit: rows of calls, and chairs on threads of their own.
 
 ghost use Rattle.std.specs.Prelude.{◌≡◌};
 ghost use Rattle.frames.specs.SafeBit.{safe_behaviour};
 ghost use Rattle.frames.specs.Recorded.{AllFit};
 ghost use Rattle.turn.specs.Shares.{every_share};
 ghost use Rattle.turn.specs.Chairs.{view};
-ghost use Rattle.desk.specs.Chairs.{IsAt};
+ghost use Rattle.desk.specs.Chairs.{IsChairOf};
 
 mod crossings;
 mod fills;
@@ -39,12 +39,12 @@ use views::query::Query;
 
 const READ: Step = Step::Read { p: 1 };
 
-/// A chair with every share, and another one that is given half of them.
+/// Splits a chair with every share into two halves.
 fn halves(desk: &Desk<Safe>, mut chair: Chair<Safe>) -> (Chair<Safe>, Chair<Safe>)
-    requires chair { IsAt (λ _. safe_behaviour) desk.now chair }
+    requires chair { IsChairOf (λ _. safe_behaviour) desk.now chair }
     requires every { (view chair).shares ≡ every_share }
-    ensures { IsAt (λ _. safe_behaviour) desk.now result.0
-        × IsAt (λ _. safe_behaviour) desk.now result.1 }
+    ensures { IsChairOf (λ _. safe_behaviour) desk.now result.0
+        × IsChairOf (λ _. safe_behaviour) desk.now result.1 }
 {
     let other = desk.split(&mut chair, 8);
     (chair, other)
@@ -57,13 +57,13 @@ fn name(rt: &impl Abort, text: &[u8]) -> Name {
 /// An insert of a read at a place of `main`.
 fn insert_at(rt: &impl Abort, place: u32) -> Command {
     Command::Insert {
-        branch: name(rt, b"main"),
-        place,
+        b: name(rt, b"main"),
+        k: place,
         step: READ,
     }
 }
 
-/// A desk, and by what its calls wait and take memory.
+/// A desk, with the runtime and the memory that its calls need.
 #[derive(Drop)]
 struct Room<'a, R> {
     rt: &'a R,
@@ -79,24 +79,24 @@ impl<'a, R> Room<'a, R> {
     }
 }
 
-/// A session, its guard, and its command.
+/// A session, its guard and its command.
 type Call<'a> = (u32, Option<u64>, &'a Command);
 
 impl<R: Wait> Room<'_, R> {
-    /// Brings a command; what the call promises of histories is forgotten.
+    /// Gives the desk a command. Unlike the desk's, this contract promises nothing about histories.
     fn bring(&self, chair: &mut Chair<Safe>, call: Call<'_>) -> Receipt
-        requires { IsAt (λ _. safe_behaviour) self.now.desk.now chair.old }
-        ensures { IsAt (λ _. safe_behaviour) self.now.desk.now chair.new }
+        requires { IsChairOf (λ _. safe_behaviour) self.now.desk.now chair.old }
+        ensures { IsChairOf (λ _. safe_behaviour) self.now.desk.now chair.new }
     {
         let (who, if_at, command) = call;
         self.desk
             .act(self.rt, self.alloc, chair, who, if_at, command)
     }
 
-    /// How long the history is, and the text of a look's page.
+    /// The length of the history at a look, and the text of its page.
     fn text_at(&self, chair: &mut Chair<Safe>, query: &Query) -> Result<(u64, Vec<u8>), Refusal>
-        requires { IsAt (λ _. safe_behaviour) self.now.desk.now chair.old }
-        ensures { IsAt (λ _. safe_behaviour) self.now.desk.now chair.new }
+        requires { IsChairOf (λ _. safe_behaviour) self.now.desk.now chair.old }
+        ensures { IsChairOf (λ _. safe_behaviour) self.now.desk.now chair.new }
     {
         let Ok(mut lens) = Lens::new(self.alloc) else {
             return Err(Refusal::Memory);
@@ -113,36 +113,37 @@ impl<R: Wait> Room<'_, R> {
     }
 }
 
-/// The news; what they promise is forgotten.
+/// Asks for news. Unlike the desk's, this contract promises nothing about the answer.
 fn asked(desk: &Desk<Safe>, chair: &mut Chair<Safe>) -> u64
-    requires { IsAt (λ _. safe_behaviour) desk.now chair.old }
-    ensures { IsAt (λ _. safe_behaviour) desk.now chair.new }
+    requires { IsChairOf (λ _. safe_behaviour) desk.now chair.old }
+    ensures { IsChairOf (λ _. safe_behaviour) desk.now chair.new }
 {
     desk.news(chair)
 }
 
-/// Takes another chair in; what the call promises of histories is forgotten.
+/// Joins another chair to this one. Unlike the desk's, this contract promises nothing about
+/// histories.
 fn take_in(desk: &Desk<Safe>, chair: &mut Chair<Safe>, other: Chair<Safe>)
-    requires { IsAt (λ _. safe_behaviour) desk.now chair.old
-        × IsAt (λ _. safe_behaviour) desk.now other }
-    ensures { IsAt (λ _. safe_behaviour) desk.now chair.new }
+    requires { IsChairOf (λ _. safe_behaviour) desk.now chair.old
+        × IsChairOf (λ _. safe_behaviour) desk.now other }
+    ensures { IsChairOf (λ _. safe_behaviour) desk.now chair.new }
 {
     desk.join(chair, other);
 }
 
-/// The log, by a chair that has every share.
+/// Closes the desk and returns its log; `None` if the chair lacks a share.
 fn closed(desk: Desk<Safe>, chair: Chair<Safe>) -> Option<Log>
-    requires { IsAt (λ _. safe_behaviour) desk chair }
+    requires { IsChairOf (λ _. safe_behaviour) desk chair }
 {
     desk.close(chair).ok()
 }
 
-/// Whether a book replies to a call of a log as the log says.
+/// Gives a book a logged call, and returns whether its reply is the logged one.
 fn replies_so(alloc: Global, book: &mut Book<Safe>, entry: &Entry) -> bool {
     book.act(alloc, entry.chair, entry.who, entry.if_at, &entry.command) == entry.reply
 }
 
-/// A new book of these steps after the calls of a log; none where a reply isn't the log's.
+/// A new book of these steps, after the calls of a log; `None` if a reply isn't the logged one.
 fn replayed(alloc: Global, log: &Log, steps: &[Step]) -> Result<Option<Book<Safe>>, Refusal>
     requires { AllFit safe_behaviour steps.now }
 {

@@ -1,5 +1,5 @@
-//! Tests of the turn, of the crew and of the desk by their public calls, two threads and more among them.
-//! They stand above these crates, so that none of them is proved a second time for its tests.
+//! Tests of the turn, the crew and the desk by their public calls, with two threads and more. This
+//! crate is above theirs, so that none of them is proved again for its tests.
 #![tactic(auto)]
 
 #[cfg(test)]

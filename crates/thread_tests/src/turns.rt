@@ -1,4 +1,5 @@
-//! Chairs at work: two in one thread, two in two threads, and news while the turn is held.
+//! Tests of chairs at a turn: two in one thread, two in two threads, and news while the turn is
+//! held.
 
 ghost use Rattle.std.specs.Prelude.{◌≡◌, ◌<◌, IfOk};
 ghost use Rattle.turn.specs.Shares.{every_share};
@@ -13,14 +14,14 @@ use std::thread;
 use std::thread::Threads;
 use turn::{Chair, ChairsOut, Counted, Turn, Work};
 
-/// A number that a chair wrote down.
+/// A number that was written down, and the number of the chair that wrote it.
 #[derive(Clone, Copy, Debug, PartialEq, Eq)]
 struct Note {
     chair: u32,
     value: u32,
 }
 
-/// What chairs wrote down, in order.
+/// What chairs wrote down, in the order they wrote it.
 #[derive(Drop)]
 struct Notes {
     all: Vec<Note>,
@@ -61,7 +62,7 @@ impl Work<Notes> for Write {
     }
 }
 
-/// Writes nothing, and keeps the turn until it is told to go on.
+/// Writes nothing down, and holds the turn until it is signalled to go on.
 #[derive(Drop)]
 struct Pause<'a> {
     flags: &'a Flags,
@@ -79,7 +80,7 @@ impl Work<Notes> for Pause<'_> {
     }
 }
 
-/// A turn that has no notes, and its first chair.
+/// A turn without notes, and its first chair.
 fn empty(alloc: Global) -> Result<(Turn<Notes>, Chair<Notes>), AllocError>
     ensures { IfOk result (λ r. IsOf r.0 r.1 × ((view r.1).shares ≡ every_share)) }
 {
@@ -91,7 +92,7 @@ fn empty(alloc: Global) -> Result<(Turn<Notes>, Chair<Notes>), AllocError>
     )
 }
 
-/// A chair with every share, and another one that is given so many of them.
+/// Splits `shares` shares off a chair that has every share. Returns both chairs.
 fn parted(turn: &Turn<Notes>, mut chair: Chair<Notes>, shares: u32) -> (Chair<Notes>, Chair<Notes>)
     requires chair { IsOf turn.now chair }
     requires every { (view chair).shares ≡ every_share }
@@ -102,7 +103,7 @@ fn parted(turn: &Turn<Notes>, mut chair: Chair<Notes>, shares: u32) -> (Chair<No
     (chair, other)
 }
 
-/// Writes a number down, and says whether there was memory for it.
+/// Writes a number down, and returns whether there was memory for it.
 fn write_down<R: Wait>(rt: &R, turn: &Turn<Notes>, chair: &mut Chair<Notes>, value: u32) -> bool
     requires { IsOf turn.now chair.old }
     ensures { IsOf turn.now chair.new }
@@ -110,7 +111,7 @@ fn write_down<R: Wait>(rt: &R, turn: &Turn<Notes>, chair: &mut Chair<Notes>, val
     turn.with(rt, chair, &mut Write { value }).is_ok()
 }
 
-/// The news; what they promise is forgotten.
+/// Asks for news. Unlike the turn's, this contract promises nothing about the answer.
 fn asked(turn: &Turn<Notes>, chair: &mut Chair<Notes>) -> u64
     requires { IsOf turn.now chair.old }
     ensures { IsOf turn.now chair.new }
@@ -118,7 +119,8 @@ fn asked(turn: &Turn<Notes>, chair: &mut Chair<Notes>) -> u64
     turn.news(chair)
 }
 
-/// The notes, by two chairs that have every share together.
+/// Joins two chairs, and closes the turn. Returns the notes; `None` if the chairs together lack a
+/// share.
 fn closed(turn: Turn<Notes>, mut first: Chair<Notes>, second: Chair<Notes>) -> Option<Notes>
     requires { IsOf turn first × IsOf turn second }
 {
@@ -129,7 +131,7 @@ fn closed(turn: Turn<Notes>, mut first: Chair<Notes>, second: Chair<Notes>) -> O
     turn.close(first).ok()
 }
 
-/// Writes down 0 to count - 1, and says whether there was memory for all.
+/// Writes down 0 to `count` - 1. Returns the chair, and whether there was memory for all.
 fn write_all<R: Wait>(
     rt: &R,
     turn: &Turn<Notes>,
@@ -146,7 +148,7 @@ fn write_all<R: Wait>(
     (chair, all)
 }
 
-/// Whether a chair wrote 0 to count - 1, in order.
+/// Whether a chair wrote down 0 to `count` - 1, in order.
 fn has_counted(notes: &Notes, chair: u32, count: u32) -> bool {
     let mut next = 0;
     for note in &notes.all {
@@ -160,7 +162,7 @@ fn has_counted(notes: &Notes, chair: u32, count: u32) -> bool {
     next == count
 }
 
-/// Each of two chairs writes one number down, and the first one asks for news behind that.
+/// Two chairs each write a number down, and then the first asks for news. Returns the notes.
 fn written_in_turn<R: Abort + Wait>(rt: &R, alloc: Global) -> Result<Option<Notes>, AllocError> {
     let (turn, first) = empty(alloc)?;
     assert_eq!(rt; first.shares(), 16);
@@ -182,7 +184,8 @@ fn two_chairs(rt: HostRuntime) -> Result<(), Fail> {
     Ok(())
 }
 
-/// Closes a turn by a chair that lacks the other one's shares, which is refused, and then by both.
+/// Closes a turn by two chairs. Before that, a close by only one of them is refused. Returns this
+/// refusal; `None` if something went wrong.
 fn refused_and_closed(
     turn: Turn<Notes>,
     first: Chair<Notes>,
@@ -210,7 +213,8 @@ fn chairs_out(rt: HostRuntime) -> Result<(), Fail> {
     Ok(())
 }
 
-/// Two threads write 0 to count - 1 each; then the chairs join and the turn is closed.
+/// Two threads write down 0 to `count` - 1 each; then the chairs join and the turn is closed.
+/// Returns the notes; `None` if something went wrong.
 fn written_by_two<R: Threads + Wait + Sync>(
     rt: &R,
     turn: Turn<Notes>,
@@ -236,7 +240,7 @@ fn written_by_two<R: Threads + Wait + Sync>(
     if one && other { notes } else { None }
 }
 
-/// What two threads wrote down behind a turn of their own; none where a chair lacked a share or memory.
+/// What two threads wrote down under a new turn; `None` if a share was missing, or memory ran out.
 fn written<R: Threads + Wait + Sync>(
     rt: &R,
     alloc: Global,
@@ -259,14 +263,15 @@ fn two_threads(rt: HostRuntime) -> Result<(), Fail> {
     Ok(())
 }
 
-/// Keeps the turn until it is told to go on.
+/// Holds the turn until it is signalled to go on.
 fn keep<R: Wait>(rt: &R, turn: &Turn<Notes>, mut chair: Chair<Notes>, flags: &Flags)
     requires { IsOf turn.now chair }
 {
     turn.with(rt, &mut chair, &mut Pause { flags });
 }
 
-/// Asks for news once the turn is held, and tells. The answer is whether it was held, and the news.
+/// Asks for news once the turn is held, and then signals. Returns whether the turn was held, and
+/// the news.
 fn ask(turn: &Turn<Notes>, mut chair: Chair<Notes>, flags: &Flags) -> (bool, u64)
     requires { IsOf turn.now chair }
 {

@@ -1,4 +1,4 @@
--- What is spelled so is read.
+-- Bytes that spell a tower file are read as that file.
 use Rattle.std.proofs.Common.{◌≡◌, ℕ, ◌+◌, ◌^◌, ◌<◌, ◌≤◌, true, false, cond, not, nat_lt, List, [], ◌∷◌, ◌++◌, length, Option, Some, None, Result, Ok, refl, ap, ◌∙◌, append_assoc, arith}
 use Rattle.std.specs.Prelude.{codes}
 use Rattle.std.specs.Option.{ok_or, option_and_then}
@@ -20,12 +20,12 @@ use Rattle.tower_file.specs.declared.version.Version.{Version}
 use Rattle.tower_file.specs.declared.version.Version.TheVariants.{One, Two}
 use Rattle.frames.specs.declared.limits.TheConstants.{MOST_PROCESSES, MOST_VALUES}
 use Rattle.tower_file.specs.Versions.{header, has_step, may_have}
-use Rattle.tower_file.specs.Files.{File, IsLawful, file_of}
+use Rattle.tower_file.specs.Files.{File, IsLawfulFile, file_of}
 use Rattle.words.specs.Words.{words, lines, is_end}
 use Rattle.words.specs.Steps.{step_text, HasShortNumbers}
 use Rattle.tower_file.specs.Lines.{fitting_step}
-use Rattle.tower_file.specs.Spelling.{line, tower_text, spelling, Spells}
-use Rattle.tower_file.specs.Reading.{◌>>=◌, is_plain, first_odd, version_of, second_line, tower_of, steps_of, file_of_lines, reading_from, reading}
+use Rattle.tower_file.specs.Spelling.{text_with_end, tower_text, spelling, Spells}
+use Rattle.tower_file.specs.Reading.{◌>>=◌, is_file_byte, first_odd, version_of, second_line, tower_of, steps_of, file_of_lines, reading_from, file_reading}
 use Rattle.words.proofs.Numbers.{number-decimal}
 use Rattle.words.proofs.Texts.{all_weaker, all_append, is_print, text_prints, words-text}
 use Rattle.words.proofs.Steps.{step_again, step_prints}
@@ -151,7 +151,7 @@ pub fitting_again : (v : Version) (t : TowerSpec) (s : Step) → IsFew t → may
 fitting_again v t s small h =
     ap (λ (o : Option Step). option_and_then (λ x. cond (may_have v t x) (Some x) None) o) (step_again s (step_short t s small (fits_tower v t s h))) ∙ ap (λ b. cond b (Some s) None) h
 
--- the lines of steps, and nothing behind them
+-- the lines of steps, and nothing after them
 abbrev step_lines : List Step → List (List ℕ)
 step_lines [] = [] ∷ []
 step_lines (s ∷ ss) = step_text s ∷ step_lines ss
@@ -176,7 +176,7 @@ steps_again v t n (s ∷ ss) small h =
     ∙ ap (λ (r : Result (List Step) FileFault). r >>= λ xs. Ok (s ∷ xs)) (steps_again v t (n + 1) ss small a.1)
 
 abbrev steps_text : List Step → List ℕ
-steps_text ss = flat_map (λ s. line (step_text s)) ss
+steps_text ss = flat_map (λ s. text_with_end (step_text s)) ss
 
 lines-steps : (v : Version) (t : TowerSpec) (ss : List Step) → IsFew t → list_all (may_have v t) ss ≡ true → lines (steps_text ss) ≡ step_lines ss
 lines-steps v t [] small h = refl
@@ -186,25 +186,25 @@ lines-steps v t (s ∷ ss) small h =
 
 -- ---- plain bytes
 
-pub line_plain : (xs : List ℕ) → list_all is_print xs ≡ true → list_all is_plain (line xs) ≡ true
-line_plain xs h = all_append is_plain xs (10 ∷ []) (all_weaker is_print is_plain print_is_plain xs h) refl
+pub line_plain : (xs : List ℕ) → list_all is_print xs ≡ true → list_all is_file_byte (text_with_end xs) ≡ true
+line_plain xs h = all_append is_file_byte xs (10 ∷ []) (all_weaker is_print is_file_byte print_is_plain xs h) refl
 
-steps_plain : (v : Version) (t : TowerSpec) (ss : List Step) → IsFew t → list_all (may_have v t) ss ≡ true → list_all is_plain (steps_text ss) ≡ true
+steps_plain : (v : Version) (t : TowerSpec) (ss : List Step) → IsFew t → list_all (may_have v t) ss ≡ true → list_all is_file_byte (steps_text ss) ≡ true
 steps_plain v t [] small h = refl
 steps_plain v t (s ∷ ss) small h =
     let a = and_parts (may_have v t s) (list_all (may_have v t) ss) h in
-    all_append is_plain (line (step_text s)) (steps_text ss) (line_plain (step_text s) (step_prints s (step_short t s small (fits_tower v t s a.0)))) (steps_plain v t ss small a.1)
+    all_append is_file_byte (text_with_end (step_text s)) (steps_text ss) (line_plain (step_text s) (step_prints s (step_short t s small (fits_tower v t s a.0)))) (steps_plain v t ss small a.1)
 
-all_before : (xs : List ℕ) → list_all is_plain xs ≡ true → prefix_len (λ x. not (not (is_plain x))) xs ≡ length xs
+all_before : (xs : List ℕ) → list_all is_file_byte xs ≡ true → prefix_len (λ x. not (not (is_file_byte x))) xs ≡ length xs
 all_before [] h = refl
 all_before (x ∷ xs) h =
-    let a = and_parts (is_plain x) (list_all is_plain xs) h in
+    let a = and_parts (is_file_byte x) (list_all is_file_byte xs) h in
     let rest = all_before xs a.1 in
-    ap (λ b. cond (not (not b)) (1 + prefix_len (λ y. not (not (is_plain y))) xs) 0) a.0 ∙ omega (arith, rest)
+    ap (λ b. cond (not (not b)) (1 + prefix_len (λ y. not (not (is_file_byte y))) xs) 0) a.0 ∙ omega (arith, rest)
 
-pub no_odd : (xs : List ℕ) → list_all is_plain xs ≡ true → first_odd xs ≡ None
+pub no_odd : (xs : List ℕ) → list_all is_file_byte xs ≡ true → first_odd xs ≡ None
 no_odd xs h =
-    let n : ℕ = prefix_len (λ x. not (not (is_plain x))) xs in
+    let n : ℕ = prefix_len (λ x. not (not (is_file_byte x))) xs in
     ap (λ b. cond b (Some n) None) (le-ltb n (length xs) (omega (arith, all_before xs h)))
 
 -- ---- files
@@ -220,23 +220,23 @@ version_again : (v : Version) (l : List ℕ) (ls : List (List ℕ)) → version_
 version_again One l ls = refl
 version_again Two l ls = refl
 
-lines-spelling : (f : File) → IsLawful f → lines (spelling f) ≡ header f.version ∷ tower_text f.spec ∷ step_lines f.steps
+lines-spelling : (f : File) → IsLawfulFile f → lines (spelling f) ≡ header f.version ∷ tower_text f.spec ∷ step_lines f.steps
 lines-spelling f lawful =
     let a = and_parts (is_lawful_tower f.spec) (list_all (may_have f.version f.spec) f.steps) lawful in
     let small = few f.spec a.0 in
-    ap lines (append_assoc (line (header f.version)) (line (tower_text f.spec)) (steps_text f.steps))
-    ∙ lines-line (header f.version) (line (tower_text f.spec) ++ steps_text f.steps) (header_prints f.version)
+    ap lines (append_assoc (text_with_end (header f.version)) (text_with_end (tower_text f.spec)) (steps_text f.steps))
+    ∙ lines-line (header f.version) (text_with_end (tower_text f.spec) ++ steps_text f.steps) (header_prints f.version)
     ∙ ap (λ ls. header f.version ∷ ls) (lines-line (tower_text f.spec) (steps_text f.steps) (tower_prints f.spec a.0))
     ∙ ap (λ ls. header f.version ∷ tower_text f.spec ∷ ls) (lines-steps f.version f.spec f.steps small a.1)
 
-spelling_plain : (f : File) → IsLawful f → list_all is_plain (spelling f) ≡ true
+spelling_plain : (f : File) → IsLawfulFile f → list_all is_file_byte (spelling f) ≡ true
 spelling_plain f lawful =
     let a = and_parts (is_lawful_tower f.spec) (list_all (may_have f.version f.spec) f.steps) lawful in
-    all_append is_plain (line (header f.version) ++ line (tower_text f.spec)) (steps_text f.steps)
-    (all_append is_plain (line (header f.version)) (line (tower_text f.spec)) (line_plain (header f.version) (header_prints f.version)) (line_plain (tower_text f.spec) (tower_prints f.spec a.0)))
+    all_append is_file_byte (text_with_end (header f.version) ++ text_with_end (tower_text f.spec)) (steps_text f.steps)
+    (all_append is_file_byte (text_with_end (header f.version)) (text_with_end (tower_text f.spec)) (line_plain (header f.version) (header_prints f.version)) (line_plain (tower_text f.spec) (tower_prints f.spec a.0)))
     (steps_plain f.version f.spec f.steps (few f.spec a.0) a.1)
 
-file_again : (f : File) → IsLawful f → file_of_lines (header f.version ∷ tower_text f.spec ∷ step_lines f.steps) ≡ Ok f
+file_again : (f : File) → IsLawfulFile f → file_of_lines (header f.version ∷ tower_text f.spec ∷ step_lines f.steps) ≡ Ok f
 file_again f lawful =
     let a = and_parts (is_lawful_tower f.spec) (list_all (may_have f.version f.spec) f.steps) lawful in
     let rest : List (List ℕ) = step_lines f.steps in
@@ -244,11 +244,11 @@ file_again f lawful =
     ∙ ap (λ (r : Result TowerSpec FileFault). r >>= λ t. steps_of f.version t 3 rest >>= λ ss. Ok (file_of f.version t ss)) (tower_of_lines f.spec (step_lines f.steps) (some_line f.steps) a.0)
     ∙ ap (λ (r : Result (List Step) FileFault). r >>= λ ss. Ok (file_of f.version f.spec ss)) (steps_again f.version f.spec 3 f.steps (few f.spec a.0) a.1)
 
-reading-spelling : (f : File) → IsLawful f → reading (spelling f) ≡ Ok f
+reading-spelling : (f : File) → IsLawfulFile f → file_reading (spelling f) ≡ Ok f
 reading-spelling f lawful =
     ap (λ o. reading_from file_of_lines o (spelling f)) (no_odd (spelling f) (spelling_plain f lawful))
     ∙ ap file_of_lines (lines-spelling f lawful)
     ∙ file_again f lawful
 
-pub reading_again : (bytes : List ℕ) (f : File) → Spells bytes f → reading bytes ≡ Ok f
-reading_again bytes f s = ap reading s.spelled ∙ reading-spelling f s.lawful
+pub reading_again : (bytes : List ℕ) (f : File) → Spells bytes f → file_reading bytes ≡ Ok f
+reading_again bytes f s = ap file_reading s.spelled ∙ reading-spelling f s.lawful

@@ -1,4 +1,4 @@
--- What is spelled as a bench file is read.
+-- Bytes that spell a bench file are read as that file.
 use Rattle.std.proofs.Common.{◌≡◌, ℕ, ◌+◌, ◌<◌, ◌^◌, ◌≤◌, true, false, cond, not, ◌&&◌, ◌||◌, nat_lt, nat_le, List, [], ◌∷◌, ◌++◌, length, map, Option, Some, Result, Ok, Err, refl, sym, ap, ◌∙◌, subst, true≢false, append_assoc, append-nil, arith}
 use Rattle.std.specs.Prelude.{codes}
 use Rattle.std.specs.Option.{ok_or}
@@ -20,10 +20,10 @@ use Rattle.tower_file.specs.Faults.{fault}
 use Rattle.tower_file.specs.Towers.{is_lawful_tower, fits}
 use Rattle.tower_file.specs.Benches.{Bench, IsLawfulBench, bench_of, is_some, has_fit, are_lawful}
 use Rattle.tower_file.specs.Lines.{fitting_step, is_branch, branch_of}
-use Rattle.tower_file.specs.Spelling.{line, tower_text}
+use Rattle.tower_file.specs.Spelling.{text_with_end, tower_text}
 use Rattle.tower_file.specs.BenchSpelling.{bench_header, branch_text, limb_text, bench_spelling, SpellsBench}
-use Rattle.tower_file.specs.Reading.{◌>>=◌, is_plain, reading_from}
-use Rattle.tower_file.specs.BenchReading.{with_step, put_step, put_limb, then_branch, then_step, then_line, cut_line, limbs_of, bench_of_lines, bench_reading}
+use Rattle.tower_file.specs.Reading.{◌>>=◌, is_file_byte, reading_from}
+use Rattle.tower_file.specs.BenchReading.{limb_with_step, put_step, put_limb, then_branch, then_step, then_line, cut_line, limbs_of, bench_of_lines, bench_reading}
 use Rattle.words.specs.Words.{words, lines, next, after_next, is_end, two_numbers}
 use Rattle.words.specs.Steps.{text, step_text, HasShortNumbers}
 use Rattle.words.proofs.Numbers.{number-decimal}
@@ -50,7 +50,7 @@ name_bytes (b ∷ bs) h =
     let a = and_parts (is_letter b) (list_all is_letter_or_digit bs) h in
     and_from (is_letter_or_digit b) (list_all is_letter_or_digit bs) (ap (λ c. c || (nat_le 48 b && nat_le b 57)) a.0) a.1
 
--- what a lawful limb's own fields are
+-- the name and the numbers of a lawful limb can be written
 record IsWritten (l : Limb) : Type 0 where
   pub short_name : nat_le (length l.name) 16 ≡ true
   pub bytes : list_all is_letter_or_digit l.name ≡ true
@@ -112,7 +112,7 @@ no_branch (step.Go p c) h = ap (λ ws. bytes_eq (next ws) (codes "branch")) (wor
 no_branch (step.Stop p) h = ap (λ ws. bytes_eq (next ws) (codes "branch")) (words-text (codes "x") (p ∷ []) refl (h, tt))
 
 step_line_again : (t : TowerSpec) (n : ℕ) (e : List Limb) (l : Limb) (s : Step) → IsFew t → fits t s ≡ true
-    → then_line t n (e ++ l ∷ []) (step_text s) ≡ Ok (e ++ with_step l s ∷ [])
+    → then_line t n (e ++ l ∷ []) (step_text s) ≡ Ok (e ++ limb_with_step l s ∷ [])
 step_line_again t n e l s small fit =
     let limbs = e ++ l ∷ [] in
     ap (λ b. cond b (then_branch n limbs (after_next (words (step_text s)))) (then_step t n limbs (step_text s))) (no_branch s (step_short t s small fit))
@@ -120,7 +120,7 @@ step_line_again t n e l s small fit =
     ∙ ap (λ (o : Option Step). ok_or o (fault BadStep n) >>= λ x. Ok (put_step limbs x)) (fitting_again Two t s small fit)
     ∙ ap (λ (x : List Limb). Ok x) (put_step-last e l s)
 
--- ---- the lines of limbs, and nothing behind them
+-- ---- the lines of limbs, and nothing after them
 
 abbrev pub steps_before : List Step → List (List ℕ) → List (List ℕ)
 steps_before [] rest = rest
@@ -144,7 +144,7 @@ unfolding limbs_of
 limbs_more t n e l [] h = absurd (true≢false h)
 limbs_more t n e l (k ∷ ls) h = refl
 
--- limbs are read from each line on
+-- from these lines, whatever the number of the first, the limbs `all` are read after the limbs e
 abbrev AreRead : TowerSpec → List Limb → List (List ℕ) → List Limb → Type 0
 AreRead t e ls all = (n : ℕ) → limbs_of t n e ls ≡ Ok all
 
@@ -163,16 +163,16 @@ steps_again t e l [] rest all small fit behind read =
     subst (λ x. AreRead t (e ++ x ∷ []) rest all) same read
 steps_again t e l (s ∷ ss) rest all small fit behind read =
     let a = and_parts (fits t s) (list_all (fits t) ss) fit in
-    let same : with_steps l (s ∷ ss) ≡ with_steps (with_step l s) ss =
+    let same : with_steps l (s ∷ ss) ≡ with_steps (limb_with_step l s) ss =
     ap (λ xs. record { name = l.name; from = l.from; shared = l.shared; steps = xs }) (sym (append_assoc l.steps (s ∷ []) ss)) in
-    next_again t (e ++ l ∷ []) (step_text s) (steps_before ss rest) (e ++ with_step l s ∷ []) all (more_steps ss rest behind) (λ n. step_line_again t n e l s small a.0)
-    (steps_again t e (with_step l s) ss rest all small a.1 behind (subst (λ x. AreRead t (e ++ x ∷ []) rest all) same read))
+    next_again t (e ++ l ∷ []) (step_text s) (steps_before ss rest) (e ++ limb_with_step l s ∷ []) all (more_steps ss rest behind) (λ n. step_line_again t n e l s small a.0)
+    (steps_again t e (limb_with_step l s) ss rest all small a.1 behind (subst (λ x. AreRead t (e ++ x ∷ []) rest all) same read))
 
 ended_again : (t : TowerSpec) (e : List Limb) → is_some e ≡ true → AreRead t e ([] ∷ []) e
 unfolding limbs_of
 ended_again t e some = λ n. ap (λ b. cond b (Ok e) (Err (fault (cut_line e []) n))) some
 
--- a limb that comes behind others, as it is written
+-- a limb that follows others, as it is written
 record IsNext (t : TowerSpec) (e : List Limb) (l : Limb) (ls : List Limb) : Type 0 where
   pub written : IsWritten l
   pub new : is_new_name e l.name ≡ true
@@ -220,24 +220,24 @@ lines-limbs : (t : TowerSpec) (e ls : List Limb) → IsFew t → are_lawful_afte
 lines-limbs t e [] small lawful fit = refl
 lines-limbs t e (l ∷ ls) small lawful fit =
     let h = next_limb t e l ls lawful fit in
-    let regroup : limb_text l ++ limbs_text ls ≡ line (branch_text l) ++ (flat_map step_line l.steps ++ limbs_text ls) =
-    append_assoc (line (branch_text l)) (flat_map step_line l.steps) (limbs_text ls) in
+    let regroup : limb_text l ++ limbs_text ls ≡ text_with_end (branch_text l) ++ (flat_map step_line l.steps ++ limbs_text ls) =
+    append_assoc (text_with_end (branch_text l)) (flat_map step_line l.steps) (limbs_text ls) in
     ap lines regroup
     ∙ lines-line (branch_text l) (flat_map step_line l.steps ++ limbs_text ls) (branch_prints l h.written)
     ∙ ap (λ xs. branch_text l ∷ xs) (lines-steps t l.steps (limbs_text ls) small h.fit ∙ ap (steps_before l.steps) (lines-limbs t (e ++ l ∷ []) ls small h.later h.others))
 
-steps_plain : (t : TowerSpec) (ss : List Step) → IsFew t → list_all (fits t) ss ≡ true → list_all is_plain (flat_map step_line ss) ≡ true
+steps_plain : (t : TowerSpec) (ss : List Step) → IsFew t → list_all (fits t) ss ≡ true → list_all is_file_byte (flat_map step_line ss) ≡ true
 steps_plain t [] small fit = refl
 steps_plain t (s ∷ ss) small fit =
     let a = and_parts (fits t s) (list_all (fits t) ss) fit in
-    all_append is_plain (step_line s) (flat_map step_line ss) (line_plain (step_text s) (step_prints s (step_short t s small a.0))) (steps_plain t ss small a.1)
+    all_append is_file_byte (step_line s) (flat_map step_line ss) (line_plain (step_text s) (step_prints s (step_short t s small a.0))) (steps_plain t ss small a.1)
 
-limbs_plain : (t : TowerSpec) (e ls : List Limb) → IsFew t → are_lawful_after e ls ≡ true → list_all (has_fit t) ls ≡ true → list_all is_plain (limbs_text ls) ≡ true
+limbs_plain : (t : TowerSpec) (e ls : List Limb) → IsFew t → are_lawful_after e ls ≡ true → list_all (has_fit t) ls ≡ true → list_all is_file_byte (limbs_text ls) ≡ true
 limbs_plain t e [] small lawful fit = refl
 limbs_plain t e (l ∷ ls) small lawful fit =
     let h = next_limb t e l ls lawful fit in
-    all_append is_plain (limb_text l) (limbs_text ls)
-    (all_append is_plain (line (branch_text l)) (flat_map step_line l.steps) (line_plain (branch_text l) (branch_prints l h.written)) (steps_plain t l.steps small h.fit))
+    all_append is_file_byte (limb_text l) (limbs_text ls)
+    (all_append is_file_byte (text_with_end (branch_text l)) (flat_map step_line l.steps) (line_plain (branch_text l) (branch_prints l h.written)) (steps_plain t l.steps small h.fit))
     (limbs_plain t (e ++ l ∷ []) ls small h.later h.others)
 
 -- ---- files
@@ -257,15 +257,15 @@ parted b h =
 
 lines-bench : (b : Bench) → IsParted b → lines (bench_spelling b) ≡ bench_header ∷ tower_text b.spec ∷ limb_lines b.limbs
 lines-bench b h =
-    ap lines (append_assoc (line bench_header) (line (tower_text b.spec)) (limbs_text b.limbs))
-    ∙ lines-line bench_header (line (tower_text b.spec) ++ limbs_text b.limbs) refl
+    ap lines (append_assoc (text_with_end bench_header) (text_with_end (tower_text b.spec)) (limbs_text b.limbs))
+    ∙ lines-line bench_header (text_with_end (tower_text b.spec) ++ limbs_text b.limbs) refl
     ∙ ap (λ ls. bench_header ∷ ls) (lines-line (tower_text b.spec) (limbs_text b.limbs) (tower_prints b.spec h.tower))
     ∙ ap (λ ls. bench_header ∷ tower_text b.spec ∷ ls) (lines-limbs b.spec [] b.limbs (few b.spec h.tower) h.after h.fit)
 
-bench_plain : (b : Bench) → IsParted b → list_all is_plain (bench_spelling b) ≡ true
+bench_plain : (b : Bench) → IsParted b → list_all is_file_byte (bench_spelling b) ≡ true
 bench_plain b h =
-    all_append is_plain (line bench_header ++ line (tower_text b.spec)) (limbs_text b.limbs)
-    (all_append is_plain (line bench_header) (line (tower_text b.spec)) refl (line_plain (tower_text b.spec) (tower_prints b.spec h.tower)))
+    all_append is_file_byte (text_with_end bench_header ++ text_with_end (tower_text b.spec)) (limbs_text b.limbs)
+    (all_append is_file_byte (text_with_end bench_header) (text_with_end (tower_text b.spec)) refl (line_plain (tower_text b.spec) (tower_prints b.spec h.tower)))
     (limbs_plain b.spec [] b.limbs (few b.spec h.tower) h.after h.fit)
 
 bench_again : (b : Bench) → IsParted b → bench_of_lines (bench_header ∷ tower_text b.spec ∷ limb_lines b.limbs) ≡ Ok b

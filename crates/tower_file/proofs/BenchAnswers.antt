@@ -1,4 +1,4 @@
--- Reading limbs line by line, as a loop does, and what follows from what a call answers.
+-- Reading limbs line by line, as a loop does, and what follows from a call's result.
 use Rattle.std.proofs.Common.{◌≡◌, ℕ, ◌+◌, ◌<◌, true, false, List, [], ◌∷◌, ◌++◌, length, Some, None, Bool, cond, Result, Ok, Err, refl, sym, ap, subst, ◌∙◌, true≢false, append_assoc, arith}
 use Rattle.std.specs.Prelude.{IsOk, ◌&&◌, codes}
 use Rattle.std.specs.List.{join_with_byte}
@@ -10,15 +10,15 @@ use Rattle.tower_file.specs.declared.tower.TowerSpec.{TowerSpec}
 use Rattle.tower_file.specs.declared.fault.FaultKind.{FaultKind}
 use Rattle.tower_file.specs.declared.fault.FaultKind.TheVariants.{NotAscii, BadHeader, UnknownTower, BadField, BadStep, BadSize, BadBranch, Tangled, Memory}
 use Rattle.tower_file.specs.declared.fault.FileFault.{FileFault}
-use Rattle.tower_file.specs.Faults.{Fails, Gives, WantsMemory}
+use Rattle.tower_file.specs.Faults.{Fails, Gives, MemoryOnlyIf}
 use Rattle.tower_file.specs.Towers.{is_lawful_tower}
 use Rattle.tower_file.specs.Benches.{IsLawfulBench, bench_of, is_some, are_lawful}
-use Rattle.tower_file.specs.Spelling.{line, tower_text}
+use Rattle.tower_file.specs.Spelling.{text_with_end, tower_text}
 use Rattle.tower_file.specs.BenchSpelling.{bench_header, bench_spelling, SpellsBench, SpellsLimbs, SpellsFront}
 use Rattle.tower_file.specs.Reading.{◌>>=◌, has_header, first_odd, tower_of}
-use Rattle.tower_file.specs.BenchReading.{then_branch, then_step, then_line, ended, limbs_of, bench_of_lines}
+use Rattle.tower_file.specs.BenchReading.{then_branch, then_step, then_line, limbs_at_end, limbs_of, bench_of_lines}
 use Rattle.words.specs.Words.{lines, words, next, after_next, is_end}
-use Rattle.words.specs.Steps.{step_of}
+use Rattle.words.specs.Steps.{step_of_words}
 use Rattle.words.proofs.Steps.{first_word}
 use Rattle.frames.specs.declared.types.Step.{Step}
 use Rattle.tower_file.proofs.Loop.{want_of_memory}
@@ -27,13 +27,13 @@ use Rattle.tower_file.proofs.BenchSound.{line_goes_on, limbs_are, begun, bench_i
 use Rattle.tower_file.proofs.Formats.{IsFormat}
 use Rattle.tower_file.proofs.BenchAgain.{bench_reading_again}
 
--- ---- what is handed on
+-- ---- results that are passed on
 
 ok_some : {X : Type 0} (r : Result X FileFault) → IsOk r → (x : X) × (r ≡ Ok x)
 ok_some (Ok x) h = (x, refl)
 ok_some (Err e) h = absurd (true≢false (sym h))
 
--- a fault of a part that is one of the whole
+-- a call for a part fails as the whole does, if a fault of the part is one of the whole
 failed_too : {X Y : Type 0} (k : FaultKind) (e : FileFault) (part : Result X FileFault) (whole : Result Y FileFault) → Fails k e part → (part ≡ Err e → whole ≡ Err e) → Fails k e whole
 failed_too NotAscii e part whole h on = on h
 failed_too BadHeader e part whole h on = on h
@@ -55,13 +55,13 @@ module _ {X Y Z : Type 0} (r : Result X FileFault) (e : FileFault) (Is : FileFau
 
 -- ---- lines
 
--- what was read of all lines so far: these limbs, and from line n on these lines are left
+-- so far these limbs have been read, and the lines from line n on are left
 pub record IsSoFar (t : TowerSpec) (all : List (List ℕ)) (n : ℕ) (limbs : List Limb) (ls : List (List ℕ)) : Type 0 where
   pub read : limbs_of t n limbs ls ≡ limbs_of t 3 [] all
   pub spelled : limbs_text limbs ++ join_with_byte 10 ls ≡ join_with_byte 10 all
   pub lawful : are_lawful t limbs ≡ true
 
--- a line that has its end, and what is left behind it
+-- the next line has its line end, and more is left after it
 module _ {t : TowerSpec} {all : List (List ℕ)} {n : ℕ} {limbs : List Limb} {ls : List (List ℕ)} (so_far : IsSoFar t all n limbs ls) (whole : is_end (after_next ls) ≡ false) where
   by_line : (xs : List (List ℕ)) → is_end (after_next xs) ≡ false
       → limbs_of t n limbs xs ≡ (then_line t n limbs (next xs) >>= λ more. limbs_of t (n + 1) more (after_next xs))
@@ -82,7 +82,7 @@ module _ {t : TowerSpec} {all : List (List ℕ)} {n : ℕ} {limbs : List Limb} {
   text_goes_on more e =
       let said : List ℕ = next ls in
       let rest : List ℕ = join_with_byte 10 (after_next ls) in
-      let regroup : (limbs_text limbs ++ line said) ++ rest ≡ limbs_text limbs ++ (said ++ 10 ∷ rest) = simp append_assoc in
+      let regroup : (limbs_text limbs ++ text_with_end said) ++ rest ≡ limbs_text limbs ++ (said ++ 10 ∷ rest) = simp append_assoc in
       ap (λ x. x ++ rest) (line_goes_on t n limbs said more e).spelled ∙ regroup ∙ ap (λ x. limbs_text limbs ++ x) (sym (joined ls whole)) ∙ so_far.spelled
 
   pub goes_on : (more : List Limb) (left : List (List ℕ)) → then_line t n limbs (next ls) ≡ Ok more → left ≡ after_next ls → IsSoFar t all (n + 1) more left
@@ -92,7 +92,7 @@ module _ {t : TowerSpec} {all : List (List ℕ)} {n : ℕ} {limbs : List Limb} {
     lawful = (line_goes_on t n limbs (next ls) more e).lawful so_far.lawful;
   }
 
-  -- what was read with this line, whatever comes behind it
+  -- the limbs read up to this line are spelled by a prefix of the lines
   front_read : (more : List Limb) → then_line t n limbs (next ls) ≡ Ok more → SpellsLimbs t all
   front_read more e =
       let g = line_goes_on t n limbs (next ls) more e in
@@ -109,24 +109,24 @@ module _ {t : TowerSpec} {all : List (List ℕ)} {n : ℕ} {limbs : List Limb} {
     pub fails : (view : X → List Limb) (part : Result (List Limb) FileFault) → then_line t n limbs (next ls) ≡ part → Fails e.kind e part → Gives view r (limbs_of t 3 [] all)
     fails view part said h = hands_on r e Is failed is same view part (limbs_of t 3 [] all) h (λ f. by_said (Err e) (said ∙ f))
 
-    pub wants_memory : (part : Result (List Limb) FileFault) → then_line t n limbs (next ls) ≡ part → (e.kind ≡ Memory → IsOk part) → WantsMemory r (SpellsLimbs t all)
+    pub wants_memory : (part : Result (List Limb) FileFault) → then_line t n limbs (next ls) ≡ part → (e.kind ≡ Memory → IsOk part) → MemoryOnlyIf r (SpellsLimbs t all)
     wants_memory part said h = want_of_memory r e Is failed is same (SpellsLimbs t all) (λ k. let more = ok_some part (h k) in front_read more.0 (said ∙ more.1))
 
 pub fewer : (ls : List (List ℕ)) → is_end (after_next ls) ≡ false → length (after_next ls) < length ls
 fewer [] h = absurd (true≢false h)
 fewer (x ∷ xs) h = omega arith
 
--- the last part, which has no line end behind it
-pub at_end : (t : TowerSpec) (n : ℕ) (limbs : List Limb) (ls : List (List ℕ)) → is_end (after_next ls) ≡ true → limbs_of t n limbs ls ≡ ended n limbs (next ls)
+-- the bytes after the last line end
+pub at_end : (t : TowerSpec) (n : ℕ) (limbs : List Limb) (ls : List (List ℕ)) → is_end (after_next ls) ≡ true → limbs_of t n limbs ls ≡ limbs_at_end n limbs (next ls)
 unfolding limbs_of
 at_end t n limbs [] h = refl
 at_end t n limbs (x ∷ []) h = refl
 at_end t n limbs (x ∷ y ∷ xs) h = absurd (true≢false (sym h))
 
--- a line that spells a step is no branch's
-pub is_then_step : (t : TowerSpec) (n : ℕ) (limbs : List Limb) (line : List ℕ) (s : Step) → step_of (words line) ≡ Some s → then_line t n limbs line ≡ then_step t n limbs line
-is_then_step t n limbs line s h =
-    ap (λ (b : Bool). cond b (then_branch n limbs (after_next (words line))) (then_step t n limbs line)) (first_word (words line) s (codes "branch") refl refl refl refl h)
+-- a line that spells a step isn't a branch's line
+pub is_then_step : (t : TowerSpec) (n : ℕ) (limbs : List Limb) (text_with_end : List ℕ) (s : Step) → step_of_words (words text_with_end) ≡ Some s → then_line t n limbs text_with_end ≡ then_step t n limbs text_with_end
+is_then_step t n limbs text_with_end s h =
+    ap (λ (b : Bool). cond b (then_branch n limbs (after_next (words text_with_end))) (then_step t n limbs text_with_end)) (first_word (words text_with_end) s (codes "branch") refl refl refl refl h)
 
 -- ---- files
 
@@ -135,12 +135,12 @@ bench_lawful t n left limbs lawful read =
     let a = limbs_are t n [] left limbs read in
     and_from (is_lawful_tower t && is_some limbs) (are_lawful t limbs) (and_from (is_lawful_tower t) (is_some limbs) lawful a.some) (a.lawful refl)
 
--- bytes of which a front is read
+-- if the limbs of a prefix are read, a prefix of the bytes spells a bench file
 pub spells_front : (bytes : List ℕ) (t : TowerSpec) (left : List (List ℕ)) → first_odd bytes ≡ None → has_header bench_header (lines bytes) ≡ true → tower_of (after_next (lines bytes)) ≡ Ok t
     → left ≡ after_next (after_next (lines bytes)) → SpellsLimbs t left → SpellsFront bytes
 spells_front bytes t left plain header tower same s =
     let a = begun (lines bytes) t header tower in
-    let before : List ℕ = line bench_header ++ line (tower_text t) in
+    let before : List ℕ = text_with_end bench_header ++ text_with_end (tower_text t) in
     record {
       front = bench_spelling (bench_of t s.limbs);
       rest = s.rest;

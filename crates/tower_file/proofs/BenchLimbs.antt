@@ -1,4 +1,5 @@
--- Limbs that grow by a step or a branch: their text, and that they stay lawful.
+-- Limbs to which a step or a branch is added: the text that is added, and that the limbs stay
+-- lawful.
 use Rattle.std.proofs.Common.{◌≡◌, ℕ, zero, suc, ◌^◌, Bool, true, ◌&&◌, nat_lt, List, [], ◌∷◌, ◌++◌, length, slice_index_or, slice_set, refl, sym, ap, subst, ◌∙◌, true≢false, arith, append_assoc, append-nil}
 use Rattle.std.specs.List.{list_all, flat_map}
 use Rattle.std.proofs.lemmas.Bool.{and_parts, and_from}
@@ -10,26 +11,26 @@ use Rattle.schedule_trie.specs.Limbs.{is_new_name, may_share, are_lawful_after}
 use Rattle.tower_file.specs.declared.tower.TowerSpec.{TowerSpec}
 use Rattle.tower_file.specs.Towers.{fits}
 use Rattle.tower_file.specs.Benches.{is_some, has_fit, are_lawful}
-use Rattle.tower_file.specs.Spelling.{line}
+use Rattle.tower_file.specs.Spelling.{text_with_end}
 use Rattle.tower_file.specs.BenchSpelling.{branch_text, limb_text}
-use Rattle.tower_file.specs.BenchReading.{with_step, put_step}
+use Rattle.tower_file.specs.BenchReading.{limb_with_step, put_step}
 use Rattle.words.specs.Steps.{step_text}
 
 abbrev pub step_line : Step → List ℕ
-step_line s = line (step_text s)
+step_line s = text_with_end (step_text s)
 
 abbrev pub limbs_text : List Limb → List ℕ
 limbs_text limbs = flat_map limb_text limbs
 
--- the last limb, by where it stands
-pub put_last : (ls : List Limb) (n : ℕ) (l : Limb) (s : Step) → suc n ≡ length ls → l ≡ slice_index_or ls n l → slice_set ls n (with_step l s) ≡ put_step ls s
+-- a step added to the limb with the last index is added to the last limb
+pub put_last : (ls : List Limb) (n : ℕ) (l : Limb) (s : Step) → suc n ≡ length ls → l ≡ slice_index_or ls n l → slice_set ls n (limb_with_step l s) ≡ put_step ls s
 put_last [] n l s e same = absurd (omega arith)
-put_last (k ∷ []) zero l s e same = ap (λ z. with_step z s ∷ []) same
+put_last (k ∷ []) zero l s e same = ap (λ z. limb_with_step z s ∷ []) same
 put_last (k ∷ []) (suc n) l s e same = absurd (omega arith)
 put_last (k ∷ m ∷ ls) zero l s e same = absurd (omega arith)
 put_last (k ∷ m ∷ ls) (suc n) l s e same = ap (λ z. k ∷ z) (put_last (m ∷ ls) n l s (omega arith) same)
 
-pub put_step-last : (ls : List Limb) (l : Limb) (s : Step) → put_step (ls ++ l ∷ []) s ≡ ls ++ with_step l s ∷ []
+pub put_step-last : (ls : List Limb) (l : Limb) (s : Step) → put_step (ls ++ l ∷ []) s ≡ ls ++ limb_with_step l s ∷ []
 put_step-last [] l s = refl
 put_step-last (k ∷ []) l s = refl
 put_step-last (k ∷ m ∷ ls) l s = ap (λ z. k ∷ z) (put_step-last (m ∷ ls) l s)
@@ -47,20 +48,20 @@ some_last (k ∷ ls) l = refl
 
 -- ---- their text
 
-with_step_text : (l : Limb) (s : Step) → limb_text (with_step l s) ≡ limb_text l ++ step_line s
+with_step_text : (l : Limb) (s : Step) → limb_text (limb_with_step l s) ≡ limb_text l ++ step_line s
 with_step_text l s =
-    ap (λ x. line (branch_text l) ++ x) (flat_map-append step_line l.steps (s ∷ []) ∙ ap (λ x. flat_map step_line l.steps ++ x) (append-nil (step_line s)))
-    ∙ sym (append_assoc (line (branch_text l)) (flat_map step_line l.steps) (step_line s))
+    ap (λ x. text_with_end (branch_text l) ++ x) (flat_map-append step_line l.steps (s ∷ []) ∙ ap (λ x. flat_map step_line l.steps ++ x) (append-nil (step_line s)))
+    ∙ sym (append_assoc (text_with_end (branch_text l)) (flat_map step_line l.steps) (step_line s))
 
 pub put_step_text : (ls : List Limb) (s : Step) → is_some ls ≡ true → limbs_text (put_step ls s) ≡ limbs_text ls ++ step_line s
 put_step_text [] s h = absurd (true≢false (sym h))
-put_step_text (l ∷ []) s h = append-nil (limb_text (with_step l s)) ∙ with_step_text l s ∙ ap (λ x. x ++ step_line s) (sym (append-nil (limb_text l)))
+put_step_text (l ∷ []) s h = append-nil (limb_text (limb_with_step l s)) ∙ with_step_text l s ∙ ap (λ x. x ++ step_line s) (sym (append-nil (limb_text l)))
 put_step_text (l ∷ k ∷ ls) s h = ap (λ x. limb_text l ++ x) (put_step_text (k ∷ ls) s refl) ∙ sym (append_assoc (limb_text l) (limbs_text (k ∷ ls)) (step_line s))
 
-pub put_limb_text : (ls : List Limb) (l : Limb) → l.steps ≡ [] → limbs_text (ls ++ l ∷ []) ≡ limbs_text ls ++ line (branch_text l)
+pub put_limb_text : (ls : List Limb) (l : Limb) → l.steps ≡ [] → limbs_text (ls ++ l ∷ []) ≡ limbs_text ls ++ text_with_end (branch_text l)
 put_limb_text ls l none =
     flat_map-append limb_text ls (l ∷ [])
-    ∙ ap (λ x. limbs_text ls ++ x) (append-nil (limb_text l) ∙ ap (λ ss. line (branch_text l) ++ flat_map step_line ss) none ∙ append-nil (line (branch_text l)))
+    ∙ ap (λ x. limbs_text ls ++ x) (append-nil (limb_text l) ∙ ap (λ ss. text_with_end (branch_text l) ++ flat_map step_line ss) none ∙ append-nil (text_with_end (branch_text l)))
 
 -- ---- they stay lawful
 
@@ -91,7 +92,7 @@ fit_step t (l ∷ []) s h fit =
     let a = and_parts (has_fit t l) true h in
     let b = and_parts (short l) (list_all (fits t) l.steps) a.0 in
     let steps = list_all-append (fits t) l.steps (s ∷ []) ∙ and_from (list_all (fits t) l.steps) (fits t s && true) b.1 (and_from (fits t s) true fit refl) in
-    and_from (has_fit t (with_step l s)) true (and_from (short l) (list_all (fits t) (l.steps ++ s ∷ [])) b.0 steps) refl
+    and_from (has_fit t (limb_with_step l s)) true (and_from (short l) (list_all (fits t) (l.steps ++ s ∷ [])) b.0 steps) refl
 fit_step t (l ∷ k ∷ ls) s h fit =
     let a = and_parts (has_fit t l) (list_all (has_fit t) (k ∷ ls)) h in
     and_from (has_fit t l) (list_all (has_fit t) (put_step (k ∷ ls) s)) a.0 (fit_step t (k ∷ ls) s a.1 fit)

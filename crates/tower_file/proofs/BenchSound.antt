@@ -1,4 +1,4 @@
--- What is read as a bench file is spelled so.
+-- Bytes that are read as a bench file spell that file.
 use Rattle.std.proofs.Common.{◌≡◌, ℕ, ◌+◌, ◌<◌, ◌^◌, Bool, true, false, cond, not, ◌&&◌, ◌==◌, nat_lt, nat_le, List, [], ◌∷◌, ◌++◌, length, Some, Ok, Err, refl, sym, ap, ◌∙◌, subst, true≢false, append_assoc, append-nil, arith}
 use Rattle.std.specs.Prelude.{codes}
 use Rattle.std.specs.Option.{ok_or, option_and_then}
@@ -17,10 +17,10 @@ use Rattle.tower_file.specs.Faults.{fault}
 use Rattle.tower_file.specs.Towers.{is_lawful_tower}
 use Rattle.tower_file.specs.Benches.{Bench, bench_of, is_some, has_fit, are_lawful}
 use Rattle.tower_file.specs.Lines.{fitting_step, is_branch, branch_of}
-use Rattle.tower_file.specs.Spelling.{line, tower_text}
+use Rattle.tower_file.specs.Spelling.{text_with_end, tower_text}
 use Rattle.tower_file.specs.BenchSpelling.{bench_header, branch_text, SpellsBench}
 use Rattle.tower_file.specs.Reading.{◌>>=◌, has_header, tower_of}
-use Rattle.tower_file.specs.BenchReading.{put_step, put_limb, then_branch, then_step, then_line, cut_line, ended, limbs_of, bench_of_lines}
+use Rattle.tower_file.specs.BenchReading.{put_step, put_limb, then_branch, then_step, then_line, cut_line, limbs_at_end, limbs_of, bench_of_lines}
 use Rattle.words.specs.Words.{words, next, after_next, is_end, two_numbers}
 use Rattle.words.specs.Steps.{text}
 use Rattle.words.proofs.Steps.{some_then, two_are, two_short, joined, is_word}
@@ -29,7 +29,7 @@ use Rattle.tower_file.proofs.BenchLimbs.{limbs_text, put_step_text, put_limb_tex
 
 -- ---- a line
 
--- the words behind the first of a branch's line
+-- the words of a branch's line after the first are those of limb l
 record IsBranch (ws : List (List ℕ)) (l : Limb) : Type 0 where
   pub spelled : join_with_byte 32 ws ≡ text l.name (l.from ∷ l.shared ∷ [])
   pub some : 0 < length ws
@@ -39,7 +39,7 @@ record IsBranch (ws : List (List ℕ)) (l : Limb) : Type 0 where
 branch_is : (ws : List (List ℕ)) (l : Limb) → branch_of ws ≡ Some l → IsBranch ws l
 branch_is [] l h = absurd cc
 branch_is (w ∷ ws) l h =
-    let a = some_then (names.name w) (λ x. option_and_then (λ n. Some (record { name = x; from = n.0; shared = n.1; steps = [] })) (two_numbers ws)) l h in
+    let a = some_then (names.name_of_bytes w) (λ x. option_and_then (λ n. Some (record { name = x; from = n.0; shared = n.1; steps = [] })) (two_numbers ws)) l h in
     let b = some_then (two_numbers ws) (λ n. Some (record { name = a.0; from = n.0; shared = n.1; steps = [] })) l a.2 in
     let name = cond_some (nat_le (length w) 16) w a.0 a.1 in
     let small = two_short ws b.0 b.1 in
@@ -58,9 +58,9 @@ branch_line [] l first h = absurd cc
 branch_line (w ∷ []) l first h = absurd (omega (arith, h.some))
 branch_line (w ∷ v ∷ vs) l first h = ap (λ x. x ++ 32 ∷ join_with_byte 32 (v ∷ vs)) first ∙ ap (λ x. codes "branch" ++ 32 ∷ x) h.spelled
 
--- limbs grow by what a line says
+-- a line adds a branch or a step to these limbs, which gives `more`
 pub record GoOn (t : TowerSpec) (limbs : List Limb) (said : List ℕ) (more : List Limb) : Type 0 where
-  pub spelled : limbs_text more ≡ limbs_text limbs ++ line said
+  pub spelled : limbs_text more ≡ limbs_text limbs ++ text_with_end said
   pub some : is_some more ≡ true
   pub lawful : are_lawful t limbs ≡ true → are_lawful t more ≡ true
 
@@ -76,7 +76,7 @@ branch_goes_on t n limbs said more first h =
     let spelled : said ≡ branch_text l = sym (join_with_byte-slice_split 32 said) ∙ branch_line ws l (is_word (next ws) (codes "branch") first) is in
     subst (GoOn t limbs said) (ok_is (limbs ++ l ∷ []) more c.1)
     (record {
-      spelled = put_limb_text limbs l is.none ∙ ap (λ x. limbs_text limbs ++ line x) (sym spelled);
+      spelled = put_limb_text limbs l is.none ∙ ap (λ x. limbs_text limbs ++ text_with_end x) (sym spelled);
       some = some_last limbs l;
       lawful = lawful_limb t limbs l (is_true (is_new_name limbs l.name) b.0) c.0 (is.fit t);
     })
@@ -93,7 +93,7 @@ step_goes_on t n limbs said more h =
     let is = fitting_is Two t said s (ok_or_ok (fitting_step Two t said) (fault BadStep n) s b.1) in
     subst (GoOn t limbs said) (ok_is (put_step limbs s) more b.2)
     (record {
-      spelled = put_step_text limbs s a.0 ∙ ap (λ x. limbs_text limbs ++ line x) (sym is.0);
+      spelled = put_step_text limbs s a.0 ∙ ap (λ x. limbs_text limbs ++ text_with_end x) (sym is.0);
       some = some_step limbs s a.0;
       lawful = lawful_step t limbs s is.1;
     })
@@ -107,13 +107,13 @@ line_goes_on t n limbs said more h = by (is_branch said) refl h
 
 -- ---- all lines
 
--- limbs grow to these by what lines say
+-- these lines add branches and steps to these limbs, which gives `all`
 pub record AreLimbs (t : TowerSpec) (limbs : List Limb) (said : List ℕ) (all : List Limb) : Type 0 where
   pub spelled : limbs_text limbs ++ said ≡ limbs_text all
   pub some : is_some all ≡ true
   pub lawful : are_lawful t limbs ≡ true → are_lawful t all ≡ true
 
-ended_is : (t : TowerSpec) (n : ℕ) (limbs : List Limb) (rest : List ℕ) (all : List Limb) → ended n limbs rest ≡ Ok all → AreLimbs t limbs rest all
+ended_is : (t : TowerSpec) (n : ℕ) (limbs : List Limb) (rest : List ℕ) (all : List Limb) → limbs_at_end n limbs rest ≡ Ok all → AreLimbs t limbs rest all
 ended_is t n limbs rest all h =
     let a = when_ok ((length rest == 0) && is_some limbs) (Ok limbs) (fault (cut_line limbs rest) n) all h in
     let b = and_parts (length rest == 0) (is_some limbs) a.0 in
@@ -134,7 +134,7 @@ limbs_are t n limbs (l ∷ k ∷ ls) all h =
     let first = line_goes_on t n limbs l a.0 a.1 in
     let others = limbs_are t (n + 1) a.0 (k ∷ ls) all a.2 in
     let rest : List ℕ = join_with_byte 10 (k ∷ ls) in
-    let regroup : limbs_text limbs ++ (l ++ 10 ∷ rest) ≡ (limbs_text limbs ++ line l) ++ rest = simp append_assoc in
+    let regroup : limbs_text limbs ++ (l ++ 10 ∷ rest) ≡ (limbs_text limbs ++ text_with_end l) ++ rest = simp append_assoc in
     record {
       spelled = regroup ∙ ap (λ x. x ++ rest) (sym first.spelled) ∙ others.spelled;
       some = others.some;
@@ -145,7 +145,7 @@ limbs_are t n limbs (l ∷ k ∷ ls) all h =
 
 whole_bench : (ls : List (List ℕ)) (t : TowerSpec) (behind : List ℕ) → next ls ≡ bench_header → is_end (after_next ls) ≡ false
     → IsTowerLine (is_end (after_next (after_next ls))) (next (after_next ls)) t → join_with_byte 10 (after_next (after_next ls)) ≡ behind
-    → join_with_byte 10 ls ≡ line bench_header ++ line (tower_text t) ++ behind
+    → join_with_byte 10 ls ≡ text_with_end bench_header ++ text_with_end (tower_text t) ++ behind
 whole_bench [] t behind e more tower same = absurd cc
 whole_bench (l ∷ []) t behind e more tower same = absurd cc
 whole_bench (l ∷ k ∷ []) t behind e more tower same = absurd (true≢false tower.whole)
@@ -155,10 +155,10 @@ whole_bench (l ∷ k ∷ r ∷ rs) t behind e more tower same =
     ∙ ap (λ x. bench_header ++ 10 ∷ (tower_text t ++ 10 ∷ x)) same
     ∙ three_lines bench_header (tower_text t) behind
 
--- what stands before a bench file's limbs
+-- the first two lines of a bench file: its header, and the line of a lawful tower
 pub record IsBegun (ls : List (List ℕ)) (t : TowerSpec) : Type 0 where
   pub lawful : is_lawful_tower t ≡ true
-  pub spelled : (behind : List ℕ) → join_with_byte 10 (after_next (after_next ls)) ≡ behind → join_with_byte 10 ls ≡ line bench_header ++ line (tower_text t) ++ behind
+  pub spelled : (behind : List ℕ) → join_with_byte 10 (after_next (after_next ls)) ≡ behind → join_with_byte 10 ls ≡ text_with_end bench_header ++ text_with_end (tower_text t) ++ behind
 
 pub begun : (ls : List (List ℕ)) (t : TowerSpec) → has_header bench_header ls ≡ true → tower_of (after_next ls) ≡ Ok t → IsBegun ls t
 begun ls t header tower =

@@ -1,4 +1,4 @@
--- Worked examples of the definitions by which something is there: one that holds, and a near miss.
+-- Worked examples of definitions that state an existence: one that holds, and a near miss.
 use Rattle.std.proofs.Common.{ℕ, ◌≡◌, List, [], ◌∷◌, ◌++◌, Option, Some, None, Result, Ok, Err, length, codes, ap, refl, sym, ◌∙◌, arith}
 use Rattle.std.specs.Fmt.{digits}
 use Rattle.frames.specs.declared.types.Step.{Step}
@@ -8,17 +8,17 @@ use Rattle.tower_file.specs.declared.fault.FileFault.{FileFault}
 use Rattle.tower_file.specs.declared.tower.TowerSpec.TheVariants.{Safe}
 use Rattle.tower_file.specs.declared.version.Version.TheVariants.{One}
 use Rattle.tower_file.specs.Files.{File, file_of}
-use Rattle.tower_file.specs.Reading.{reading, steps_of}
+use Rattle.tower_file.specs.Reading.{file_reading, steps_of}
 use Rattle.tower_file.specs.Spelling.{spelling, SpellsSteps}
 use Rattle.tower_file.specs.Benches.{Bench, bench_of}
 use Rattle.tower_file.specs.BenchSpelling.{bench_spelling, SpellsFront}
 use Rattle.tower_file.proofs.Again.{reading_again}
 
--- a safe bit, and steps
+-- the file of a safe bit and these steps
 abbrev file : List Step → File
 file steps = file_of One (Safe 0) steps
 
--- a safe bit, and the branch `main` of no steps
+-- the bench of a safe bit and a branch `main` without steps
 abbrev bench : Bench
 bench = bench_of (Safe 0) (record { name = codes "main"; from = 0; shared = 0; steps = [] } ∷ [])
 
@@ -33,14 +33,14 @@ not_none x e = cc
 SpellsSteps-holds : SpellsSteps (spelling (file (Read 1 ∷ [])))
 SpellsSteps-holds = record { file = file (Read 1 ∷ []); spells = record { lawful = refl; spelled = refl }; some = omega arith }
 
--- a safe bit and no line behind it
+-- a safe bit and no line after it
 SpellsSteps-fails : SpellsSteps (spelling (file [])) → ⊥
 unfolding digits steps_of
 SpellsSteps-fails h =
     let read : 0 ≡ length h.file.steps = ap steps_in (reading_again (spelling (file [])) h.file h.spells) in
     omega (arith, read, h.some)
 
--- a safe bit and its branch, with the front of a further line
+-- a safe bit and its branch, and the beginning of another line
 SpellsFront-holds : SpellsFront (bench_spelling bench ++ codes "r")
 unfolding digits
 SpellsFront-holds = record {
@@ -52,7 +52,7 @@ SpellsFront-holds = record {
   plain = refl;
 }
 
--- a safe bit and its branch, with a byte that is in no text
+-- a safe bit and its branch, and an odd byte
 SpellsFront-fails : SpellsFront (bench_spelling bench ++ 0 ∷ []) → ⊥
 unfolding digits
 SpellsFront-fails h = not_none _ h.plain

@@ -14,7 +14,7 @@ any_name : (name : List ℕ) (ls : List Limb) → list_any (pointwise nat_eq nam
 any_name name [] = refl
 any_name name (l ∷ ls) = ap (λ b. has_name name l || b) (any_name name ls)
 
--- a look for a name among all names
+-- a well-formed name is new exactly if a search among the names of all limbs doesn't find it
 pub new_name_is : (ls : List Limb) (keys : List (List ℕ)) (name : List ℕ) (found : Bool) → keys ≡ map limb_name ls → length name ≤ 16 → is_well_formed name ≡ true
     → found ≡ list_any (pointwise nat_eq name) keys → not found ≡ is_new_name ls name
 new_name_is ls keys name found named short formed looked =
@@ -22,7 +22,7 @@ new_name_is ls keys name found named short formed looked =
     let form : is_name name ≡ true = ap (λ b. b && is_well_formed name) (le-leb (length name) 16 short) ∙ formed in
     ap not any ∙ sym (ap (λ b. b && not (list_any (has_name name) ls)) form)
 
--- the names of limbs and one more
+-- after a limb with a new name is added, the set has the names of all limbs
 pub named_more : (ls : List Limb) (keys more : List (List ℕ)) (l : Limb) (items : List Limb) → keys ≡ map limb_name ls → is_new_name ls l.name ≡ true
     → more ≡ cond (list_any (pointwise nat_eq l.name) keys) keys (keys ++ l.name ∷ []) → items ≡ ls ++ l ∷ [] → more ≡ map limb_name items
 named_more ls keys more l items named new put grown =

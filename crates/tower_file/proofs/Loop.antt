@@ -10,12 +10,12 @@ use Rattle.tower_file.specs.declared.version.Version.{Version}
 use Rattle.tower_file.specs.declared.tower.TowerSpec.{TowerSpec}
 use Rattle.tower_file.specs.declared.fault.FaultKind.TheVariants.{BadStep, Memory}
 use Rattle.tower_file.specs.declared.fault.FileFault.{FileFault}
-use Rattle.tower_file.specs.Faults.{fault, Fails, Gives, WantsMemory}
+use Rattle.tower_file.specs.Faults.{fault, Fails, Gives, MemoryOnlyIf}
 use Rattle.words.specs.Words.{lines, after_next}
 use Rattle.tower_file.specs.Lines.{fitting_step}
-use Rattle.tower_file.specs.Reading.{◌>>=◌, next_step, steps_of, HasStep}
+use Rattle.tower_file.specs.Reading.{◌>>=◌, next_step, steps_of, HasSomeStep}
 
--- what was read before, and what is still read
+-- the steps that were read before, and then those that are still to be read
 abbrev pub with_front : List Step → Result (List Step) FileFault → Result (List Step) FileFault
 with_front front read = read >>= λ ss. Ok (front ++ ss)
 
@@ -23,7 +23,7 @@ regroup : (front : List Step) (s : Step) (read : Result (List Step) FileFault) �
 regroup front s (Ok ss) = ap (λ (xs : List Step). Ok xs) (sym (append_assoc front (s ∷ []) ss))
 regroup front s (Err f) = refl
 
--- what steps are read, by the step of the next line
+-- the steps read, given the next line's
 abbrev with_next : Version → TowerSpec → ℕ → List (List ℕ) → Result (Option Step) FileFault → Result (List Step) FileFault
 with_next v t n others (Err e) = Err e
 with_next v t n others (Ok None) = Ok []
@@ -42,7 +42,7 @@ by_next v t n (l ∷ k ∷ ls) = by_step (fitting_step v t l)
     by_step None = refl
     by_step (Some s) = refl
 
--- a line that has a step has its line end, behind which there is more
+-- if a line has a step, it has a line end, and one line fewer is left after it
 pub more_lines : (v : Version) (t : TowerSpec) (n : ℕ) (ls : List (List ℕ)) (s : Step) → next_step v t n ls ≡ Ok (Some s) → length (after_next ls) < length ls
 more_lines v t n [] s e = absurd cc
 more_lines v t n (l ∷ ls) s e = omega arith
@@ -60,7 +60,8 @@ module _ (v : Version) (t : TowerSpec) (n : ℕ) (front : List Step) (ls : List 
       ∙ ap (λ (r : Result (Option Step) FileFault). with_front front (with_next v t n (after_next ls) r)) (sym e)
       ∙ ap (with_front front) (sym (by_next v t n ls)) ∙ so_far
 
--- lines are no more than their bytes and one, and no more behind a line
+-- there is at most one more line than there are bytes, and after a line is read there aren't more
+-- lines than before
 pub few_lines : (bytes : List ℕ) (ls : List (List ℕ)) → ls ≡ lines bytes → length bytes < 2 ^ 63 → length ls ≤ 2 ^ 63
 few_lines bytes ls e few = omega (arith, ap length e, length-slice_split (λ b. b == 10) bytes, count_by-le-length (λ b. b == 10) bytes)
 
@@ -68,10 +69,10 @@ pub fewer_left : (ls : List (List ℕ)) → length (after_next ls) ≤ length ls
 fewer_left [] = omega arith
 fewer_left (x ∷ xs) = omega arith
 
--- ---- what is handed on
+-- ---- results that are passed on
 
--- steps that are kept are some
-pub some_step : (total : Result (List Step) FileFault) (front : List Step) → total ≡ Ok front → 0 < length front → HasStep total
+-- if steps are kept, there is at least one
+pub some_step : (total : Result (List Step) FileFault) (front : List Step) → total ≡ Ok front → 0 < length front → HasSomeStep total
 some_step total [] e l = absurd (omega arith)
 some_step total (s ∷ ss) e l = (s, ss, e)
 
@@ -83,15 +84,15 @@ module _ {X : Type 0} (r : Result X FileFault) (e : FileFault) (Is : FileFault �
       by (Ok x) f i = absurd i
       by (Err x) f i = subst (λ (y : FileFault). Fails y.kind y total) (sym (same x i ∙ bad)) (t ∙ ap (λ (y : FileFault). Err y) bad)
 
-  pub want_of_memory : (P : Type 0) → (e.kind ≡ Memory → P) → WantsMemory r P
+  pub want_of_memory : (P : Type 0) → (e.kind ≡ Memory → P) → MemoryOnlyIf r P
   want_of_memory P h = by r failed is
     where
-      by : (q : Result X FileFault) → IsErr q → IsErrAnd q Is → WantsMemory q P
+      by : (q : Result X FileFault) → IsErr q → IsErrAnd q Is → MemoryOnlyIf q P
       by (Ok x) f i = absurd i
       by (Err x) f i = λ k. h (ap (λ (y : FileFault). y.kind) (sym (same x i)) ∙ k)
 
-  -- a fault that is no want of memory
-  pub known_fault : (P : Type 0) → (e.kind ≡ Memory → ⊥) → WantsMemory r P
+  -- a fault other than out of memory
+  pub known_fault : (P : Type 0) → (e.kind ≡ Memory → ⊥) → MemoryOnlyIf r P
   known_fault P known = want_of_memory P (λ k. absurd (known k))
 
 pub bad_step_is_known : (e : FileFault) (n : ℕ) → e ≡ fault BadStep n → e.kind ≡ Memory → ⊥

@@ -1,4 +1,4 @@
--- What is read is spelled so.
+-- Bytes that are read as a tower file spell that file.
 use Rattle.std.proofs.Common.{◌≡◌, ℕ, ◌+◌, Bool, true, false, cond, not, ◌==◌, List, [], ◌∷◌, ◌++◌, length, Option, Some, None, Result, Ok, Err, refl, sym, ap, ◌∙◌, subst, append_assoc}
 use Rattle.std.specs.Prelude.{codes}
 use Rattle.std.specs.Option.{ok_or}
@@ -22,9 +22,9 @@ use Rattle.tower_file.specs.Towers.{is_lawful_tower}
 use Rattle.tower_file.specs.Versions.{header, may_have}
 use Rattle.tower_file.specs.Files.{File, file_of}
 use Rattle.words.specs.Words.{words, next, after_next, is_end, one_number, two_numbers, three_numbers, four_numbers}
-use Rattle.words.specs.Steps.{step_of, step_text}
+use Rattle.words.specs.Steps.{step_of_words, step_text}
 use Rattle.tower_file.specs.Lines.{tower_name, fields_of, fitting_step}
-use Rattle.tower_file.specs.Spelling.{line, tower_text, spelling, Spells}
+use Rattle.tower_file.specs.Spelling.{text_with_end, tower_text, spelling, Spells}
 use Rattle.tower_file.specs.Reading.{◌>>=◌, has_header, version_of, sized, fields, second_line, tower_of, steps_of, file_of_lines}
 use Rattle.words.proofs.Steps.{some_then, mapped, one_is, two_are, three_are, four_are, joined, is_word, step_is}
 
@@ -55,7 +55,7 @@ choose : {A : Type 0} (P : A → Type 0) (b : Bool) (x k : A) (o : Option A) →
 choose P true x k o f g h = subst P (same_Some x k h) (f refl)
 choose P false x k o f g h = g h
 
--- a tower's name and its fields are its text
+-- a tower's name and its numbers, separated by spaces, are the tower's line
 fields_are : (w : List ℕ) (ws : List (List ℕ)) (k : TowerName) (t : TowerSpec) → tower_name w ≡ Some k → fields_of k ws ≡ Some t → join_with_byte 32 (w ∷ ws) ≡ tower_text t
 fields_are w ws k t h =
     let P : TowerName → Type 0 = λ n. fields_of n ws ≡ Some t → join_with_byte 32 (w ∷ ws) ≡ tower_text t in
@@ -79,10 +79,10 @@ fields_are w ws k t h =
     joined w (codes "matrix") ws (a.0.0 ∷ a.0.1 ∷ a.0.2 ∷ a.0.3 ∷ []) (is_word w (codes "matrix") e) (four_are ws a.0 a.1) ∙ ap tower_text a.2)
     (λ e. absurd cc)))))) h
 
--- what a good second line says
-pub record IsTowerLine (is_cut : Bool) (line : List ℕ) (t : TowerSpec) : Type 0 where
+-- the second line has its line end, and is the line of a lawful tower
+pub record IsTowerLine (is_cut : Bool) (text_with_end : List ℕ) (t : TowerSpec) : Type 0 where
   pub whole : is_cut ≡ false
-  pub spelled : line ≡ tower_text t
+  pub spelled : text_with_end ≡ tower_text t
   pub lawful : is_lawful_tower t ≡ true
 
 second_is : (is_cut : Bool) (ws : List (List ℕ)) (t : TowerSpec) → second_line is_cut ws ≡ Ok t → IsTowerLine is_cut (join_with_byte 32 ws) t
@@ -104,13 +104,13 @@ second_is is_cut (w ∷ ws) t h =
 
 pub fitting_is : (v : Version) (t : TowerSpec) (l : List ℕ) (s : Step) → fitting_step v t l ≡ Some s → (l ≡ step_text s) × (may_have v t s ≡ true)
 fitting_is v t l s h =
-    let a = some_then (step_of (words l)) (λ x. cond (may_have v t x) (Some x) None) s h in
+    let a = some_then (step_of_words (words l)) (λ x. cond (may_have v t x) (Some x) None) s h in
     let b = cond_some (may_have v t a.0) a.0 s a.2 in
     (sym (join_with_byte-slice_split 32 l) ∙ step_is (words l) a.0 a.1 ∙ ap step_text b.1, ap (may_have v t) (sym b.1) ∙ b.0)
 
--- the steps are spelled so, and fit
+-- these bytes are the lines of these steps, and a file of this version may have each step
 pub record AreSteps (v : Version) (t : TowerSpec) (bytes : List ℕ) (ss : List Step) : Type 0 where
-  pub spelled : bytes ≡ flat_map (λ s. line (step_text s)) ss
+  pub spelled : bytes ≡ flat_map (λ s. text_with_end (step_text s)) ss
   pub fit : list_all (may_have v t) ss ≡ true
 
 pub steps_are : (v : Version) (t : TowerSpec) (n : ℕ) (ls : List (List ℕ)) (ss : List Step) → steps_of v t n ls ≡ Ok ss → AreSteps v t (join_with_byte 10 ls) ss
@@ -125,8 +125,8 @@ steps_are v t n (l ∷ k ∷ ls) ss h =
     let b = bind_ok (steps_of v t (n + 1) (k ∷ ls)) (λ xs. Ok (a.0 ∷ xs)) ss a.2 in
     let first = fitting_is v t l a.0 (ok_or_ok (fitting_step v t l) (fault BadStep n) a.0 a.1) in
     let others = steps_are v t (n + 1) (k ∷ ls) b.0 b.1 in
-    let more = flat_map (λ s. line (step_text s)) b.0 in
-    let spelled : (l ++ 10 ∷ join_with_byte 10 (k ∷ ls)) ≡ line (step_text a.0) ++ more =
+    let more = flat_map (λ s. text_with_end (step_text s)) b.0 in
+    let spelled : (l ++ 10 ∷ join_with_byte 10 (k ∷ ls)) ≡ text_with_end (step_text a.0) ++ more =
     ap (λ x. x ++ 10 ∷ join_with_byte 10 (k ∷ ls)) first.0 ∙ ap (λ x. step_text a.0 ++ 10 ∷ x) others.spelled ∙ sym (append_assoc (step_text a.0) (10 ∷ []) more) in
     subst (λ (xs : List Step). AreSteps v t (l ++ 10 ∷ join_with_byte 10 (k ∷ ls)) xs) (ok_is (a.0 ∷ b.0) ss b.2)
     (record { spelled = spelled; fit = and_from (may_have v t a.0) (list_all (may_have v t) b.0) first.1 others.fit })
@@ -153,7 +153,7 @@ tower_line ls t h =
     let c = second_is (is_end (after_next ls)) (words (next ls)) t h in
     record { whole = c.whole; spelled = sym (join_with_byte-slice_split 32 (next ls)) ∙ c.spelled; lawful = c.lawful }
 
-pub three_lines : (h t others : List ℕ) → h ++ 10 ∷ (t ++ 10 ∷ others) ≡ line h ++ line t ++ others
+pub three_lines : (h t others : List ℕ) → h ++ 10 ∷ (t ++ 10 ∷ others) ≡ text_with_end h ++ text_with_end t ++ others
 three_lines h t others = simp append_assoc
 
 whole_file : (ls : List (List ℕ)) (v : Version) (t : TowerSpec) (ss : List Step) → next ls ≡ header v → is_end (after_next ls) ≡ false
@@ -166,7 +166,7 @@ whole_file (l ∷ k ∷ r ∷ rs) v t ss e more tower steps =
     ap (λ x. x ++ 10 ∷ (k ++ 10 ∷ join_with_byte 10 (r ∷ rs))) e
     ∙ ap (λ x. header v ++ 10 ∷ (x ++ 10 ∷ join_with_byte 10 (r ∷ rs))) tower.spelled
     ∙ ap (λ x. header v ++ 10 ∷ (tower_text t ++ 10 ∷ x)) steps.spelled
-    ∙ three_lines (header v) (tower_text t) (flat_map (λ s. line (step_text s)) ss)
+    ∙ three_lines (header v) (tower_text t) (flat_map (λ s. text_with_end (step_text s)) ss)
 
 pub file_is : (ls : List (List ℕ)) (f : File) → file_of_lines ls ≡ Ok f → Spells (join_with_byte 10 ls) f
 file_is ls f h =

@@ -1,4 +1,4 @@
--- What bytes say: a bench file, or their first fault.
+-- What bytes are read as: a bench file, or the first fault in them.
 use Rattle.std.specs.Prelude.{ℕ, Bool, ◌+◌, ◌==◌, ◌&&◌, ◌||◌, not, List, [], ◌∷◌, ◌++◌, Result, Ok, Err, length, if◌then◌else◌}
 use Rattle.std.specs.Option.{ok_or}
 use Rattle.frames.specs.declared.types.Step.{Step}
@@ -16,62 +16,67 @@ use Rattle.tower_file.specs.Lines.{fitting_step, is_branch, branch_of}
 use Rattle.tower_file.specs.Reading.{◌>>=◌, has_header, first_odd, tower_of, reading_from}
 use Rattle.words.specs.Words.{lines, words, after_next}
 
+-- the name of a limb's branch
 abbrev pub limb_name : Limb → List ℕ
 limb_name l = l.name
 
--- a step behind those of a limb, and behind those of the last limb
-abbrev pub with_step : Limb → Step → Limb
-with_step l s = record { name = l.name; from = l.from; shared = l.shared; steps = l.steps ++ s ∷ [] }
+-- a limb with one more step, and limbs of which the last has one more step
+abbrev pub limb_with_step : Limb → Step → Limb
+limb_with_step l s = record { name = l.name; from = l.from; shared = l.shared; steps = l.steps ++ s ∷ [] }
 
 abbrev pub put_step : List Limb → Step → List Limb
 put_step [] s = []
-put_step (l ∷ []) s = with_step l s ∷ []
+put_step (l ∷ []) s = limb_with_step l s ∷ []
 put_step (l ∷ k ∷ ls) s = l ∷ put_step (k ∷ ls) s
 
--- limbs and one more, on line n, if it may come behind them
+-- these limbs and then l, the limb of line n, if l may follow them
 abbrev pub put_limb : ℕ → List Limb → Limb → Result (List Limb) FileFault
 put_limb n limbs l =
     if not (is_new_name limbs l.name) then Err (fault BadBranch n)
     else (if may_share limbs l then Ok (limbs ++ l ∷ []) else Err (fault Tangled n))
 
--- limbs, and then a branch of the words behind the first of line n
+-- these limbs and then the branch of line n, given that line's words after the first
 abbrev pub then_branch : ℕ → List Limb → List (List ℕ) → Result (List Limb) FileFault
 then_branch n limbs ws = ok_or (branch_of ws) (fault BadBranch n) >>= put_limb n limbs
 
--- limbs, of which there is one, and then a step of the last on line n
+-- these limbs, at least one, with the step of line n added to the last
 abbrev pub then_step : TowerSpec → ℕ → List Limb → List ℕ → Result (List Limb) FileFault
 then_step t n limbs line =
     if is_some limbs then (ok_or (fitting_step Two t line) (fault BadStep n) >>= λ s. Ok (put_step limbs s))
     else Err (fault BadBranch n)
 
--- limbs, and then what line n says
+-- these limbs with the branch or the step of line n added
 abbrev pub then_line : TowerSpec → ℕ → List Limb → List ℕ → Result (List Limb) FileFault
 then_line t n limbs line = if is_branch line then then_branch n limbs (after_next (words line)) else then_step t n limbs line
 
--- what is wrong with a line behind limbs that has no end
+-- what is wrong with a line that follows these limbs and has no line end
 abbrev pub cut_line : List Limb → List ℕ → FaultKind
 cut_line limbs line = if is_branch line || not (is_some limbs) then BadBranch else BadStep
 
--- limbs, where line n is nothing and the file's end
-abbrev pub ended : ℕ → List Limb → List ℕ → Result (List Limb) FileFault
-ended n limbs rest = if length rest == 0 && is_some limbs then Ok limbs else Err (fault (cut_line limbs rest) n)
+-- these limbs at the end of a file, if there is a limb and nothing follows the last line end;
+-- otherwise a fault on line n
+abbrev pub limbs_at_end : ℕ → List Limb → List ℕ → Result (List Limb) FileFault
+limbs_at_end n limbs rest = if length rest == 0 && is_some limbs then Ok limbs else Err (fault (cut_line limbs rest) n)
 
--- The limbs, these and what the lines from line n on say. What stands behind the last line end has to be nothing.
+-- These limbs, with the branches and the steps of the lines from line n on. Nothing may follow the
+-- last line end.
 unfoldable pub limbs_of : TowerSpec → ℕ → List Limb → List (List ℕ) → Result (List Limb) FileFault
-limbs_of t n limbs [] = ended n limbs []
-limbs_of t n limbs (rest ∷ []) = ended n limbs rest
+limbs_of t n limbs [] = limbs_at_end n limbs []
+limbs_of t n limbs (rest ∷ []) = limbs_at_end n limbs rest
 limbs_of t n limbs (line ∷ other ∷ others) = then_line t n limbs line >>= λ more. limbs_of t (n + 1) more (other ∷ others)
 
--- bytes that are read as a bench file: their first line is its header, with its end
+-- whether bytes are read as a bench file: their first line is a bench file's header and has a line
+-- end
 abbrev pub is_bench : List ℕ → Bool
 is_bench bytes = has_header bench_header (lines bytes)
 
--- the bench file of plain bytes
+-- the bench file of these lines, or their first fault; no byte is odd
 abbrev pub bench_of_lines : List (List ℕ) → Result Bench FileFault
 bench_of_lines ls =
     if has_header bench_header ls
     then (tower_of (after_next ls) >>= λ t. limbs_of t 3 [] (after_next (after_next ls)) >>= λ limbs. Ok (bench_of t limbs))
     else Err (fault BadHeader 1)
 
+-- what bytes are read as: a bench file, or the first fault in them
 abbrev pub bench_reading : List ℕ → Result Bench FileFault
 bench_reading bytes = reading_from bench_of_lines (first_odd bytes) bytes

@@ -1,11 +1,11 @@
--- A bench file and its faults, computed by the definitions.
+-- A bench file, and files with faults, as the definitions read them.
 use Rattle.std.specs.Prelude.{ℕ, List, [], ◌∷◌, ◌++◌, Ok, Err, codes, ◌≡◌, refl, true}
 use Rattle.frames.specs.declared.types.Step.TheVariants.{Read, Write, Go}
 use Rattle.tower_file.specs.declared.tower.TowerSpec.TheVariants.{Safe}
 use Rattle.tower_file.specs.declared.fault.FaultKind.TheVariants.{BadHeader, BadStep, BadBranch, Tangled}
 use Rattle.tower_file.specs.Faults.{fault}
 use Rattle.tower_file.specs.Benches.{Bench, is_lawful_bench}
-use Rattle.tower_file.specs.Spelling.{line}
+use Rattle.tower_file.specs.Spelling.{text_with_end}
 use Rattle.tower_file.specs.BenchReading.{limbs_of, bench_reading}
 
 abbrev bench : Bench
@@ -18,17 +18,17 @@ bench =
           ∷ record { name = codes "b"; from = 1; shared = 2; steps = Go 1 1 ∷ [] } ∷ [];
     }
 
--- its first seven lines, and all of them with another line 8
+-- the first seven lines of its file, and the whole file with another line 8
 abbrev front : List ℕ
 front =
-    line (codes "bench 1") ++ line (codes "safe 0") ++ line (codes "branch main 0 0") ++ line (codes "r 1") ++ line (codes "w 0 1")
-    ++ line (codes "branch a 0 1") ++ line (codes "g 1 0")
+    text_with_end (codes "bench 1") ++ text_with_end (codes "safe 0") ++ text_with_end (codes "branch main 0 0") ++ text_with_end (codes "r 1") ++ text_with_end (codes "w 0 1")
+    ++ text_with_end (codes "branch a 0 1") ++ text_with_end (codes "g 1 0")
 
 abbrev with_line_8 : List ℕ → List ℕ
-with_line_8 text = front ++ line text ++ line (codes "g 1 1")
+with_line_8 text = front ++ text_with_end text ++ text_with_end (codes "g 1 1")
 
 abbrev with_line_3 : List ℕ → List ℕ
-with_line_3 text = line (codes "bench 1") ++ line (codes "safe 0") ++ text
+with_line_3 text = text_with_end (codes "bench 1") ++ text_with_end (codes "safe 0") ++ text
 
 lawful : is_lawful_bench bench ≡ true
 lawful = refl
@@ -49,7 +49,7 @@ same_name : bench_reading (with_line_8 (codes "branch a 1 2")) ≡ Err (fault Ba
 unfolding limbs_of
 same_name = refl
 
-no_parent : bench_reading (with_line_3 (line (codes "branch main 0 1"))) ≡ Err (fault Tangled 3)
+no_parent : bench_reading (with_line_3 (text_with_end (codes "branch main 0 1"))) ≡ Err (fault Tangled 3)
 unfolding limbs_of
 no_parent = refl
 
@@ -57,7 +57,7 @@ no_branch : bench_reading (with_line_3 []) ≡ Err (fault BadBranch 3)
 unfolding limbs_of
 no_branch = refl
 
-step_first : bench_reading (with_line_3 (line (codes "r 1"))) ≡ Err (fault BadBranch 3)
+step_first : bench_reading (with_line_3 (text_with_end (codes "r 1"))) ≡ Err (fault BadBranch 3)
 unfolding limbs_of
 step_first = refl
 
@@ -65,10 +65,10 @@ no_line_end : bench_reading (front ++ codes "branch b 1 1") ≡ Err (fault BadBr
 unfolding limbs_of
 no_line_end = refl
 
-no_step : bench_reading (front ++ line (codes "r 0")) ≡ Err (fault BadStep 8)
+no_step : bench_reading (front ++ text_with_end (codes "r 0")) ≡ Err (fault BadStep 8)
 unfolding limbs_of
 no_step = refl
 
-of_a_tower : bench_reading (line (codes "tower 2") ++ line (codes "safe 0")) ≡ Err (fault BadHeader 1)
+of_a_tower : bench_reading (text_with_end (codes "tower 2") ++ text_with_end (codes "safe 0")) ≡ Err (fault BadHeader 1)
 unfolding limbs_of
 of_a_tower = refl

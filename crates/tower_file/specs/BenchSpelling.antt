@@ -5,30 +5,32 @@ use Rattle.schedule_trie.specs.declared.limb.Limb.{Limb}
 use Rattle.words.specs.Steps.{text, step_text}
 use Rattle.tower_file.specs.declared.tower.TowerSpec.{TowerSpec}
 use Rattle.tower_file.specs.Benches.{Bench, IsLawfulBench, is_some, are_lawful}
-use Rattle.tower_file.specs.Spelling.{line, tower_text}
+use Rattle.tower_file.specs.Spelling.{text_with_end, tower_text}
 use Rattle.tower_file.specs.Reading.{first_odd}
 
+-- the first line of a bench file
 abbrev pub bench_header : List ℕ
 bench_header = codes "bench 1"
 
--- a branch's name, the branch that it is from, and how many cells it shares
+-- the line of a branch: its name, the branch that it starts from, and how many cells the two share
 abbrev pub branch_text : Limb → List ℕ
 branch_text l = codes "branch" ++ 32 ∷ text l.name (l.from ∷ l.shared ∷ [])
 
--- a branch and its own steps, a line each
+-- the lines of a limb: its branch and its own steps, each on a line
 abbrev pub limb_text : Limb → List ℕ
-limb_text l = line (branch_text l) ++ flat_map (λ s. line (step_text s)) l.steps
+limb_text l = text_with_end (branch_text l) ++ flat_map (λ s. text_with_end (step_text s)) l.steps
 
--- the header, the tower and the limbs
+-- the bytes of a bench file: the lines of its header, its tower and its limbs
 abbrev pub bench_spelling : Bench → List ℕ
-bench_spelling b = line bench_header ++ line (tower_text b.spec) ++ flat_map limb_text b.limbs
+bench_spelling b = text_with_end bench_header ++ text_with_end (tower_text b.spec) ++ flat_map limb_text b.limbs
 
 -- These bytes spell this bench file.
 pub record SpellsBench (bytes : List ℕ) (b : Bench) : Type 0 where
   pub lawful : IsLawfulBench b
   pub spelled : bytes ≡ bench_spelling b
 
--- A front of these lines spells limbs that a file has on a tower, and one at least; as text, each line but the last with its end.
+-- A prefix of these lines spells at least one limb, and these limbs are lawful on the tower. All
+-- lines but the last have their line ends.
 pub record SpellsLimbs (t : TowerSpec) (ls : List (List ℕ)) : Type 0 where
   pub limbs : List Limb
   pub rest : List ℕ
@@ -36,7 +38,8 @@ pub record SpellsLimbs (t : TowerSpec) (ls : List (List ℕ)) : Type 0 where
   pub lawful : are_lawful t limbs ≡ true
   pub parts : join_with_byte 10 ls ≡ flat_map limb_text limbs ++ rest
 
--- A front of these bytes spells a bench file, and none of them is odd: so far no line has a fault.
+-- A prefix of these bytes spells a bench file, and no byte is odd; so there is no fault in the
+-- prefix.
 pub record SpellsFront (bytes : List ℕ) : Type 0 where
   pub front : List ℕ
   pub rest : List ℕ

@@ -1,4 +1,4 @@
--- What a bench file says.
+-- The contents of a bench file.
 use Rattle.std.specs.Prelude.{◌≡◌, ◌^◌, Bool, true, false, ◌&&◌, nat_lt, List, [], ◌∷◌}
 use Rattle.std.specs.List.{list_all}
 use Rattle.schedule_trie.specs.declared.limb.Limb.{Limb}
@@ -15,20 +15,20 @@ pub record Bench : Type 0 where
 abbrev pub bench_of : TowerSpec → List Limb → Bench
 bench_of t limbs = record { spec = t; limbs = limbs }
 
--- whether there is a limb
+-- whether there is at least one limb
 abbrev pub is_some : List Limb → Bool
 is_some [] = false
 is_some (l ∷ ls) = true
 
--- a limb's numbers are those that words write, and its steps fit the tower
+-- a limb's numbers have at most 9 digits, and its steps fit the tower
 abbrev pub has_fit : TowerSpec → Limb → Bool
 has_fit t l = (nat_lt l.from (10 ^ 9) && nat_lt l.shared (10 ^ 9)) && list_all (fits t) l.steps
 
--- limbs that a file has on a tower: they are lawful, and fit
+-- a file can have these limbs on this tower: they are lawful, and each of them fits the tower
 abbrev pub are_lawful : TowerSpec → List Limb → Bool
 are_lawful t limbs = are_lawful_after [] limbs && list_all (has_fit t) limbs
 
--- the tower is lawful, and there are limbs that a file has on it
+-- the tower is lawful, there is at least one limb, and a file can have these limbs on this tower
 abbrev pub is_lawful_bench : Bench → Bool
 is_lawful_bench b = (is_lawful_tower b.spec && is_some b.limbs) && are_lawful b.spec b.limbs
 

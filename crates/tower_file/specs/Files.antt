@@ -1,4 +1,4 @@
--- What a tower file says.
+-- The contents of a tower file.
 use Rattle.std.specs.Prelude.{◌≡◌, Bool, true, ◌&&◌, List, Option, Some, None, if◌then◌else◌}
 use Rattle.std.specs.List.{list_all}
 use Rattle.frames.specs.declared.types.Step.{Step}
@@ -16,13 +16,14 @@ pub record File : Type 0 where
 abbrev pub file_of : Version → TowerSpec → List Step → File
 file_of v t steps = record { version = v; spec = t; steps = steps }
 
--- the tower is lawful, and each step is one of the version and fits it
+-- the tower is lawful, the version has each step, and each step fits the tower
 abbrev pub is_lawful : File → Bool
 is_lawful f = is_lawful_tower f.spec && list_all (may_have f.version f.spec) f.steps
 
--- the file of these, where it is lawful
+-- the file with this version, tower and steps, or `None` if it isn't lawful
 abbrev pub checked_file : Version → TowerSpec → List Step → Option File
 checked_file v t steps = if is_lawful (file_of v t steps) then Some (file_of v t steps) else None
 
-abbrev pub IsLawful : File → Type 0
-IsLawful f = is_lawful f ≡ true
+-- the file is lawful
+abbrev pub IsLawfulFile : File → Type 0
+IsLawfulFile f = is_lawful f ≡ true

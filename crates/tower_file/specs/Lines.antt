@@ -1,4 +1,4 @@
--- What a line says: a tower, a step or a branch.
+-- What a line is read as: a tower, a step or a branch.
 use Rattle.std.specs.Prelude.{ℕ, Bool, List, [], Option, Some, None, codes, if◌then◌else◌}
 use Rattle.std.specs.Option.{option_map}
 use Rattle.std.specs.Str.{bytes_eq}
@@ -10,15 +10,15 @@ use Rattle.tower_file.specs.declared.line.TowerName.TheVariants.{Safe, Copies, R
 use Rattle.schedule_trie.specs.declared.limb.Limb.{Limb}
 use Rattle.schedule_trie.specs.Names as names
 use Rattle.words.specs.Words.{◌>>=◌, words, next, after_next, one_number, two_numbers, three_numbers, four_numbers}
-use Rattle.words.specs.Steps.{step_of}
+use Rattle.words.specs.Steps.{step_of_words}
 use Rattle.tower_file.specs.declared.version.Version.{Version}
 use Rattle.tower_file.specs.Versions.{may_have}
 
--- a tower, if the word is its name
+-- `name` if `word` is `text`, and `None` otherwise
 abbrev pub named : List ℕ → List ℕ → TowerName → Option TowerName
 named word text name = if bytes_eq word text then Some name else None
 
--- the tower that a word names
+-- the kind of tower that a word names
 abbrev pub tower_name : List ℕ → Option TowerName
 tower_name word =
     if bytes_eq word (codes "safe") then Some Safe
@@ -29,7 +29,7 @@ tower_name word =
     else (if bytes_eq word (codes "matrix") then Some Matrix
     else None)))))
 
--- its fields, and no more words
+-- the tower of this kind with these numbers, if the words are exactly its numbers
 abbrev pub fields_of : TowerName → List (List ℕ) → Option TowerSpec
 fields_of Safe ws = option_map (λ init. tower.Safe init) (one_number ws)
 fields_of Copies ws = option_map (λ n. tower.Copies n.0 n.1) (two_numbers ws)
@@ -38,19 +38,20 @@ fields_of Unary ws = option_map (λ n. tower.Unary n.0 n.1 n.2) (three_numbers w
 fields_of Stamped ws = option_map (λ n. tower.Stamped n.0 n.1) (two_numbers ws)
 fields_of Matrix ws = option_map (λ n. tower.Matrix n.0 n.1 n.2 n.3) (four_numbers ws)
 
--- the step of a line, where a file of the version may have it on the tower
+-- the step of a line, if a file of this version on this tower may have that step
 abbrev pub fitting_step : Version → TowerSpec → List ℕ → Option Step
 fitting_step v t line = do
-  s ← step_of (words line)
+  s ← step_of_words (words line)
   if may_have v t s then Some s else None
 
 -- whether the first word of a line is `branch`
 abbrev pub is_branch : List ℕ → Bool
 is_branch line = bytes_eq (next (words line)) (codes "branch")
 
--- the branch of the words behind that: a name, the branch that it is from, how many cells it shares, and no more. It has no steps yet
+-- The branch of the words after `branch`: its name, the branch that it starts from, and how many
+-- cells the two share. There may be no more words. The limb has no steps yet.
 abbrev pub branch_of : List (List ℕ) → Option Limb
 branch_of ws = do
-  name ← names.name (next ws)
+  name ← names.name_of_bytes (next ws)
   numbers ← two_numbers (after_next ws)
   Some (record { name = name; from = numbers.0; shared = numbers.1; steps = [] })

@@ -5,12 +5,13 @@ use Rattle.tower_file.specs.declared.tower.TowerSpec.{TowerSpec}
 use Rattle.tower_file.specs.declared.tower.TowerSpec.TheVariants.{Safe, Copies, Regular, Unary, Stamped, Matrix}
 use Rattle.words.specs.Steps.{text, step_text}
 use Rattle.tower_file.specs.Versions.{header}
-use Rattle.tower_file.specs.Files.{File, IsLawful}
+use Rattle.tower_file.specs.Files.{File, IsLawfulFile}
 
--- a text and its line end
-abbrev pub line : List ℕ → List ℕ
-line text = text ++ 10 ∷ []
+-- a text and then a line end
+abbrev pub text_with_end : List ℕ → List ℕ
+text_with_end text = text ++ 10 ∷ []
 
+-- the line of a tower: its name and its numbers
 abbrev pub tower_text : TowerSpec → List ℕ
 tower_text (Safe init) = text (codes "safe") (init ∷ [])
 tower_text (Copies readers init) = text (codes "copies") (readers ∷ init ∷ [])
@@ -19,16 +20,16 @@ tower_text (Unary values readers init) = text (codes "unary") (values ∷ reader
 tower_text (Stamped values last) = text (codes "stamped") (values ∷ last ∷ [])
 tower_text (Matrix processes values last_tag last_stamp) = text (codes "matrix") (processes ∷ values ∷ last_tag ∷ last_stamp ∷ [])
 
--- the header, the tower and the steps, a line each
+-- the bytes of a tower file: the header, the tower and the steps, each on a line
 abbrev pub spelling : File → List ℕ
-spelling f = line (header f.version) ++ line (tower_text f.spec) ++ flat_map (λ s. line (step_text s)) f.steps
+spelling f = text_with_end (header f.version) ++ text_with_end (tower_text f.spec) ++ flat_map (λ s. text_with_end (step_text s)) f.steps
 
 -- These bytes spell this tower file.
 pub record Spells (bytes : List ℕ) (f : File) : Type 0 where
-  pub lawful : IsLawful f
+  pub lawful : IsLawfulFile f
   pub spelled : bytes ≡ spelling f
 
--- These bytes spell a tower file with steps, for which memory is asked.
+-- These bytes spell a tower file that has steps, and so needs memory.
 pub record SpellsSteps (bytes : List ℕ) : Type 0 where
   pub file : File
   pub spells : Spells bytes file

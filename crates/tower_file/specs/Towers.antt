@@ -1,4 +1,4 @@
--- The six towers: their values and processes, which are lawful, and which steps fit them.
+-- The six towers: their values and processes, which of them are lawful, and which steps fit them.
 use Rattle.std.specs.Prelude.{ℕ, ◌+◌, ◌*◌, Bool, ◌&&◌, nat_lt, nat_le}
 use Rattle.frames.specs.declared.types.Op.{Op}
 use Rattle.frames.specs.declared.types.Op.TheVariants as op
@@ -10,6 +10,7 @@ use Rattle.frames.specs.OneWriter.{one_writer}
 use Rattle.tower_file.specs.declared.tower.TowerSpec.{TowerSpec}
 use Rattle.tower_file.specs.declared.tower.TowerSpec.TheVariants.{Safe, Copies, Regular, Unary, Stamped, Matrix}
 
+-- how many values a tower has
 abbrev pub values_of : TowerSpec → ℕ
 values_of (Safe init) = 2
 values_of (Copies readers init) = 2
@@ -18,7 +19,8 @@ values_of (Unary values readers init) = values
 values_of (Stamped values last) = values
 values_of (Matrix processes values last_tag last_stamp) = values
 
--- process 0 and the readers; in the matrix all are alike
+-- how many processes a tower has: process 0 and the readers; in a matrix each process writes and
+-- reads
 abbrev pub processes_of : TowerSpec → ℕ
 processes_of (Safe init) = 2
 processes_of (Copies readers init) = readers + 1
@@ -27,9 +29,9 @@ processes_of (Unary values readers init) = readers + 1
 processes_of (Stamped values last) = 2
 processes_of (Matrix processes values last_tag last_stamp) = processes
 
--- whether a number lies between two others, these included
-abbrev pub is_in : ℕ → ℕ → ℕ → Bool
-is_in least most n = nat_le least n && nat_le n most
+-- whether n is at least `least` and at most `most`
+abbrev pub is_between : ℕ → ℕ → ℕ → Bool
+is_between least most n = nat_le least n && nat_le n most
 
 -- a matrix has at most 512 codes, and at most 4,096 bits: one for each code, writer and reader
 abbrev pub is_small_matrix : ℕ → ℕ → ℕ → ℕ → Bool
@@ -37,18 +39,19 @@ is_small_matrix processes values last_tag last_stamp =
     let codes = (last_stamp + 1) * (last_tag + 1) * processes * values in
     nat_le codes MOST_VALUES && nat_le (processes * processes * codes) MOST_CELLS
 
--- each number lies in its range, and the tower isn't too large
+-- each number is in its range, and the tower isn't too large
 abbrev pub is_lawful_tower : TowerSpec → Bool
 is_lawful_tower (Safe init) = nat_lt init 2
-is_lawful_tower (Copies readers init) = is_in 1 MOST_READERS readers && nat_lt init 2
-is_lawful_tower (Regular readers init) = is_in 1 MOST_READERS readers && nat_lt init 2
-is_lawful_tower (Unary values readers init) = (is_in LEAST_VALUES MOST_VALUES values && is_in 1 MOST_READERS readers) && nat_lt init values
-is_lawful_tower (Stamped values last) = (is_in LEAST_VALUES MOST_VALUES values && nat_lt last MOST_VALUES) && nat_le ((last + 1) * values) MOST_VALUES
+is_lawful_tower (Copies readers init) = is_between 1 MOST_READERS readers && nat_lt init 2
+is_lawful_tower (Regular readers init) = is_between 1 MOST_READERS readers && nat_lt init 2
+is_lawful_tower (Unary values readers init) = (is_between LEAST_VALUES MOST_VALUES values && is_between 1 MOST_READERS readers) && nat_lt init values
+is_lawful_tower (Stamped values last) = (is_between LEAST_VALUES MOST_VALUES values && nat_lt last MOST_VALUES) && nat_le ((last + 1) * values) MOST_VALUES
 is_lawful_tower (Matrix processes values last_tag last_stamp) =
-    ((is_in LEAST_PROCESSES MOST_WRITERS processes && is_in LEAST_VALUES MOST_VALUES values) && nat_lt last_tag MOST_VALUES && nat_lt last_stamp MOST_VALUES)
+    ((is_between LEAST_PROCESSES MOST_WRITERS processes && is_between LEAST_VALUES MOST_VALUES values) && nat_lt last_tag MOST_VALUES && nat_lt last_stamp MOST_VALUES)
     && is_small_matrix processes values last_tag last_stamp
 
--- which operations fit a process: in the matrix each process reads and writes each value; every other tower has one writer
+-- which operations fit a process: in a matrix each process reads and writes each value; every other
+-- tower has one writer
 abbrev pub suits : TowerSpec → ℕ → Op → Bool
 suits (Matrix processes values last_tag last_stamp) who (op.Write v) = nat_lt who processes && nat_lt v values
 suits (Matrix processes values last_tag last_stamp) who op.Read = nat_lt who processes
@@ -58,10 +61,10 @@ suits (Regular readers init) who o = one_writer 2 (readers + 1) who o
 suits (Unary values readers init) who o = one_writer values (readers + 1) who o
 suits (Stamped values last) who o = one_writer values 2 who o
 
--- how many processes take part in it, and which operations fit each
+-- a tower's number of processes, and which operations fit each process
 abbrev pub roles : TowerSpec → Roles
 roles t = record { processes = processes_of t; suits = suits t }
 
--- which steps fit it
+-- which steps fit a tower
 abbrev pub fits : TowerSpec → Step → Bool
 fits t s = step_fits (roles t) s

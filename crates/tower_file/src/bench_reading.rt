@@ -3,14 +3,15 @@
 ghost use Rattle.std.specs.Prelude.{◌≡◌, ◌≢◌, ℕ, List, [], ◌≤◌, ◌^◌, IsOk, length, None, Ok, IfOk, IfErr};
 ghost use Rattle.tower_file.specs.declared.fault.FaultKind.TheVariants.{Memory};
 ghost use Rattle.tower_file.specs.Faults as faults;
-ghost use Rattle.tower_file.specs.Faults.{Gives, WantsMemory};
+ghost use Rattle.tower_file.specs.Faults.{Gives, MemoryOnlyIf};
 ghost use Rattle.tower_file.specs.Benches.{Bench};
+ghost use Rattle.tower_file.specs.Said.{as_bench};
 ghost use Rattle.tower_file.specs.BenchSpelling.{SpellsBench, SpellsFront, SpellsLimbs, bench_header};
 ghost use Rattle.tower_file.specs.BenchReading as spec;
 ghost use Rattle.tower_file.specs.Reading as reading;
 ghost use Rattle.tower_file.specs.Reading.{first_odd};
 ghost use Rattle.words.specs.Words.{lines, words, after_next};
-ghost use Rattle.words.specs.Steps.{step_of};
+ghost use Rattle.words.specs.Steps.{step_of_words};
 
 use crate::bench::BenchFile;
 use crate::fault::{FaultKind, FileFault};
@@ -26,7 +27,7 @@ use words::lines::Lines;
 use words::parts::Parts;
 use words::step::{is, step_of};
 
-/// Whether the first line is a bench file's header, which is read.
+/// Reads the first line. Returns whether it is a bench file's header and has a line end.
 fn has_header(lines: &mut Lines<'_>) -> bool
     ensures header { result ≡ reading.has_header bench_header lines.old }
     ensures left { lines.new ≡ after_next lines.old }
@@ -35,7 +36,7 @@ fn has_header(lines: &mut Lines<'_>) -> bool
     !lines.is_end() && is(header, "bench 1")
 }
 
-/// Adds the branch of the words behind the first of line `number`.
+/// Adds the branch of line `number`, given that line's words after `branch`.
 fn add_branch(
     alloc: Global,
     limbs: &mut NamedLimbs,
@@ -44,7 +45,7 @@ fn add_branch(
 ) -> Result<(), FileFault>
     ensures read { Gives
         (λ _. limbs.new) result (spec.then_branch number limbs.old words.old) }
-    ensures memory { WantsMemory result (IsOk (spec.then_branch number limbs.old words.old)) }
+    ensures memory { MemoryOnlyIf result (IsOk (spec.then_branch number limbs.old words.old)) }
 {
     let Some(limb) = branch_of(alloc, words) else {
         return Err(fault(FaultKind::BadBranch, number));
@@ -59,17 +60,17 @@ fn add_branch(
     Ok(())
 }
 
-/// Adds the step that line `number` spells, if it spells one, to the last branch.
+/// Adds the step of line `number` to the last limb. `spelled` is `None` if the line spells no step.
 fn add_step(
     tower: &TowerSpec,
     limbs: &mut NamedLimbs,
     number: u64,
     spelled: Option<Step>,
 ) -> Result<(), FileFault>
-    ensures read { (line : List ℕ) → step_of (words line) ≡ spelled
+    ensures read { (line : List ℕ) → step_of_words (words line) ≡ spelled
         → Gives (λ _. limbs.new) result (spec.then_step tower.now number limbs.old line) }
     ensures memory { IfErr result (λ e. e.kind ≡ Memory
-        → (line : List ℕ) → step_of (words line) ≡ spelled
+        → (line : List ℕ) → step_of_words (words line) ≡ spelled
         → IsOk (spec.then_step tower.now number limbs.old line)) }
 {
     if limbs.is_empty() {
@@ -85,7 +86,7 @@ fn add_step(
     Ok(())
 }
 
-/// Adds what line `number` says: a branch, or a step of the last one.
+/// Adds the branch of line `number`, or adds the step of that line to the last branch.
 fn add_line(
     alloc: Global,
     tower: &TowerSpec,
@@ -95,7 +96,7 @@ fn add_line(
 ) -> Result<(), FileFault>
     ensures read { Gives
         (λ _. limbs.new) result (spec.then_line tower.now number limbs.old line.now) }
-    ensures memory { WantsMemory
+    ensures memory { MemoryOnlyIf
         result (IsOk (spec.then_line tower.now number limbs.old line.now)) }
 {
     let mut words = Parts::new(line, b' ');
@@ -106,9 +107,10 @@ fn add_line(
     add_step(tower, limbs, number, spelled)
 }
 
-/// These limbs, where line `number` is nothing, and the file's end.
+/// Returns the limbs at the end of a file. There must be at least one limb, and `rest`, which
+/// follows the last line end, must be empty; otherwise there is a fault on line `number`.
 fn ended(limbs: NamedLimbs, number: u64, rest: &[u8]) -> Result<Vec<Limb>, FileFault>
-    ensures read { Gives (λ limbs. limbs.items) result (spec.ended number limbs rest.now) }
+    ensures read { Gives (λ limbs. limbs.items) result (spec.limbs_at_end number limbs rest.now) }
     ensures known { IfErr result (λ e. e.kind ≢ Memory) }
 {
     if is_branch(rest) || limbs.is_empty() {
@@ -120,12 +122,12 @@ fn ended(limbs: NamedLimbs, number: u64, rest: &[u8]) -> Result<Vec<Limb>, FileF
     Ok(limbs.into_limbs())
 }
 
-/// Reads the limbs: the lines that are left, of which the first is the file's third.
+/// Reads the limbs from the lines that are left. The first of these is line 3.
 fn limbs_of(alloc: Global, tower: &TowerSpec, lines: &mut Lines<'_>) -> Result<Vec<Limb>, FileFault>
     requires few { length lines.old ≤ 2 ^ 63 }
     ensures read { Gives
         (λ limbs. limbs.items) result (spec.limbs_of tower.now 3 [] lines.old) }
-    ensures memory { WantsMemory result (SpellsLimbs tower.now lines.old) }
+    ensures memory { MemoryOnlyIf result (SpellsLimbs tower.now lines.old) }
 {
     let mut limbs = NamedLimbs::new(alloc);
     let mut number = 3;
@@ -144,11 +146,11 @@ fn limbs_of(alloc: Global, tower: &TowerSpec, lines: &mut Lines<'_>) -> Result<V
     }
 }
 
-/// Reads the lines of a bench file, whatever their bytes.
+/// Reads the lines of a bench file, without a check for odd bytes.
 #[tactic(auto, using(crate::proofs::Loop::fewer_left))]
 fn bench_of_lines(alloc: Global, bytes: &[u8]) -> Result<BenchFile, FileFault>
-    ensures exact { Gives (λ b. b) result (spec.bench_of_lines (lines bytes.now)) }
-    ensures memory { WantsMemory result (first_odd bytes.now ≡ None → SpellsFront bytes.now) }
+    ensures exact { Gives as_bench result (spec.bench_of_lines (lines bytes.now)) }
+    ensures memory { MemoryOnlyIf result (first_odd bytes.now ≡ None → SpellsFront bytes.now) }
 {
     let mut lines = lines_of(bytes);
     if !has_header(&mut lines) {
@@ -156,18 +158,19 @@ fn bench_of_lines(alloc: Global, bytes: &[u8]) -> Result<BenchFile, FileFault>
     }
     let tower = tower_of(&mut lines)?;
     let limbs = limbs_of(alloc, &tower, &mut lines)?;
-    Ok(BenchFile::new(tower, limbs))
+    Ok(BenchFile::of_lawful(tower, limbs))
 }
 
-/// Reads a bench file. It looks for odd bytes behind a fault alone.
+/// Reads a bench file. Only after a fault are its bytes checked for odd ones.
 fn bench_of(alloc: Global, bytes: &[u8]) -> Result<BenchFile, FileFault>
-    ensures parsed { reading.Parses SpellsBench spec.bench_of_lines bytes.now result }
-    ensures memory { WantsMemory result (SpellsFront bytes.now) }
+    ensures parsed { reading.Parses as_bench SpellsBench spec.bench_of_lines bytes.now result }
+    ensures memory { MemoryOnlyIf result (SpellsFront bytes.now) }
 {
     odd_first(bytes, bench_of_lines(alloc, bytes))
 }
 
-/// Whether bytes are to be read as a bench file: their first line is its header, with its end.
+/// Whether the bytes are to be read as a bench file: their first line has to be a bench file's
+/// header and to have a line end.
 pub fn is_bench(bytes: &[u8]) -> bool
     ensures { result ≡ spec.is_bench bytes.now }
 {
@@ -175,17 +178,18 @@ pub fn is_bench(bytes: &[u8]) -> bool
     has_header(&mut lines)
 }
 
-/// The bench file that the bytes spell, or their first fault.
+/// Returns the bench file that the bytes spell, or the first fault in them.
 pub fn parse_bench(alloc: Global, bytes: &[u8]) -> Result<BenchFile, FileFault>
-    // What is read is spelled so.
-    ensures found { IfOk result (λ b. SpellsBench bytes.now b) }
-    // What is spelled so is read, unless a growth is refused.
-    ensures only { (b : Bench) → SpellsBench bytes.now b → Gives (λ b. b) result (Ok b) }
-    // Else the first fault is told, unless a growth is refused.
-    ensures exact { Gives (λ b. b) result (spec.bench_reading bytes.now) }
+    // The bytes spell the file that is returned.
+    ensures found { IfOk result (λ b. SpellsBench bytes.now (as_bench b)) }
+    // If the bytes spell a file, it is returned, unless memory runs out.
+    ensures only { (b : Bench) → SpellsBench bytes.now b → Gives as_bench result (Ok b) }
+    // If the bytes spell no file, their first fault is returned, unless memory runs out.
+    ensures exact { Gives as_bench result (spec.bench_reading bytes.now) }
     ensures fault { IfErr result (λ e. e.kind ≢ Memory
         → (b : Bench) → SpellsBench bytes.now b → ⊥) }
-    // Want of memory is told only where there is no fault up to the line that wanted it.
+    // Memory is reported only if no byte is odd, and no line has a fault up to the one that needed
+    // memory.
     ensures memory { IfErr result (λ e. e.kind ≡ Memory → (e.line ≡ 0) × SpellsFront bytes.now) }
 {
     bench_of(alloc, bytes)

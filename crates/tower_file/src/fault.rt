@@ -1,4 +1,4 @@
-//! Why bytes are no tower file, or no bench file.
+//! The faults of tower files and of bench files.
 
 ghost use Rattle.std.specs.Prelude.{◌≡◌};
 ghost use Rattle.tower_file.specs.Faults as spec;
@@ -9,40 +9,43 @@ use thiserror::Error;
 /// What is wrong with a file.
 #[derive(Clone, Copy, Debug, PartialEq, Eq, Error)]
 pub enum FaultKind {
-    /// Some byte is neither a line end nor one of 0x20 to 0x7E.
+    /// Some byte is odd: it is neither a line end nor one of 0x20 to 0x7E.
     #[error("10 NotAscii")]
     NotAscii,
-    /// The first line is no header with its end.
+    /// The first line isn't a header, or has no line end.
     #[error("11 BadHeader")]
     BadHeader,
-    /// The first word of the second line names no tower.
+    /// The first word of the second line isn't a tower's name.
     #[error("12 UnknownTower")]
     UnknownTower,
-    /// The second line has not the fields of its tower, or no end.
+    /// The second line doesn't have exactly the fields of its tower, or has no line end.
     #[error("13 BadField")]
     BadField,
-    /// A line from the third on, in a bench file one behind a branch, is no step that fits the tower, or has no end.
+    /// A line isn't a step of the file's version that fits the tower, or has no line end. In a
+    /// tower file this is a line after the second; in a bench file, a line after the first branch's
+    /// line that isn't a branch's line itself.
     #[error("14 BadStep")]
     BadStep,
     /// A field of the tower is out of its range, or the tower is too large.
     #[error("15 BadSize")]
     BadSize,
-    /// A line of a bench file is no branch's where one has to be, or has no end, or its name is none, or an earlier
-    /// branch's.
+    /// In a bench file, the third line isn't a branch's line; or a branch's line has the wrong
+    /// form, no line end, a name that no branch may have, or the name of an earlier branch.
     #[error("16 BadBranch")]
     BadBranch,
-    /// A branch of a bench file can't share so many cells with the branch that it is from.
+    /// In a bench file, a branch can't share its number of cells with the branch that it starts
+    /// from.
     #[error("17 Tangled")]
     Tangled,
-    /// A growth was refused.
+    /// Out of memory.
     #[error("40 Memory")]
     Memory,
 }
 
 impl FaultKind {
-    /// Its number.
+    /// The fault's number.
     pub fn number(self) -> u32
-        ensures { result ≡ spec.number self }
+        ensures { result ≡ spec.fault_number self }
     {
         match self {
             FaultKind::NotAscii => 10,
@@ -57,9 +60,9 @@ impl FaultKind {
         }
     }
 
-    /// Its name.
+    /// The fault's name.
     pub fn name(self) -> &'static str
-        ensures { result.now ≡ spec.name self }
+        ensures { result.now ≡ spec.fault_name self }
     {
         match self {
             FaultKind::NotAscii => "NotAscii",
@@ -75,7 +78,8 @@ impl FaultKind {
     }
 }
 
-/// A fault, and the line that has it, counted from 1; for want of memory, line 0.
+/// A fault of a file. `line` is the number of the line that has the fault, counted from 1; it is 0
+/// if the fault is that memory ran out.
 #[derive(Clone, Copy, Debug, PartialEq, Eq, Error)]
 #[error("line {line}: {kind}")]
 pub struct FileFault {
@@ -83,7 +87,7 @@ pub struct FileFault {
     pub line: u64,
 }
 
-/// A growth was refused.
+/// Out of memory.
 pub(crate) const OUT_OF_MEMORY: FileFault = FileFault {
     kind: FaultKind::Memory,
     line: 0,

@@ -1,4 +1,4 @@
-//! Limbs as they are read.
+//! The limbs that have been read so far from a bench file.
 
 ghost use Rattle.std.specs.Prelude.{◌≡◌, ◌∷◌, [], ◌++◌, OnOk, not, true, map};
 ghost use Rattle.schedule_trie.specs.Limbs as spec;
@@ -12,7 +12,8 @@ use schedule_trie::name::Name;
 use std::alloc::{AllocError, Global};
 use std::marker::Model;
 
-/// Limbs in order, and their names, each of which is found by its hash. Contracts see the list of them.
+/// Limbs in order, and a hash set of their names, in which a name is found fast. Contracts see only
+/// the list of limbs.
 #[derive(Drop)]
 pub(crate) struct NamedLimbs {
     limbs: Vec<Limb>,
@@ -32,7 +33,7 @@ impl Model for NamedLimbs {
 }
 
 impl NamedLimbs {
-    /// No limbs. It takes no memory.
+    /// No limbs. Allocates nothing.
     pub(crate) fn new(alloc: Global) -> NamedLimbs
         ensures { result ≡ [] }
     {
@@ -42,14 +43,14 @@ impl NamedLimbs {
         }
     }
 
-    /// Whether there is none.
+    /// Whether there are no limbs.
     pub(crate) fn is_empty(&self) -> bool
         ensures { result ≡ not (is_some self.now) }
     {
         self.limbs.is_empty()
     }
 
-    /// Whether a name has the form of a branch's, and none of them has it.
+    /// Whether a name has the form of a branch's name, and no limb has it.
     pub(crate) fn is_new_name(&self, name: &Name) -> bool
         ensures { result ≡ spec.is_new_name self.now name.now }
     {
@@ -57,14 +58,15 @@ impl NamedLimbs {
         name.is_well_formed() && !self.names.contains(name)
     }
 
-    /// Whether a limb may come behind them, as far as what it shares goes.
+    /// Whether `limb` may follow these limbs, given the branch that it starts from and the number
+    /// of cells that it shares with that branch.
     pub(crate) fn may_share(&self, limb: &Limb) -> bool
         ensures { result ≡ spec.may_share self.now limb.now }
     {
         may_share(&self.limbs, limb)
     }
 
-    /// Adds a limb with a name that none of them has. A growth that is refused changes nothing.
+    /// Adds a limb with a new name. If memory runs out, nothing is changed.
     pub(crate) fn push(&mut self, limb: Limb) -> Result<(), AllocError>
         requires new { spec.is_new_name self.old limb.name ≡ true }
         ensures { OnOk result (self.new ≡ self.old ++ limb ∷ []) }
@@ -75,14 +77,14 @@ impl NamedLimbs {
         Ok(())
     }
 
-    /// Adds a step behind those of the last limb, if there is one.
+    /// Adds a step to the last limb, if there is one.
     pub(crate) fn push_step(&mut self, step: Step) -> Result<(), AllocError>
         ensures { OnOk result (self.new ≡ put_step self.old step) }
     {
         put_step(&mut self.limbs, step)
     }
 
-    /// The limbs.
+    /// Returns the limbs, without the set of their names.
     pub(crate) fn into_limbs(self) -> Vec<Limb>
         ensures { result.items ≡ self }
     {
@@ -90,7 +92,7 @@ impl NamedLimbs {
     }
 }
 
-/// Adds a step behind those of the last limb, if there is one.
+/// Adds a step to the last limb, if there is one.
 fn put_step(limbs: &mut Vec<Limb>, step: Step) -> Result<(), AllocError>
     ensures put { OnOk result (limbs.new.items ≡ put_step limbs.old.items step) }
     ensures names { map limb_name limbs.new.items ≡ map limb_name limbs.old.items }

@@ -1,4 +1,4 @@
-//! What a line says: a tower or a branch.
+//! Reading a line: the line of a tower or of a branch.
 
 ghost use Rattle.std.specs.Prelude.{◌≡◌};
 ghost use Rattle.tower_file.specs.Lines as spec;
@@ -22,14 +22,14 @@ pub enum TowerName {
     Matrix,
 }
 
-/// A tower, if the word is its name.
+/// Returns `name` if `word` is `text`, and `None` otherwise.
 fn named(word: &[u8], text: &str, name: TowerName) -> Option<TowerName>
     ensures { result ≡ spec.named word.now text.now name }
 {
     if is(word, text) { Some(name) } else { None }
 }
 
-/// The tower that a word names.
+/// The kind of tower that `word` names; `None` if it names none.
 #[tactic(auto, using(crate::proofs::TowerNames::or_other))]
 pub fn tower_name(word: &[u8]) -> Option<TowerName>
     ensures { result ≡ spec.tower_name word.now }
@@ -42,7 +42,8 @@ pub fn tower_name(word: &[u8]) -> Option<TowerName>
         .or(named(word, "matrix", TowerName::Matrix))
 }
 
-/// Reads the fields of a tower, and no more.
+/// Reads the numbers of a tower. `None` if the words aren't exactly the numbers that this kind of
+/// tower has.
 pub fn fields_of(name: TowerName, words: &mut Parts<'_>) -> Option<TowerSpec>
     ensures { result ≡ spec.fields_of name words.old }
 {
@@ -91,8 +92,9 @@ pub fn is_branch(line: &[u8]) -> bool
     is(words.next(), "branch")
 }
 
-/// Reads a branch of the words behind that, and no more: its name, the branch that it is from, and how many cells
-/// it shares. It has no steps yet. It takes no memory.
+/// Reads a branch from the words after `branch`: its name, the branch that it starts from, and how
+/// many cells the two branches share. `None` if the words aren't exactly these three. The limb has
+/// no steps yet. Allocates nothing.
 pub fn branch_of(alloc: Global, words: &mut Parts<'_>) -> Option<Limb>
     ensures { result ≡ spec.branch_of words.old }
 {

@@ -3,9 +3,10 @@
 ghost use Rattle.std.specs.Prelude.{◌≡◌, ◌≢◌, ◌∷◌, [], ◌++◌, ◌≤◌, ◌<◌, ◌^◌, ℕ, length, true, Some, None, Ok, Err, OnOk, IfOk, IfErr};
 ghost use Rattle.tower_file.specs.declared.fault.FaultKind.TheVariants.{Memory};
 ghost use Rattle.tower_file.specs.Faults as faults;
-ghost use Rattle.tower_file.specs.Faults.{Gives, WantsMemory, out_of_memory};
+ghost use Rattle.tower_file.specs.Faults.{Gives, MemoryOnlyIf, out_of_memory};
 ghost use Rattle.tower_file.specs.Towers.{is_lawful_tower};
-ghost use Rattle.tower_file.specs.Files.{File, IsLawful, file_of};
+ghost use Rattle.tower_file.specs.Files.{File, IsLawfulFile, file_of};
+ghost use Rattle.tower_file.specs.Said.{as_file};
 ghost use Rattle.words.specs.Words.{lines, after_next, is_end};
 ghost use Rattle.tower_file.specs.Spelling.{Spells, SpellsSteps};
 ghost use Rattle.tower_file.specs.Reading as spec;
@@ -21,7 +22,7 @@ use words::lines::Lines;
 use words::parts::Parts;
 use words::step::is;
 
-/// The place of the first byte that is neither a line end nor one of 0x20 to 0x7E.
+/// The index of the first odd byte: one that is neither a line end nor one of 0x20 to 0x7E.
 fn first_odd(bytes: &[u8]) -> Option<usize>
     ensures { result ≡ spec.first_odd bytes.now }
 {
@@ -30,12 +31,12 @@ fn first_odd(bytes: &[u8]) -> Option<usize>
 
 /// Whether a file may have this byte.
 fn is_plain(b: u8) -> bool
-    ensures { result ≡ spec.is_plain b }
+    ensures { result ≡ spec.is_file_byte b }
 {
     b == b'\n' || (0x20 <= b && b <= 0x7e)
 }
 
-/// The line of the byte at a place.
+/// The number of the line that has the byte at index `place`, counted from 1.
 fn line_at(place: usize, bytes: &[u8]) -> u64
     requires inside { place ≤ length bytes.now }
     ensures { result ≡ spec.line_at place bytes.now }
@@ -50,7 +51,7 @@ pub(crate) fn fault(kind: FaultKind, line: u64) -> FileFault
     FileFault { kind, line }
 }
 
-/// The lines of bytes, which are few enough to be counted.
+/// The lines of the bytes. They are few enough to be counted in 64 bits.
 pub(crate) fn lines_of(bytes: &[u8]) -> Lines<'_>
     ensures lines { result ≡ lines bytes.now }
     ensures few { length result ≤ 2 ^ 63 }
@@ -59,7 +60,8 @@ pub(crate) fn lines_of(bytes: &[u8]) -> Lines<'_>
     Lines::new(bytes)
 }
 
-/// Reads the header.
+/// Reads the first line. Returns the version whose header it is, or `None` if it is no header or
+/// has no line end.
 fn version_of(lines: &mut Lines<'_>) -> Option<Version>
     ensures version { result ≡ spec.version_of lines.old }
     ensures left { lines.new ≡ after_next lines.old }
@@ -77,7 +79,7 @@ fn version_of(lines: &mut Lines<'_>) -> Option<Version>
     None
 }
 
-/// Reads the line of the tower.
+/// Reads the second line, which is the tower's.
 pub(crate) fn tower_of(lines: &mut Lines<'_>) -> Result<TowerSpec, FileFault>
     ensures tower { result ≡ spec.tower_of lines.old }
     ensures lawful { IfOk result (λ tower. is_lawful_tower tower ≡ true) }
@@ -102,7 +104,7 @@ pub(crate) fn tower_of(lines: &mut Lines<'_>) -> Result<TowerSpec, FileFault>
     Ok(tower)
 }
 
-/// Reads the step of line `number`; none behind the last line end.
+/// Reads the step of line `number`. `None` if nothing follows the last line end.
 fn next_step(
     version: Version,
     tower: &TowerSpec,
@@ -126,16 +128,17 @@ fn next_step(
     Err(fault(FaultKind::BadStep, number))
 }
 
-/// Adds a step where there was room for those before: whether there was, and is for this one.
-fn keep(steps: &mut Vec<Step>, step: Step, had_room: bool) -> bool
+/// Adds a step, if there was memory for all earlier ones. Returns whether all steps so far are
+/// kept.
+fn keep(steps: &mut Vec<Step>, step: Step, room_was_left: bool) -> bool
     ensures kept { result ≡ true → steps.new.items ≡ steps.old.items ++ step ∷ [] }
-    ensures had_room { result ≡ true → had_room ≡ true }
+    ensures room_was_left { result ≡ true → room_was_left ≡ true }
 {
-    had_room && steps.push(step).is_ok()
+    room_was_left && steps.push(step).is_ok()
 }
 
-/// Reads the steps: the lines that are left, of which the first is the file's third. A fault of any
-/// of them is told before a growth that was refused.
+/// Reads the steps from the lines that are left. The first of these is line 3. A fault on any line
+/// takes precedence over a lack of memory.
 fn steps_of(
     alloc: Global,
     version: Version,
@@ -145,8 +148,8 @@ fn steps_of(
     requires few { length lines.old ≤ 2 ^ 63 }
     ensures read { Gives
         (λ steps. steps.items) result (spec.steps_of version tower.now 3 lines.old) }
-    ensures memory { WantsMemory
-        result (spec.HasStep (spec.steps_of version tower.now 3 lines.old)) }
+    ensures memory { MemoryOnlyIf
+        result (spec.HasSomeStep (spec.steps_of version tower.now 3 lines.old)) }
 {
     let mut steps = Vec::new(alloc);
     let mut has_room = true;
@@ -165,11 +168,11 @@ fn steps_of(
     Ok(steps)
 }
 
-/// Reads the lines of a file, whatever their bytes. Memory is asked for steps alone.
+/// Reads the lines of a file, without a check for odd bytes. Only steps need memory.
 #[tactic(auto, using(crate::proofs::Loop::fewer_left))]
 fn file_of_lines(alloc: Global, bytes: &[u8]) -> Result<TowerFile, FileFault>
-    ensures exact { Gives (λ f. f) result (spec.file_of_lines (lines bytes.now)) }
-    ensures memory { WantsMemory result (spec.first_odd bytes.now ≡ None → SpellsSteps bytes.now) }
+    ensures exact { Gives as_file result (spec.file_of_lines (lines bytes.now)) }
+    ensures memory { MemoryOnlyIf result (spec.first_odd bytes.now ≡ None → SpellsSteps bytes.now) }
 {
     let mut lines = lines_of(bytes);
     let Some(version) = version_of(&mut lines) else {
@@ -180,9 +183,10 @@ fn file_of_lines(alloc: Global, bytes: &[u8]) -> Result<TowerFile, FileFault>
     Ok(TowerFile::of_lawful(version, tower, steps))
 }
 
-/// The first fault of bytes whose lines have one, or are too many for the memory: an odd byte comes before that.
+/// The first fault of the bytes: NotAscii if some byte is odd, and otherwise `of_lines`, the fault
+/// that reading the lines gave.
 fn first_fault(bytes: &[u8], of_lines: FileFault) -> FileFault
-    ensures { result ≡ spec.fault_told (spec.first_odd bytes.now) bytes.now of_lines }
+    ensures { result ≡ spec.fault_in_order (spec.first_odd bytes.now) bytes.now of_lines }
 {
     match first_odd(bytes) {
         Some(place) => fault(FaultKind::NotAscii, line_at(place, bytes)),
@@ -190,7 +194,8 @@ fn first_fault(bytes: &[u8], of_lines: FileFault) -> FileFault
     }
 }
 
-/// What lines say, but that an odd byte of theirs is told before a fault. Lines that spell a file have none.
+/// What reading the lines gave, except that an odd byte takes precedence over their fault. If the
+/// lines are those of a file, no byte is odd.
 pub(crate) fn odd_first<T>(bytes: &[u8], of_lines: Result<T, FileFault>) -> Result<T, FileFault>
     ensures { result ≡ spec.odd_first bytes.now of_lines }
 {
@@ -200,24 +205,24 @@ pub(crate) fn odd_first<T>(bytes: &[u8], of_lines: Result<T, FileFault>) -> Resu
     }
 }
 
-/// Reads a file. It looks for odd bytes behind a fault alone.
+/// Reads a file. Only after a fault are its bytes checked for odd ones.
 fn file_of(alloc: Global, bytes: &[u8]) -> Result<TowerFile, FileFault>
-    ensures parsed { spec.Parses Spells spec.file_of_lines bytes.now result }
-    ensures memory { WantsMemory result (SpellsSteps bytes.now) }
+    ensures parsed { spec.Parses as_file Spells spec.file_of_lines bytes.now result }
+    ensures memory { MemoryOnlyIf result (SpellsSteps bytes.now) }
 {
     odd_first(bytes, file_of_lines(alloc, bytes))
 }
 
-/// The file that the bytes spell, or their first fault.
+/// Returns the tower file that the bytes spell, or the first fault in them.
 pub fn parse(alloc: Global, bytes: &[u8]) -> Result<TowerFile, FileFault>
-    // What is read is spelled so.
-    ensures found { IfOk result (λ f. Spells bytes.now f) }
-    // What is spelled so is read, unless a growth is refused.
-    ensures only { (f : File) → Spells bytes.now f → Gives (λ f. f) result (Ok f) }
-    // Else the first fault is told, unless a growth is refused.
-    ensures exact { Gives (λ f. f) result (spec.reading bytes.now) }
+    // The bytes spell the file that is returned.
+    ensures found { IfOk result (λ f. Spells bytes.now (as_file f)) }
+    // If the bytes spell a file, it is returned, unless memory runs out.
+    ensures only { (f : File) → Spells bytes.now f → Gives as_file result (Ok f) }
+    // If the bytes spell no file, their first fault is returned, unless memory runs out.
+    ensures exact { Gives as_file result (spec.file_reading bytes.now) }
     ensures fault { IfErr result (λ e. e.kind ≢ Memory → (f : File) → Spells bytes.now f → ⊥) }
-    // Want of memory is told only where there is no fault, and there are steps.
+    // Memory is reported only if the bytes spell a file that has steps.
     ensures memory { IfErr result (λ e. e.kind ≡ Memory → (e.line ≡ 0) × SpellsSteps bytes.now) }
 {
     file_of(alloc, bytes)

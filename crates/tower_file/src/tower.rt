@@ -1,4 +1,4 @@
-//! The six towers: their values and processes, which are lawful, and which steps fit them.
+//! The six towers: their values and processes, which of them are lawful, and which steps fit them.
 
 ghost use Rattle.std.specs.Prelude.{◌≡◌, ◌<◌, ◌≤◌};
 ghost use Rattle.frames.specs.declared.limits.TheConstants.{LEAST_VALUES, MOST_READERS, MOST_VALUES, MOST_WRITERS};
@@ -9,7 +9,7 @@ use frames::register::MOST_CELLS;
 use frames::roles::{HasRoles, step_fits};
 use frames::types::{Op, Step};
 
-/// A tower, by its name and numbers.
+/// A tower, by its kind and numbers.
 #[derive(Clone, Copy, Debug, PartialEq, Eq)]
 pub enum TowerSpec {
     /// A safe bit.
@@ -47,7 +47,7 @@ pub enum TowerSpec {
 }
 
 impl TowerSpec {
-    /// How many values it has.
+    /// How many values the tower has.
     fn values(&self) -> u32
         ensures { result ≡ spec.values_of self.now }
     {
@@ -59,7 +59,7 @@ impl TowerSpec {
         }
     }
 
-    /// Whether its numbers lie in their ranges, and it isn't too large.
+    /// Whether the tower's numbers are in their ranges, and the tower isn't too large.
     pub fn is_lawful(&self) -> bool
         ensures { result ≡ spec.is_lawful_tower self.now }
     {
@@ -114,7 +114,7 @@ impl HasRoles for TowerSpec {
         }
     }
 
-    // The matrix has many writers, every other tower one.
+    // In a matrix each process writes and reads; in every other tower process 0 alone writes.
     fn suits(&self, who: u32, op: Op) -> bool {
         let values = self.values();
         let processes = self.process_count();
@@ -128,28 +128,28 @@ impl HasRoles for TowerSpec {
     }
 }
 
-/// Whether a number lies between two others, these included.
+/// Whether `n` is at least `least` and at most `most`.
 fn is_in(least: u32, most: u32, n: u32) -> bool
-    ensures { result ≡ spec.is_in least most n }
+    ensures { result ≡ spec.is_between least most n }
 {
     least <= n && n <= most
 }
 
-/// Whether a tower may have this many readers.
+/// Whether a tower may have `readers` readers.
 fn is_reader_count(readers: u32) -> bool
-    ensures { result ≡ spec.is_in 1 MOST_READERS readers }
+    ensures { result ≡ spec.is_between 1 MOST_READERS readers }
 {
     is_in(1, MOST_READERS, readers)
 }
 
-/// Whether a tower may have this many values.
+/// Whether a tower may have `values` values.
 fn is_value_count(values: u32) -> bool
-    ensures { result ≡ spec.is_in LEAST_VALUES MOST_VALUES values }
+    ensures { result ≡ spec.is_between LEAST_VALUES MOST_VALUES values }
 {
     is_in(LEAST_VALUES, MOST_VALUES, values)
 }
 
-/// Whether a matrix has few enough codes and bits, its numbers being in their ranges.
+/// Whether a matrix whose numbers are in their ranges has at most 512 codes and 4,096 bits.
 fn is_small_matrix(processes: u32, values: u32, last_tag: u32, last_stamp: u32) -> bool
     requires processes { processes ≤ MOST_WRITERS }
     requires values { values ≤ MOST_VALUES }

@@ -1,4 +1,4 @@
-//! The versions of a tower file: the header of each, and which steps it has.
+//! The versions of tower files: the header of each, and which steps it has.
 
 ghost use Rattle.std.specs.Prelude.{◌≡◌};
 ghost use Rattle.std.specs.List.{list_all};
@@ -7,17 +7,17 @@ ghost use Rattle.tower_file.specs.Versions as spec;
 use crate::tower::TowerSpec;
 use frames::types::Step;
 
-/// A version of tower files. A step of version 1 is one of version 2 too.
+/// A version of tower files. Version 2 has all steps of version 1.
 #[derive(Clone, Copy, Debug, PartialEq, Eq)]
 pub enum Version {
     /// Version 1: writes, reads and bit actions.
     One,
-    /// Version 2: stops too.
+    /// Version 2: also stops.
     Two,
 }
 
 impl Version {
-    /// The first line of its files.
+    /// The first line of this version's files.
     pub(crate) fn header(self) -> &'static str
         ensures { result.now ≡ spec.header self }
     {
@@ -27,7 +27,7 @@ impl Version {
         }
     }
 
-    /// Whether it has the step.
+    /// Whether the version has the step.
     pub fn has(self, step: Step) -> bool
         ensures { result ≡ spec.has_step self step }
     {
@@ -37,7 +37,7 @@ impl Version {
         }
     }
 
-    /// Whether a file of it has the step on a tower.
+    /// Whether a file of this version on this tower may have the step.
     pub(crate) fn may_have(self, tower: &TowerSpec, step: Step) -> bool
         ensures { result ≡ spec.may_have self tower.now step }
     {
@@ -45,7 +45,7 @@ impl Version {
     }
 }
 
-/// Whether a file of a version may have all of these steps on a tower.
+/// Whether a file of this version on this tower may have all of these steps.
 pub(crate) fn may_have_all(version: Version, tower: &TowerSpec, steps: &[Step]) -> bool
     ensures { result ≡ list_all (spec.may_have version tower.now) steps.now }
 {

@@ -2,7 +2,8 @@
 
 ghost use Rattle.std.specs.Prelude.{◌≡◌, ◌++◌, OnOk, IfOk};
 ghost use Rattle.words.specs.Steps.{text, step_text};
-ghost use Rattle.tower_file.specs.Spelling.{Spells, line, tower_text};
+ghost use Rattle.tower_file.specs.Spelling.{Spells, text_with_end, tower_text};
+ghost use Rattle.tower_file.specs.Said.{as_file};
 
 use crate::file::TowerFile;
 use crate::tower::TowerSpec;
@@ -10,14 +11,14 @@ use frames::types::Step;
 use std::alloc::{AllocError, Global};
 use words::step::{append_step, push_words};
 
-/// The spelling of a file.
+/// The bytes that spell a tower file.
 pub fn print(alloc: Global, file: &TowerFile) -> Result<Vec<u8>, AllocError>
-    ensures { IfOk result (λ bytes. Spells bytes.items file.now) }
+    ensures { IfOk result (λ bytes. Spells bytes.items (as_file file.now)) }
 {
     let mut out = Vec::new(alloc);
-    push_line(&mut out, file.version().header(), &[])?;
-    push_tower(&mut out, &file.spec())?;
-    for step in file.steps() {
+    push_line(&mut out, file.version.header(), &[])?;
+    push_tower(&mut out, &file.spec)?;
+    for step in file.steps.as_slice() {
         push_step_line(&mut out, *step)?;
     }
     Ok(out)
@@ -25,7 +26,7 @@ pub fn print(alloc: Global, file: &TowerFile) -> Result<Vec<u8>, AllocError>
 
 /// Adds the line of a tower.
 pub(crate) fn push_tower(out: &mut Vec<u8>, tower: &TowerSpec) -> Result<(), AllocError>
-    ensures { OnOk result (out.new.items ≡ out.old.items ++ line (tower_text tower.now)) }
+    ensures { OnOk result (out.new.items ≡ out.old.items ++ text_with_end (tower_text tower.now)) }
 {
     match *tower {
         TowerSpec::Safe { init } => push_line(out, "safe", &[init]),
@@ -48,16 +49,17 @@ pub(crate) fn push_tower(out: &mut Vec<u8>, tower: &TowerSpec) -> Result<(), All
 
 /// Adds the line of a step.
 pub(crate) fn push_step_line(out: &mut Vec<u8>, step: Step) -> Result<(), AllocError>
-    ensures { OnOk result (out.new.items ≡ out.old.items ++ line (step_text step)) }
+    ensures { OnOk result (out.new.items ≡ out.old.items ++ text_with_end (step_text step)) }
 {
     append_step(out, step)?;
     out.push(b'\n')?;
     Ok(())
 }
 
-/// Adds a line of a word and numbers.
+/// Adds a line that is a word and then numbers.
 pub(crate) fn push_line(out: &mut Vec<u8>, word: &str, numbers: &[u32]) -> Result<(), AllocError>
-    ensures { OnOk result (out.new.items ≡ out.old.items ++ line (text word.now numbers.now)) }
+    ensures { OnOk result
+        (out.new.items ≡ out.old.items ++ text_with_end (text word.now numbers.now)) }
 {
     push_words(out, word, numbers).map_err(|_| AllocError)?;
     out.push(b'\n')?;

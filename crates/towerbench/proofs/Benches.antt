@@ -1,4 +1,4 @@
--- Limbs that fit a tower, and those that fit its register.
+-- Limbs that fit a tower fit its register, and the other way round.
 use Rattle.std.proofs.Common.{◌≡◌, ◌∙◌, ◌<◌, ◌≤◌, ◌&&◌, ◌^◌, ℕ, Bool, true, false, nat_lt, List, [], ◌∷◌, length, arith, refl, sym, ap₂}
 use Rattle.std.specs.List.{All, list_all, slice_index_or}
 use Rattle.std.proofs.lemmas.Bool.Decides.{nat_tests}
@@ -10,11 +10,11 @@ use Rattle.frames.specs.Recorded.{AllFit}
 use Rattle.schedule_trie.specs.declared.limb.Limb.{Limb}
 use Rattle.schedule_trie.specs.declared.limits.Limits.{Limits}
 use Rattle.schedule_trie.specs.declared.limits.TheConstants.{MOST_CELLS_MADE}
-use Rattle.schedule_trie.specs.Limbs.{FitLimits, IsLawful}
+use Rattle.schedule_trie.specs.Limbs.{FitLimits, AreLawfulLimbs, are_lawful_after}
 use Rattle.tower_file.specs.declared.tower.TowerSpec.{TowerSpec}
 use Rattle.tower_file.specs.Towers.{fits, is_lawful_tower}
 use Rattle.towerbench.specs.Opening.{one_branch}
-use Rattle.tower_file.specs.Benches.{IsLawfulBench, bench_of, has_fit, is_some}
+use Rattle.tower_file.specs.Benches.{IsLawfulBench, are_lawful, bench_of, has_fit, is_some}
 
 is_below : (a n : ℕ) → a < n → nat_lt a n ≡ true
 is_below a n h = by (nat_lt a n) refl
@@ -35,7 +35,7 @@ module _ {P : Type 0} (t : TowerSpec) (b : Behaviour P) (alike : (s : Step) → 
       let fit : list_all (fits t) l.steps ≡ true = (both_true _ _ (AllPass-from_list_all (has_fit t) ls all i d within)).1 in
       sym (alike (slice_index_or l.steps k e)) ∙ AllPass-from_list_all (fits t) l.steps fit k e in_limb
 
-  -- and limbs that fit the register, with numbers below the limits, are a file's
+  -- a file may have limbs that fit the register and whose numbers are within the limits
   module _ (limits : Limits) (few_branches : limits.branches ≤ 1024) (few_cells : limits.cells ≤ MOST_CELLS_MADE) where
     has : (l : Limb) → l.from < limits.branches → l.shared ≤ limits.cells → AllFit b l.steps → has_fit t l ≡ true
     has l from shared fit =
@@ -57,9 +57,25 @@ has_one [] e = absurd (cc)
 has_one (l ∷ ls) e = omega arith
 
 -- lawful limbs that fit are a bench file's
-pub lawful_bench : (t : TowerSpec) (ls : List Limb) → is_lawful_tower t ≡ true → 0 < length ls → IsLawful ls → list_all (has_fit t) ls ≡ true → IsLawfulBench (bench_of t ls)
+pub lawful_bench : (t : TowerSpec) (ls : List Limb) → is_lawful_tower t ≡ true → 0 < length ls → AreLawfulLimbs ls → list_all (has_fit t) ls ≡ true → IsLawfulBench (bench_of t ls)
 lawful_bench t ls tower some lawful fit = rw (tower, is_one ls some, lawful, fit) refl
 
--- and so is a branch of steps that fit
-pub one_lawful : (t : TowerSpec) (steps : List Step) → is_lawful_tower t ≡ true → list_all (fits t) steps ≡ true → IsLawfulBench (one_branch t steps)
-one_lawful t steps tower fit = rw (tower, fit) refl
+-- what is lawful in a lawful bench file
+module _ (t : TowerSpec) (ls : List Limb) (h : IsLawfulBench (bench_of t ls)) where
+  front : (is_lawful_tower t && is_some ls) ≡ true
+  front = (both_true (is_lawful_tower t && is_some ls) (are_lawful t ls) h).0
+
+  back : are_lawful t ls ≡ true
+  back = (both_true (is_lawful_tower t && is_some ls) (are_lawful t ls) h).1
+
+  pub tower_is : is_lawful_tower t ≡ true
+  tower_is = (both_true (is_lawful_tower t) (is_some ls) front).0
+
+  pub some_limb : 0 < length ls
+  some_limb = has_one ls (both_true (is_lawful_tower t) (is_some ls) front).1
+
+  pub limbs_lawful : AreLawfulLimbs ls
+  limbs_lawful = (both_true (are_lawful_after [] ls) (list_all (has_fit t) ls) back).0
+
+  pub limbs_fit_tower : list_all (has_fit t) ls ≡ true
+  limbs_fit_tower = (both_true (are_lawful_after [] ls) (list_all (has_fit t) ls) back).1

@@ -1,4 +1,4 @@
--- What the program comes to, from what its parts come to.
+-- How the program ends, given how its parts end.
 use Rattle.std.proofs.Common.{◌≡◌, ◌≤◌, ◌⊎◌, Bor, Bool, true, false, List, ℕ, Option, Some, None, Result, Ok, Err, OnOk, inl, inr, refl, sym, ap, subst, true≢false}
 use Rattle.std.specs.Prelude.{⊤, IfErr, option_map}
 use Rattle.std.specs.Option.{is_some}
@@ -12,11 +12,13 @@ use Rattle.towerbench.specs.declared.fault.ProgramFault.TheVariants.{Source, Run
 use Rattle.towerbench.specs.declared.ending.Ending.{Ending}
 use Rattle.towerbench.specs.declared.ending.Ending.TheVariants.{Done, Refused, Faulted}
 use Rattle.command_line.specs.CommandLine.{Says, AsksHelp}
+use Rattle.tower_file.specs.declared.bench.BenchFile.{BenchFile}
+use Rattle.tower_file.specs.Said.{as_bench}
 use Rattle.tower_file.specs.Benches.{Bench}
 use Rattle.towerbench.specs.declared.fault.Fault.{Fault}
 use Rattle.towerbench.specs.declared.fault.Fault.TheVariants as fault
-use Rattle.towerbench.specs.Opening.{opened, FailsOver, IsDone, IsUnopened}
-use Rattle.towerbench.specs.Endings.{ending_of, FailsBy, IsLacking, WorksOut, RunsBy, IsPrinted, EndsBy}
+use Rattle.towerbench.specs.Opening.{opened_bench, FailsOver, IsDone, IsUnopened}
+use Rattle.towerbench.specs.Endings.{ending_of, FailsBy, IsLacking, WorksOut, RunsBy, IsPrinted, ProgramEndsBy}
 use Rattle.towerbench.proofs.Opened.{over_open, unopened}
 
 some_none : {A : Type 0} {s : A} → Some s ≡ None → ⊥
@@ -27,23 +29,25 @@ is_named None = refl
 is_named (Some p) = refl
 
 module _ (old now before after : Option (List ℕ)) where
-  module _ (saves : Bool) (bytes : Option (List ℕ)) (limits : Limits) (b : Bench) (is : opened bytes ≡ Ok b) where
-    -- a fault over what was opened
+  module _ (saves : Bool) (bytes : Option (List ℕ)) (limits : Limits) (b : Bench) (is : opened_bench bytes ≡ Ok b) where
+    -- a fault of a run over what was opened is one of the program's run
     pub failed : (x : Fault) → FailsOver saves limits b old now before after x → FailsBy saves bytes limits old now before after x
     failed (fault.File e) h = absurd h
     failed (fault.Refused r) h = over_open saves bytes limits old now before after b is (fault.Refused r) h
-    failed (fault.Stream e) h = over_open saves bytes limits old now before after b is (fault.Stream e) h
+    failed fault.Read h = over_open saves bytes limits old now before after b is fault.Read h
+    failed fault.Write h = over_open saves bytes limits old now before after b is fault.Write h
+    failed fault.TooLong h = over_open saves bytes limits old now before after b is fault.TooLong h
+    failed fault.Memory h = over_open saves bytes limits old now before after b is fault.Memory h
     failed fault.Save h = absurd h
-    failed fault.Memory h = (h.0, (b, (is, h.1)))
 
     module _ (named : Bool) (read : is_some bytes ≡ named) where
-      -- a run that ended, and what it comes to
+      -- how the program ends, given the result of its run
       pub worked : (r : Result ⊤ Fault) (ending : Ending) → ending ≡ ending_of r → OnOk r (IsDone limits b old now before after)
           → IfErr r (FailsBy saves bytes limits old now before after) → WorksOut named limits saves old now before after ending
       worked (Ok done) ending e h f = subst (WorksOut named limits saves old now before after) (sym e) (bytes, read, (b, (is, h)))
       worked (Err x) ending e h f = subst (WorksOut named limits saves old now before after) (sym e) (bytes, read, f)
 
-      -- what was saved behind a run that ended well, or wasn't
+      -- how the program ends after a run that ended well, given the result of saving
       pub saved : (r : Result ⊤ Fault) (ending : Ending) → ending ≡ ending_of r → saves ≡ true → IsDone limits b old now before after
           → IfErr r (λ x. (x ≡ fault.Save) ⊎ (x ≡ fault.Memory)) → WorksOut named limits saves old now before after ending
       saved (Ok done) ending e s h f = subst (WorksOut named limits saves old now before after) (sym e) (bytes, read, (b, (is, h)))
@@ -52,25 +56,34 @@ module _ (old now before after : Option (List ℕ)) where
           (bytes, read, subst (FailsBy saves bytes limits old now before after) (sym f) (s, (b, (is, h))))
       saved (Err x) ending e s h (inr f) =
           subst (WorksOut named limits saves old now before after) (sym e)
-          (bytes, read, subst (FailsBy saves bytes limits old now before after) (sym f) (s, (b, (is, h))))
+          (bytes, read, subst (FailsBy saves bytes limits old now before after) (sym f) (b, (is, inr (s, h))))
 
-  -- over what is set up
-  module _ (b set : Bench) (options given : Options) (same_bench : set ≡ b) (same_options : given ≡ options) where
-    pub done_over : IsDone (limits_of given) set old now before after → IsDone (limits_of options) b old now before after
+  -- a run over what is set up
+  module _ (read set_up : BenchFile) (options given : Options) (same_bench : set_up ≡ read) (same_options : given ≡ options) where
+    pub done_over : IsDone (limits_of given) (as_bench set_up) old now before after → IsDone (limits_of options) (as_bench read) old now before after
     done_over h =
-        let there = subst (λ o. IsDone (limits_of o) set old now before after) same_options h in
-        subst (λ s. IsDone (limits_of options) s old now before after) same_bench there
+        let there = subst (λ o. IsDone (limits_of o) (as_bench set_up) old now before after) same_options h in
+        subst (λ s. IsDone (limits_of options) (as_bench s) old now before after) same_bench there
 
-    -- a run that saves nothing, and what it comes to
-    pub worked_over : {A : Type 0} (save : Option A) (named : Bool) (bytes : Option (List ℕ)) (r : Result ⊤ Fault) (ending : Ending) → save ≡ None → is_some bytes ≡ named → opened bytes ≡ Ok b → ending ≡ ending_of r
-        → OnOk r (IsDone (limits_of given) set old now before after) → IfErr r (FailsOver false (limits_of given) set old now before after)
+    -- how the program ends after a run that saves nothing
+    pub worked_over : {A : Type 0} (save : Option A) (named : Bool) (bytes : Option (List ℕ)) (r : Result ⊤ Fault) (ending : Ending) → save ≡ None → is_some bytes ≡ named → opened_bench bytes ≡ Ok (as_bench read) → ending ≡ ending_of r
+        → OnOk r (IsDone (limits_of given) (as_bench set_up) old now before after) → IfErr r (FailsOver false (limits_of given) (as_bench set_up) old now before after)
         → WorksOut named (limits_of options) (is_some save) old now before after ending
-    worked_over (Some s) named bytes r ending none read is e h f = absurd (some_none none)
-    worked_over None named bytes (Ok done) ending none read is e h f = worked false bytes (limits_of options) b is named read (Ok done) ending e (done_over h) tt
-    worked_over None named bytes (Err x) ending none read is e h f =
-        let there = subst (λ o. FailsOver false (limits_of o) set old now before after x) same_options f in
-        let fails = subst (λ s. FailsOver false (limits_of options) s old now before after x) same_bench there in
-        worked false bytes (limits_of options) b is named read (Err x) ending e tt (failed false bytes (limits_of options) b is x fails)
+    worked_over (Some s) named bytes r ending none has is e h f = absurd (some_none none)
+    worked_over None named bytes (Ok done) ending none has is e h f = worked false bytes (limits_of options) (as_bench read) is named has (Ok done) ending e (done_over h) tt
+    worked_over None named bytes (Err x) ending none has is e h f =
+        let there = subst (λ o. FailsOver false (limits_of o) (as_bench set_up) old now before after x) same_options f in
+        let fails = subst (λ s. FailsOver false (limits_of options) (as_bench s) old now before after x) same_bench there in
+        worked false bytes (limits_of options) (as_bench read) is named has (Err x) ending e tt (failed false bytes (limits_of options) (as_bench read) is x fails)
+
+    -- how the program ends if the run fails and its branches were to be saved
+    pub failed_over : (saves named : Bool) (bytes : Option (List ℕ)) (x : Fault) (ending : Ending) → saves ≡ true → is_some bytes ≡ named → opened_bench bytes ≡ Ok (as_bench read) → ending ≡ ending_of (Err x)
+        → FailsOver true (limits_of given) (as_bench set_up) old now before after x → WorksOut named (limits_of options) saves old now before after ending
+    failed_over saves named bytes x ending s has is e f =
+        let there = subst (λ o. FailsOver true (limits_of o) (as_bench set_up) old now before after x) same_options f in
+        let fails = subst (λ b. FailsOver true (limits_of options) (as_bench b) old now before after x) same_bench there in
+        subst (λ (saves : Bool). WorksOut named (limits_of options) saves old now before after ending) (sym s)
+        (worked true bytes (limits_of options) (as_bench read) is named has (Err x) ending e tt (failed true bytes (limits_of options) (as_bench read) is x fails))
 
   module _ (words : List Text) where
     runs : (ending : Ending) (file : Option (Bor Text)) (options : Options) (save : Option (Bor Text)) → Says words (option_map (λ p. p.now) file) options (option_map (λ p. p.now) save)
@@ -91,7 +104,7 @@ module _ (old now before after : Option (List ℕ)) where
     )
 
     pub ended : (ending : Ending) (file : Option (Bor Text)) (options : Options) (save : Option (Bor Text)) → Says words (option_map (λ p. p.now) file) options (option_map (λ p. p.now) save)
-        → WorksOut (is_some file) (limits_of options) (is_some save) old now before after ending → EndsBy words old now before after ending
+        → WorksOut (is_some file) (limits_of options) (is_some save) old now before after ending → ProgramEndsBy words old now before after ending
     ended Done file options save says h = inr (runs Done file options save says h)
     ended (Refused text) file options save says h = absurd h
     ended (Faulted (Source x)) file options save says h = runs (Faulted (Source x)) file options save says h
@@ -99,7 +112,7 @@ module _ (old now before after : Option (List ℕ)) where
     ended (Faulted Help) file options save says h = absurd h
     ended (Faulted Memory) file options save says h = absurd h
 
-    pub helped : (ending : Ending) → AsksHelp words → now ≡ old → IsPrinted before after ending → EndsBy words old now before after ending
+    pub helped : (ending : Ending) → AsksHelp words → now ≡ old → IsPrinted before after ending → ProgramEndsBy words old now before after ending
     helped Done asks e h = inl (asks, e, h)
     helped (Refused text) asks e h = absurd h
     helped (Faulted (Source x)) asks e h = absurd h
@@ -107,7 +120,7 @@ module _ (old now before after : Option (List ℕ)) where
     helped (Faulted Help) asks e h = (asks, e, h)
     helped (Faulted Memory) asks e h = absurd h
 
--- where there is nothing to run over
+-- how the program ends if there are no branches to work on
 pub lacking : (named saves : Bool) (limits : Limits) (some : 1 ≤ limits.branches) (old before : Option (List ℕ)) (x : ProgramFault) → IsLacking named x
     → WorksOut named limits saves old old before before (Faulted x)
 lacking named saves limits some old before (Source e) h = (h, (refl, refl))
@@ -116,14 +129,16 @@ lacking named saves limits some old before (Run e) h = (h.0, h.1, by e h.2)
     by : (e : Fault) → IsUnopened h.0 e → FailsBy saves h.0 limits old old before before e
     by (fault.File e) h = unopened saves _ limits some old before (fault.File e) h
     by (fault.Refused r) h = unopened saves _ limits some old before (fault.Refused r) h
-    by (fault.Stream e) h = absurd h
-    by fault.Save h = absurd h
+    by fault.Read h = absurd h
+    by fault.Write h = absurd h
+    by fault.TooLong h = absurd h
     by fault.Memory h = absurd h
+    by fault.Save h = absurd h
 lacking named saves limits some old before Help h = absurd h
 lacking named saves limits some old before Memory h = absurd h
 
--- a fault of what is opened, handed on
-pub lacks : (named : Bool) (bytes : Option (List ℕ)) (r : Result Bench ProgramFault) (Is : ProgramFault → Type 0) (e : Fault) → IsErrAnd r Is → ((x : ProgramFault) → Is x → x ≡ Run e)
+-- a call that passes on a fault of opening has no branches to work on
+pub lacks : (named : Bool) (bytes : Option (List ℕ)) (r : Result BenchFile ProgramFault) (Is : ProgramFault → Type 0) (e : Fault) → IsErrAnd r Is → ((x : ProgramFault) → Is x → x ≡ Run e)
     → is_some bytes ≡ named → IsUnopened bytes e → IfErr r (IsLacking named)
 lacks named bytes (Ok b) Is e k same read h = tt
 lacks named bytes (Err x) Is e k same read h = subst (IsLacking named) (sym (same x k)) (bytes, read, h)

@@ -1,5 +1,5 @@
--- Worked examples of the definitions by which something is there: one that holds, and a near miss.
-use Rattle.std.proofs.Common.{ℕ, ◌≡◌, true, false, true≢false, List, [], ◌∷◌, Option, Some, None, Ok, Err, slice_index_or, ap, refl, sym, ◌∙◌, arith}
+-- Worked examples of definitions that state an existence: one that holds, and a near miss.
+use Rattle.std.proofs.Common.{ℕ, ◌≡◌, true, false, inr, List, [], ◌∷◌, Option, Some, None, Ok, Err, slice_index_or, ap, refl, sym, ◌∙◌, arith}
 use Rattle.std.specs.Fmt.{digits}
 use Rattle.clap.specs.Faults.{walk_fault, defaults_fault}
 use Rattle.schedule_trie.specs.declared.limits.Limits.{Limits}
@@ -12,15 +12,15 @@ use Rattle.tower_file.specs.Benches.{Bench}
 use Rattle.tower_file.specs.BenchSpelling.{bench_spelling}
 use Rattle.tower_file.proofs.Again.{reading_again}
 use Rattle.command_line.specs.CommandLine.{Says, default_options}
-use Rattle.command_line.specs.Ranges.{AreLimits, limits_of}
+use Rattle.command_line.specs.Ranges.{AreOptionsInRange, limits_of}
 use Rattle.towerbench.specs.declared.fault.Fault.TheVariants as fault
 use Rattle.towerbench.specs.declared.fault.ProgramFault.TheVariants.{Memory}
 use Rattle.towerbench.specs.declared.ending.Ending.{Ending}
 use Rattle.towerbench.specs.declared.ending.Ending.TheVariants.{Done, Refused, Faulted}
 use Rattle.towerbench.specs.Opening.{one_branch, IsDone, Ran, AreSound, FailsOpen, RanLeaving, RanSaving, SavesInto}
-use Rattle.towerbench.specs.Endings.{WorksOut, RunsBy, IsPrinted, EndsBy, status_of}
+use Rattle.towerbench.specs.Endings.{WorksOut, RunsBy, IsPrinted, ProgramEndsBy, exit_status}
 
--- a safe bit at 0 with one branch of no steps, as where no file is named
+-- a safe bit at 0 with one branch without steps, as without a file
 abbrev bench : Bench
 bench = one_branch (Safe 0) []
 
@@ -70,13 +70,13 @@ AreSound-fails h = no_file _ h.0 (reading_again _ h.0 h.1)
     no_file : (e : FileFault) (f : File) → Err e ≡ Ok f → ⊥
     no_file e f is = cc
 
--- there was no memory to tell of the branches that a run left
+-- there was no memory to report the branches that a run left
 FailsOpen-holds : FailsOpen true None limits empty empty empty empty fault.Memory
-FailsOpen-holds = (bench, (refl, (refl, done)))
+FailsOpen-holds = (bench, (refl, inr (refl, done)))
 
--- nothing is to be told
-FailsOpen-fails : FailsOpen false None limits empty empty empty empty fault.Memory → ⊥
-FailsOpen-fails h = true≢false (sym h.1.1.0)
+-- a save that failed isn't a fault of this kind
+FailsOpen-fails : FailsOpen true None limits empty empty empty empty fault.Save → ⊥
+FailsOpen-fails h = h.1.1
 
 -- an empty script leaves the branches as they were opened
 RanLeaving-holds : RanLeaving None limits (bench_spelling bench) empty empty empty empty
@@ -86,22 +86,22 @@ RanLeaving-holds = leaving
 RanLeaving-fails : RanLeaving None limits (bench_spelling bench) one_byte one_byte empty empty → ⊥
 RanLeaving-fails h = some_left h.leaves.done.answered.ended
 
--- these branches are saved
+-- the bytes of these branches are saved
 RanSaving-holds : RanSaving None limits empty empty empty empty empty (Some (bench_spelling bench))
 RanSaving-holds = (bench_spelling bench, leaving, refl)
 
--- nothing is saved of a run that ended well
+-- nothing was saved, although the run ended well
 RanSaving-fails : RanSaving None limits empty empty empty empty empty empty → ⊥
 RanSaving-fails h = no_bench h.0 h.1.left (h.1.spells.spelled) h.2
   where
     no_bench : (bytes : List ℕ) (left : Bench) → bytes ≡ bench_spelling left → [] ≡ bytes → ⊥
     no_bench bytes left spelled none = let e : 7 ≡ 98 = ap (λ bytes. slice_index_or bytes 0 7) (none ∙ spelled) in omega (arith, e)
 
--- a write to what they are saved to failed at once
+-- the first write to the saver failed
 SavesInto-holds : SavesInto None limits empty empty empty empty empty empty fault.Save
 SavesInto-holds = (bench_spelling bench, leaving, ([], (bench_spelling bench, refl), refl))
 
--- a byte of the script was not read before
+-- a save failed, although a byte of the script was not read before
 SavesInto-fails : SavesInto None limits one_byte one_byte empty empty empty empty fault.Save → ⊥
 SavesInto-fails h = some_left h.1.leaves.done.answered.ended
 
@@ -118,7 +118,7 @@ RunsBy-holds : RunsBy [] empty empty empty empty Done
 unfolding walk_fault defaults_fault
 RunsBy-holds = (None, (default_options, (None, (says, (None, refl, (bench, (refl, done)))))))
   where
-    in_ranges : AreLimits default_options
+    in_ranges : AreOptionsInRange default_options
     in_ranges = record {
       few_workers = omega arith;
       some_cells = omega arith;
@@ -134,23 +134,23 @@ RunsBy-holds = (None, (default_options, (None, (says, (None, refl, (bench, (refl
 RunsBy-fails : RunsBy [] one_byte one_byte empty empty Done → ⊥
 RunsBy-fails h = some_left h.1.1.1.1.2.1.1.answered.ended
 
--- the byte 2 was written behind 1
+-- the byte 2 was written after 1
 IsPrinted-holds : IsPrinted (Some (1 ∷ [])) (Some (1 ∷ 2 ∷ [])) Done
 IsPrinted-holds = (2 ∷ [], refl)
 
--- the byte 2 came in the place of 1
+-- the byte 2 was written instead of 1
 IsPrinted-fails : IsPrinted (Some (1 ∷ [])) (Some (2 ∷ [])) Done → ⊥
 IsPrinted-fails h = let e : 2 ≡ 1 = ap (λ bytes. slice_index_or bytes 0 7) h.1 in omega (arith, e)
 
 -- there was no memory to read the words: status 1
-tool-holds : (ending : Ending) × EndsBy [] empty empty empty empty ending × (1 ≡ status_of ending)
+tool-holds : (ending : Ending) × ProgramEndsBy [] empty empty empty empty ending × (1 ≡ exit_status ending)
 tool-holds = (Faulted Memory, (refl, refl), refl)
 
 -- no end has the status 3
-tool-fails : (ending : Ending) × EndsBy [] empty empty empty empty ending × (3 ≡ status_of ending) → ⊥
+tool-fails : (ending : Ending) × ProgramEndsBy [] empty empty empty empty ending × (3 ≡ exit_status ending) → ⊥
 tool-fails h = by h.0 h.2
   where
-    by : (ending : Ending) → 3 ≡ status_of ending → ⊥
+    by : (ending : Ending) → 3 ≡ exit_status ending → ⊥
     by Done e = omega (arith, e)
     by (Refused text) e = omega (arith, e)
     by (Faulted e) is = omega (arith, is)

@@ -15,9 +15,9 @@ use Rattle.script.specs.declared.call.Line.{Line}
 use Rattle.script.specs.declared.call.Line.TheVariants as line
 use Rattle.script.specs.Lines.{read_line}
 use Rattle.script.specs.Answers.{answer_line, answer_call, answer_to, performed}
-use Rattle.conversation.specs.Scripts.{Marks, Progress, after_lines, beginning, next_line}
+use Rattle.conversation.specs.Scripts.{Marks, ScriptProgress, after_lines, beginning, next_line}
 
--- a world on the tower and within the limits of another
+-- world v has the tower and the limits of world w
 pub record IsOn {P : Type 0} (w v : World P) : Type 0 where
   pub tower : v.tower ≡ w.tower
   pub limits : v.limits ≡ w.limits
@@ -68,7 +68,7 @@ module _ {P : Type 0} where
   by_line memory n line.Bad w = same w
   by_line memory n (line.Call c) w = by_call memory c w
 
-  by_lines : (marks : Marks) (lines : List (List ℕ)) (p : Progress (World P)) → IsOn p.world (fold (next_line answer_line marks) p lines).world
+  by_lines : (marks : Marks) (lines : List (List ℕ)) (p : ScriptProgress (World P)) → IsOn p.world (fold (next_line answer_line marks) p lines).world
   by_lines marks [] p = same p.world
   by_lines marks (text ∷ lines) p =
       let q = next_line answer_line marks p text in

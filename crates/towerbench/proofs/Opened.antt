@@ -1,5 +1,5 @@
--- What a run over a file comes to, from what one over the tower and the branches that it says comes to.
-use Rattle.std.proofs.Common.{◌≡◌, ◌≤◌, ℕ, Bool, true, false, cond, nat_lt, arith, refl, List, [], Option, Result, Ok, Err, subst, sym, ap, ◌∙◌, inr}
+-- How a run of the program over a file ends, given how one over the file's tower and branches ends.
+use Rattle.std.proofs.Common.{◌≡◌, ◌≤◌, ℕ, Bool, true, false, cond, nat_lt, arith, refl, List, [], Option, Result, Ok, Err, subst, sym, ap, ◌∙◌, inl, inr}
 use Rattle.std.specs.Prelude.{⊤, IfErr, IsOk}
 use Rattle.std.specs.declared.alloc.Global.{Global}
 use Rattle.std.specs.declared.vec.Vec.{Vec}
@@ -30,38 +30,31 @@ use Rattle.schedule_trie.specs.declared.limits.TheConstants.{MOST_CELLS_MADE}
 use Rattle.sessions.specs.World.{World}
 use Rattle.script.specs.Answers.{answer_line}
 use Rattle.conversation.specs.declared.fault.StreamFault.{StreamFault}
+use Rattle.conversation.specs.declared.fault.StreamFault.TheVariants as stream
+use Rattle.towerbench.specs.Streams.{of_stream}
+use Rattle.tower_file.specs.Said.{as_bench}
+use Rattle.tower_file.specs.declared.bench.BenchFile.{BenchFile}
+use Rattle.command_line.specs.declared.options.Options.{Options}
 use Rattle.conversation.specs.Scripts.{answers_to, lines_of}
 use Rattle.conversation.specs.Conversations.{Breaks, Leaves}
 use Rattle.command_line.specs.Ranges.{limits_of}
 use Rattle.towerbench.specs.declared.opening.Opening.{Opening}
-use Rattle.towerbench.specs.Opening.{Course, course_on, IsBroken, IsLeft}
+use Rattle.towerbench.specs.Opening.{Course, course_on, IsBroken, IsLeftBench}
 use Rattle.towerbench.proofs.Grounds.{IsOn, ground_kept}
-use Rattle.towerbench.specs.Opening.{bench_in, one_branch, opened, opening, course_from, course_of, FailsOver, EndsOver, IsDone, IsUnopened, RanInto, SavesInto}
+use Rattle.towerbench.specs.Opening.{bench_in, one_branch, opened_bench, opening_of_limbs, course_from, course_of, FailsOver, EndsOver, IsDone, IsUnopened, RanInto, SavesInto}
 use Rattle.towerbench.specs.Openings.{Builds, CanOpen, opening_world}
 
--- a fault of a tower file is that of what it says
-pub fails_so : (k : FaultKind) (e : FileFault) (r : Result File FileFault) → Fails k e r → Fails k e (r >>= λ f. Ok (bench_in f))
-fails_so kind.NotAscii e r h = ap (λ x. x >>= λ f. Ok (bench_in f)) h
-fails_so kind.BadHeader e r h = ap (λ x. x >>= λ f. Ok (bench_in f)) h
-fails_so kind.UnknownTower e r h = ap (λ x. x >>= λ f. Ok (bench_in f)) h
-fails_so kind.BadField e r h = ap (λ x. x >>= λ f. Ok (bench_in f)) h
-fails_so kind.BadStep e r h = ap (λ x. x >>= λ f. Ok (bench_in f)) h
-fails_so kind.BadSize e r h = ap (λ x. x >>= λ f. Ok (bench_in f)) h
-fails_so kind.BadBranch e r h = ap (λ x. x >>= λ f. Ok (bench_in f)) h
-fails_so kind.Tangled e r h = ap (λ x. x >>= λ f. Ok (bench_in f)) h
-fails_so kind.Memory e r h = h
-
--- a register that is a tower's behaviour builds it
+-- a register that behaves as a tower does builds that tower
 pub builds_as : {R P : Type 0} (is : R → Behaviour P) (register : R) (value init : ℕ) (b : Behaviour P) (given tower : TowerSpec) → is register ≡ b → value ≡ init → tower ≡ given
-    → ((s : Step) → fits tower s ≡ fits_step b s) → ((limits : Limits) (ls : List Limb) → course_of tower limits ls ≡ course_from (opening b init limits ls))
+    → ((s : Step) → fits tower s ≡ fits_step b s) → ((limits : Limits) (ls : List Limb) → course_of tower limits ls ≡ course_from (opening_of_limbs b init limits ls))
     → Builds is register value given
 builds_as is register value init b given tower register_is value_is tower_is alike course =
     record {
       alike = λ s. ap (λ t. fits t s) (sym tower_is) ∙ alike s ∙ ap (λ x. fits_step x s) (sym register_is);
-      course = λ limits ls. ap (λ t. course_of t limits ls) (sym tower_is) ∙ course limits ls ∙ ap (λ n. course_from (opening b n limits ls)) (sym value_is) ∙ ap (λ x. course_from (opening x value limits ls)) (sym register_is);
+      course = λ limits ls. ap (λ t. course_of t limits ls) (sym tower_is) ∙ course limits ls ∙ ap (λ n. course_from (opening_of_limbs b n limits ls)) (sym value_is) ∙ ap (λ x. course_from (opening_of_limbs x value limits ls)) (sym register_is);
     }
 
--- one branch of no steps is within all limits
+-- one branch without steps is within all limits
 pub none_within : (limits : Limits) → 1 ≤ limits.branches → loaded limits (one_branch (Safe 0) []).limbs ≡ Ok (forest_of (one_branch (Safe 0) []).limbs)
 none_within limits some = by (nat_lt limits.cells 0) (nat_lt limits.branches 1) refl refl
   where
@@ -71,34 +64,38 @@ none_within limits some = by (nat_lt limits.cells 0) (nat_lt limits.branches 1) 
     by false true e f = absurd (grind (arith, nat_tests))
     by false false e f = refl
 
-module _ (tells : Bool) (file : Option (List ℕ)) (limits : Limits) where
-  -- where nothing is opened, nothing is read or written
-  pub unopened : (some : 1 ≤ limits.branches) (old before : Option (List ℕ)) (x : Fault) → IsUnopened file x → RanInto tells file limits old old before before x
+module _ (reports : Bool) (file : Option (List ℕ)) (limits : Limits) where
+  -- if nothing is opened, nothing is read or written
+  pub unopened : (some : 1 ≤ limits.branches) (old before : Option (List ℕ)) (x : Fault) → IsUnopened file x → RanInto reports file limits old old before before x
   unopened some old before (fault.File e) h = (h, (refl, refl))
   unopened some old before (fault.Refused r) h =
-      let none : opened file ≡ Ok (one_branch (Safe 0) []) = ap opened h.0 in
+      let none : opened_bench file ≡ Ok (one_branch (Safe 0) []) = ap opened_bench h.0 in
       let memory : IsRefused (loaded limits (one_branch (Safe 0) []).limbs) r = inr (h.1, subst IsOk (sym (none_within limits some)) refl) in
       (one_branch (Safe 0) [], (none, (memory, (refl, refl))))
-  unopened some old before (fault.Stream e) h = absurd h
-  unopened some old before fault.Save h = absurd h
+  unopened some old before fault.Read h = absurd h
+  unopened some old before fault.Write h = absurd h
+  unopened some old before fault.TooLong h = absurd h
   unopened some old before fault.Memory h = absurd h
+  unopened some old before fault.Save h = absurd h
 
-  -- and the fault is handed on
+  -- if nothing is opened, a call that passes the fault on ends as such a run of the program does
   pub unopened_so : (some : 1 ≤ limits.branches) (old before : Option (List ℕ)) (r : Result ⊤ Fault) (Is : Fault → Type 0) (e : Fault) → IsErrAnd r Is → ((x : Fault) → Is x → x ≡ e)
-      → IsUnopened file e → IfErr r (RanInto tells file limits old old before before)
+      → IsUnopened file e → IfErr r (RanInto reports file limits old old before before)
   unopened_so some old before (Ok done) Is e k same h = tt
   unopened_so some old before (Err x) Is e k same h = unopened some old before x (subst (IsUnopened file) (sym (same x k)) h)
 
-  module _ (old now before after : Option (List ℕ)) (b : Bench) (is : opened file ≡ Ok b) where
-    -- a fault over what a file says is one over the file
-    pub over_open : (x : Fault) → FailsOver tells limits b old now before after x → RanInto tells file limits old now before after x
+  module _ (old now before after : Option (List ℕ)) (b : Bench) (is : opened_bench file ≡ Ok b) where
+    -- a fault of a run over a file's tower and branches is a fault of a run over the file
+    pub over_open : (x : Fault) → FailsOver reports limits b old now before after x → RanInto reports file limits old now before after x
     over_open (fault.File e) h = absurd h
     over_open (fault.Refused r) h = (b, (is, h))
-    over_open (fault.Stream e) h = (b, (is, h))
-    over_open fault.Save h = absurd h
+    over_open fault.Read h = (b, (is, h))
+    over_open fault.Write h = (b, (is, h))
+    over_open fault.TooLong h = (b, (is, h))
     over_open fault.Memory h = (b, (is, h))
+    over_open fault.Save h = absurd h
 
--- where nothing is opened, nothing is saved
+-- if nothing is opened, nothing is saved
 pub unsaved : (file : Option (List ℕ)) (limits : Limits) (some : 1 ≤ limits.branches) (old before kept : Option (List ℕ)) (r : Result ⊤ Fault) (Is : Fault → Type 0) (e : Fault) → IsErrAnd r Is
     → ((x : Fault) → Is x → x ≡ e) → IsUnopened file e → IfErr r (SavesInto file limits old old before before kept kept)
 unsaved file limits some old before kept (Ok done) Is e k same h = tt
@@ -107,29 +104,54 @@ unsaved file limits some old before kept (Err x) Is e k same h = by x (subst (Is
     by : (x : Fault) → IsUnopened file x → SavesInto file limits old old before before kept kept x
     by (fault.File e) h = (unopened true file limits some old before (fault.File e) h, refl)
     by (fault.Refused r) h = (unopened true file limits some old before (fault.Refused r) h, refl)
-    by (fault.Stream e) h = absurd h
-    by fault.Save h = absurd h
+    by fault.Read h = absurd h
+    by fault.Write h = absurd h
+    by fault.TooLong h = absurd h
     by fault.Memory h = absurd h
+    by fault.Save h = absurd h
 
--- a run that has ended well is done
+-- if a run fails, nothing is saved
+pub unsaved_over : (read set_up : BenchFile) (options given : Options) (same_bench : set_up ≡ read) (same_options : given ≡ options) (file : Option (List ℕ)) (old now before after kept : Option (List ℕ))
+    (is : opened_bench file ≡ Ok (as_bench read)) (r : Result ⊤ Fault) (Is : Fault → Type 0) (e : Fault) → IsErrAnd r Is → ((x : Fault) → Is x → x ≡ e)
+    → FailsOver true (limits_of given) (as_bench set_up) old now before after e → IfErr r (SavesInto file (limits_of options) old now before after kept kept)
+unsaved_over read set_up options given same_bench same_options file old now before after kept is (Ok done) Is e k same h = tt
+unsaved_over read set_up options given same_bench same_options file old now before after kept is (Err x) Is e k same h =
+    let there = subst (λ o. FailsOver true (limits_of o) (as_bench set_up) old now before after e) same_options h in
+    let fails = subst (λ b. FailsOver true (limits_of options) (as_bench b) old now before after e) same_bench there in
+    by x (subst (FailsOver true (limits_of options) (as_bench read) old now before after) (sym (same x k)) fails)
+  where
+    over : (x : Fault) → FailsOver true (limits_of options) (as_bench read) old now before after x → RanInto true file (limits_of options) old now before after x
+    over x f = over_open true file (limits_of options) old now before after (as_bench read) is x f
+
+    by : (x : Fault) → FailsOver true (limits_of options) (as_bench read) old now before after x → SavesInto file (limits_of options) old now before after kept kept x
+    by (fault.File e) f = absurd f
+    by (fault.Refused r) f = (over (fault.Refused r) f, refl)
+    by fault.Read f = (over fault.Read f, refl)
+    by fault.Write f = (over fault.Write f, refl)
+    by fault.TooLong f = (over fault.TooLong f, refl)
+    by fault.Memory f = (over fault.Memory f, refl)
+    by fault.Save f = absurd f
+
+-- a run that ended well with some bytes is done
 module _ (limits : Limits) (b : Bench) (old now before after : Option (List ℕ)) where
-  pub done : (tells : Bool) (bytes : Vec ℕ Global) → EndsOver tells limits b old now before after (Ok bytes) → IsDone limits b old now before after
-  done tells bytes h = h.1.done
+  pub done : (reports : Bool) (bytes : Vec ℕ Global) → EndsOver reports limits b old now before after (Ok bytes) → IsDone limits b old now before after
+  done reports bytes h = h.1.done
 
--- What a run from an opening comes to, by what was answered at its desk from the world before the first line on.
+-- How a run from an opening ends, given what was answered at its desk from the world before the
+-- first line.
 module _ {R P : Type 0} (is : R → Behaviour P) (o : Opening R) (can : CanOpen is o) (w : World P) (at : w ≡ opening_world is o) where
   abbrev limits_at : Limits
   limits_at = limits_of o.setup.options
 
-  course_is : course_on o.setup.bench limits_at ≡ course_from w
+  course_is : course_on (as_bench o.setup.bench) limits_at ≡ course_from w
   course_is = can.builds.course limits_at o.setup.bench.limbs ∙ ap course_from (sym at)
 
   module _ (old now before after : Option (List ℕ)) (room : loaded limits_at o.setup.bench.limbs ≡ Ok (forest_of o.setup.bench.limbs)) where
-    pub broken_at : (e : StreamFault) → Breaks (answers_to answer_line w) e old now before after → IsBroken limits_at o.setup.bench e old now before after
+    pub broken_at : (e : StreamFault) → Breaks (answers_to answer_line w) e old now before after → IsBroken limits_at (as_bench o.setup.bench) e old now before after
     broken_at e h = record { room = room; broke = subst (λ (c : Course). Breaks c.answering e old now before after) (sym course_is) h }
 
     module _ (v : World P) (leaves : Leaves answer_line w v old now before after) where
-      pub done_at : IsDone limits_at o.setup.bench old now before after
+      pub done_at : IsDone limits_at (as_bench o.setup.bench) old now before after
       done_at =
           let a = leaves.answered in
           record {
@@ -144,7 +166,7 @@ module _ {R P : Type 0} (is : R → Behaviour P) (o : Opening R) (can : CanOpen 
             };
           }
 
-      pub left_at : (left : Bench) → left ≡ bench_of o.setup.bench.spec (limbs v.forest) → IsLeft limits_at o.setup.bench left old now before after
+      pub left_at : (left : Bench) → left ≡ bench_of o.setup.bench.spec (limbs v.forest) → IsLeftBench limits_at (as_bench o.setup.bench) left old now before after
       unfolding done_at
       left_at left is_left =
           let a = leaves.answered in
@@ -168,8 +190,16 @@ module _ {R P : Type 0} (is : R → Behaviour P) (o : Opening R) (can : CanOpen 
       pub branches_at : v.limits.branches ≤ 1024
       branches_at = subst (λ (l : Limits). l.branches ≤ 1024) (sym (ground.limits ∙ ap (λ (x : World P). x.limits) at)) can.limits.few_branches
 
--- a fault of the streams, handed on
-pub stream_at : (limits : Limits) (b : Bench) (tells : Bool) (old now before after : Option (List ℕ)) (r : Result (Vec ℕ Global) Fault) (Is : Fault → Type 0) (e : StreamFault)
-    → IsErrAnd r Is → ((x : Fault) → Is x → x ≡ fault.Stream e) → IsBroken limits b e old now before after → EndsOver tells limits b old now before after r
-stream_at limits b tells old now before after (Ok bytes) Is e k same h = absurd k
-stream_at limits b tells old now before after (Err x) Is e k same h = subst (FailsOver tells limits b old now before after) (sym (same x k)) h
+-- a fault of the streams
+fails_by : (limits : Limits) (b : Bench) (reports : Bool) (old now before after : Option (List ℕ)) (e : StreamFault) → IsBroken limits b e old now before after
+    → FailsOver reports limits b old now before after (of_stream e)
+fails_by limits b reports old now before after stream.Read h = h
+fails_by limits b reports old now before after stream.Write h = h
+fails_by limits b reports old now before after stream.TooLong h = h
+fails_by limits b reports old now before after stream.Memory h = inl h
+
+-- a call that passes on a fault of the streams ends as such a run of the program does
+pub stream_at : (limits : Limits) (b : Bench) (reports : Bool) (old now before after : Option (List ℕ)) (r : Result (Vec ℕ Global) Fault) (Is : Fault → Type 0) (e : StreamFault)
+    → IsErrAnd r Is → ((x : Fault) → Is x → x ≡ of_stream e) → IsBroken limits b e old now before after → EndsOver reports limits b old now before after r
+stream_at limits b reports old now before after (Ok bytes) Is e k same h = absurd k
+stream_at limits b reports old now before after (Err x) Is e k same h = subst (FailsOver reports limits b old now before after) (sym (same x k)) (fails_by limits b reports old now before after e h)

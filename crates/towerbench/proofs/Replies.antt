@@ -1,4 +1,4 @@
--- What a desk's calls tell a chair that has every share.
+-- What a chair that has every share knows from a desk's calls.
 use Rattle.std.proofs.Common.{◌≡◌, ◌⊎◌, ◌∙◌, ℕ, List, length, Option, Result, Ok, Err, IfOk, OnOk, IfErr, sym, ap, subst, ⊎_elim, inl, inr}
 use Rattle.std.specs.Prelude.{Some}
 use Rattle.frames.specs.Behaviour.{Behaviour}
@@ -10,13 +10,13 @@ use Rattle.sessions.specs.declared.command.Command.{Command}
 use Rattle.sessions.specs.declared.log.Entry.{Entry}
 use Rattle.sessions.specs.declared.reply.Reply.TheVariants.{No}
 use Rattle.sessions.specs.World.{World}
-use Rattle.sessions.specs.Acts.{acted}
+use Rattle.sessions.specs.Acts.{command_result}
 use Rattle.sessions.specs.Held.{Held, opening_of}
-use Rattle.sessions.specs.Looks.{looked, shown_in}
+use Rattle.sessions.specs.Looks.{looked_in, shown_in}
 use Rattle.sessions.specs.Saves.{IsSaved}
 use Rattle.sessions.specs.Logs.{entry, logged, world_after}
 use Rattle.turn.specs.declared.view.View.{View}
-use Rattle.turn.specs.Shares.{HasAll, number}
+use Rattle.turn.specs.Shares.{HasAll, chair_number}
 use Rattle.desk.specs.declared.item.Item.{Item}
 use Rattle.desk.specs.declared.receipt.Receipt.{Receipt}
 use Rattle.desk.specs.declared.receipt.Answer.{Answer}
@@ -31,39 +31,52 @@ module _ {P : Type 0} (w : World P) (query : Query) where
   shown (Ok page) a = a.1
   shown (Err r) a = tt
 
-  pub found : (r : Result Page Refusal) → IsAnswer w query r → OnOk r (looked w query ≡ Ok w.forest)
+  pub found : (r : Result Page Refusal) → IsAnswer w query r → OnOk r (looked_in w query ≡ Ok w.forest)
   found (Ok page) a = a.0
   found (Err r) a = tt
 
-  pub refused : (r : Result Page Refusal) → IsAnswer w query r → IfErr r (λ e. (looked w query ≡ Err e) ⊎ (e ≡ Memory))
+  pub refused : (r : Result Page Refusal) → IsAnswer w query r → IfErr r (λ e. (looked_in w query ≡ Err e) ⊎ (e ≡ Memory))
   refused (Ok page) a = tt
   refused (Err r) a = ⊎_elim (λ h. inl h) (λ h. inr h.0) a
 
 module _ {R P : Type 0} (is : R → Behaviour P) (first : Held R P) (v w : View (Item R P)) where
-  -- a command by a chair that has every share, which has then seen this, does what it does in the world after what the chair had seen
+  -- a command by a chair that has every share acts on the world after the history that the chair
+  -- had seen, and leaves the world after the history that the chair has then seen
   pub received_answers : (who : ℕ) (guard : Option ℕ) (command : Command) (receipt : Receipt) → Received is first who guard command v w receipt → HasAll v.shares
-      → (acted who guard command (world_after (opening_of is first) (seen v)) ≡ record { world = world_after (opening_of is first) (seen w); reply = receipt.reply })
+      → (command_result who guard command (world_after (opening_of is first) (seen v)) ≡ record { world = world_after (opening_of is first) (seen w); reply = receipt.reply })
       ⊎ ((receipt.reply ≡ No Memory) × (world_after (opening_of is first) (seen w) ≡ world_after (opening_of is first) (seen v)))
   received_answers who guard command receipt r all =
       let same : seen v ≡ r.found = sym (r.finds.whole all) in
       rw same (⊎_elim (λ done. inl done)
-      (λ wanting. inr (wanting, ap (world_after (opening_of is first)) (r.sees ∙ ap (λ reply. logged (entry (number v.shares) who guard command reply) r.found) wanting))) r.replies)
+      (λ wanting. inr (wanting, ap (world_after (opening_of is first)) (r.sees ∙ ap (λ reply. logged (entry (chair_number v.shares) who guard command reply) r.found) wanting))) r.replies)
 
-  -- a look by such a chair answers of that world
+  -- a look by such a chair is answered from the world after the history that the chair had seen
   pub looked_answers : (query : Query) (answer : Answer) → Looked is first query v w answer → HasAll v.shares → IsAnswer (world_after (opening_of is first) (seen v)) query answer.result
   looked_answers query answer r all = subst (λ (before : List Entry). IsAnswer (world_after (opening_of is first) before) query answer.result) (r.finds.whole all) r.answers.1
 
-  -- a save by such a chair is of that world
+  -- a save by such a chair saves the branches of that world
   pub saved_limbs : (result : Result Saved Refusal) → SavedFrom is first v w result → HasAll v.shares
-      → IfOk result (λ saved. IsSaved (world_after (opening_of is first) (seen v)) saved.limbs.items)
+      → IfOk result (λ saved. IsSaved (world_after (opening_of is first) (seen v)) saved.limbs)
   saved_limbs result r all = by (length r.found) result (subst (λ (before : List Entry). IsSaving (length r.found) (world_after (opening_of is first) before) result) (r.finds.whole all) r.answers)
     where
       by : (n : ℕ) (result : Result Saved Refusal) → IsSaving n (world_after (opening_of is first) (seen v)) result
-          → IfOk result (λ saved. IsSaved (world_after (opening_of is first) (seen v)) saved.limbs.items)
+          → IfOk result (λ saved. IsSaved (world_after (opening_of is first) (seen v)) saved.limbs)
       by n (Ok saved) h = h.1
       by n (Err e) h = tt
 
-  -- a fill by such a chair finds or lacks its branch in that world
+  -- a fill by such a chair finds its branch in that world, or is refused because the branch isn't
+  -- there
   pub filled_answers : (branch : List ℕ) (result : Result Report Refusal) → Filled is first branch v w result → HasAll v.shares
       → NeedsBranch branch (world_after (opening_of is first) (seen v)) result
   filled_answers branch result f all = subst (λ (before : List Entry). NeedsBranch branch (world_after (opening_of is first) before) result) (f.1.finds.whole all) f.1.answers
+
+  -- a look or a fill by such a chair doesn't change what the chair has seen, and no call changes
+  -- its shares
+  pub looked_sees : (query : Query) (answer : Answer) → Looked is first query v w answer → HasAll v.shares → seen w ≡ seen v
+  looked_sees query answer r all = r.sees ∙ r.finds.whole all
+
+  pub filled_shares : (branch : List ℕ) (result : Result Report Refusal) → Filled is first branch v w result → w.shares ≡ v.shares
+  filled_shares branch result f = f.2.shares ∙ f.1.shares
+
+  pub filled_sees : (branch : List ℕ) (result : Result Report Refusal) → Filled is first branch v w result → HasAll v.shares → seen w ≡ seen v
+  filled_sees branch result f all = f.2.whole (subst HasAll (sym f.1.shares) all) ∙ (f.1.sees ∙ f.1.finds.whole all)

@@ -1,4 +1,4 @@
--- What the program comes to, by what its words ask for.
+-- How the program ends, given what its words ask for.
 use Rattle.std.specs.Prelude.{◌≡◌, ◌⊎◌, ⊤, ℕ, Bool, true, List, Option, Result, Ok, Err}
 use Rattle.std.specs.Option.{is_some}
 use Rattle.std.specs.Io.KnownBytes.{Appends}
@@ -15,32 +15,36 @@ use Rattle.towerbench.specs.declared.ending.Ending.{Ending}
 use Rattle.towerbench.specs.declared.ending.Ending.TheVariants.{Done, Refused, Faulted}
 use Rattle.towerbench.specs.Opening.{IsUnopened, IsUntouched, Ran, RanInto}
 
--- bytes that stand for a file: there are some exactly where one is named
+-- the bytes of the file are given exactly if a file is named
 abbrev pub IsRead : Bool → Option (List ℕ) → Type 0
 IsRead named bytes = is_some bytes ≡ named
 
--- what the program comes to by a run
+-- how the program ends, given the result of its run
 abbrev pub ending_of : Result ⊤ Fault → Ending
 ending_of (Ok done) = Done
 ending_of (Err e) = Faulted (Run e)
 
--- What a run over these bytes, or over none, comes to by a fault. One of saving what is left, where that is asked for, comes behind a
--- run that ended well.
+-- A run of the program over a file of these bytes, or without a file, ends with this fault. If
+-- saving failed, saving was asked for, and the script had ended well.
 abbrev pub FailsBy : Bool → Option (List ℕ) → Limits → Option (List ℕ) → Option (List ℕ) → Option (List ℕ) → Option (List ℕ) → Fault → Type 0
 FailsBy saves bytes limits old now before after (fault.File e) = RanInto saves bytes limits old now before after (fault.File e)
 FailsBy saves bytes limits old now before after (fault.Refused r) = RanInto saves bytes limits old now before after (fault.Refused r)
-FailsBy saves bytes limits old now before after (fault.Stream e) = RanInto saves bytes limits old now before after (fault.Stream e)
+FailsBy saves bytes limits old now before after fault.Read = RanInto saves bytes limits old now before after fault.Read
+FailsBy saves bytes limits old now before after fault.Write = RanInto saves bytes limits old now before after fault.Write
+FailsBy saves bytes limits old now before after fault.TooLong = RanInto saves bytes limits old now before after fault.TooLong
+FailsBy saves bytes limits old now before after fault.Memory = RanInto saves bytes limits old now before after fault.Memory
 FailsBy saves bytes limits old now before after fault.Save = (saves ≡ true) × Ran bytes limits old now before after
-FailsBy saves bytes limits old now before after fault.Memory = (saves ≡ true) × Ran bytes limits old now before after
 
--- why there is nothing to run over: the file that is named can't be read; or it has a fault, or there is no memory for what is opened
+-- Why there are no branches to work on. Either the named file can't be read; or the file has a
+-- fault; or there is no memory for the branches.
 abbrev pub IsLacking : Bool → ProgramFault → Type 0
 IsLacking named (Source e) = named ≡ true
 IsLacking named (Run e) = (bytes : Option (List ℕ)) × IsRead named bytes × IsUnopened bytes e
 IsLacking named Help = ⊥
 IsLacking named Memory = ⊥
 
--- what a run comes to over the file that is named, or over none; a file that can't be read ends it before anything is read or written
+-- How a run of the program over the named file, or without a file, ends. If the file can't be read,
+-- the script isn't read and nothing is written.
 abbrev pub WorksOut : Bool → Limits → Bool → Option (List ℕ) → Option (List ℕ) → Option (List ℕ) → Option (List ℕ) → Ending → Type 0
 WorksOut named limits saves old now before after Done = (bytes : Option (List ℕ)) × IsRead named bytes × Ran bytes limits old now before after
 WorksOut named limits saves old now before after (Refused text) = ⊥
@@ -50,13 +54,14 @@ WorksOut named limits saves old now before after (Faulted (Run e)) =
 WorksOut named limits saves old now before after (Faulted Help) = ⊥
 WorksOut named limits saves old now before after (Faulted Memory) = ⊥
 
--- the words are taken: they name a file or none, and options, and a path to save to or none, and the run over these comes to this
+-- The words are accepted. They give options, and may name a file and a path to save to. With these,
+-- the run of the program ends in this way.
 abbrev pub RunsBy : List Text → Option (List ℕ) → Option (List ℕ) → Option (List ℕ) → Option (List ℕ) → Ending → Type 0
 RunsBy words old now before after ending =
     (file : Option Text) × ((options : Options) × ((save : Option Text)
     × (Says words file options save × WorksOut (is_some file) (limits_of options) (is_some save) old now before after ending)))
 
--- the help went out, or a front of it before a write failed
+-- the help was written, or a prefix of it before a write failed
 abbrev pub IsPrinted : Option (List ℕ) → Option (List ℕ) → Ending → Type 0
 IsPrinted before after Done = (help : List ℕ) × Appends before after help
 IsPrinted before after (Refused text) = ⊥
@@ -65,23 +70,24 @@ IsPrinted before after (Faulted (Source e)) = ⊥
 IsPrinted before after (Faulted (Run e)) = ⊥
 IsPrinted before after (Faulted Memory) = ⊥
 
--- the words ask for the help, and nothing is read
+-- the words ask for the help, nothing is read, and the help is printed
 abbrev pub HelpsBy : List Text → Option (List ℕ) → Option (List ℕ) → Option (List ℕ) → Option (List ℕ) → Ending → Type 0
 HelpsBy words old now before after ending = AsksHelp words × (now ≡ old) × IsPrinted before after ending
 
--- What the program comes to. It is done where the words ask for the help and it was written, or name a file or none and
--- options, and the script was answered over these; the words are refused only where they are wrong; a fault is that of
--- the file, of the run, of saving what it left, of a write of the help, or a want of memory to read the words.
-abbrev pub EndsBy : List Text → Option (List ℕ) → Option (List ℕ) → Option (List ℕ) → Option (List ℕ) → Ending → Type 0
-EndsBy words old now before after Done = HelpsBy words old now before after Done ⊎ RunsBy words old now before after Done
-EndsBy words old now before after (Refused text) = IsWrong words × IsUntouched old now before after
-EndsBy words old now before after (Faulted Help) = HelpsBy words old now before after (Faulted Help)
-EndsBy words old now before after (Faulted Memory) = IsUntouched old now before after
-EndsBy words old now before after (Faulted (Source e)) = RunsBy words old now before after (Faulted (Source e))
-EndsBy words old now before after (Faulted (Run e)) = RunsBy words old now before after (Faulted (Run e))
+-- How the program ends. It is done if the words ask for the help and the help was written, or if
+-- the words are accepted and the script was answered. The words are refused only if they are wrong.
+-- A fault is one of the file, of the run of the program, of saving or of a write of the help, or it
+-- is that there was no memory to read the words.
+abbrev pub ProgramEndsBy : List Text → Option (List ℕ) → Option (List ℕ) → Option (List ℕ) → Option (List ℕ) → Ending → Type 0
+ProgramEndsBy words old now before after Done = HelpsBy words old now before after Done ⊎ RunsBy words old now before after Done
+ProgramEndsBy words old now before after (Refused text) = IsWrong words × IsUntouched old now before after
+ProgramEndsBy words old now before after (Faulted Help) = HelpsBy words old now before after (Faulted Help)
+ProgramEndsBy words old now before after (Faulted Memory) = IsUntouched old now before after
+ProgramEndsBy words old now before after (Faulted (Source e)) = RunsBy words old now before after (Faulted (Source e))
+ProgramEndsBy words old now before after (Faulted (Run e)) = RunsBy words old now before after (Faulted (Run e))
 
--- the exit status
-abbrev pub status_of : Ending → ℕ
-status_of Done = 0
-status_of (Refused text) = 2
-status_of (Faulted e) = 1
+-- the program's exit status
+abbrev pub exit_status : Ending → ℕ
+exit_status Done = 0
+exit_status (Refused text) = 2
+exit_status (Faulted e) = 1

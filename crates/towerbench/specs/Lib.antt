@@ -1,3 +1,4 @@
+pub mod Streams
 pub mod Opening
 pub mod Endings
 pub mod Seats

@@ -1,4 +1,4 @@
--- What a script's desk is opened with, and what a run from there comes to.
+-- What a script's desk is opened with, and how a run of the program at that desk ends.
 use Rattle.std.specs.Prelude.{◌≡◌, ◌<◌, ℕ, Bool, true, false, List, Option, Result}
 use Rattle.std.specs.declared.alloc.Global.{Global}
 use Rattle.std.specs.declared.vec.Vec.{Vec}
@@ -9,35 +9,38 @@ use Rattle.schedule_trie.specs.declared.limb.Limb.{Limb}
 use Rattle.schedule_trie.specs.declared.limits.Limits.{Limits}
 use Rattle.sessions.specs.World.{World}
 use Rattle.tower_file.specs.declared.tower.TowerSpec.{TowerSpec}
+use Rattle.tower_file.specs.Said.{as_bench}
 use Rattle.tower_file.specs.Towers.{fits}
-use Rattle.command_line.specs.Ranges.{AreLimits, limits_of}
+use Rattle.command_line.specs.Ranges.{AreOptionsInRange, limits_of}
 use Rattle.towerbench.specs.declared.fault.Fault.{Fault}
 use Rattle.towerbench.specs.declared.opening.Opening.{Opening}
 use Rattle.towerbench.specs.declared.opening.Setup.{Setup}
-use Rattle.towerbench.specs.declared.opening.Telling.{Telling}
-use Rattle.towerbench.specs.declared.opening.Telling.TheVariants.{Nothing, Branches}
-use Rattle.towerbench.specs.Opening.{opening, course_from, course_of, EndsOver}
+use Rattle.towerbench.specs.declared.opening.Reporting.{Reporting}
+use Rattle.towerbench.specs.declared.opening.Reporting.TheVariants.{Nothing, Branches}
+use Rattle.towerbench.specs.Opening.{opening_of_limbs, course_from, course_of, EndsOver}
 
--- A register at a value is a tower's: the same steps fit it, and scripts come to the same on it.
+-- A register with an initial value is a tower's: the same steps fit both, and scripts have the same
+-- course on both.
 pub record Builds {R P : Type 0} (is : R → Behaviour P) (register : R) (value : ℕ) (t : TowerSpec) : Type 0 where
   pub alike : (s : Step) → fits t s ≡ fits_step (is register) s
-  pub course : (limits : Limits) (ls : List Limb) → course_of t limits ls ≡ course_from (opening (is register) value limits ls)
+  pub course : (limits : Limits) (ls : List Limb) → course_of t limits ls ≡ course_from (opening_of_limbs (is register) value limits ls)
 
--- the value is one of the register's, which is that of the tower, and the limits lie in their ranges
+-- the initial value is one of the register's values, the register is the tower's, and the options
+-- are in their ranges
 pub record CanOpen {R P : Type 0} (is : R → Behaviour P) (o : Opening R) : Type 0 where
   pub value : o.value < (is o.register).values
-  pub limits : AreLimits o.setup.options
+  pub limits : AreOptionsInRange o.setup.options
   pub builds : Builds is o.register o.value o.setup.bench.spec
 
--- the world before the first line
+-- the world before the first line of the script
 abbrev pub opening_world : {R P : Type 0} → (R → Behaviour P) → Opening R → World P
-opening_world is o = opening (is o.register) o.value (limits_of o.setup.options) o.setup.bench.limbs
+opening_world is o = opening_of_limbs (is o.register) o.value (limits_of o.setup.options) o.setup.bench.limbs
 
--- whether what a run left is told
-abbrev pub is_told : Telling → Bool
-is_told Nothing = false
-is_told Branches = true
+-- whether the branches that a run of the program left are to be reported
+abbrev pub is_reported : Reporting → Bool
+is_reported Nothing = false
+is_reported Branches = true
 
--- what a run comes to
-abbrev pub EndsFrom : Setup → Telling → Option (List ℕ) → Option (List ℕ) → Option (List ℕ) → Option (List ℕ) → Result (Vec ℕ Global) Fault → Type 0
-EndsFrom setup telling old now before after result = EndsOver (is_told telling) (limits_of setup.options) setup.bench old now before after result
+-- how a run of the program with this setup ends
+abbrev pub EndsFrom : Setup → Reporting → Option (List ℕ) → Option (List ℕ) → Option (List ℕ) → Option (List ℕ) → Result (Vec ℕ Global) Fault → Type 0
+EndsFrom setup telling old now before after result = EndsOver (is_reported telling) (limits_of setup.options) (as_bench setup.bench) old now before after result

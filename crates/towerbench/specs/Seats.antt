@@ -1,5 +1,11 @@
--- Seats: a desk with a chair that holds every share.
+-- Seats: a desk with a chair of it.
 use Rattle.std.specs.Prelude.{ℕ, ◌≡◌, ◌++◌, Bool, List}
+use Rattle.turn.specs.declared.view.View.{View}
+use Rattle.turn.specs.Shares.{HasAll}
+use Rattle.desk.specs.declared.desk.Desk.{Desk}
+use Rattle.desk.specs.declared.item.Item.{Item}
+use Rattle.desk.specs.Chairs.{book_at_first}
+use Rattle.desk.specs.Histories.{seen}
 use Rattle.conversation.specs.Scripts.{Answered}
 use Rattle.frames.specs.Behaviour.{Behaviour}
 use Rattle.sessions.specs.declared.log.Entry.{Entry}
@@ -7,16 +13,27 @@ use Rattle.sessions.specs.Held.{Held, opening_of}
 use Rattle.sessions.specs.Logs.{world_after}
 use Rattle.sessions.specs.World.{World}
 
--- the book that opened the desk, and the history that the chair has seen
+-- the book that the desk was opened with, the history that the chair has seen, and the chair's
+-- shares
 pub record Seated (R P : Type 0) : Type 0 where
   pub first : Held R P
   pub seen : List Entry
+  pub shares : List Bool
 
--- what lines see and change is the world after that history
+-- the seat of a chair at a desk, given what the chair knows
+abbrev pub seated : {R P : Type 0} → Desk R P → View (Item R P) → Seated R P
+seated desk v = record { first = book_at_first desk; seen = seen v; shares = v.shares }
+
+-- nobody else is at the desk: the chair holds every share
+abbrev pub IsAlone : {R P : Type 0} → Seated R P → Type 0
+IsAlone s = HasAll s.shares
+
+-- the world that lines see and change: the one after the history that the chair has seen
 abbrev pub world_at : {R P : Type 0} → (R → Behaviour P) → Seated R P → World P
 world_at is s = world_after (opening_of is s.first) s.seen
 
--- what is answered, refused memory or not, stands behind what stood before, and this world is left
+-- an answer is added after what was there before, and this world is left; `memory` is whether the
+-- call was refused memory
 pub record AddsAnswer {W : Type 0} (answered : Bool → Answered W) (left : W) (before after : List ℕ) : Type 0 where
   pub memory : Bool
   pub text : List ℕ

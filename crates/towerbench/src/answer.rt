@@ -1,12 +1,12 @@
-//! Answers to the lines of a script, at a desk.
+//! Answering the lines of a script at a desk.
 
 ghost use Rattle.std.specs.Prelude.{◌≡◌, ◌⊎◌, ◌++◌, Bool, Ok, Err, OnOk, IfOk, IfErr};
 ghost use Rattle.schedule_trie.specs.Forest.{index_of};
-ghost use Rattle.sessions.specs.Looks.{looked};
-ghost use Rattle.script.specs.Answers.{page_of};
+ghost use Rattle.sessions.specs.Looks.{looked_in};
+ghost use Rattle.script.specs.Answers.{page_or_refusal};
 ghost use Rattle.script.specs.Answers as spec;
-ghost use Rattle.conversation.specs.Scripts.{IsAnswer};
-ghost use Rattle.towerbench.specs.Seats.{AddsAnswer, world_at};
+ghost use Rattle.conversation.specs.Scripts.{IsLineAnswer};
+ghost use Rattle.towerbench.specs.Seats.{AddsAnswer, IsAlone, world_at};
 
 use crate::seat::Seat;
 use conversation::answering::Answers;
@@ -25,24 +25,26 @@ use views::query::Query;
 
 impl<R: Register, W: Wait> Answers for Seat<'_, R, W> {
     ghost use Rattle.sessions.specs.World.{World};
-    ghost use Rattle.towerbench.specs.Seats.{world_at};
+    ghost use Rattle.towerbench.specs.Seats.{IsAlone, world_at};
     ghost use Rattle.script.specs.Answers.{answer_line};
     ghost use Rattle.script.specs.LineFronts.{answer_line-front};
 
     ghost Worlds = { World R.Pending };
 
-    ghost world = { world_at R.is };
+    ghost world = { world_at R.behaviour };
+
+    ghost alone = { IsAlone };
 
     ghost define = { answer_line };
 
     ghost reads_front = { answer_line-front };
 }
 
-/// Whether a line's answer was added, or there was no memory for a line of it.
-pub type LineAnswer = Result<(), AllocError>;
+/// `Ok` if the answer to a line was added; an error if there was no memory for the answer's text.
+pub(crate) type LineAnswer = Result<(), AllocError>;
 
-/// Adds the answer to line `number`.
-pub fn answer<R: Register + Send + Sync, W: Threads + Wait + Sync>(
+/// Adds the answer to `line`, the line with this number, to `out`.
+pub(crate) fn answer<R: Register + Send + Sync, W: Threads + Wait + Sync>(
     alloc: Global,
     seat: &mut Seat<'_, R, W>,
     number: u32,
@@ -51,8 +53,10 @@ pub fn answer<R: Register + Send + Sync, W: Threads + Wait + Sync>(
 ) -> LineAnswer
 where
     R::Pending: Send + Sync,
-    ensures { OnOk result (IsAnswer spec.answer_line number line.now (world_at R.is seat.old)
-        (world_at R.is seat.new) out.old.items out.new.items) }
+    ensures answer { IsAlone seat.old → OnOk result (IsLineAnswer spec.answer_line number line.now
+        (world_at R.behaviour seat.old) (world_at R.behaviour seat.new) out.old.items
+        out.new.items) }
+    ensures alone { IsAlone seat.old → IsAlone seat.new }
 {
     match read_line(line) {
         Line::Blank => Ok(()),
@@ -70,9 +74,11 @@ fn answer_call<R: Register + Send + Sync, W: Threads + Wait + Sync>(
 ) -> Result<(), AllocError>
 where
     R::Pending: Send + Sync,
-    ensures { let w = world_at R.is seat.old in OnOk result (AddsAnswer
+    ensures answer { let w = world_at R.behaviour seat.old in IsAlone seat.old
+        → OnOk result (AddsAnswer
         (λ memory. spec.answer_call memory call.now w)
-        (world_at R.is seat.new) out.old.items out.new.items) }
+        (world_at R.behaviour seat.new) out.old.items out.new.items) }
+    ensures alone { IsAlone seat.old → IsAlone seat.new }
 {
     let session = call.session;
     match &call.request {
@@ -93,10 +99,13 @@ fn answer_look<R: Register, W: Wait>(
     query: Query,
     out: &mut Vec<u8>,
 ) -> Result<(), AllocError>
-    ensures text { let w = world_at R.is seat.old in OnOk result ((memory : Bool)
+    ensures text { let w = world_at R.behaviour seat.old in IsAlone seat.old
+        → OnOk result ((memory : Bool)
         × (out.new.items ≡ out.old.items
-        ++ spec.look_text memory session (looked w query) (page_of session query w))) }
-    ensures kept { world_at R.is seat.new ≡ world_at R.is seat.old }
+        ++ spec.look_text memory session (looked_in w query) (page_or_refusal session query w))) }
+    ensures kept { IsAlone seat.old → world_at R.behaviour seat.new
+        ≡ world_at R.behaviour seat.old }
+    ensures alone { IsAlone seat.old → IsAlone seat.new }
 {
     match page_in(alloc, seat, session, query) {
         Ok(page) => out.extend_from_slice(&page),
@@ -104,19 +113,22 @@ fn answer_look<R: Register, W: Wait>(
     }
 }
 
-/// The text of a look's page.
+/// The text of the page that a look shows.
 fn page_in<R: Register, W: Wait>(
     alloc: Global,
     seat: &mut Seat<'_, R, W>,
     session: u32,
     query: Query,
 ) -> Result<Vec<u8>, Refusal>
-    ensures text { IfOk result (λ text. text.items
-        ≡ page_of session query (world_at R.is seat.old)) }
-    ensures found { let w = world_at R.is seat.old in OnOk result (looked w query ≡ Ok w.forest) }
-    ensures err { IfErr result (λ r.
-        (looked (world_at R.is seat.old) query ≡ Err r) ⊎ (r ≡ Refusal.Memory)) }
-    ensures kept { world_at R.is seat.new ≡ world_at R.is seat.old }
+    ensures text { IsAlone seat.old → IfOk result (λ text. text.items
+        ≡ page_or_refusal session query (world_at R.behaviour seat.old)) }
+    ensures found { let w = world_at R.behaviour seat.old in
+        IsAlone seat.old → OnOk result (looked_in w query ≡ Ok w.forest) }
+    ensures err { IsAlone seat.old → IfErr result (λ r.
+        (looked_in (world_at R.behaviour seat.old) query ≡ Err r) ⊎ (r ≡ Refusal.Memory)) }
+    ensures kept { IsAlone seat.old → world_at R.behaviour seat.new
+        ≡ world_at R.behaviour seat.old }
+    ensures alone { IsAlone seat.old → IsAlone seat.new }
 {
     let page = seat.look(alloc, query)?;
     match page_text(alloc, session, &page) {
@@ -135,10 +147,13 @@ fn answer_fill<R: Register + Send + Sync, W: Threads + Wait + Sync>(
 ) -> Result<(), AllocError>
 where
     R::Pending: Send + Sync,
-    ensures text { let w = world_at R.is seat.old in OnOk result ((memory : Bool)
+    ensures text { let w = world_at R.behaviour seat.old in IsAlone seat.old
+        → OnOk result ((memory : Bool)
         × (out.new.items ≡ out.old.items
         ++ spec.fill_text memory session (index_of w.forest.branches branch.now))) }
-    ensures kept { world_at R.is seat.new ≡ world_at R.is seat.old }
+    ensures kept { IsAlone seat.old → world_at R.behaviour seat.new
+        ≡ world_at R.behaviour seat.old }
+    ensures alone { IsAlone seat.old → IsAlone seat.new }
 {
     match seat.fill(alloc, branch) {
         Ok(_) => push_filled(out, session),

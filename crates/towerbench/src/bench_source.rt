@@ -1,29 +1,34 @@
-//! The branches that a run opens with: those of a file, or one without steps on a safe bit at 0.
+//! The tower and the branches that a run of the program opens with: those of its file; without a
+//! file, a safe bit at 0 and one branch without steps.
 
 ghost use Rattle.std.specs.Prelude.{◌≡◌, Some, Ok, IfOk, IfErr, true};
 ghost use Rattle.std.specs.Option.{option_map};
 ghost use Rattle.std.specs.List.{list_all};
+ghost use Rattle.tower_file.specs.Benches.{IsLawfulBench, bench_of};
+ghost use Rattle.tower_file.specs.Said.{as_bench};
 ghost use Rattle.tower_file.specs.Towers as towers;
-ghost use Rattle.towerbench.specs.Opening.{opened, IsFileFault, IsUnopened};
+ghost use Rattle.towerbench.specs.Opening.{opened_bench, IsFileFault, IsUnopened};
 ghost use Rattle.towerbench.specs.Opening as spec;
 
 use crate::fault::Fault;
-use frames::types::Step;
+use schedule_trie::Limbs;
 use schedule_trie::limb::{Limb, Steps};
 use schedule_trie::name::Name;
 use schedule_trie::refusal::Refusal;
 use std::alloc::{AllocError, Global};
-use tower_file::{BenchFile, FileFault, TowerSpec, is_bench, parse, parse_bench};
+use tower_file::{BenchFile, FileFault, TowerFile, TowerSpec, is_bench, parse, parse_bench};
 
-/// The tower and the branches of a file's bytes: a bench file where the first line is the header of one, or else
-/// a tower file, whose steps are those of a branch `main`. With no bytes it is a safe bit at 0, and `main` without steps.
+/// The tower and the branches that the bytes of `file` spell. If their first line is a bench file's
+/// header, they are read as a bench file; otherwise as a tower file, whose steps become those of a
+/// branch `main`. If `file` is `None`, a safe bit at 0, and a branch `main` without steps.
 pub(crate) fn open_file(alloc: Global, file: Option<&[u8]>) -> Result<BenchFile, Fault>
     ensures ok { IfOk result (λ bench.
-        opened (option_map (λ bytes. bytes.now) file.entry) ≡ Ok bench) }
+        opened_bench (option_map (λ bytes. bytes.now) file.entry) ≡ Ok (as_bench bench)) }
     ensures err { IfErr result (IsUnopened (option_map (λ bytes. bytes.now) file.entry)) }
 {
     let Some(bytes) = file else {
-        return match one_branch(alloc, TowerSpec::Safe { init: 0 }, Vec::new(alloc)) {
+        let none = Steps::new(Vec::new(alloc));
+        return match one_branch(alloc, TowerSpec::Safe { init: 0 }, none) {
             Ok(bench) => Ok(bench),
             Err(AllocError) => Err(Fault::Refused(Refusal::Memory)),
         };
@@ -31,31 +36,50 @@ pub(crate) fn open_file(alloc: Global, file: Option<&[u8]>) -> Result<BenchFile,
     Ok(read_bench(alloc, bytes)?)
 }
 
-/// The tower and the branches that bytes say.
+/// The tower and the branches that a file's bytes spell.
 fn read_bench(alloc: Global, bytes: &[u8]) -> Result<BenchFile, FileFault>
-    ensures ok { IfOk result (λ bench. opened (Some bytes.now) ≡ Ok bench) }
+    ensures ok { IfOk result (λ bench. opened_bench (Some bytes.now) ≡ Ok (as_bench bench)) }
     ensures err { IfErr result (λ e. IsFileFault e bytes.now) }
 {
     if is_bench(bytes) {
         return parse_bench(alloc, bytes);
     }
     let file = parse(alloc, bytes)?;
-    let spec = file.spec();
-    Ok(one_branch(alloc, spec, file.into_steps())?)
+    let TowerFile { spec, steps, .. } = file;
+    Ok(one_branch(alloc, spec, steps)?)
 }
 
-/// A tower with one branch, `main`, of these steps.
-fn one_branch(alloc: Global, tower: TowerSpec, steps: Vec<Step>) -> Result<BenchFile, AllocError>
+/// A tower with one branch, `main`, which has these steps.
+fn one_branch(alloc: Global, tower: TowerSpec, steps: Steps) -> Result<BenchFile, AllocError>
     requires lawful { towers.is_lawful_tower tower ≡ true }
-    requires fit { list_all (towers.fits tower) steps.items ≡ true }
-    ensures { IfOk result (λ bench. bench ≡ spec.one_branch tower steps.items) }
+    requires fit { list_all (towers.fits tower) steps ≡ true }
+    ensures { IfOk result (λ bench. as_bench bench ≡ spec.one_branch tower steps) }
 {
     let mut limbs = Vec::new(alloc);
     limbs.push(Limb {
         name: Name::main(),
         from: 0,
         shared: 0,
-        steps: Steps::new(steps),
+        steps,
     })?;
-    Ok(BenchFile::new(tower, limbs))
+    Ok(of_lawful(tower, limbs))
+}
+
+/// The bench file with this lawful tower and these limbs, which are lawful and fit the tower.
+pub(crate) fn of_lawful(spec: TowerSpec, limbs: Vec<Limb>) -> BenchFile
+    requires lawful { IsLawfulBench (bench_of spec limbs.items) }
+    ensures { as_bench result ≡ bench_of spec limbs.items }
+{
+    BenchFile {
+        spec,
+        limbs: Limbs::new(limbs),
+    }
+}
+
+/// The tower of a bench file. This tower is lawful.
+pub(crate) fn tower_of(bench: &BenchFile) -> TowerSpec
+    ensures tower { result ≡ bench.now.spec }
+    ensures lawful { towers.is_lawful_tower result ≡ true }
+{
+    bench.spec
 }

@@ -1,14 +1,14 @@
-//! What the program comes to.
+//! How the program ends.
 
 use crate::fault::ProgramFault;
 
-/// What the program comes to.
+/// How the program ends.
 #[derive(Debug, Drop)]
 pub enum Ending {
-    /// The script has ended and its answers were written, or the help was.
+    /// The script has ended and its answers were written, or the help was written.
     Done,
-    /// The words are refused, with this to be told.
+    /// The words of the command line are refused, and this text gives the reason.
     Refused(String),
-    /// A fault.
+    /// The program had this fault.
     Faulted(ProgramFault),
 }

@@ -1,4 +1,4 @@
-//! Why a run ends before its script does.
+//! The faults with which the program, or a run of it, can end.
 
 use crate::tower_source::SourceFault;
 use conversation::fault::StreamFault;
@@ -6,42 +6,52 @@ use schedule_trie::refusal::Refusal;
 use thiserror::Error;
 use tower_file::FileFault;
 
-/// A fault of a run: of its file, of its script's streams, or of saving what is left.
+/// A fault of a run of the program: of its file, of its script's streams, or of saving its
+/// branches.
 #[derive(Clone, Copy, Debug, PartialEq, Eq, Error)]
 pub enum Fault {
-    /// The bytes of the file spell none, or there is no memory to read them.
+    /// The bytes of the file spell no tower file and no bench file, or there is no memory to read
+    /// them.
     #[error("file {0}")]
     File(FileFault),
-    /// The branches can't be loaded: their cells or they are more than may be, or there is no memory for
-    /// them.
+    /// The branches can't be loaded: there are too many cells or branches, or no memory for them.
     #[error("open refused {0}")]
     Refused(Refusal),
-    /// A stream of the script failed, or there was no memory to go on.
-    #[error("{0}")]
-    Stream(StreamFault),
-    /// What the branches are saved to can't be opened, or a write to it failed or took no bytes. By then the
+    /// A read of the script failed.
+    #[error("read failed")]
+    Read,
+    /// A write of the answers failed, or took no bytes.
+    #[error("write failed")]
+    Write,
+    /// The script doesn't end within its limits.
+    #[error("script too long")]
+    TooLong,
+    /// Memory ran out while the script was answered, or, after a script that ended well, while the
+    /// branches were saved.
+    #[error("memory")]
+    Memory,
+    /// The branches' file can't be opened, or a write to it failed or took no bytes. By then the
     /// script has ended well, and its answers were written.
     #[error("save failed")]
     Save,
-    /// There was no memory to save the branches. By then the script has ended well, and its answers were
-    /// written.
-    #[error("memory")]
-    Memory,
 }
 
-/// A fault of the program: of reading its words or its file, of its run, or of printing the help.
+/// A fault of the program: of reading its words or its file, of running its script, or of printing
+/// the help.
 #[derive(Clone, Copy, Debug, PartialEq, Eq, Error)]
 pub enum ProgramFault {
-    /// The file that is named can't be read, is too long, or finds no memory; the script stays unread.
+    /// The named file can't be read or is too long, or there is no memory for it. The script isn't
+    /// read.
     #[error("{0}")]
     Source(SourceFault),
-    /// A fault of the run: of its file or branches, of the script's streams, of memory, or of saving.
+    /// A fault of the program's run: of the file's contents or branches, of the script's streams,
+    /// of memory or of saving.
     #[error("{0}")]
     Run(Fault),
     /// A write of the help failed, or took no bytes.
     #[error("write failed")]
     Help,
-    /// There was no memory to read the words.
+    /// Out of memory while the words were read.
     #[error("memory")]
     Memory,
 }
@@ -70,12 +80,17 @@ impl From<FileFault> for Fault {
 
 impl From<StreamFault> for Fault {
     ghost use Rattle.std.specs.Prelude.{◌≡◌};
-    ghost use Rattle.towerbench.specs.declared.fault.Fault.TheVariants.{Stream};
+    ghost use Rattle.towerbench.specs.Streams.{of_stream};
 
-    ghost from_gives = { λ stream fault. fault ≡ Stream stream };
+    ghost from_gives = { λ stream fault. fault ≡ of_stream stream };
 
     fn from(fault: StreamFault) -> Fault {
-        Fault::Stream(fault)
+        match fault {
+            StreamFault::Read => Fault::Read,
+            StreamFault::Write => Fault::Write,
+            StreamFault::TooLong => Fault::TooLong,
+            StreamFault::Memory => Fault::Memory,
+        }
     }
 }
 

@@ -1,15 +1,24 @@
-//! A workbench for runs of a register: a script of edits and looks comes in, the answers go out.
-//! The program hands its words and streams to `tool`.
+//! A workbench for a tower of registers: it reads a script of edits and looks, and writes the
+//! answers. The program passes its words and streams to `tool`.
 #![tactic(auto)]
 
-pub mod answer;
+mod answer;
 mod bench_source;
-pub mod ending;
-pub mod fault;
-pub mod opening;
-pub mod run;
-pub mod save;
-pub mod seat;
-pub mod serve;
-pub mod tool;
-pub mod tower_source;
+mod ending;
+mod fault;
+mod opening;
+mod program;
+mod running;
+mod saving;
+mod seat;
+mod serving;
+mod tower_source;
+
+pub use command_line::Options;
+pub use ending::Ending;
+pub use fault::{Fault, ProgramFault};
+pub use program::tool;
+pub use running::run;
+pub use saving::run_saving;
+pub use serving::serve;
+pub use tower_source::{SourceFault, read_all};

@@ -2,37 +2,38 @@
 
 ghost use Rattle.std.specs.Prelude.{◌≡◌};
 
-use command_line::options::Options;
+use command_line::Options;
 use tower_file::BenchFile;
 
-/// What becomes of a seat when its script has ended well; behind a fault it is dropped.
+/// What is done with a seat when its script has ended well. After a fault a seat is always dropped.
 #[derive(Clone, Copy)]
-pub enum Fate {
-    /// It is dropped: its process goes on, and has back the memory of the desk.
+pub(crate) enum Fate {
+    /// The seat is dropped, because the process goes on and needs the memory of the desk.
     Dropped,
-    /// It is left to the end of the process, where the system takes back all that the desk holds at once.
+    /// The seat isn't dropped, because the process ends, and the system then takes back all of the
+    /// desk's memory at once.
     Forgotten,
 }
 
-/// What is told of the branches that a script left.
+/// What is returned about the branches that a script left.
 #[derive(Clone, Copy)]
-pub(crate) enum Telling {
+pub(crate) enum Reporting {
     /// Nothing.
     Nothing,
-    /// The bench file that they are saved as.
+    /// The bytes of the bench file that the branches are saved as.
     Branches,
 }
 
-/// A tower and its branches, the limits, and what becomes of the seat.
+/// A tower and its branches, the options, and what is done with the seat.
 #[derive(Drop)]
-pub struct Setup {
+pub(crate) struct Setup {
     pub bench: BenchFile,
     pub options: Options,
     pub fate: Fate,
 }
 
 impl Setup {
-    /// What a run is opened with where its process goes on behind it.
+    /// The setup of a run of the program after which the process goes on.
     pub(crate) fn new(bench: BenchFile, options: Options) -> Setup
         ensures bench { result.bench ≡ bench }
         ensures options { result.options ≡ options }
@@ -44,7 +45,7 @@ impl Setup {
         }
     }
 
-    /// The same for a run behind which its process ends.
+    /// The setup of a run of the program after which the process ends.
     pub(crate) fn last(bench: BenchFile, options: Options) -> Setup
         ensures bench { result.bench ≡ bench }
         ensures options { result.options ≡ options }
@@ -57,16 +58,16 @@ impl Setup {
     }
 }
 
-/// A tower's register and its initial value, with all else that a desk is opened with.
+/// What a desk is opened with: a tower's register, its initial value, and a setup.
 #[derive(Drop)]
-pub struct Opening<R> {
+pub(crate) struct Opening<R> {
     pub register: R,
     pub value: u32,
     pub setup: Setup,
 }
 
 impl<R> Opening<R> {
-    /// All that a desk is opened with.
+    /// The opening with this register, initial value and setup.
     pub(crate) fn new(register: R, value: u32, setup: Setup) -> Opening<R>
         ensures register { result.register ≡ register }
         ensures value { result.value ≡ value }

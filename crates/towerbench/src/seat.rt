@@ -1,15 +1,17 @@
-//! A seat at a desk: where a script's lines are answered.
+//! A seat at a desk, which answers a script's lines.
 
-ghost use Rattle.std.specs.Prelude.{◌≡◌, ◌⊎◌, Some, Ok, OnOk, IfOk, IfErr, Err};
+ghost use Rattle.std.specs.Prelude.{◌≡◌, ◌≤◌, ◌⊎◌, Some, Ok, OnOk, IfOk, IfErr, Err};
 ghost use Rattle.schedule_trie.specs.Forest.{IsRefused};
 ghost use Rattle.schedule_trie.specs.Limbs.{forest_of, loaded};
-ghost use Rattle.sessions.specs.Acts.{acted};
-ghost use Rattle.sessions.specs.Looks.{looked, shown_in};
+ghost use Rattle.sessions.specs.Acts.{command_result};
+ghost use Rattle.sessions.specs.Looks.{looked_in, shown_in};
 ghost use Rattle.sessions.specs.Saves.{IsSaved};
+ghost use Rattle.turn.specs.Chairs.{view};
+ghost use Rattle.desk.specs.Chairs.{IsChairOf};
 ghost use Rattle.desk.specs.Works.{NeedsBranch};
 ghost use Rattle.command_line.specs.Ranges.{limits_of};
 ghost use Rattle.towerbench.specs.Openings.{CanOpen, opening_world};
-ghost use Rattle.towerbench.specs.Seats.{world_at};
+ghost use Rattle.towerbench.specs.Seats.{IsAlone, seated, world_at};
 
 use crate::opening::Opening;
 use desk::{Chair, Desk, Item, Journal, Report};
@@ -28,10 +30,11 @@ use views::lens::Lens;
 use views::page::Page;
 use views::query::Query;
 
-/// A desk, and a chair at it that holds every share, so that each call finds just the history that the chair has seen. So many thieves help
-/// with its fills. Its looks share one lens, from the first of them on.
+/// A desk, and a chair at it. If the chair holds every share, each call finds just the history that
+/// the chair has seen. At most 4 thieves help with the chair's fills. All looks share one lens,
+/// which is made for the first of them.
 #[derive(Drop)]
-pub struct Seat<'a, R: Register, W>
+pub(crate) struct Seat<'a, R: Register, W>
 where
     Journal<R>: Counted<Entry = Item<R>>,
 {
@@ -47,29 +50,48 @@ where
     Journal<R>: Counted<Entry = Item<R>>,
 {
     ghost use Rattle.std.specs.Prelude.{◌≤◌};
-    ghost use Rattle.turn.specs.Shares.{HasAll};
     ghost use Rattle.turn.specs.Chairs as chairs;
-    ghost use Rattle.desk.specs.Works.{NeedsBranch};
-    ghost use Rattle.desk.specs.Chairs.{IsAt, book_at_first};
-    ghost use Rattle.desk.specs.Histories.{seen};
-    ghost use Rattle.towerbench.specs.Seats.{Seated};
+    ghost use Rattle.desk.specs.Chairs.{IsChairOf};
+    ghost use Rattle.towerbench.specs.Seats.{Seated, seated};
 
     ghost Value = { Seated R R.Pending };
 
-    ghost view = { λ s. record { first = book_at_first s.desk; seen = seen (chairs.view s.chair) } };
+    ghost view = { λ s. seated s.desk (chairs.view s.chair) };
 
-    ghost invariant = { λ s. IsAt R.is s.desk s.chair × HasAll (chairs.view s.chair).shares × (s.thieves ≤ 4) };
+    ghost invariant = { λ s. IsChairOf R.behaviour s.desk s.chair × (s.thieves ≤ 4) };
 }
 
 impl<'a, R: Register, W> Seat<'a, R, W> {
-    /// Opens a desk, and takes the seat of its one chair. The limbs are let go.
+    /// The seat of `chair` at `desk`, with `thieves` thieves for its fills.
+    pub(crate) fn new(rt: &'a W, desk: Desk<R>, chair: Chair<R>, thieves: u32) -> Seat<'a, R, W>
+        requires chair { IsChairOf R.behaviour desk chair }
+        requires thieves { thieves ≤ 4 }
+        ensures { result ≡ seated desk (view chair) }
+    {
+        Seat {
+            rt,
+            desk,
+            chair,
+            thieves,
+            lens: None,
+        }
+    }
+
+    /// Opens a desk, and returns the seat of the desk's only chair. The limbs are dropped.
     ///
     /// # Errors
     ///
-    /// Full where they bring more cells than may be made; TooManyBranches; Memory.
-    pub fn open(rt: &'a W, alloc: Global, opening: Opening<R>) -> Result<Seat<'a, R, W>, Refusal>
-        requires { CanOpen R.is opening }
-        ensures opens { IfOk result (λ seat. world_at R.is seat ≡ opening_world R.is opening) }
+    /// Full if the limbs have more cells than may be made; TooManyBranches if there are too many
+    /// limbs; Memory.
+    pub(crate) fn open(
+        rt: &'a W,
+        alloc: Global,
+        opening: Opening<R>,
+    ) -> Result<Seat<'a, R, W>, Refusal>
+        requires { CanOpen R.behaviour opening }
+        ensures alone { IfOk result IsAlone }
+        ensures opens { IfOk result
+            (λ seat. world_at R.behaviour seat ≡ opening_world R.behaviour opening) }
         ensures room { let limbs = opening.setup.bench.limbs in
             OnOk result (loaded (limits_of opening.setup.options) limbs ≡ Ok (forest_of limbs)) }
         ensures err { let limits = limits_of opening.setup.options in
@@ -81,7 +103,7 @@ impl<'a, R: Register, W> Seat<'a, R, W> {
             setup,
         } = opening;
         let options = setup.options;
-        let limbs = setup.bench.limbs();
+        let limbs = setup.bench.limbs.as_slice();
         let (desk, chair) = Desk::open_limbs(alloc, register, value, options.limits(), limbs)?;
         Ok(Seat {
             rt,
@@ -94,7 +116,7 @@ impl<'a, R: Register, W> Seat<'a, R, W> {
 }
 
 impl<R: Register, W: Wait> Seat<'_, R, W> {
-    /// Answers a session's command with its guard.
+    /// Does a session's command, if its guard `if_at` allows that, and returns the reply.
     pub(crate) fn act(
         &mut self,
         alloc: Global,
@@ -102,10 +124,11 @@ impl<R: Register, W: Wait> Seat<'_, R, W> {
         if_at: Option<u64>,
         command: &Command,
     ) -> Reply
-        ensures { let w = world_at R.is self.old in
-            (acted session if_at command.now w
-            ≡ record { world = world_at R.is self.new; reply = result })
-            ⊎ ((result ≡ Reply.No Refusal.Memory) × (world_at R.is self.new ≡ w)) }
+        ensures acts { let w = world_at R.behaviour self.old in IsAlone self.old →
+            (command_result session if_at command.now w
+            ≡ record { world = world_at R.behaviour self.new; reply = result })
+            ⊎ ((result ≡ Reply.No Refusal.Memory) × (world_at R.behaviour self.new ≡ w)) }
+        ensures alone { IsAlone self.old → IsAlone self.new }
     {
         let receipt = self
             .desk
@@ -113,19 +136,22 @@ impl<R: Register, W: Wait> Seat<'_, R, W> {
         receipt.reply
     }
 
-    /// Looks at the branches, or at a session.
+    /// Answers a look at a branch or at a session with its page.
     ///
     /// # Errors
     ///
-    /// NoSession for the cursor of a session that hasn't joined; NoBranch; NoPlace where the branch is shorter; Memory.
+    /// NoSession for the cursor of a session that hasn't joined; NoBranch; NoPlace if the place is
+    /// after the branch's last one; Memory.
     pub(crate) fn look(&mut self, alloc: Global, query: Query) -> Result<Page, Refusal>
-        ensures page { IfOk result (λ page.
-            Some page ≡ shown_in (world_at R.is self.old) query) }
-        ensures found { let w = world_at R.is self.old in
-            OnOk result (looked w query ≡ Ok w.forest) }
-        ensures err { IfErr result (λ r.
-            (looked (world_at R.is self.old) query ≡ Err r) ⊎ (r ≡ Refusal.Memory)) }
-        ensures kept { world_at R.is self.new ≡ world_at R.is self.old }
+        ensures page { IsAlone self.old → IfOk result (λ page.
+            Some page ≡ shown_in (world_at R.behaviour self.old) query) }
+        ensures found { let w = world_at R.behaviour self.old in
+            IsAlone self.old → OnOk result (looked_in w query ≡ Ok w.forest) }
+        ensures err { IsAlone self.old → IfErr result (λ r.
+            (looked_in (world_at R.behaviour self.old) query ≡ Err r) ⊎ (r ≡ Refusal.Memory)) }
+        ensures kept { IsAlone self.old → world_at R.behaviour self.new
+            ≡ world_at R.behaviour self.old }
+        ensures alone { IsAlone self.old → IsAlone self.new }
     {
         let Ok(mut lens) = lens_of(alloc, self.lens.take()) else {
             return Err(Refusal::Memory);
@@ -137,18 +163,19 @@ impl<R: Register, W: Wait> Seat<'_, R, W> {
         answer.result
     }
 
-    /// The limbs of the branches, in order of making.
+    /// The limbs of the branches, in the order they were made.
     ///
     /// # Errors
     ///
-    /// Where there is no memory for them.
+    /// If there is no memory for the limbs.
     pub(crate) fn limbs(&mut self, alloc: Global) -> Result<Vec<Limb>, AllocError>
-        ensures { IfOk result (λ limbs. IsSaved (world_at R.is self.old) limbs.items) }
+        ensures { IsAlone self.old
+            → IfOk result (λ limbs. IsSaved (world_at R.behaviour self.old) limbs.items) }
     {
         let Ok(saved) = self.desk.limbs(self.rt, alloc, &mut self.chair) else {
             return Err(AllocError);
         };
-        Ok(saved.limbs)
+        Ok(saved.limbs.into_vec())
     }
 }
 
@@ -156,21 +183,25 @@ impl<R: Register + Send + Sync, W: Threads + Wait + Sync> Seat<'_, R, W>
 where
     R::Pending: Send + Sync,
 {
-    /// Stores runs for a branch and the others, as far as memory goes, and tells of them.
+    /// Stores runs for `branch` and for the other branches, as far as there is memory, and reports
+    /// how the jobs ended.
     ///
     /// # Errors
     ///
     /// NoBranch; Memory.
     pub(crate) fn fill(&mut self, alloc: Global, branch: &Name) -> Result<Report, Refusal>
-        ensures found { NeedsBranch branch.now (world_at R.is self.old) result }
-        ensures kept { world_at R.is self.new ≡ world_at R.is self.old }
+        ensures found { IsAlone self.old
+            → NeedsBranch branch.now (world_at R.behaviour self.old) result }
+        ensures kept { IsAlone self.old → world_at R.behaviour self.new
+            ≡ world_at R.behaviour self.old }
+        ensures alone { IsAlone self.old → IsAlone self.new }
     {
         self.desk
             .fill(self.rt, alloc, &mut self.chair, branch, self.thieves)
     }
 }
 
-/// The lens that there is, or else a new one.
+/// Returns `lens`, or a new lens if it is `None`.
 fn lens_of<R: Register>(alloc: Global, lens: Option<Lens<R>>) -> Result<Lens<R>, AllocError> {
     match lens {
         Some(lens) => Ok(lens),

@@ -2,7 +2,7 @@
 
 ghost use Rattle.std.specs.Prelude.{◌≡◌, ◌<◌, ◌≤◌, IfOk, IfSome, Err, length};
 ghost use Rattle.std.specs.Io.KnownBytes.{IsAtEnd};
-ghost use Rattle.towerbench.specs.declared.tower_source.TheConstants.{MOST_BYTES};
+ghost use Rattle.towerbench.specs.declared.tower_source.TheConstants.{MOST_FILE_BYTES};
 
 use std::alloc::Global;
 use std::fs;
@@ -10,39 +10,39 @@ use std::io::{ErrorKind, Read};
 use std::rt::Files;
 use thiserror::Error;
 
-/// The most bytes of a file: more than the branches of any run are saved as.
-pub const MOST_BYTES: usize = 1 << 32;
+/// The most bytes that a file may have. Branches are never saved as more.
+pub const MOST_FILE_BYTES: usize = 1 << 32;
 
 /// The most bytes of one read.
 const PIECE_BYTES: usize = 4096;
 
-/// Why the bytes of a file aren't had.
+/// Why the bytes of a file can't be read.
 #[derive(Clone, Copy, Debug, PartialEq, Eq, Error)]
 pub enum SourceFault {
-    /// It can't be opened, or a read of it failed.
+    /// The file can't be opened, or a read of it failed.
     #[error("file unreadable")]
     Unreadable,
-    /// It has more bytes than its limit.
+    /// The file has more bytes than the limit.
     #[error("file too long")]
     TooLong,
-    /// There was no memory for its bytes.
+    /// There is no memory for the file's bytes.
     #[error("memory")]
     Memory,
 }
 
 /// Reads the bytes of the file at a path.
 pub fn read_file<F: Files + AllocGlobal>(files: &F, path: &str) -> Result<Vec<u8>, SourceFault>
-    ensures { IfOk result (λ bytes. length bytes.items ≤ MOST_BYTES) }
+    ensures { IfOk result (λ bytes. length bytes.items ≤ MOST_FILE_BYTES) }
 {
     let mut file = match fs::open(files, path) {
         Ok(file) => file,
         Err(e) if e.kind() == ErrorKind::OutOfMemory => return Err(SourceFault::Memory),
         Err(_) => return Err(SourceFault::Unreadable),
     };
-    read_all(files.alloc(), &mut file, MOST_BYTES)
+    read_all(files.alloc(), &mut file, MOST_FILE_BYTES)
 }
 
-/// Reads a reader to its end, for at most so many bytes. No read is tried again.
+/// Reads a reader to its end. TooLong if it gives more than `limit` bytes. No read is retried.
 pub fn read_all<R: Read>(
     alloc: Global,
     reader: &mut R,

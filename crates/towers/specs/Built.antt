@@ -1,4 +1,4 @@
--- Within the limits of a tower, each of its layers can stand on the one below.
+-- Within a tower's limits, each of its layers can be built on the one below.
 use Rattle.std.proofs.Common.{◌≡◌, ℕ, ◌+◌, ◌*◌, ◌<◌, ◌≤◌, Option, None, Some, Result, Ok, Err, arith, rules}
 use Rattle.std.proofs.lemmas.Bool.Decides.{nat_tests}
 use Rattle.std.proofs.Math.Nat.{mul-le-mul, mul-le-mul_right}
@@ -14,24 +14,24 @@ use Rattle.stamped.specs.Limits.{stamped_refusal}
 use Rattle.matrix.specs.Limits.{matrix_refusal}
 use Rattle.towers.specs.Towers.{copies_tower, regular_tower, unary_tower, stamped_tower}
 
-pub copies_stand : (readers : ℕ) → 1 ≤ readers → readers ≤ MOST_READERS → copies_refusal readers safe_behaviour ≡ None
-copies_stand readers some few = grind (arith, nat_tests)
+pub copies_fit : (readers : ℕ) → 1 ≤ readers → readers ≤ MOST_READERS → copies_refusal readers safe_behaviour ≡ None
+copies_fit readers some few = grind (arith, nat_tests)
 
-pub regular_stands : (readers : ℕ) → 1 ≤ readers → readers ≤ MOST_READERS → refusal_below (regular_table (readers + 1)) (copies_tower readers) ≡ None
-regular_stands readers some few = grind (arith, nat_tests)
+pub regular_fits : (readers : ℕ) → 1 ≤ readers → readers ≤ MOST_READERS → refusal_below (regular_table (readers + 1)) (copies_tower readers) ≡ None
+regular_fits readers some few = grind (arith, nat_tests)
 
-pub unary_stands : (values readers : ℕ) → LEAST_VALUES ≤ values → values ≤ MOST_VALUES → 1 ≤ readers → readers ≤ MOST_READERS → unary_refusal values (regular_tower readers) ≡ None
-unary_stands values readers two most some few =
+pub unary_fits : (values readers : ℕ) → LEAST_VALUES ≤ values → values ≤ MOST_VALUES → 1 ≤ readers → readers ≤ MOST_READERS → unary_refusal values (regular_tower readers) ≡ None
+unary_fits values readers two most some few =
     let product : values * readers ≤ MOST_VALUES * MOST_READERS = mul-le-mul most few in
     grind (arith, nat_tests)
 
-pub stamped_stands : (values last : ℕ) → LEAST_VALUES ≤ values → values ≤ MOST_VALUES → last < MOST_VALUES → (last + 1) * values ≤ MOST_VALUES → stamped_refusal values last (unary_tower ((last + 1) * values) 1) ≡ None
-stamped_stands values last two few stamps most = grind (arith, nat_tests)
+pub stamped_fits : (values last : ℕ) → LEAST_VALUES ≤ values → values ≤ MOST_VALUES → last < MOST_VALUES → (last + 1) * values ≤ MOST_VALUES → stamped_refusal values last (unary_tower ((last + 1) * values) 1) ≡ None
+stamped_fits values last two few stamps most = grind (arith, nat_tests)
 
-pub matrix_stands : (n values tag stamp : ℕ) → LEAST_PROCESSES ≤ n → n ≤ MOST_WRITERS → LEAST_VALUES ≤ values → values ≤ MOST_VALUES → tag < MOST_VALUES → (stamp + 1) * ((tag + 1) * n * values) ≤ MOST_VALUES
+pub matrix_fits : (n values tag stamp : ℕ) → LEAST_PROCESSES ≤ n → n ≤ MOST_WRITERS → LEAST_VALUES ≤ values → values ≤ MOST_VALUES → tag < MOST_VALUES → (stamp + 1) * ((tag + 1) * n * values) ≤ MOST_VALUES
     → n * n * ((stamp + 1) * ((tag + 1) * n * values)) ≤ MOST_CELLS
     → matrix_refusal n values tag (stamped_tower ((tag + 1) * n * values) stamp) ≡ None
-matrix_stands n values tag stamp two four some few tags most cells =
+matrix_fits n values tag stamp two four some few tags most cells =
     let square : n * n ≤ MOST_WRITERS * MOST_WRITERS = mul-le-mul four four in
     let inner : (tag + 1) * n * values ≤ MOST_VALUES = omega (arith, mul-le-mul_right ((tag + 1) * n * values) (one_le stamp)) in
     grind (arith, nat_tests)
@@ -39,7 +39,7 @@ matrix_stands n values tag stamp two four some few tags most cells =
     one_le : (k : ℕ) → 1 ≤ k + 1
     one_le k = omega arith
 
--- what is refused for no cause is there
+-- a result that isn't refused is a value
 pub ok_unless_refused : {A E : Type 0} (Q : A → Type 0) (r : Result A E) (refusal : Option E) → refusal ≡ None → MatchResult r Q (λ e. refusal ≡ Some e) → IsOk r
 ok_unless_refused Q (Ok x) refusal none h = search rules
 ok_unless_refused Q (Err e) refusal none h = absurd (never refusal e none h)

@@ -1,4 +1,4 @@
--- The six towers: what each one does, by its numbers.
+-- The behaviour of each of the six towers, given its numbers.
 use Rattle.std.specs.Prelude.{ℕ, ◌+◌, ◌*◌}
 use Rattle.frames.specs.Behaviour.{Behaviour}
 use Rattle.frames.specs.declared.safe.SafePoint.{SafePoint}
@@ -16,7 +16,7 @@ use Rattle.stamped.specs.Program.{stamped_table}
 use Rattle.matrix.specs.declared.task.MatrixTask.{MatrixTask}
 use Rattle.matrix.specs.Program.{matrix_table}
 
--- the points of each tower's operations
+-- the type of the points of each tower's operations
 abbrev pub CopiesPoint : Type 0
 CopiesPoint = Nested CopiesTask SafePoint
 
@@ -32,7 +32,7 @@ StampedPoint = Nested StampedTask UnaryPoint
 abbrev pub MatrixPoint : Type 0
 MatrixPoint = Nested MatrixTask StampedPoint
 
--- copies of a safe bit for so many readers
+-- copies of a safe bit for `readers` readers
 abbrev pub copies_tower : ℕ → Behaviour CopiesPoint
 copies_tower readers = layered (copies_table readers 2) safe_behaviour
 
@@ -40,14 +40,15 @@ copies_tower readers = layered (copies_table readers 2) safe_behaviour
 abbrev pub regular_tower : ℕ → Behaviour RegularPoint
 regular_tower readers = layered (regular_table (readers + 1)) (copies_tower readers)
 
--- a unary number of so many values over regular bits
+-- a unary number of `values` values over regular bits
 abbrev pub unary_tower : ℕ → ℕ → Behaviour UnaryPoint
 unary_tower values readers = layered (unary_table values (readers + 1)) (regular_tower readers)
 
--- a stamped register with a last stamp, over a unary number of its codes
+-- a stamped register with stamps up to `last`, over a unary number whose values are its codes
 abbrev pub stamped_tower : ℕ → ℕ → Behaviour StampedPoint
 stamped_tower values last = layered (stamped_table values last) (unary_tower ((last + 1) * values) 1)
 
--- a matrix of so many processes with a last tag, over stamped registers of its tagged codes with a last stamp
+-- a matrix of `processes` processes with tags up to `tag`, over stamped registers with stamps up to
+-- `stamp`, whose values are the matrix's codes
 abbrev pub matrix_tower : ℕ → ℕ → ℕ → ℕ → Behaviour MatrixPoint
 matrix_tower processes values tag stamp = layered (matrix_table processes values tag) (stamped_tower ((tag + 1) * processes * values) stamp)

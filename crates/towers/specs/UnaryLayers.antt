@@ -1,4 +1,5 @@
--- The layers of a unary number over regular bits, copies and safe bits: each stands on the one below, and equal numbers have the same layers.
+-- The layers of a unary number over regular bits, copies and safe bits: each layer fits on the one
+-- below, and equal unary numbers have equal layers.
 use Rattle.std.specs.Prelude.{◌≡◌, ℕ, Bool, true, List, Option}
 use Rattle.std.proofs.Common.{refl, nat_eq}
 use mathlib.Core.Bool.{◌&&◌}
@@ -25,6 +26,7 @@ use Rattle.unary_number.specs.Sound as unary
 use Rattle.towers.specs.Towers.{CopiesPoint, RegularPoint, UnaryPoint}
 use Rattle.towers.specs.declared.unary_tower.UnaryTower.{UnaryTower}
 
+-- copies over a safe bit; a regular bit over such copies; a unary number over such regular bits
 abbrev pub on_bits : UnaryTower → LayerOver CopiesTask SafePoint
 on_bits r =
     let c = r.layers.below.below in
@@ -40,7 +42,7 @@ on_regular r =
     let u = r.layers in
     over (layer_lawful (on_copies r)) (unary.unary_sound u.layer.values u.layer.processes u.layer.two u.layer.some) u.fit
 
--- what a unary number does, and what its frames tell
+-- the unary number's behaviour, and the point that its frames describe
 abbrev pub does : UnaryTower → Behaviour UnaryPoint
 does r = let u = r.layers in let b = u.below in let c = b.below in
     layered (unary_table u.layer.values u.layer.processes) (layered (regular_table b.layer.processes) (layered (copies_table c.layer.readers c.layer.values) safe_behaviour))
@@ -50,12 +52,13 @@ finds r = let u = r.layers in let b = u.below in let c = b.below in
     layered_point (unary_table u.layer.values u.layer.processes)
     (layered_point (regular_table b.layer.processes) (layered_point (copies_table c.layer.readers c.layer.values) safe_point))
 
--- the test of two unary numbers, by that of their safe bits
+-- the equality test of two unary numbers, given the result of the test of their safe bits
 abbrev pub tower_eq : Bool → UnaryTower → UnaryTower → Bool
 tower_eq safe r s = let u = r.layers in let v = s.layers in let b = u.below in let d = v.below in
-    ((safe && copies.layer_eq b.below.layer.readers d.below.layer.readers b.below.layer.values d.below.layer.values) && nat_eq b.layer.processes d.layer.processes)
+    ((safe && copies.copies_layer_eq b.below.layer.readers d.below.layer.readers b.below.layer.values d.below.layer.values) && nat_eq b.layer.processes d.layer.processes)
     && (nat_eq u.layer.values v.layer.values && nat_eq u.layer.processes v.layer.processes)
 
+-- equal unary numbers have the same behaviour, and their frames describe the same points
 pub same_layers : (safe : Bool) (r s : UnaryTower) → tower_eq safe r s ≡ true → (does r ≡ does s) × (finds r ≡ finds s)
 same_layers safe r s h =
     let u = r.layers in
@@ -64,9 +67,9 @@ same_layers safe r s h =
     let d = v.below in
     let over_regular = both_true _ (nat_eq u.layer.values v.layer.values && nat_eq u.layer.processes v.layer.processes) h in
     let over_copies = both_true _ (nat_eq b.layer.processes d.layer.processes) over_regular.0 in
-    let over_bits = both_true safe (copies.layer_eq b.below.layer.readers d.below.layer.readers b.below.layer.values d.below.layer.values) over_copies.0 in
-    let same_unary = unary.table_alike u.layer.values v.layer.values u.layer.processes v.layer.processes over_regular.1 in
-    let same_regular = regular.table_alike b.layer.processes d.layer.processes over_copies.1 in
+    let over_bits = both_true safe (copies.copies_layer_eq b.below.layer.readers d.below.layer.readers b.below.layer.values d.below.layer.values) over_copies.0 in
+    let same_unary = unary.unary_table_alike u.layer.values v.layer.values u.layer.processes v.layer.processes over_regular.1 in
+    let same_regular = regular.regular_table_alike b.layer.processes d.layer.processes over_copies.1 in
     let same_copies = copies.layers_alike b.below.layer.readers d.below.layer.readers b.below.layer.values d.below.layer.values over_bits.1 in (
       layered_alike _ _ _ _ same_unary (layered_alike _ _ _ _ same_regular (layered_alike _ _ safe_behaviour safe_behaviour same_copies refl)),
       points_alike _ _ _ _ same_unary (points_alike _ _ _ _ same_regular (points_alike _ _ safe_point safe_point same_copies refl)),

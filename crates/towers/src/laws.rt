@@ -1,4 +1,5 @@
-//! What the five towers below the matrix promise on every schedule, as files build them.
+//! The laws of the copies, the regular bit, the unary number and the stamped register that tower
+//! files describe, on every schedule.
 
 ghost use Rattle.frames.specs.Regularity.{NeverStray};
 ghost use Rattle.frames.specs.Regularity.{IsAtomic, IsRegular, IsSafe};
@@ -11,54 +12,55 @@ use frames::register::Behaves;
 use views::laws::never_shows_stray;
 
 /// Copies of a safe bit are safe.
-pub fn copies(register: &CopiesTower)
-    ensures { IsSafe (⟦<CopiesTower as Behaves>⟧.is register.now) }
+pub fn copies_are_safe(register: &CopiesTower)
+    ensures { IsSafe (⟦<CopiesTower as Behaves>⟧.behaviour register.now) }
 {
     safe(&register.below);
     reader_copies::laws::safe(register);
 }
 
 /// A regular bit over copies is regular, and so never shows a stray read.
-pub fn regular(register: &RegularTower)
-    ensures regular { IsRegular (⟦<RegularTower as Behaves>⟧.is register.now) }
-    ensures never_stray { NeverStray (⟦<RegularTower as Behaves>⟧.is register.now) }
+pub fn regular_is_regular(register: &RegularTower)
+    ensures regular { IsRegular (⟦<RegularTower as Behaves>⟧.behaviour register.now) }
+    ensures never_stray { NeverStray (⟦<RegularTower as Behaves>⟧.behaviour register.now) }
 {
-    copies(&register.below);
+    copies_are_safe(&register.below);
     regular_bit::laws::regular(register);
 }
 
-/// A unary number over regular bits is regular, and so never shows a stray read; no scan reads its last bit as 0.
-pub fn unary(register: &UnaryTower)
-    ensures regular { IsRegular (⟦<UnaryTower as Behaves>⟧.is register.now) }
-    ensures never_stray { NeverStray (⟦<UnaryTower as Behaves>⟧.is register.now) }
+/// A unary number built on regular bits is regular, and so never shows a stray read. A scan that
+/// reads the last bit reads 1 there.
+pub fn unary_is_regular(register: &UnaryTower)
+    ensures regular { IsRegular (⟦<UnaryTower as Behaves>⟧.behaviour register.now) }
+    ensures never_stray { NeverStray (⟦<UnaryTower as Behaves>⟧.behaviour register.now) }
     ensures found { let layers = register.now.layers in
         AlwaysFinds layers.layer.values layers.layer.processes
-        (⟦<RegularTower as Behaves>⟧.is layers.below) }
+        (⟦<RegularTower as Behaves>⟧.behaviour layers.below) }
 {
-    regular(&register.layers.below);
+    regular_is_regular(&register.layers.below);
     unary_number::laws::regular(&register.layers);
 }
 
 /// A stamped register over a unary number is atomic, and so never shows a stray read.
-pub fn stamped(register: &StampedTower)
-    ensures atomic { IsAtomic (⟦<StampedTower as Behaves>⟧.is register.now) }
-    ensures never_stray { NeverStray (⟦<StampedTower as Behaves>⟧.is register.now) }
+pub fn stamped_is_atomic(register: &StampedTower)
+    ensures atomic { IsAtomic (⟦<StampedTower as Behaves>⟧.behaviour register.now) }
+    ensures never_stray { NeverStray (⟦<StampedTower as Behaves>⟧.behaviour register.now) }
 {
-    unary(&register.below);
+    unary_is_regular(&register.below);
     stamped::laws::atomic(register);
     never_stray(register);
 }
 
 /// No page of a regular, unary or stamped tower ever shows a stray read.
 pub fn pages_show_no_stray(bit: &RegularTower, number: &UnaryTower, register: &StampedTower)
-    ensures regular { NeverShowsStray (⟦<RegularTower as Behaves>⟧.is bit.now) }
-    ensures unary { NeverShowsStray (⟦<UnaryTower as Behaves>⟧.is number.now) }
-    ensures stamped { NeverShowsStray (⟦<StampedTower as Behaves>⟧.is register.now) }
+    ensures regular { NeverShowsStray (⟦<RegularTower as Behaves>⟧.behaviour bit.now) }
+    ensures unary { NeverShowsStray (⟦<UnaryTower as Behaves>⟧.behaviour number.now) }
+    ensures stamped { NeverShowsStray (⟦<StampedTower as Behaves>⟧.behaviour register.now) }
 {
-    regular(bit);
+    regular_is_regular(bit);
     never_shows_stray(bit);
-    unary(number);
+    unary_is_regular(number);
     never_shows_stray(number);
-    stamped(register);
+    stamped_is_atomic(register);
     never_shows_stray(register);
 }

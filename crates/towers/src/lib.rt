@@ -14,11 +14,11 @@ ghost use Rattle.towers.specs.Towers.{copies_tower, regular_tower, unary_tower, 
 
 use frames::register::Behaves;
 use frames::safe::Safe;
-use matrix::{Matrix, MatrixRules};
-use reader_copies::{Copies, CopiesRules};
-use regular_bit::{RegularBit, RegularBitRules};
-use stamped::{Stamped, StampedRules};
-use unary_number::UnaryRules;
+use matrix::{Matrix, NewMatrix};
+use reader_copies::{Copies, NewCopies};
+use regular_bit::{NewRegularBit, RegularBit};
+use stamped::{NewStamped, Stamped};
+use unary_number::{NewUnary, Unary};
 pub use unary_tower::UnaryTower;
 
 /// Copies of a safe bit.
@@ -37,18 +37,18 @@ pub type MatrixTower = Matrix<StampedTower>;
 pub fn copies(readers: u32) -> CopiesTower
     requires some { 1 ≤ readers }
     requires few { readers ≤ MOST_READERS }
-    ensures { ⟦<CopiesTower as Behaves>⟧.is result ≡ copies_tower readers }
+    ensures { ⟦<CopiesTower as Behaves>⟧.behaviour result ≡ copies_tower readers }
 {
-    CopiesRules::new(Safe, readers).unwrap()
+    Copies::new(Safe, readers).unwrap()
 }
 
 /// A regular bit for 1 to 4 readers.
 pub fn regular(readers: u32) -> RegularTower
     requires some { 1 ≤ readers }
     requires few { readers ≤ MOST_READERS }
-    ensures { ⟦<RegularTower as Behaves>⟧.is result ≡ regular_tower readers }
+    ensures { ⟦<RegularTower as Behaves>⟧.behaviour result ≡ regular_tower readers }
 {
-    RegularBitRules::new(copies(readers)).unwrap()
+    RegularBit::new(copies(readers)).unwrap()
 }
 
 /// A unary number of 2 to 512 values for 1 to 4 readers.
@@ -57,27 +57,29 @@ pub fn unary(values: u32, readers: u32) -> UnaryTower
     requires most { values ≤ MOST_VALUES }
     requires some { 1 ≤ readers }
     requires few { readers ≤ MOST_READERS }
-    ensures { ⟦<UnaryTower as Behaves>⟧.is result ≡ unary_tower values readers }
+    ensures { ⟦<UnaryTower as Behaves>⟧.behaviour result ≡ unary_tower values readers }
 {
     UnaryTower {
-        layers: UnaryRules::new(regular(readers), values).unwrap(),
+        layers: Unary::new(regular(readers), values).unwrap(),
     }
 }
 
-/// A stamped register of 2 to 512 values and a last stamp of at most 511, with at most 512 codes.
+/// A stamped register of 2 to 512 values with stamps up to `last`, at most 511. It has
+/// `(last + 1) * values` codes, at most 512.
 pub fn stamped(values: u32, last: u32) -> StampedTower
     requires two { LEAST_VALUES ≤ values }
     requires few { values ≤ MOST_VALUES }
     requires stamps { last < MOST_VALUES }
     requires most { (last + 1) * values ≤ MOST_VALUES }
-    ensures { ⟦<StampedTower as Behaves>⟧.is result ≡ stamped_tower values last }
+    ensures { ⟦<StampedTower as Behaves>⟧.behaviour result ≡ stamped_tower values last }
 {
     let codes = unary((last + 1) * values, 1);
-    StampedRules::new(codes, values, last).unwrap()
+    Stamped::new(codes, values, last).unwrap()
 }
 
-/// A matrix of 2 to 4 processes, 2 to 512 values and a last tag of at most 511, over stamped registers
-/// with a last stamp: at most 512 codes below and 4,096 bits in all.
+/// A matrix of 2 to 4 processes and 2 to 512 values, with tags up to `tag`, over stamped registers
+/// with stamps up to `stamp`. Both are at most 511, each stamped register has at most 512 codes,
+/// and there are at most 4,096 bits in all.
 pub fn matrix(processes: u32, values: u32, tag: u32, stamp: u32) -> MatrixTower
     requires two { LEAST_PROCESSES ≤ processes }
     requires four { processes ≤ MOST_WRITERS }
@@ -88,13 +90,15 @@ pub fn matrix(processes: u32, values: u32, tag: u32, stamp: u32) -> MatrixTower
     requires most { (stamp + 1) * ((tag + 1) * processes * values) ≤ MOST_VALUES }
     requires cells { processes * processes * ((stamp + 1) * ((tag + 1) * processes * values))
         ≤ MOST_CELLS }
-    ensures { ⟦<MatrixTower as Behaves>⟧.is result ≡ matrix_tower processes values tag stamp }
+    ensures { ⟦<MatrixTower as Behaves>⟧.behaviour result
+        ≡ matrix_tower processes values tag stamp }
 {
     let part = stamped((tag + 1) * processes * values, stamp);
-    MatrixRules::new(part, processes, values, tag).unwrap()
+    Matrix::new(part, processes, values, tag).unwrap()
 }
 
-/// The five towers below the matrix have one writer, whatever their numbers: process 0 alone writes them, and the others read.
+/// The five towers below the matrix have one writer, whatever their numbers: only process 0 writes,
+/// and only the others read.
 pub fn have_one_writer()
     ensures safe { HasOneWriter safe_behaviour }
     ensures copies { (readers : ℕ) → HasOneWriter (copies_tower readers) }

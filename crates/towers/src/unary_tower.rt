@@ -1,20 +1,22 @@
-//! The unary number over regular bits under a name of its own: what stands on it names it, and none of the layers below it.
+//! The unary number over regular bits, as a type of its own, so that the types above it name none
+//! of its layers.
 
 use crate::RegularTower;
 use frames::flat::FlatStack;
 use frames::register::{Behaves, Register};
 use frames::safe::{Safe, SafePoint};
-use frames::types::{Action, Op, Outcome, Progress};
+use frames::types::{Action, Next, Op, Outcome, Progress, Stack, Turned};
 use reader_copies::task::CopiesTask;
 use regular_bit::task::RegularTask;
 use safe_bit::{Place, Store};
+use std::alloc::Global;
 use unary_number::Unary;
 use unary_number::task::UnaryTask;
 
-/// A unary number over the layers below it.
+/// The layers of a unary number, which names each of them.
 type UnaryLayers = Unary<RegularTower>;
 
-/// A unary number over regular bits. It does what its layers do.
+/// A unary number over regular bits, which behaves as its layers do.
 #[derive(Clone, Copy, Debug, PartialEq, Eq)]
 pub struct UnaryTower {
     pub(crate) layers: UnaryLayers,
@@ -23,7 +25,7 @@ pub struct UnaryTower {
 impl Behaves for UnaryTower {
     type Pending = <UnaryLayers as Behaves>::Pending;
 
-    ghost is = { λ r. ⟦<UnaryLayers as Behaves>⟧.is r.layers };
+    ghost behaviour = { λ r. ⟦<UnaryLayers as Behaves>⟧.behaviour r.layers };
 }
 
 impl Register for UnaryTower {
@@ -75,6 +77,34 @@ impl Register for UnaryTower {
         self.layers.init(store, at, value);
     }
 
+    fn begin(&self, store: &mut Store, at: Place, who: u32, op: Op) -> Next<Self::Pending> {
+        self.layers.begin(store, at, who, op)
+    }
+
+    fn go(
+        &self,
+        store: &mut Store,
+        at: Place,
+        pending: Self::Pending,
+        choice: bool,
+    ) -> Turned<Self::Pending> {
+        self.layers.go(store, at, pending, choice)
+    }
+
+    fn stack(&self, alloc: Global, pending: &Self::Pending) -> Stack {
+        self.layers.stack(alloc, pending)
+    }
+
+    #[inline(always)]
+    fn action(&self, pending: &Self::Pending, at: Place) -> Action {
+        self.layers.action(pending, at)
+    }
+
+    #[inline(always)]
+    fn pending(&self, stack: &Stack, first: usize, who: u32) -> Option<Self::Pending> {
+        self.layers.pending(stack, first, who)
+    }
+
     #[inline(always)]
     fn begin_on(
         &self,
@@ -100,21 +130,7 @@ impl Register for UnaryTower {
         self.layers.go_on(store, at, who, stack, first, choice)
     }
 
-    #[inline(always)]
-    fn pending(&self, stack: &FlatStack, first: usize, who: u32) -> Option<Self::Pending> {
-        self.layers.pending(stack, first, who)
-    }
-
-    fn lay(&self, pending: &Self::Pending, stack: &mut FlatStack) {
-        self.layers.lay(pending, stack);
-    }
-
-    #[inline(always)]
-    fn action(&self, pending: &Self::Pending, at: Place) -> Action {
-        self.layers.action(pending, at)
-    }
-
-    ghost tells = { λ r.
+    ghost reports = { λ r.
         let b = r.layers.below in
         let copies_point = layered_point (copies_table b.below.layer.readers b.below.layer.values) safe_point in
         layered_tells (layers.on_regular r) (layered_point (regular_table b.layer.processes) copies_point)
@@ -127,10 +143,10 @@ impl Register for UnaryTower {
     ghost finds_alike = { λ a b h. (layers.same_layers (⟦<Safe as PartialEq>⟧.eq a.layers.below.below.below b.layers.below.below.below) a b h).1 };
 
     ghost same_pending = { nested_decides _ _
-        (decides_like ⟦<UnaryTask as PartialEq>⟧.eq unary.task_eq (elim [ unary_task.Setting _ ↦ elim [ unary_task.Setting _ ↦ refl | unary_task.Clearing _ _ ↦ refl | unary_task.Looking _ _ _ ↦ refl ] | unary_task.Clearing _ _ ↦ elim [ unary_task.Setting _ ↦ refl | unary_task.Clearing _ _ ↦ refl | unary_task.Looking _ _ _ ↦ refl ] | unary_task.Looking _ _ _ ↦ elim [ unary_task.Setting _ ↦ refl | unary_task.Clearing _ _ ↦ refl | unary_task.Looking _ _ _ ↦ refl ] ]) unary.task_decides)
+        (decides_like ⟦<UnaryTask as PartialEq>⟧.eq unary.unary_task_eq (elim [ unary_task.Setting _ ↦ elim [ unary_task.Setting _ ↦ refl | unary_task.Clearing _ _ ↦ refl | unary_task.Looking _ _ _ ↦ refl ] | unary_task.Clearing _ _ ↦ elim [ unary_task.Setting _ ↦ refl | unary_task.Clearing _ _ ↦ refl | unary_task.Looking _ _ _ ↦ refl ] | unary_task.Looking _ _ _ ↦ elim [ unary_task.Setting _ ↦ refl | unary_task.Clearing _ _ ↦ refl | unary_task.Looking _ _ _ ↦ refl ] ]) unary.unary_task_decides)
         (nested_decides _ _
-        (decides_like ⟦<RegularTask as PartialEq>⟧.eq regular.task_eq (elim [ regular_task.Writing _ ↦ elim [ regular_task.Writing _ ↦ refl | regular_task.Reading _ ↦ refl ] | regular_task.Reading _ ↦ elim [ regular_task.Writing _ ↦ refl | regular_task.Reading _ ↦ refl ] ]) regular.task_decides)
+        (decides_like ⟦<RegularTask as PartialEq>⟧.eq regular.regular_task_eq (elim [ regular_task.Writing _ ↦ elim [ regular_task.Writing _ ↦ refl | regular_task.Reading _ ↦ refl ] | regular_task.Reading _ ↦ elim [ regular_task.Writing _ ↦ refl | regular_task.Reading _ ↦ refl ] ]) regular.regular_task_decides)
         (nested_decides _ _
-        (decides_like ⟦<CopiesTask as PartialEq>⟧.eq copies.task_eq (elim [ copies_task.Writing _ _ ↦ elim [ copies_task.Writing _ _ ↦ refl | copies_task.Reading _ ↦ refl ] | copies_task.Reading _ ↦ elim [ copies_task.Writing _ _ ↦ refl | copies_task.Reading _ ↦ refl ] ]) copies.task_decides)
+        (decides_like ⟦<CopiesTask as PartialEq>⟧.eq copies.copies_task_eq (elim [ copies_task.Writing _ _ ↦ elim [ copies_task.Writing _ _ ↦ refl | copies_task.Reading _ ↦ refl ] | copies_task.Reading _ ↦ elim [ copies_task.Writing _ _ ↦ refl | copies_task.Reading _ ↦ refl ] ]) copies.copies_task_decides)
         (point_decides ⟦<SafePoint as PartialEq>⟧.eq (elim [ WriteStart _ ↦ elim [ WriteStart _ ↦ refl | WriteEnd _ ↦ refl | ReadStart ↦ refl | ReadEnd ↦ refl ] | WriteEnd _ ↦ elim [ WriteStart _ ↦ refl | WriteEnd _ ↦ refl | ReadStart ↦ refl | ReadEnd ↦ refl ] | ReadStart ↦ elim [ WriteStart _ ↦ refl | WriteEnd _ ↦ refl | ReadStart ↦ refl | ReadEnd ↦ refl ] | ReadEnd ↦ elim [ WriteStart _ ↦ refl | WriteEnd _ ↦ refl | ReadStart ↦ refl | ReadEnd ↦ refl ] ])))) };
 }

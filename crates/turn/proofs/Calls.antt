@@ -7,10 +7,10 @@ use native.Mathlib.Decide.{ℕ_discrete}
 use lib.ListN.{get_elem?}
 use Rattle.atomic_table.specs.Table.{State, Me, opening, Final, Seen}
 use Rattle.turn.specs.declared.view.View.{View}
-use Rattle.turn.specs.Shares.{has, HasAll, without, together, count, number, next_least}
+use Rattle.turn.specs.Shares.{has_share, HasAll, shares_without, together, count, chair_number, next_least}
 use Rattle.turn.specs.ShareLaws.{below_every, has_without, given_inside, given_some, kept_some, count_some, number_held, together_some}
-use Rattle.turn.specs.Histories.{StartsWith, first_view, told_of, longer, joined, IsJoined, HoldsSome, under, OwnsItsCalls, kept, handed}
-use Rattle.turn.specs.Rule.{Kept, NewsTells}
+use Rattle.turn.specs.Histories.{StartsWith, first_view, with_news, longer, joined, IsJoined, HoldsSome, under, OwnsItsCalls, kept, handed}
+use Rattle.turn.specs.Rule.{Kept, NewsReports}
 use Rattle.turn.proofs.Fronts.{nothing_new, under_kept}
 use Rattle.turn.proofs.Keeps.{starts, none_under, longer_cases}
 
@@ -31,27 +31,27 @@ module _ {T E : Type 0} (by : E → ℕ) (entries : T → List E) where
 
   pub owns_kept : (given : List Bool) (v : V) → OwnsItsCalls by v → OwnsItsCalls by (kept by given v)
   owns_kept given v owns share held = let h = has_without v.shares given share held in
-      owns share h.0 ∙ sym (under_kept by (λ i. not (has given i)) share v.calls (ap not h.1))
+      owns share h.0 ∙ sym (under_kept by (λ i. not (has_share given i)) share v.calls (ap not h.1))
 
-  pub owns_handed : (given : List Bool) (v : V) → ((share : ℕ) → has given share ≡ true → has v.shares share ≡ true) → OwnsItsCalls by v → OwnsItsCalls by (handed by given v)
-  owns_handed given v inside owns share held = owns share (inside share held) ∙ sym (under_kept by (has given) share v.calls held)
+  pub owns_handed : (given : List Bool) (v : V) → ((share : ℕ) → has_share given share ≡ true → has_share v.shares share ≡ true) → OwnsItsCalls by v → OwnsItsCalls by (handed by given v)
+  owns_handed given v inside owns share held = owns share (inside share held) ∙ sym (under_kept by (has_share given) share v.calls held)
 
-  -- a place that a chair can have, by these marks
+  -- the place of a chair with these marks
   abbrev pub IsChair : M → List Bool → Type 0
   IsChair m marks = (m.0.shares ≡ marks) × ((m.1 ≡ []) × (m.0.holds ≡ false)) × (0 < count marks) × OwnsItsCalls by m.0
 
-  pub inside_marks : (m : M) (marks given : List Bool) (n : ℕ) → m.0.shares ≡ marks → given ≡ next_least n marks → (share : ℕ) → has given share ≡ true → has m.0.shares share ≡ true
-  inside_marks m marks given n marked is share held = ap (λ (l : List Bool). has l share) marked ∙ given_inside n marks share (ap (λ (l : List Bool). has l share) (sym is) ∙ held)
+  pub inside_marks : (m : M) (marks given : List Bool) (n : ℕ) → m.0.shares ≡ marks → given ≡ next_least n marks → (share : ℕ) → has_share given share ≡ true → has_share m.0.shares share ≡ true
+  inside_marks m marks given n marked is share held = ap (λ (l : List Bool). has_share l share) marked ∙ given_inside n marks share (ap (λ (l : List Bool). has_share l share) (sym is) ∙ held)
 
   pub kept_chair : (m m' : M) (marks given left : List Bool) (n : ℕ) → m.0.shares ≡ marks → (m.1 ≡ []) × (m.0.holds ≡ false) → OwnsItsCalls by m.0 → length marks ≡ 16 → n < count m.0.shares
-      → given ≡ next_least n marks → left ≡ without marks given → m' ≡ (kept by given m.0, m.1) → IsChair m' left
+      → given ≡ next_least n marks → left ≡ shares_without marks given → m' ≡ (kept by given m.0, m.1) → IsChair m' left
   kept_chair m m' marks given left n marked idle owns long fewer is left_is after =
       let fewer' : n < count marks = subst (λ (l : List Bool). n < count l) marked fewer in
       let one = kept_some n marks long fewer' in
-      let whole : left ≡ without marks (next_least n marks) = left_is ∙ ap (without marks) is in (
-        ap (λ (x : M). x.0.shares) after ∙ (ap (λ (l : List Bool). without l given) marked ∙ sym left_is),
+      let whole : left ≡ shares_without marks (next_least n marks) = left_is ∙ ap (shares_without marks) is in (
+        ap (λ (x : M). x.0.shares) after ∙ (ap (λ (l : List Bool). shares_without l given) marked ∙ sym left_is),
         (ap (λ (x : M). x.1) after ∙ idle.0, ap (λ (x : M). x.0.holds) after ∙ idle.1),
-        subst (λ (l : List Bool). 0 < count l) (sym whole) (count_some (without marks (next_least n marks)) one.0 one.1),
+        subst (λ (l : List Bool). 0 < count l) (sym whole) (count_some (shares_without marks (next_least n marks)) one.0 one.1),
         subst (λ (x : M). OwnsItsCalls by x.0) (sym after) (owns_kept given m.0 owns),
       )
 
@@ -67,19 +67,19 @@ module _ {T E : Type 0} (by : E → ℕ) (entries : T → List E) where
       )
 
   pub joined_chair : (m o m1 m2 : M) (marks others both : List Bool) (n : ℕ) → m.0.shares ≡ marks → (m.1 ≡ []) × (m.0.holds ≡ false) → o.0.shares ≡ others → length marks ≡ 16 → 0 < count marks
-      → both ≡ together marks others → m1 ≡ (joined m.0 o.0, m.1) → NewsTells by entries m1 n m2 → IsChair m2 both
+      → both ≡ together marks others → m1 ≡ (joined m.0 o.0, m.1) → NewsReports by entries m1 n m2 → IsChair m2 both
   joined_chair m o m1 m2 marks others both n marked idle marked' long some_share is after told =
-      let mine = number_held marks long some_share in let one = together_some marks others (number marks) mine.0 mine.1 in (
+      let mine = number_held marks long some_share in let one = together_some marks others (chair_number marks) mine.0 mine.1 in (
         ap (λ (x : M). x.0.shares) told.0 ∙ (ap (λ (x : M). x.0.shares) after ∙ ((λ i. together (marked i) (marked' i)) ∙ sym is)),
         (ap (λ (x : M). x.1) told.0 ∙ (ap (λ (x : M). x.1) after ∙ idle.0), ap (λ (x : M). x.0.holds) told.0 ∙ (ap (λ (x : M). x.0.holds) after ∙ idle.1)),
         subst (λ (l : List Bool). 0 < count l) (sym is) (count_some (together marks others) one.0 one.1),
         subst (λ (x : M). OwnsItsCalls by x.0) (sym told.0) told.3,
       )
 
-  pub meets : (v w : V) (m1 m2 : M) (n : ℕ) → m1.0 ≡ joined v w → NewsTells by entries m1 n m2
+  pub meets : (v w : V) (m1 m2 : M) (n : ℕ) → m1.0 ≡ joined v w → NewsReports by entries m1 n m2
       → IsJoined v w m2.0
   meets v w m1 m2 n is t =
-      let after : m2.0 ≡ told_of (joined v w) n = ap (λ (m : M). m.0) t.0 ∙ ap (λ (x : V). told_of x n) is in
+      let after : m2.0 ≡ with_news (joined v w) n = ap (λ (m : M). m.0) t.0 ∙ ap (λ (x : V). with_news x n) is in
       let seen : m2.0.seen ≡ longer v.seen w.seen = ap (λ (x : V). x.seen) after in
       let J : V → Type 0 = λ (x : V). (length x.met.0 ≤ length x.seen → StartsWith x.seen x.met.0) × (length x.met.1 ≤ length x.seen → StartsWith x.seen x.met.1) in
       let both : J (joined v w) = subst J is (t.4, t.5) in
@@ -88,13 +88,13 @@ module _ {T E : Type 0} (by : E → ℕ) (entries : T → List E) where
       (λ (c : (longer v.seen w.seen ≡ v.seen) × (length w.seen ≤ length v.seen)). let e = ap length c.0 in let l = c.1 in (omega arith, omega arith)) (longer_cases by entries v.seen w.seen) in (
         n,
         after,
-        subst (λ (x : V). x.told ≤ n) is t.1,
+        subst (λ (x : V). x.reported ≤ n) is t.1,
         (let e = ap length (ap (λ (m : M). m.0.seen) t.0) in let l = t.2 in omega arith),
         subst (λ (l : List E). StartsWith l v.seen) (sym seen) (both.0 lengths.0),
         subst (λ (l : List E). StartsWith l w.seen) (sym seen) (both.1 lengths.1),
       )
 
-  -- a chair with every share finds the value at home, and has seen its whole list
+  -- a chair with every share finds the value in its slot, and has seen its whole list
   pub closes : (id : ℕ) (v : V) (words : List ℕ) (xs : List (Option T)) → Final (Seen (Kept by entries) id v) words xs → v.holds ≡ false → HasAll v.shares
       → (y : T) × (get_elem? xs 0 ≡ some (Some y)) × (entries y ≡ v.seen)
   closes id v words xs final idle all =

@@ -1,8 +1,8 @@
--- Worked examples of the definitions by which something is there: one that holds, and a near miss.
+-- Worked examples of definitions that state an existence: one that holds, and a near miss.
 use Rattle.std.proofs.Common.{ℕ, ◌≡◌, Bool, true, false, true≢false, List, [], ◌∷◌, ◌++◌, replicate, slice_index_or, ap, refl, sym, ◌∙◌, inr, ⊎_elim, arith}
 use Rattle.turn.specs.declared.view.View.{View}
 use Rattle.turn.specs.Entries.{AtMostOne}
-use Rattle.turn.specs.Histories.{StartsWith, joined, told_of, IsJoined, Holding}
+use Rattle.turn.specs.Histories.{StartsWith, joined, with_news, IsJoined, Holding}
 
 -- an entry is the number of the chair that made it
 abbrev by : ℕ → ℕ
@@ -19,7 +19,7 @@ share_1 = false ∷ true ∷ replicate 14 false
 
 -- a view that has seen a list, with these calls
 abbrev having : List Bool → List ℕ → List ℕ → View ℕ
-having shares calls seen = record { shares = shares; calls = calls; seen = seen; told = 0; holds = false; met = ([], []) }
+having shares calls seen = record { shares = shares; calls = calls; seen = seen; reported = 0; holds = false; met = ([], []) }
 
 -- one entry of chair 3
 AtMostOne-holds : AtMostOne by 3 (3 ∷ [])
@@ -37,18 +37,19 @@ AtMostOne-fails h =
 StartsWith-holds : StartsWith {E = ℕ} (1 ∷ 2 ∷ []) (1 ∷ [])
 StartsWith-holds = (2 ∷ [], refl)
 
--- and not with 2
+-- 1, 2 doesn't begin with 2
 StartsWith-fails : StartsWith {E = ℕ} (1 ∷ 2 ∷ []) (2 ∷ []) → ⊥
 StartsWith-fails h = let e : 2 ≡ 1 = ap first h.1 in omega (arith, e)
 
--- of two chairs that have seen 0 and 0, 1 one is made that has seen 0, 1 and was told of the length 3
+-- two chairs that have seen 0 and 0, 1 are joined into one that has seen 0, 1 and has read the
+-- length 3
 IsJoined-holds : IsJoined (having share_0 (0 ∷ []) (0 ∷ [])) (having share_1 (1 ∷ []) (0 ∷ 1 ∷ []))
-    (told_of (joined (having share_0 (0 ∷ []) (0 ∷ [])) (having share_1 (1 ∷ []) (0 ∷ 1 ∷ []))) 3)
+    (with_news (joined (having share_0 (0 ∷ []) (0 ∷ [])) (having share_1 (1 ∷ []) (0 ∷ 1 ∷ []))) 3)
 IsJoined-holds = (3, refl, omega arith, omega arith, (1 ∷ [], refl), ([], refl))
 
--- they have seen 0 and 1, 1, which no list begins with
+-- two chairs that have seen 0 and 1, 1 can't be joined, since no list begins with both
 IsJoined-fails : IsJoined (having share_0 (0 ∷ []) (0 ∷ [])) (having share_1 (1 ∷ 1 ∷ []) (1 ∷ 1 ∷ []))
-    (told_of (joined (having share_0 (0 ∷ []) (0 ∷ [])) (having share_1 (1 ∷ 1 ∷ []) (1 ∷ 1 ∷ []))) 3) → ⊥
+    (with_news (joined (having share_0 (0 ∷ []) (0 ∷ [])) (having share_1 (1 ∷ 1 ∷ []) (1 ∷ 1 ∷ []))) 3) → ⊥
 IsJoined-fails h = let e : 0 ≡ 1 = ap first h.4.1 in omega (arith, e)
 
 -- the list that a chair of share 0 found as 0, 2 is one entry longer afterwards
@@ -59,7 +60,7 @@ GrowsByOne before after = after ≡ before ++ 0 ∷ []
 Holding-holds : Holding by GrowsByOne (having share_0 (0 ∷ []) (0 ∷ [])) (having share_0 (0 ∷ 0 ∷ []) (0 ∷ 2 ∷ 0 ∷ []))
 Holding-holds = (0 ∷ 2 ∷ [], 0 ∷ [], (2 ∷ [], refl), omega arith, inr (0, refl, refl), refl, refl, λ all. absurd (true≢false (sym (all 1 (omega arith)))))
 
--- it added an entry of share 1
+-- the chair of share 0 added an entry of share 1
 Holding-fails : Holding by GrowsByOne (having share_0 [] []) (having share_0 (1 ∷ []) (1 ∷ [])) → ⊥
 Holding-fails h =
     let added : 1 ∷ [] ≡ h.1 = ap (λ v. v.calls) h.5 in AtMostOne-share_1 h.1 added h.4

@@ -10,7 +10,7 @@ use Rattle.turn.specs.Histories.{StartsWith, under}
 use Rattle.turn.specs.Rule.{ByChairs}
 
 module _ {E : Type 0} where
-  -- of two lists that begin one, the shorter begins the other
+  -- of two prefixes of one list, the shorter is a prefix of the other
   pub shorter : (list front back : List E) → StartsWith list front → StartsWith list back → length front ≤ length back → StartsWith back front
   shorter list [] back f b le = (back, refl)
   shorter list (x ∷ xs) [] f b le = absurd (omega arith)
@@ -32,7 +32,7 @@ module _ {E : Type 0} (by : E → ℕ) where
   pub under_append : (share : ℕ) (xs ys : List E) → under by share (xs ++ ys) ≡ under by share xs ++ under by share ys
   under_append share xs ys = filter-append (λ e. eqb (by e) share) xs ys
 
-  -- what shows no entry under any chair's number is empty
+  -- if a prefix has all entries of every share, and the rest was made by chairs, the rest is empty
   pub nothing_new : (list front rest : List E) → front ++ rest ≡ list → ByChairs by rest → ((share : ℕ) → share < 16 → under by share front ≡ under by share list) → rest ≡ []
   nothing_new list front [] is chairs same = refl
   nothing_new list front (x ∷ xs) is chairs same =
@@ -42,7 +42,7 @@ module _ {E : Type 0} (by : E → ℕ) where
       ap (λ l. under by (by x) front ++ l) (sym here) ∙ (sym (under_append (by x) front (x ∷ xs)) ∙ (ap (under by (by x)) is ∙ (sym mine ∙ sym (append-nil (under by (by x) front))))) in
       absurd (omega (arith, ap length (append_cancel_left (under by (by x) front) (x ∷ under by (by x) xs) [] all)))
 
-  -- what shows all of a share's entries still does where more was seen
+  -- a prefix with all of a share's entries still has them all if it is longer
   pub still_all : (share : ℕ) (list front back : List E) → StartsWith list front → StartsWith list back → length front ≤ length back → under by share front ≡ under by share list
       → under by share back ≡ under by share list
   still_all share list front back f b le same =
@@ -62,7 +62,7 @@ module _ {E : Type 0} (by : E → ℕ) where
   skip_other true share x xs other = ap (λ t. cond t (x ∷ under by share xs) (under by share xs)) (ne_eqb (by x) share other)
   skip_other false share x xs other = refl
 
-  -- a share in the set keeps its entries, one that is not has none left
+  -- a share in the set keeps its entries; one that isn't has none left
   pub under_kept : (p : ℕ → Bool) (share : ℕ) (xs : List E) → p share ≡ true → under by share (filter (λ e. p (by e)) xs) ≡ under by share xs
   under_kept p share [] held = refl
   under_kept p share (x ∷ xs) held = dite (ℕ_discrete (by x) share)
@@ -79,7 +79,7 @@ module _ {E : Type 0} (by : E → ℕ) where
       (λ is. let F = filter (λ e. p (by e)) xs in ap (λ b. under by share (cond b (x ∷ F) F)) (ap p is ∙ gone) ∙ under_dropped p share xs gone)
       (λ other. skip_other (p (by x)) share x (filter (λ e. p (by e)) xs) other ∙ under_dropped p share xs gone)
 
-  -- an entry under another number shows nothing
+  -- an entry under another number isn't among a share's
   pub added_elsewhere : (n share : ℕ) (added : List E) → AtMostOne by n added → n ≢ share → under by share added ≡ []
   added_elsewhere n share added one other = Rattle.std.proofs.Common.⊎_elim (λ (e : added ≡ []). ap (under by share) e)
       (λ (t : (x : E) × (added ≡ x ∷ []) × (by x ≡ n)). ap (under by share) t.1 ∙ skip_other true share t.0 [] (λ is. other (sym t.2 ∙ is))) one

@@ -1,9 +1,9 @@
--- What one holding of the turn comes to. m0 to m5 are the place before it and after each step.
+-- What one holding of the turn does. m0 to m5 are the place before it and after each step.
 use Rattle.std.proofs.Common.{◌≡◌, ℕ, ◌≤◌, true, List, [], ◌∷◌, ◌++◌, length, drop, sym, ap, ◌∙◌, subst, Option, Some, None}
 use Rattle.std.proofs.Math.Seq.{drop-append_seam}
 use Rattle.atomic_table.specs.Table.{Me}
 use Rattle.turn.specs.declared.view.View.{View}
-use Rattle.turn.specs.Shares.{has, number}
+use Rattle.turn.specs.Shares.{has_share, chair_number}
 use Rattle.turn.specs.Entries.{AtMostOne}
 use Rattle.turn.specs.Histories.{StartsWith, grabbed, published, released, under, OwnsItsCalls, Holding}
 use Rattle.turn.specs.Rule.{Grabs}
@@ -25,7 +25,7 @@ module _ {T E : Type 0} (by : E → ℕ) (entries : T → List E) where
   abbrev M : Type 0
   M = Me (Option T) V
 
-  -- what the value has beyond what was seen
+  -- the entries of the value's list after those that were seen
   abbrev pub grown : V → T → List E
   grown v x = drop (length v.seen) (entries x)
 
@@ -36,11 +36,8 @@ module _ {T E : Type 0} (by : E → ℕ) (entries : T → List E) where
     pub taken_view : m2.0 ≡ grabbed m0.0 (entries x0)
     taken_view = ap (λ (m : M). m.0) empty ∙ (ap (λ (m : M). m.0) grabs.1 ∙ ap (λ (x : T). grabbed m0.0 (entries x)) same_value)
 
-    pub still_has : (n : ℕ) → has m0.0.shares n ≡ true → has m2.0.shares n ≡ true
-    still_has n held = ap (λ (v : V). has v.shares n) taken_view ∙ held
-
-    pub holds_turn : m2.0.holds ≡ true
-    holds_turn = ap (λ (v : V). v.holds) taken_view
+    pub still_has : (n : ℕ) → has_share m0.0.shares n ≡ true → has_share m2.0.shares n ≡ true
+    still_has n held = ap (λ (v : V). has_share v.shares n) taken_view ∙ held
 
     seen_is : m2.0.seen ≡ entries x0
     seen_is = ap (λ (v : V). v.seen) taken_view
@@ -72,12 +69,12 @@ module _ {T E : Type 0} (by : E → ℕ) (entries : T → List E) where
                 (λ share held. under_append by share (entries grabs.0) (grown m2.0 x1)
                 ∙ (ap (λ (l : List E). l ++ under by share (grown m2.0 x1)) (grabs.4 share held) ∙ sym (under_append by share m0.0.calls (grown m2.0 x1))))
 
-            pub holding : (relation : List E → List E → Type 0) → n ≡ number m0.0.shares → relation (entries x0) (entries x1) → Holding by relation m0.0 m5.0
+            pub holding : (relation : List E → List E → Type 0) → n ≡ chair_number m0.0.shares → relation (entries x0) (entries x1) → Holding by relation m0.0 m5.0
             holding relation same kept = (
               entries x0,
               grown m2.0 x1,
               subst (λ (x : T). StartsWith (entries x) m0.0.seen) same_value grabs.2,
-              subst (λ (x : T). m0.0.told ≤ length (entries x)) same_value grabs.3,
+              subst (λ (x : T). m0.0.reported ≤ length (entries x)) same_value grabs.3,
               subst (λ (k : ℕ). AtMostOne by k (grown m2.0 x1)) same one_more,
               ends ∙ ap (λ (v : V). released (published v (grown m2.0 x1))) taken_view,
               subst (relation (entries x0)) (all_seen ∙ ap (λ (l : List E). l ++ grown m2.0 x1) seen_is) kept,

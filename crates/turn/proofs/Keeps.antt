@@ -12,15 +12,15 @@ use prog.Atomic.{either}
 use Rattle.atomic_table.specs.Table.{State, Me, step, Act, keeps, takes, gives, stepped, put_back, rest, Allows, Splits, Joins, opening}
 use Rattle.atomic_table.proofs.Lists.{at_set, set_else, set_again, at_longer, exchanged}
 use Rattle.turn.specs.declared.view.View.{View}
-use Rattle.turn.specs.Shares.{has}
+use Rattle.turn.specs.Shares.{has_share}
 use Rattle.turn.specs.ShareLaws.{below_every, none_held, has_without, not_without, has_together, not_together}
 use Rattle.turn.specs.Entries.{AtMostOne}
-use Rattle.turn.specs.Histories.{StartsWith, first_view, spent_view, grabbed, published, released, told_of, longer, joined, HoldsSome, under, OwnsItsCalls, kept, handed}
-use Rattle.turn.specs.Rule.{ByChairs, Knows, Kept, grab_tells, publish_tells, release_tells, news_tells}
+use Rattle.turn.specs.Histories.{StartsWith, first_view, spent_view, grabbed, published, released, with_news, longer, joined, HoldsSome, under, OwnsItsCalls, kept, handed}
+use Rattle.turn.specs.Rule.{ByChairs, Knows, Kept, grab_reports, publish_reports, release_reports, news_reports}
 use Rattle.turn.proofs.Fronts.{shorter, starts_more, under_append, nothing_new, still_all, under_kept, under_dropped, added_elsewhere}
 
 module _ {A : Type 0} where
-  -- a place that was there has what is set
+  -- an index that is there has the value that is set
   there : (l : List A) (i : ℕ) (a b : A) → get_elem? l i ≡ some a → get_elem? (set l i b) i ≡ some b
   there [] i a b e = absurd (some-ne-none a (sym e))
   there (x ∷ xs) zero a b e = refl
@@ -55,10 +55,11 @@ module _ {T E : Type 0} (by : E → ℕ) (entries : T → List E) where
   unmoved s i me v r at = subst (λ (z : List ℕ × List V). Rule record { words = z.0; homes = s.homes; views = z.1 })
       (λ k. (sym (set-get_or s.words i 0) k, sym (set_again s.views me v at) k)) r
 
-  -- what a view knows of a list that stays, where it is told more or the turn and the shares' owners are others
+  -- what a view knows of an unchanged list, if it reads a greater length, or the turn and the
+  -- shares' owners change
   same_list : (list : List E) (f f' h h' : ℕ) (owner owner' : ℕ → ℕ) (seat : ℕ) (v : V) (told : ℕ) (holds : Bool) → Knows by list f h owner seat v
-      → ((share : ℕ) → has v.shares share ≡ true → owner' share ≡ seat) → told ≤ length list → (holds ≡ true → (f' ≡ 1) × (seat ≡ h') × (v.seen ≡ list) × HoldsSome v)
-      → Knows by list f' h' owner' seat (record v { told = told; holds = holds })
+      → ((share : ℕ) → has_share v.shares share ≡ true → owner' share ≡ seat) → told ≤ length list → (holds ≡ true → (f' ≡ 1) × (seat ≡ h') × (v.seen ≡ list) × HoldsSome v)
+      → Knows by list f' h' owner' seat (record v { reported = told; holds = holds })
   same_list list f f' h h' owner owner' seat v told holds k owns within turn = record {
     below = k.below;
     seen = k.seen;
@@ -66,24 +67,24 @@ module _ {T E : Type 0} (by : E → ℕ) (entries : T → List E) where
     calls = k.calls;
     saw = k.saw;
     others = k.others;
-    told = within;
+    reported = within;
     holding = turn;
     met = k.met;
   }
 
   -- another seat takes or frees the turn
   others_know : (list : List E) (f f' h h' : ℕ) (owner : ℕ → ℕ) (seat : ℕ) (v : V) → (v.holds ≡ true → ⊥) → Knows by list f h owner seat v → Knows by list f' h' owner seat v
-  others_know list f f' h h' owner seat v idle k = same_list list f f' h h' owner owner seat v v.told v.holds k k.owns k.told (λ t. absurd (idle t))
+  others_know list f f' h h' owner seat v idle k = same_list list f f' h h' owner owner seat v v.reported v.holds k k.owns k.reported (λ t. absurd (idle t))
 
   -- shares have other owners, but not those of this seat
-  new_owners : (list : List E) (f h : ℕ) (owner owner' : ℕ → ℕ) (seat : ℕ) (v : V) → Knows by list f h owner seat v → ((share : ℕ) → has v.shares share ≡ true → owner' share ≡ seat)
+  new_owners : (list : List E) (f h : ℕ) (owner owner' : ℕ → ℕ) (seat : ℕ) (v : V) → Knows by list f h owner seat v → ((share : ℕ) → has_share v.shares share ≡ true → owner' share ≡ seat)
       → Knows by list f h owner' seat v
-  new_owners list f h owner owner' seat v k owns = same_list list f f h h owner owner' seat v v.told v.holds k owns k.told k.holding
+  new_owners list f h owner owner' seat v k owns = same_list list f f h h owner owner' seat v v.reported v.holds k owns k.reported k.holding
 
   owns_calls : (list : List E) (f h : ℕ) (owner : ℕ → ℕ) (seat : ℕ) (v : V) → Knows by list f h owner seat v → OwnsItsCalls by v
   owns_calls list f h owner seat v k share held = k.saw share held ∙ sym (k.calls share held)
 
-  -- the seat with the turn still has it where another view, or what else one knows, changes
+  -- the seat with the turn still has it if another view changes, or what else its own view knows
   away_stays : (s : St) (r : Rule s) (id : ℕ) (v w : V) → get_elem? s.views id ≡ some v → w.holds ≡ v.holds → r.flag ≢ 0
       → (x : V) × (s.homes ≡ none ∷ []) × (get_elem? (set s.views id w) r.holder ≡ some x) × (x.holds ≡ true)
   away_stays s r id v w at same busy = let a = r.away busy in dite (ℕ_discrete r.holder id)
@@ -128,7 +129,7 @@ module _ {T E : Type 0} (by : E → ℕ) (entries : T → List E) where
       calls = λ share held. sym (none_under share (entries value) (below_every share held) outside);
       saw = λ _ _. refl;
       others = λ _ _. refl;
-      told = omega arith;
+      reported = omega arith;
       holding = λ t. absurd (cc);
       met = ((entries value, refl), (entries value, refl));
     }) (λ (t : (j ≢ 0) × (get_elem? (v ∷ []) j ≡ some d)). absurd (beyond j d t.0 t.1)) (at_set (v ∷ []) 0 j v d e);
@@ -138,9 +139,9 @@ module _ {T E : Type 0} (by : E → ℕ) (entries : T → List E) where
       beyond zero d other e = other refl
       beyond (suc j) d other e = some-ne-none d (sym e)
 
-  pub grabs : (slots id : ℕ) (me : M) → HoldsSome me.0 → Allows Rule slots id me 0 (λ n. either (eqb n 0) 1 n) (grab_tells by entries (step slots 0 0 1 none) me)
+  pub grabs : (slots id : ℕ) (me : M) → HoldsSome me.0 → Allows Rule slots id me 0 (λ n. either (eqb n 0) 1 n) (grab_reports by entries (step slots 0 0 1 none) me)
   grabs slots id me some_share s r _ at _ =
-      exchanged (get_or s.words 0 0) 0 1 (λ k. (w : V) × (a : Act (Option T)) × Rattle.atomic_table.specs.Table.Valid s.homes me.1 a × Rule (stepped s 0 k id me.1 w a) × grab_tells by entries (step slots 0 0 1 none) me (get_or s.words 0 0) (w, Rattle.atomic_table.specs.Table.carried_after me.1 a))
+      exchanged (get_or s.words 0 0) 0 1 (λ k. (w : V) × (a : Act (Option T)) × Rattle.atomic_table.specs.Table.Valid s.homes me.1 a × Rule (stepped s 0 k id me.1 w a) × grab_reports by entries (step slots 0 0 1 none) me (get_or s.words 0 0) (w, Rattle.atomic_table.specs.Table.carried_after me.1 a))
       (λ free. let f : r.flag ≡ 0 = sym (word_0 s r) ∙ free in let h = r.home f in let x : T = h.0 in let v : V = me.0 in let w : V = grabbed v (entries x) in let k = r.each id v at in (
         w,
         takes 0 (Some x),
@@ -160,7 +161,7 @@ module _ {T E : Type 0} (by : E → ℕ) (entries : T → List E) where
             calls = k.calls;
             saw = λ share held. ap (under by share) h.2;
             others = k.others;
-            told = k.told;
+            reported = k.reported;
             holding = λ _. (refl, refl, h.2, some_share);
             met = k.met;
           } (λ j d other there'. others_know r.list r.flag 1 r.holder id r.owner j d (λ t. let z = (r.each j d there').holding t in omega arith) (r.each j d there'));
@@ -170,7 +171,7 @@ module _ {T E : Type 0} (by : E → ℕ) (entries : T → List E) where
             x,
             refl,
             (k.seen.0, k.seen.1 ∙ sym h.2),
-            subst (λ l. v.told ≤ length l) (sym h.2) k.told,
+            subst (λ l. v.reported ≤ length l) (sym h.2) k.reported,
             (λ share held. ap (under by share) h.2 ∙ sym (k.calls share held)),
             λ all. let nil = nothing_new by r.list v.seen k.seen.0 k.seen.1 (k.seen.2 some_share) (λ share inside. k.saw share (all share inside)) in
                 h.2 ∙ (sym k.seen.1 ∙ (ap (λ l. v.seen ++ l) nil ∙ append-nil v.seen)),
@@ -190,8 +191,8 @@ module _ {T E : Type 0} (by : E → ℕ) (entries : T → List E) where
   same_under : (n share : ℕ) (list added : List E) → AtMostOne by n added → n ≢ share → under by share list ≡ under by share (list ++ added)
   same_under n share list added one other = sym (append-nil (under by share list)) ∙ (ap (λ l. under by share list ++ l) (sym (added_elsewhere by n share added one other)) ∙ sym (under_append by share list added))
 
-  pub publishes : (slots id new : ℕ) (me : M) (added : List E) (n : ℕ) → me.0.holds ≡ true → has me.0.shares n ≡ true → AtMostOne by n added → new ≡ length (me.0.seen ++ added)
-      → Allows Rule slots id me 1 (λ _. new) (λ _. publish_tells by entries added (step slots 1 new 0 none) me new)
+  pub publishes : (slots id new : ℕ) (me : M) (added : List E) (n : ℕ) → me.0.holds ≡ true → has_share me.0.shares n ≡ true → AtMostOne by n added → new ≡ length (me.0.seen ++ added)
+      → Allows Rule slots id me 1 (λ _. new) (λ _. publish_reports by entries added (step slots 1 new 0 none) me new)
   publishes slots id new me added n holds mine one long s r _ at _ =
       let v : V = me.0 in let w : V = published v added in let k = r.each id v at in let hold = k.holding holds in let list' : List E = r.list ++ added in
       let chairs : ByChairs by added = all_by_chairs n added (k.below n mine) one in (
@@ -212,18 +213,18 @@ module _ {T E : Type 0} (by : E → ℕ) (entries : T → List E) where
             owns = k.owns;
             calls = λ share held. more_under share v.calls r.list added (k.calls share held);
             saw = λ share held. ap (λ (l : List E). under by share (l ++ added)) hold.2;
-            others = λ share gone. under_append by share v.calls added ∙ (ap (λ l. l ++ under by share added) (k.others share gone) ∙ added_elsewhere by n share added one (λ e. let here : has v.shares share ≡ true = ap (has v.shares) (sym e) ∙ mine in cc));
-            told = let more = length-append r.list added in let t = k.told in omega arith;
+            others = λ share gone. under_append by share v.calls added ∙ (ap (λ l. l ++ under by share added) (k.others share gone) ∙ added_elsewhere by n share added one (λ e. let here : has_share v.shares share ≡ true = ap (has_share v.shares) (sym e) ∙ mine in cc));
+            reported = let more = length-append r.list added in let t = k.reported in omega arith;
             holding = λ _. (hold.0, hold.1, ap (λ (l : List E). l ++ added) hold.2, hold.3);
             met = (starts_more r.list v.met.0 added k.met.0, starts_more r.list v.met.1 added k.met.1);
-          } (λ j d other at'. let kj = r.each j d at' in let apart : (share : ℕ) → has d.shares share ≡ true → n ≢ share = λ share held e. other (sym (kj.owns share held) ∙ (ap r.owner (sym e) ∙ k.owns n mine)) in record {
+          } (λ j d other at'. let kj = r.each j d at' in let apart : (share : ℕ) → has_share d.shares share ≡ true → n ≢ share = λ share held e. other (sym (kj.owns share held) ∙ (ap r.owner (sym e) ∙ k.owns n mine)) in record {
             below = kj.below;
             seen = (kj.seen.0 ++ added, sym (append_assoc d.seen kj.seen.0 added) ∙ ap (λ (l : List E). l ++ added) kj.seen.1, λ some_share. All-append (λ e. by e < 16) kj.seen.0 added (kj.seen.2 some_share) chairs);
             owns = kj.owns;
             calls = λ share held. kj.calls share held ∙ same_under n share r.list added one (apart share held);
             saw = λ share held. kj.saw share held ∙ same_under n share r.list added one (apart share held);
             others = kj.others;
-            told = let more = length-append r.list added in let t = kj.told in omega arith;
+            reported = let more = length-append r.list added in let t = kj.reported in omega arith;
             holding = λ t. absurd (other ((kj.holding t).1 ∙ sym hold.1));
             met = (starts_more r.list d.met.0 added kj.met.0, starts_more r.list d.met.1 added kj.met.1);
           });
@@ -232,7 +233,7 @@ module _ {T E : Type 0} (by : E → ℕ) (entries : T → List E) where
       )
 
   pub releases : (slots id : ℕ) (me : M) (x : T) → me.0.holds ≡ true → me.1 ≡ (0, Some x) ∷ [] → entries x ≡ me.0.seen
-      → Allows Rule slots id me 0 (λ _. 0) (λ _. release_tells by entries (step slots 0 0 0 none) me 0)
+      → Allows Rule slots id me 0 (λ _. 0) (λ _. release_reports by entries (step slots 0 0 0 none) me 0)
   releases slots id me x holds carried is s r _ at _ =
       let v : V = me.0 in let w : V = released v in let k = r.each id v at in let hold = k.holding holds in let a = r.away (λ z. let f = hold.0 in omega arith) in (
         w,
@@ -246,15 +247,15 @@ module _ {T E : Type 0} (by : E → ℕ) (entries : T → List E) where
           words = ap (λ ws. set ws 0 0) r.words;
           home = λ _. (x, ap (put_back s.homes) carried ∙ ap (λ hs. set hs 0 (some (Some x))) a.1, is ∙ hold.2);
           away = λ busy. absurd (busy refl);
-          each = views_stay (Knows by r.list 0 r.holder r.owner) s.views id w (same_list r.list r.flag 0 r.holder r.holder r.owner r.owner id v v.told false k k.owns k.told (λ t. absurd (cc)))
+          each = views_stay (Knows by r.list 0 r.holder r.owner) s.views id w (same_list r.list r.flag 0 r.holder r.holder r.owner r.owner id v v.reported false k k.owns k.reported (λ t. absurd (cc)))
               (λ j d other at'. let kj = r.each j d at' in others_know r.list r.flag 0 r.holder r.holder r.owner j d (λ t. other ((kj.holding t).1 ∙ sym hold.1)) kj);
         },
         λ i. (w, rest (carried i)),
       )
 
-  pub tells : (slots id : ℕ) (me : M) → Allows Rule slots id me 1 (λ n. n) (news_tells by entries (step slots 1 0 0 none) me)
+  pub tells : (slots id : ℕ) (me : M) → Allows Rule slots id me 1 (λ n. n) (news_reports by entries (step slots 1 0 0 none) me)
   tells slots id me s r _ at _ =
-      let v : V = me.0 in let n : ℕ = get_or s.words 1 0 in let w : V = told_of v n in let k = r.each id v at in let now : n ≡ length r.list = word_1 s r in
+      let v : V = me.0 in let n : ℕ = get_or s.words 1 0 in let w : V = with_news v n in let k = r.each id v at in let now : n ≡ length r.list = word_1 s r in
       let seen : StartsWith r.list v.seen = (k.seen.0, k.seen.1) in (
         w,
         keeps,
@@ -271,7 +272,7 @@ module _ {T E : Type 0} (by : E → ℕ) (entries : T → List E) where
         },
         (
           refl,
-          (let t = k.told in omega arith),
+          (let t = k.reported in omega arith),
           (let t = ap length k.seen.1 in let more = length-append v.seen k.seen.0 in omega arith),
           owns_calls r.list r.flag r.holder r.owner id v k,
           (λ le. shorter r.list v.met.0 v.seen k.met.0 seen le),
@@ -279,38 +280,33 @@ module _ {T E : Type 0} (by : E → ℕ) (entries : T → List E) where
         ),
       )
 
-  -- a new seat comes behind the others
+  -- a new seat is after the others
   at_end : (l : List V) (a b : V) (j : ℕ) → get_elem? (l ++ a ∷ []) j ≡ some b → (get_elem? l j ≡ some b) ⊎ ((j ≡ length l) × (a ≡ b))
   at_end [] a b zero e = inr (refl, some-injective a b e)
   at_end [] a b (suc j) e = absurd (some-ne-none b (sym e))
   at_end (x ∷ xs) a b zero e = inl e
   at_end (x ∷ xs) a b (suc j) e = ⊎_elim inl (λ (t : (j ≡ length xs) × (a ≡ b)). inr (ap suc t.0, t.1)) (at_end xs a b j e)
 
-  place_below : (l : List V) (j : ℕ) (a : V) → get_elem? l j ≡ some a → j < length l
-  place_below [] j a e = absurd (some-ne-none a (sym e))
-  place_below (x ∷ xs) zero a e = omega arith
-  place_below (x ∷ xs) (suc j) a e = let b = place_below xs j a e in omega arith
-
   both_cases : {P : Type 0} (b : Bool) → (b ≡ true → P) → (b ≡ false → P) → P
   both_cases true t f = t refl
   both_cases false t f = f refl
 
-  pub splits : (id : ℕ) (v : V) (given : List Bool) → v.holds ≡ false → ((share : ℕ) → has given share ≡ true → has v.shares share ≡ true)
+  pub splits : (id : ℕ) (v : V) (given : List Bool) → v.holds ≡ false → ((share : ℕ) → has_share given share ≡ true → has_share v.shares share ≡ true)
       → Splits Rule id v (kept by given v) (handed by given v)
   splits id v given idle inside s r at =
       let k = r.each id v at in let l : V = kept by given v in let g : V = handed by given v in let end : ℕ = length (set s.views id l) in
-      let owner' : ℕ → ℕ = λ share. cond (has given share) end (r.owner share) in let K = Knows by r.list r.flag r.holder owner' in
-      let kept_owner : (share j : ℕ) → has given share ≡ false → r.owner share ≡ j → owner' share ≡ j = λ share j gone e. ap (λ b. cond b end (r.owner share)) gone ∙ e in
+      let owner' : ℕ → ℕ = λ share. cond (has_share given share) end (r.owner share) in let K = Knows by r.list r.flag r.holder owner' in
+      let kept_owner : (share j : ℕ) → has_share given share ≡ false → r.owner share ≡ j → owner' share ≡ j = λ share j gone e. ap (λ b. cond b end (r.owner share)) gone ∙ e in
       let left : K id l = record {
         below = λ share held. k.below share (has_without v.shares given share held).0;
         seen = (k.seen.0, k.seen.1, λ some_share. k.seen.2 (some_share.0, (has_without v.shares given some_share.0 some_share.1).0));
         owns = λ share held. let h = has_without v.shares given share held in kept_owner share id h.1 (k.owns share h.0);
-        calls = λ share held. let h = has_without v.shares given share held in under_kept by (λ i. not (has given i)) share v.calls (ap not h.1) ∙ k.calls share h.0;
+        calls = λ share held. let h = has_without v.shares given share held in under_kept by (λ i. not (has_share given i)) share v.calls (ap not h.1) ∙ k.calls share h.0;
         saw = λ share held. k.saw share (has_without v.shares given share held).0;
-        others = λ share gone. both_cases (has given share) (λ t. under_dropped by (λ i. not (has given i)) share v.calls (ap not t))
-            (λ f. under_kept by (λ i. not (has given i)) share v.calls (ap not f) ∙ k.others share (both_cases (has v.shares share)
+        others = λ share gone. both_cases (has_share given share) (λ t. under_dropped by (λ i. not (has_share given i)) share v.calls (ap not t))
+            (λ f. under_kept by (λ i. not (has_share given i)) share v.calls (ap not f) ∙ k.others share (both_cases (has_share v.shares share)
             (λ held. not_without v.shares given share (k.below share held) gone f) (λ none_there. none_there)));
-        told = k.told;
+        reported = k.reported;
         holding = λ t. absurd (cc);
         met = k.met;
       } in
@@ -318,14 +314,14 @@ module _ {T E : Type 0} (by : E → ℕ) (entries : T → List E) where
         below = λ share held. k.below share (inside share held);
         seen = (k.seen.0, k.seen.1, λ some_share. k.seen.2 (some_share.0, inside some_share.0 some_share.1));
         owns = λ share held. ap (λ b. cond b end (r.owner share)) held;
-        calls = λ share held. under_kept by (has given) share v.calls held ∙ k.calls share (inside share held);
+        calls = λ share held. under_kept by (has_share given) share v.calls held ∙ k.calls share (inside share held);
         saw = λ share held. k.saw share (inside share held);
-        others = λ share gone. under_dropped by (has given) share v.calls gone;
-        told = k.told;
+        others = λ share gone. under_dropped by (has_share given) share v.calls gone;
+        reported = k.reported;
         holding = λ t. absurd (cc);
         met = k.met;
       } in
-      let third : (j : ℕ) (d : V) → j ≢ id → get_elem? s.views j ≡ some d → K j d = λ j d other at'. let kj = r.each j d at' in new_owners r.list r.flag r.holder r.owner owner' j d kj (λ share held. kept_owner share j (both_cases (has given share) (λ t. absurd (other (sym (kj.owns share held) ∙ k.owns share (inside share t)))) (λ f. f)) (kj.owns share held)) in other_views s r (set s.views id l ++ g ∷ []) owner'
+      let third : (j : ℕ) (d : V) → j ≢ id → get_elem? s.views j ≡ some d → K j d = λ j d other at'. let kj = r.each j d at' in new_owners r.list r.flag r.holder r.owner owner' j d kj (λ share held. kept_owner share j (both_cases (has_share given share) (λ t. absurd (other (sym (kj.owns share held) ∙ k.owns share (inside share t)))) (λ f. f)) (kj.owns share held)) in other_views s r (set s.views id l ++ g ∷ []) owner'
       (λ busy. let a = away_stays s r id v l at refl busy in (a.0, a.1, at_longer (set s.views id l) (g ∷ []) r.holder a.0 a.2, a.3))
       (λ j d e. ⊎_elim (views_stay K s.views id l left third j d) (λ (t : (j ≡ end) × (g ≡ d)). subst (λ (x : ℕ × V). K x.0 x.1) (λ i. (sym t.0 i, t.1 i)) right)
       (at_end (set s.views id l) g d j e))
@@ -337,12 +333,12 @@ module _ {T E : Type 0} (by : E → ℕ) (entries : T → List E) where
   pub joins : (id : ℕ) (v : V) (other : ℕ) (w : V) → v.holds ≡ false → w.holds ≡ false → HoldsSome v → HoldsSome w → Joins Rule id v other w (joined v w) spent_view
   joins id v other w idle idle' some_share some_share' s r at apart at' =
       let k = r.each id v at in let b : V = joined v w in let seat : get_elem? s.views other ≡ some w = sym (set_else s.views id other b apart) ∙ at' in let k' = r.each other w seat in
-      let owner' : ℕ → ℕ = λ share. cond (has w.shares share) id (r.owner share) in let K = Knows by r.list r.flag r.holder owner' in
-      let kept_owner : (share j : ℕ) → has w.shares share ≡ false → r.owner share ≡ j → owner' share ≡ j = λ share j gone e. ap (λ t. cond t id (r.owner share)) gone ∙ e in
-      let not_both : (share : ℕ) → has v.shares share ≡ true → has w.shares share ≡ false = λ share held. both_cases (has w.shares share) (λ t. absurd (apart (sym (k'.owns share t) ∙ k.owns share held))) (λ f. f) in
-      let not_both' : (share : ℕ) → has w.shares share ≡ true → has v.shares share ≡ false = λ share held. both_cases (has v.shares share) (λ t. absurd (apart (sym (k'.owns share held) ∙ k.owns share t))) (λ f. f) in
+      let owner' : ℕ → ℕ = λ share. cond (has_share w.shares share) id (r.owner share) in let K = Knows by r.list r.flag r.holder owner' in
+      let kept_owner : (share j : ℕ) → has_share w.shares share ≡ false → r.owner share ≡ j → owner' share ≡ j = λ share j gone e. ap (λ t. cond t id (r.owner share)) gone ∙ e in
+      let not_both : (share : ℕ) → has_share v.shares share ≡ true → has_share w.shares share ≡ false = λ share held. both_cases (has_share w.shares share) (λ t. absurd (apart (sym (k'.owns share t) ∙ k.owns share held))) (λ f. f) in
+      let not_both' : (share : ℕ) → has_share w.shares share ≡ true → has_share v.shares share ≡ false = λ share held. both_cases (has_share v.shares share) (λ t. absurd (apart (sym (k'.owns share held) ∙ k.owns share t))) (λ f. f) in
       let front : StartsWith r.list v.seen = (k.seen.0, k.seen.1) in let back : StartsWith r.list w.seen = (k'.seen.0, k'.seen.1) in
-      let below : (share : ℕ) → has b.shares share ≡ true → share < 16 = λ share held. ⊎_elim (k.below share) (k'.below share) (has_together v.shares w.shares share held) in
+      let below : (share : ℕ) → has_share b.shares share ≡ true → share < 16 = λ share held. ⊎_elim (k.below share) (k'.below share) (has_together v.shares w.shares share held) in
       let under_both : (share : ℕ) → under by share b.calls ≡ under by share v.calls ++ under by share w.calls = λ share. under_append by share v.calls w.calls in
       let mine : K id b = record {
         below = below;
@@ -360,9 +356,9 @@ module _ {T E : Type 0} (by : E → ℕ) (entries : T → List E) where
         others = λ share gone. under_both share ∙ both_cases (nat_lt share 16)
             (λ t. let n = not_together v.shares w.shares share (ltb-true share 16 t) gone in ap (λ l. l ++ under by share w.calls) (k.others share n.0) ∙ k'.others share n.1)
             (λ f. let past : 16 ≤ share = ltb-false share 16 f in
-            ap (λ l. l ++ under by share w.calls) (k.others share (both_cases (has v.shares share) (λ t. absurd (let q = k.below share t in omega arith)) (λ n. n)))
-            ∙ k'.others share (both_cases (has w.shares share) (λ t. absurd (let q = k'.below share t in omega arith)) (λ n. n)));
-        told = let p = k.told in let q = k'.told in omega arith;
+            ap (λ l. l ++ under by share w.calls) (k.others share (both_cases (has_share v.shares share) (λ t. absurd (let q = k.below share t in omega arith)) (λ n. n)))
+            ∙ k'.others share (both_cases (has_share w.shares share) (λ t. absurd (let q = k'.below share t in omega arith)) (λ n. n)));
+        reported = let p = k.reported in let q = k'.reported in omega arith;
         holding = λ t. absurd (cc);
         met = (front, back);
       } in
@@ -373,11 +369,11 @@ module _ {T E : Type 0} (by : E → ℕ) (entries : T → List E) where
         calls = λ share held. absurd (none_held share held);
         saw = λ share held. absurd (none_held share held);
         others = λ share gone. refl;
-        told = omega arith;
+        reported = omega arith;
         holding = λ t. absurd (cc);
         met = ((r.list, refl), (r.list, refl));
       } in
-      let third : (j : ℕ) (d : V) → j ≢ id → j ≢ other → get_elem? s.views j ≡ some d → K j d = λ j d not_id not_other at_j. let kj = r.each j d at_j in new_owners r.list r.flag r.holder r.owner owner' j d kj (λ share held. kept_owner share j (both_cases (has w.shares share) (λ t. absurd (not_other (sym (kj.owns share held) ∙ k'.owns share t))) (λ f. f)) (kj.owns share held)) in
+      let third : (j : ℕ) (d : V) → j ≢ id → j ≢ other → get_elem? s.views j ≡ some d → K j d = λ j d not_id not_other at_j. let kj = r.each j d at_j in new_owners r.list r.flag r.holder r.owner owner' j d kj (λ share held. kept_owner share j (both_cases (has_share w.shares share) (λ t. absurd (not_other (sym (kj.owns share held) ∙ k'.owns share t))) (λ f. f)) (kj.owns share held)) in
       let not_idle : (v' : V) (x : V) (place : ℕ) → v'.holds ≡ false → get_elem? s.views place ≡ some v' → get_elem? s.views r.holder ≡ some x → x.holds ≡ true → r.holder ≢ place
       = λ v' x place still at_p at_h holds e. let same : x ≡ v' = some-injective x v' (sym at_h ∙ (ap (get_elem? s.views) e ∙ at_p)) in let t = ap (λ z. z.holds) same in absurd (cc) in other_views s r (set (set s.views id b) other spent_view) owner'
       (λ busy. let a = r.away busy in

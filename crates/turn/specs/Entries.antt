@@ -1,4 +1,4 @@
--- Entries that a holding of the turn adds.
+-- The entries that a holding of the turn adds.
 use Rattle.std.specs.Prelude.{◌≡◌, ◌⊎◌, ℕ, List, [], ◌∷◌}
 
 -- nothing was added, or one entry under this number

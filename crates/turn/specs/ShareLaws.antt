@@ -1,4 +1,4 @@
--- What is known of sets of shares.
+-- Facts about sets of shares.
 use Rattle.std.proofs.Common.{◌≡◌, ℕ, ◌+◌, ◌<◌, ◌≤◌, Bool, true, false, not, ◌&&◌, ◌||◌, ◌⊎◌, inl, inr, List, length, get_or, set, refl, sym, ap, ◌∙◌, arith, length-set, get_or-set_same, get_or-set_other}
 use Rattle.std.proofs.lemmas.List.FromFn.{fill_by_all, get_or-map-range_with_len, length-map-range_with_len}
 use mathlib.Core.Logic.{dite}
@@ -6,17 +6,19 @@ use native.Mathlib.Decide.{ℕ_discrete, dec_le}
 use lib.ListN.{get_or-replicate}
 use Rattle.std.proofs.Common.{zero, suc, [], ◌∷◌}
 use Rattle.std.proofs.lemmas.List.{get_or_past, length-replicate}
-use Rattle.turn.specs.Shares.{has, shares_where, every_share, no_share, without, together, count, rank, number, next_least}
+use Rattle.turn.specs.Shares.{has_share, shares_where, every_share, no_share, shares_without, together, count, rank, chair_number, next_least}
 use Rattle.std.specs.Prelude.{nat_lt, nat_le, cond, take, unwrap_or, Some, None}
 use Rattle.std.specs.List.{position_or_len}
 use Rattle.std.proofs.lemmas.List.Sums.{sum_by-cons}
 use Rattle.std.proofs.Common.{lt-ltb, le-leb}
 
--- the marks below n are those of the test
+-- the marks below n agree with a test
 pub record MarkedBelow (test : ℕ → Bool) (n : ℕ) (marks : List Bool) : Type 0 where
   pub long : length marks ≡ 16
-  pub each : (k : ℕ) → k < n → has marks k ≡ test k
+  pub each : (k : ℕ) → k < n → has_share marks k ≡ test k
 
+-- the marks below 0 agree with any test; with one more mark, so do the marks below n + 1; and all
+-- sixteen marks are then the set of the test
 pub marked_none : (test : ℕ → Bool) (marks : List Bool) → length marks ≡ 16 → MarkedBelow test 0 marks
 marked_none test marks long = record { long = long; each = λ k h. absurd (omega arith) }
 
@@ -31,61 +33,65 @@ pub marked_all : (test : ℕ → Bool) (n : ℕ) (marks : List Bool) → MarkedB
 unfolding shares_where
 marked_all test n marks below all = fill_by_all test marks 16 false below.long (λ k h. below.each k (omega arith))
 
--- the marks of a set by a test
-pub has_where : (test : ℕ → Bool) (i : ℕ) → i < 16 → has (shares_where test) i ≡ test i
+-- a set that is given by a test has just the shares that pass the test
+pub has_where : (test : ℕ → Bool) (i : ℕ) → i < 16 → has_share (shares_where test) i ≡ test i
 unfolding shares_where
 has_where test i inside = get_or-map-range_with_len test 0 16 i i false inside (omega arith)
 
+-- a set that is given by a test has 16 marks
 pub length_where : (test : ℕ → Bool) → length (shares_where test) ≡ 16
 unfolding shares_where
 length_where test = length-map-range_with_len test 0 16
 
 -- a share in a set of 16 marks is below 16
-pub below_16 : (marks : List Bool) → length marks ≡ 16 → (share : ℕ) → has marks share ≡ true → share < 16
-below_16 marks long share held = dite (dec_lt share) (λ l. l) (λ past. absurd (let gone : has marks share ≡ false = get_or_past marks share false (omega arith) in cc))
+pub below_16 : (marks : List Bool) → length marks ≡ 16 → (share : ℕ) → has_share marks share ≡ true → share < 16
+below_16 marks long share held = dite (dec_lt share) (λ l. l) (λ past. absurd (let gone : has_share marks share ≡ false = get_or_past marks share false (omega arith) in cc))
   where
     dec_lt : (n : ℕ) → Dec (n < 16)
     dec_lt n = dec_le (suc n) 16
 
-pub below_where : (test : ℕ → Bool) (share : ℕ) → has (shares_where test) share ≡ true → share < 16
+-- a share in a set given by a test is below 16, and so is a share in the set of all
+pub below_where : (test : ℕ → Bool) (share : ℕ) → has_share (shares_where test) share ≡ true → share < 16
 below_where test = below_16 (shares_where test) (length_where test)
 
-pub below_every : (share : ℕ) → has every_share share ≡ true → share < 16
+pub below_every : (share : ℕ) → has_share every_share share ≡ true → share < 16
 below_every = below_16 every_share (length-replicate 16 true)
 
-pub none_held : (share : ℕ) → has no_share share ≡ true → ⊥
+-- no share is in the empty set
+pub none_held : (share : ℕ) → has_share no_share share ≡ true → ⊥
 none_held share held = at (below_16 no_share (length-replicate 16 false) share held)
   where
     at : share < 16 → ⊥
-    at l = let gone : has no_share share ≡ false = get_or-replicate 16 share false false l in cc
+    at l = let gone : has_share no_share share ≡ false = get_or-replicate 16 share false false l in cc
 
 module _ (shares others : List Bool) where
-  pub has_without : (share : ℕ) → has (without shares others) share ≡ true → (has shares share ≡ true) × (has others share ≡ false)
-  has_without share held = both (has shares share) (has others share) (sym (has_where _ share (below_where _ share held)) ∙ held)
+  -- which shares are in the difference of two sets, and which are in their union
+  pub has_without : (share : ℕ) → has_share (shares_without shares others) share ≡ true → (has_share shares share ≡ true) × (has_share others share ≡ false)
+  has_without share held = both (has_share shares share) (has_share others share) (sym (has_where _ share (below_where _ share held)) ∙ held)
     where
       both : (a b : Bool) → (a && not b) ≡ true → (a ≡ true) × (b ≡ false)
       both true true e = absurd (cc)
       both true false e = (refl, refl)
       both false b e = absurd (cc)
 
-  pub not_without : (share : ℕ) → share < 16 → has (without shares others) share ≡ false → has others share ≡ false → has shares share ≡ false
-  not_without share inside gone kept = neither (has shares share) (has others share) kept (sym (has_where _ share inside) ∙ gone)
+  pub not_without : (share : ℕ) → share < 16 → has_share (shares_without shares others) share ≡ false → has_share others share ≡ false → has_share shares share ≡ false
+  not_without share inside gone kept = neither (has_share shares share) (has_share others share) kept (sym (has_where _ share inside) ∙ gone)
     where
       neither : (a b : Bool) → b ≡ false → (a && not b) ≡ false → a ≡ false
       neither true true e f = absurd (cc)
       neither true false e f = absurd (cc)
       neither false b e f = refl
 
-  pub has_together : (share : ℕ) → has (together shares others) share ≡ true → (has shares share ≡ true) ⊎ (has others share ≡ true)
-  has_together share held = one (has shares share) (has others share) (sym (has_where _ share (below_where _ share held)) ∙ held)
+  pub has_together : (share : ℕ) → has_share (together shares others) share ≡ true → (has_share shares share ≡ true) ⊎ (has_share others share ≡ true)
+  has_together share held = one (has_share shares share) (has_share others share) (sym (has_where _ share (below_where _ share held)) ∙ held)
     where
       one : (a b : Bool) → (a || b) ≡ true → (a ≡ true) ⊎ (b ≡ true)
       one true b e = inl refl
       one false true e = inr refl
       one false false e = absurd (cc)
 
-  pub not_together : (share : ℕ) → share < 16 → has (together shares others) share ≡ false → (has shares share ≡ false) × (has others share ≡ false)
-  not_together share inside gone = neither (has shares share) (has others share) (sym (has_where _ share inside) ∙ gone)
+  pub not_together : (share : ℕ) → share < 16 → has_share (together shares others) share ≡ false → (has_share shares share ≡ false) × (has_share others share ≡ false)
+  not_together share inside gone = neither (has_share shares share) (has_share others share) (sym (has_where _ share inside) ∙ gone)
     where
       neither : (a b : Bool) → (a || b) ≡ false → (a ≡ false) × (b ≡ false)
       neither true b e = absurd (cc)
@@ -98,49 +104,51 @@ count_true xs = sum_by-cons (λ held. cond held 1 0) true xs
 count_false : (xs : List Bool) → count (false ∷ xs) ≡ 0 + count xs
 count_false xs = sum_by-cons (λ held. cond held 1 0) false xs
 
--- there is a share of each rank below their count
-pub of_rank : (shares : List Bool) (n : ℕ) → n < count shares → (share : ℕ) × (has shares share ≡ true) × (rank shares share ≡ n)
+-- for each n below the count there is a share of rank n
+pub of_rank : (shares : List Bool) (n : ℕ) → n < count shares → (share : ℕ) × (has_share shares share ≡ true) × (rank shares share ≡ n)
 of_rank [] n l = absurd (omega arith)
 of_rank (true ∷ xs) zero l = (0, refl, refl)
 of_rank (true ∷ xs) (suc n) l = let r = of_rank xs n (omega (arith, count_true xs)) in (suc r.0, r.1, (let e = r.2 in omega (arith, count_true (take r.0 xs))))
 of_rank (false ∷ xs) n l = let r = of_rank xs n (omega (arith, count_false xs)) in (suc r.0, r.1, (let e = r.2 in omega (arith, count_false (take r.0 xs))))
 
-first_held : (shares : List Bool) → 0 < count shares → (position_or_len (λ held. held) shares < length shares) × (has shares (position_or_len (λ held. held) shares) ≡ true)
+first_held : (shares : List Bool) → 0 < count shares → (position_or_len (λ held. held) shares < length shares) × (has_share shares (position_or_len (λ held. held) shares) ≡ true)
 first_held [] l = absurd (omega arith)
 first_held (true ∷ xs) l = (omega arith, refl)
 first_held (false ∷ xs) l = let r = first_held xs (omega (arith, count_false xs)) in let n : ℕ = position_or_len (λ held. held) xs in let e : 1 + n ≡ suc n = omega arith in
-    (omega arith, ap (λ (k : ℕ). has (false ∷ xs) k) e ∙ r.1)
+    (omega arith, ap (λ (k : ℕ). has_share (false ∷ xs) k) e ∙ r.1)
 
 -- a set with a share has a number, which is one of its shares
-pub number_held : (shares : List Bool) → length shares ≡ 16 → 0 < count shares → (number shares < 16) × (has shares (number shares) ≡ true)
+pub number_held : (shares : List Bool) → length shares ≡ 16 → 0 < count shares → (chair_number shares < 16) × (has_share shares (chair_number shares) ≡ true)
 number_held shares long some = let first = first_held shares some in let n : ℕ = position_or_len (λ held. held) shares in
-    let is : number shares ≡ n = ap (λ b. unwrap_or (cond b (Some n) None) 16) (lt-ltb n (length shares) first.0) in
-    (omega arith, ap (has shares) is ∙ first.1)
+    let is : chair_number shares ≡ n = ap (λ b. unwrap_or (cond b (Some n) None) 16) (lt-ltb n (length shares) first.0) in
+    (omega arith, ap (has_share shares) is ∙ first.1)
 
--- what a split gives are shares, and at least one
-pub given_inside : (n : ℕ) (shares : List Bool) (share : ℕ) → has (next_least n shares) share ≡ true → has shares share ≡ true
-given_inside n shares share held = front (has shares share) _ _ (sym (has_where _ share (below_where _ share held)) ∙ held)
+-- a split gives only shares of the set
+pub given_inside : (n : ℕ) (shares : List Bool) (share : ℕ) → has_share (next_least n shares) share ≡ true → has_share shares share ≡ true
+given_inside n shares share held = front (has_share shares share) _ _ (sym (has_where _ share (below_where _ share held)) ∙ held)
   where
     front : (a b c : Bool) → (a && b && c) ≡ true → a ≡ true
     front true b c e = refl
     front false b c e = absurd (cc)
 
-pub given_some : (n : ℕ) (shares : List Bool) → length shares ≡ 16 → 0 < n → n < count shares → (share : ℕ) × (has (next_least n shares) share ≡ true)
+-- a split of at least one share, but fewer than the set has, gives at least one
+pub given_some : (n : ℕ) (shares : List Bool) → length shares ≡ 16 → 0 < n → n < count shares → (share : ℕ) × (has_share (next_least n shares) share ≡ true)
 given_some n shares long some less = let r = of_rank shares 1 (omega arith) in
     (r.0, has_where _ r.0 (below_16 shares long r.0 r.1) ∙ (λ i. r.1 i && nat_lt 0 (r.2 i) && nat_le (r.2 i) n) ∙ ap (λ b. true && true && b) (le-leb 1 n (omega arith)))
 
--- what is left has a share: the least
-pub kept_some : (n : ℕ) (shares : List Bool) → length shares ≡ 16 → n < count shares → (share : ℕ) × (has (without shares (next_least n shares)) share ≡ true)
+-- a split of fewer shares than the set has leaves at least one: the least
+pub kept_some : (n : ℕ) (shares : List Bool) → length shares ≡ 16 → n < count shares → (share : ℕ) × (has_share (shares_without shares (next_least n shares)) share ≡ true)
 kept_some n shares long less = let r = of_rank shares 0 (omega arith) in let below = below_16 shares long r.0 r.1 in
-    let not_given : has (next_least n shares) r.0 ≡ false = has_where _ r.0 below ∙ (λ i. r.1 i && nat_lt 0 (r.2 i) && nat_le (r.2 i) n) in
+    let not_given : has_share (next_least n shares) r.0 ≡ false = has_where _ r.0 below ∙ (λ i. r.1 i && nat_lt 0 (r.2 i) && nat_le (r.2 i) n) in
     (r.0, has_where _ r.0 below ∙ (λ i. r.1 i && not (not_given i)))
 
--- whoever has a share has some
-pub count_some : (shares : List Bool) (share : ℕ) → has shares share ≡ true → 0 < count shares
+-- a set with this share isn't empty
+pub count_some : (shares : List Bool) (share : ℕ) → has_share shares share ≡ true → 0 < count shares
 count_some [] share held = absurd (cc)
 count_some (true ∷ xs) share held = omega (arith, count_true xs)
 count_some (false ∷ xs) zero held = absurd (cc)
 count_some (false ∷ xs) (suc share) held = let r = count_some xs share held in omega (arith, count_false xs)
 
-pub together_some : (shares others : List Bool) (share : ℕ) → share < 16 → has shares share ≡ true → (one : ℕ) × (has (together shares others) one ≡ true)
-together_some shares others share inside held = (share, has_where _ share inside ∙ ap (λ b. b || has others share) held)
+-- a union with a set that has this share isn't empty
+pub together_some : (shares others : List Bool) (share : ℕ) → share < 16 → has_share shares share ≡ true → (one : ℕ) × (has_share (together shares others) one ≡ true)
+together_some shares others share inside held = (share, has_where _ share inside ∙ ap (λ b. b || has_share others share) held)

@@ -1,4 +1,4 @@
-//! Chairs, which know the list and may take the turn.
+//! Chairs: they know the list, and may take the turn.
 
 ghost use Rattle.std.specs.Prelude.{◌≡◌, ◌<◌, false, []};
 ghost use Rattle.turn.specs.Shares.{count};
@@ -8,7 +8,8 @@ use crate::counted::Counted;
 use crate::rule::Place;
 use crate::shares::Shares;
 
-/// Some of a turn's 16 shares, and what is known by them. It crosses threads where the value may. A dropped chair's shares are lost.
+/// A chair: at least one of a turn's 16 shares, and what is known by them. A chair can be sent to
+/// another thread if the value can. The shares of a dropped chair are lost.
 pub struct Chair<T: Counted> {
     pub(crate) place: Place<T>,
     pub(crate) shares: Shares,
@@ -19,6 +20,7 @@ pub struct Chair<T: Counted> {
 }
 
 impl<T: Counted> Chair<T> {
+    /// The chair's place at the table.
     pub(crate) fn into_place(self) -> Place<T>
         ensures { result ≡ self.place }
     {

@@ -1,8 +1,8 @@
-//! The calls of a turn.
+//! The calls of turns and chairs.
 
 ghost use Rattle.std.specs.Prelude.{◌≡◌, ◌≢◌, ◌≤◌, ◌<◌, ℕ, All, IfOk, MatchResult, length};
 ghost use Rattle.turn.specs.Shares.{HasAll, count, next_least};
-ghost use Rattle.turn.specs.Histories.{Holding, IsJoined, OwnsItsCalls, first_view, told_of, kept, handed};
+ghost use Rattle.turn.specs.Histories.{Holding, IsJoined, OwnsItsCalls, first_view, with_news, kept, handed};
 ghost use Rattle.turn.specs.Rule.{IsTurn, IsSamePlace};
 ghost use Rattle.turn.specs.Chairs.{IsOf, view};
 
@@ -21,8 +21,8 @@ use std::snapshot::Snapshot;
 use std::sync::Wait;
 
 impl<T: Counted + Drop> Turn<T> {
-    /// Puts the value behind a turn, with one chair that holds all 16 shares and has seen the value's list.
-    /// Err where memory was refused; the value is then dropped.
+    /// Guards `value` by a new turn. Its first chair holds all 16 shares, and has seen the value's
+    /// list. If there is no memory, the value is dropped.
     pub fn new(alloc: Global, value: T) -> Result<(Turn<T>, Chair<T>), AllocError>
         requires { All (λ e. 16 ≤ T.by e) (T.entries value) }
         ensures chair { IfOk result (λ r. view r.1 ≡ first_view (T.entries value)) }
@@ -42,8 +42,8 @@ impl<T: Counted + Drop> Turn<T> {
         Ok((Turn { table }, chair))
     }
 
-    /// Waits for the turn, does the work on the value under the chair's number, and gives the turn back.
-    /// The work takes memory where it says so; the call itself takes none.
+    /// Waits for the turn, does the work on the value under the chair's number, and gives the turn
+    /// back. Only the work may allocate.
     pub fn with<W: Work<T>, R: Wait>(&self, rt: &R, chair: &mut Chair<T>, work: &mut W) -> W::Out
         requires { IsOf self.now chair.old }
         ensures turn { IsOf self.now chair.new }
@@ -56,19 +56,19 @@ impl<T: Counted + Drop> Turn<T> {
         hold(rt, &self.table.shared, &mut chair.place, number, work)
     }
 
-    /// How long the list is by now. It waits for nobody.
+    /// The length that the list has now. Never waits.
     pub fn news(&self, chair: &mut Chair<T>) -> u64
         requires { IsOf self.now chair.old }
         ensures turn { IsOf self.now chair.new }
-        ensures told { view chair.new ≡ told_of (view chair.old) result }
+        ensures reported { view chair.new ≡ with_news (view chair.old) result }
         ensures seen { length (view chair.old).seen ≤ result }
-        ensures grows { (view chair.old).told ≤ result }
+        ensures grows { (view chair.old).reported ≤ result }
     {
         news(&self.table.shared, &mut chair.place)
     }
 
-    /// Gives the next least shares after the chair's number, as many as asked, to a new chair, with the calls under them.
-    /// Both have then seen what the chair had.
+    /// Makes a new chair of the `shares` least shares after the chair's number, with the calls made
+    /// under them. The old chair keeps its number. Both chairs have then seen what the old one had.
     pub fn split(&self, chair: &mut Chair<T>, shares: u32) -> Chair<T>
         requires turn { IsOf self.now chair.old }
         requires some { 0 < shares }
@@ -83,8 +83,8 @@ impl<T: Counted + Drop> Turn<T> {
         chair.give(&self.table.shared, shares)
     }
 
-    /// Takes another chair's shares and calls in. What one of the two had seen begins what the other had;
-    /// the chair has then seen the longer one.
+    /// Takes over another chair's shares and calls. Of the two lists that the chairs had seen, the
+    /// longer begins with the other; this chair has then seen the longer.
     pub fn join(&self, chair: &mut Chair<T>, other: Chair<T>)
         requires { IsOf self.now chair.old × IsOf self.now other }
         ensures turn { IsOf self.now chair.new }
@@ -94,8 +94,8 @@ impl<T: Counted + Drop> Turn<T> {
         chair.take_in(&self.table.shared, other);
     }
 
-    /// Takes the value out, by a chair that holds all 16 shares: it has seen the whole list.
-    /// A chair that lacks one is refused, and turn and chair are handed back.
+    /// Returns the value, if the chair holds all 16 shares, and so has seen the whole list. If the
+    /// chair lacks a share, the error returns the turn and the chair.
     pub fn close(self, chair: Chair<T>) -> Result<T, (ChairsOut, Turn<T>, Chair<T>)>
         requires { IsOf self chair }
         ensures { MatchResult result (λ value. HasAll (view chair).shares
@@ -110,7 +110,7 @@ impl<T: Counted + Drop> Turn<T> {
 }
 
 impl<T: Counted + Drop> Chair<T> {
-    /// How many shares it holds.
+    /// How many shares the chair holds.
     pub fn shares(&self) -> u32
         ensures { result ≡ count (view self.now).shares }
     {

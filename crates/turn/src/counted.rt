@@ -1,21 +1,21 @@
-//! What lies behind a turn, and the work that is done on it.
+//! What a turn guards, and the work that is done on it.
 
 ghost use Rattle.std.specs.Prelude.{◌≡◌, ℕ, ◌<◌, ◌++◌, List, length};
 ghost use Rattle.turn.specs.Entries.{AtMostOne};
 
-/// A value that stands for a list of entries, each made by the chair whose number it carries.
+/// A value with a list of entries. Each entry has the number of the chair that made it.
 pub trait Counted {
     ghost use Rattle.std.specs.Prelude.{◌≡◌, ℕ, List, length};
 
     type Entry;
 
-    /// The list.
+    /// The value's list.
     ghost entries: { Self → List Self.Entry };
 
     /// The number of the chair that made an entry.
     ghost by: { Self.Entry → ℕ };
 
-    /// How long the list is.
+    /// The length of the list.
     fn len(&self) -> u64
         ensures { result ≡ length (entries self.now) };
 }
@@ -27,10 +27,11 @@ pub trait Work<T: Counted> {
 
     type Out;
 
-    /// What the work promises: of itself before, the list before, the list after, its answer, and itself after.
+    /// What the work guarantees. The arguments are the work before, the list before and after, the
+    /// answer, and the work after.
     ghost relation: { Self → List T.Entry → List T.Entry → Self.Out → Self → Type 0 };
 
-    /// Works on the value for the chair of this number.
+    /// Does the work for the chair with this number.
     fn work(&mut self, value: &mut T, number: u32) -> Self::Out
         requires { number < 16 }
         ensures kept { relation self.old (T.entries value.old)

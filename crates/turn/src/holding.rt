@@ -1,7 +1,7 @@
 //! One holding of the turn.
 
 ghost use Rattle.std.specs.Prelude.{◌≡◌, ◌<◌, true, false, [], List, drop, length};
-ghost use Rattle.turn.specs.Shares.{count, number as spec_number};
+ghost use Rattle.turn.specs.Shares.{count, chair_number as spec_number};
 ghost use Rattle.turn.specs.Histories.{Holding, OwnsItsCalls};
 ghost use Rattle.turn.specs.Rule.{IsTurn, IsSamePlace};
 
@@ -11,7 +11,8 @@ use crate::steps::{grab, publish, put, release, take};
 use std::marker::Brand;
 use std::sync::Wait;
 
-/// Takes the turn for a place that has none, does the work on the value, makes known what it added, and gives the turn back.
+/// Takes the turn for `place`, which doesn't have it; does the work on the value; publishes the new
+/// length of the list; and gives the turn back.
 pub(crate) fn hold<T: Counted, W: Work<T>, R: Wait>(
     rt: &R,
     board: &Board<T>,

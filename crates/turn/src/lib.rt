@@ -1,11 +1,12 @@
-//! One value behind one lock, and chairs that know the list for which it stands.
+//! One value guarded by one lock, and chairs that know the value's list.
 //!
-//! The value counts its list (`Counted`): a history that only grows, each entry made by one chair. A chair takes the
-//! turn to work on the value (`Turn::with`), and asks without the turn how long the list is by now (`Turn::news`). What a
-//! chair has seen is a beginning of the one list; a chair with all 16 shares has seen it whole.
+//! The value has a list (`Counted`): a history that only grows, each entry made by one chair. A
+//! chair takes the turn to work on the value (`Turn::with`). Without the turn, a chair can read how
+//! long the list is by now (`Turn::news`). What a chair has seen is a prefix of the one list; a
+//! chair with all 16 shares has seen all of it.
 //!
-//! The lock is a test-and-set lock that yields (Herlihy and Shavit, "The Art of Multiprocessor Programming", chapter 7),
-//! and the list's length lies beside it, in a word of its own.
+//! The lock is a test-and-set lock that yields (Herlihy and Shavit, "The Art of Multiprocessor
+//! Programming", chapter 7); the list's length is in a separate word.
 #![tactic(auto)]
 
 mod chair;

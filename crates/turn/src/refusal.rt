@@ -1,4 +1,4 @@
-//! Why a turn is not closed.
+//! Why a turn isn't closed.
 
 ghost use Rattle.std.specs.Prelude.{◌≡◌};
 
@@ -10,7 +10,7 @@ use thiserror::Error;
 pub struct ChairsOut;
 
 impl ChairsOut {
-    /// Its number.
+    /// The refusal's number.
     pub fn number(self) -> u32
         ensures { result ≡ 50 }
     {

@@ -1,4 +1,4 @@
-//! The rule of the table that a turn is, and what each kind of step tells.
+//! The rule of a turn's table, and what each kind of step guarantees.
 
 ghost use Rattle.std.specs.Prelude.{Bool, List};
 
@@ -8,7 +8,7 @@ use atomic_table::{Join, Play, Seat, Shared, Split, TableRule};
 use std::marker::{Brand, PhantomData};
 use std::snapshot::Snapshot;
 
-/// The rule: one list, which the value stands for whenever the turn is free.
+/// The rule: there is one list, which is the value's list while the turn is free.
 pub struct Rule<T>(PhantomData<T>);
 
 impl<T: Counted> TableRule<Option<T>, View<T::Entry>, Snapshot<T>> for Rule<T> {
@@ -20,11 +20,13 @@ impl<T: Counted> TableRule<Option<T>, View<T::Entry>, Snapshot<T>> for Rule<T> {
     ghost first = { λ about. first_view (T.entries about.value) };
 }
 
+/// The table that chairs share.
 pub(crate) type Board<T> = Shared<Option<T>, View<<T as Counted>::Entry>, Snapshot<T>, Rule<T>>;
 
+/// A chair's seat at the table, with its view.
 pub(crate) type Place<T> = Seat<Option<T>, View<<T as Counted>::Entry>>;
 
-/// Which entries were added. A call picks them.
+/// The entries that a step adds. For contracts alone; each call chooses them.
 pub(crate) trait Added<E> {
     ghost use Rattle.std.specs.Prelude.{List};
 
@@ -37,7 +39,7 @@ impl<E> Added<E> for Brand {
     ghost added = { [] };
 }
 
-/// Which shares go. A call picks them.
+/// The shares that a split gives away. For contracts alone; each call chooses them.
 pub(crate) trait Given {
     ghost use Rattle.std.specs.Prelude.{List, Bool};
 
@@ -50,38 +52,43 @@ impl Given for Brand {
     ghost given = { [] };
 }
 
+/// A step that takes the turn if it is free.
 pub(crate) struct Grab<T>(PhantomData<T>);
 
 impl<T: Counted> Play<Option<T>, View<T::Entry>> for Grab<T> {
-    ghost use Rattle.turn.specs.Rule.{grab_tells};
+    ghost use Rattle.turn.specs.Rule.{grab_reports};
 
-    ghost then = { grab_tells T.by T.entries };
+    ghost then = { grab_reports T.by T.entries };
 }
 
+/// A step that writes the list's new length.
 pub(crate) struct Publish<T, N>(PhantomData<(T, N)>);
 
 impl<T: Counted, N: Added<T::Entry>> Play<Option<T>, View<T::Entry>> for Publish<T, N> {
-    ghost use Rattle.turn.specs.Rule.{publish_tells};
+    ghost use Rattle.turn.specs.Rule.{publish_reports};
 
-    ghost then = { publish_tells T.by T.entries N.added };
+    ghost then = { publish_reports T.by T.entries N.added };
 }
 
+/// A step that frees the turn.
 pub(crate) struct Release<T>(PhantomData<T>);
 
 impl<T: Counted> Play<Option<T>, View<T::Entry>> for Release<T> {
-    ghost use Rattle.turn.specs.Rule.{release_tells};
+    ghost use Rattle.turn.specs.Rule.{release_reports};
 
-    ghost then = { release_tells T.by T.entries };
+    ghost then = { release_reports T.by T.entries };
 }
 
+/// A step that reads the list's length.
 pub(crate) struct News<T>(PhantomData<T>);
 
 impl<T: Counted> Play<Option<T>, View<T::Entry>> for News<T> {
-    ghost use Rattle.turn.specs.Rule.{news_tells};
+    ghost use Rattle.turn.specs.Rule.{news_reports};
 
-    ghost then = { news_tells T.by T.entries };
+    ghost then = { news_reports T.by T.entries };
 }
 
+/// A step that gives shares to a new seat.
 pub(crate) struct SplitOff<T, G>(PhantomData<(T, G)>);
 
 impl<T: Counted, G: Given> Split<View<T::Entry>> for SplitOff<T, G> {
@@ -92,6 +99,7 @@ impl<T: Counted, G: Given> Split<View<T::Entry>> for SplitOff<T, G> {
     ghost right = { handed T.by G.given };
 }
 
+/// A step that takes over a seat's shares.
 pub(crate) struct JoinIn<T>(PhantomData<T>);
 
 impl<T: Counted> Join<View<T::Entry>> for JoinIn<T> {

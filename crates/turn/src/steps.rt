@@ -1,10 +1,10 @@
-//! The eight kinds of atomic step, and one holding of the turn.
+//! The eight kinds of atomic step on a turn's table.
 
 ghost use Rattle.std.specs.Prelude.{◌≡◌, ℕ, ◌++◌, true, false, [], ◌∷◌, Some, None, List, length};
-ghost use Rattle.turn.specs.Shares.{has};
+ghost use Rattle.turn.specs.Shares.{has_share};
 ghost use Rattle.turn.specs.Entries.{AtMostOne};
-ghost use Rattle.turn.specs.Histories.{HoldsSome, published, released, told_of, kept, handed, joined};
-ghost use Rattle.turn.specs.Rule.{Grabs, IsTurn, IsSamePlace, NewsTells};
+ghost use Rattle.turn.specs.Histories.{HoldsSome, published, released, with_news, kept, handed, joined};
+ghost use Rattle.turn.specs.Rule.{Grabs, IsTurn, IsSamePlace, NewsReports};
 
 use crate::counted::Counted;
 use crate::rule::{Added, Board, Given, Grab, JoinIn, News, Place, Publish, Release, SplitOff};
@@ -12,7 +12,7 @@ use crate::shares::Shares;
 use std::sync::Wait;
 use std::thread;
 
-/// Takes the turn, when it is free.
+/// Waits until the turn is free, and takes it.
 pub(crate) fn grab<T: Counted, R: Wait>(rt: &R, board: &Board<T>, place: &mut Place<T>)
     requires turn { IsTurn board.now.table_id place.old }
     requires some { HoldsSome place.old.me.0 }
@@ -42,7 +42,7 @@ pub(crate) fn take<T: Counted>(board: &Board<T>, place: &mut Place<T>) -> T
     }
 }
 
-/// Makes the list's new length known.
+/// Publishes the list's new length.
 pub(crate) fn publish<T: Counted, N: Added<T::Entry>>(
     board: &Board<T>,
     place: &mut Place<T>,
@@ -51,7 +51,7 @@ pub(crate) fn publish<T: Counted, N: Added<T::Entry>>(
 )
     requires turn { IsTurn board.now.table_id place.old }
     requires holds { place.old.me.0.holds ≡ true }
-    requires own { has place.old.me.0.shares number ≡ true }
+    requires own { has_share place.old.me.0.shares number ≡ true }
     requires added { (T.entries value.now ≡ place.old.me.0.seen ++ N.added)
         × AtMostOne T.by number N.added }
     ensures same { IsSamePlace place.old place.new }
@@ -88,12 +88,12 @@ pub(crate) fn release<T: Counted>(board: &Board<T>, place: &mut Place<T>)
 pub(crate) fn news<T: Counted>(board: &Board<T>, place: &mut Place<T>) -> u64
     requires turn { IsTurn board.now.table_id place.old }
     ensures same { IsSamePlace place.old place.new }
-    ensures tells { NewsTells T.by T.entries place.old.me result place.new.me }
+    ensures reports { NewsReports T.by T.entries place.old.me result place.new.me }
 {
     board.load::<News<T>>(place, 1)
 }
 
-/// Cuts the given shares off, for a place of their own.
+/// Moves the given shares to a new place, and returns that place.
 pub(crate) fn split<T: Counted, G: Given>(
     board: &Board<T>,
     place: &mut Place<T>,
@@ -102,7 +102,8 @@ pub(crate) fn split<T: Counted, G: Given>(
     requires turn { IsTurn board.now.table_id place.old }
     requires idle { place.old.me.0.holds ≡ false }
     requires given { given.now.marks ≡ G.given }
-    requires own { (share : ℕ) → has G.given share ≡ true → has place.old.me.0.shares share ≡ true }
+    requires own { (share : ℕ) → has_share G.given share ≡ true
+        → has_share place.old.me.0.shares share ≡ true }
     ensures same { IsSamePlace place.old place.new }
     ensures kept { place.new.me ≡ (kept T.by G.given place.old.me.0, place.old.me.1) }
     ensures given { (result.table_id ≡ place.old.table_id)
@@ -112,7 +113,7 @@ pub(crate) fn split<T: Counted, G: Given>(
     board.split_seat::<SplitOff<T, G>>(place)
 }
 
-/// Takes another place's shares in.
+/// Takes over another place's shares.
 pub(crate) fn join<T: Counted>(board: &Board<T>, place: &mut Place<T>, other: Place<T>)
     requires turn { IsTurn board.now.table_id place.old }
     requires other { (other.table_id ≡ board.now.table_id) × (other.me.1 ≡ []) }

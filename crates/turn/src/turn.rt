@@ -1,4 +1,4 @@
-//! The turn: one value behind one lock.
+//! The turn: one value guarded by one lock.
 
 ghost use Rattle.std.specs.Prelude.{◌≡◌};
 
@@ -9,6 +9,7 @@ use atomic_table::Table;
 use std::alloc::Global;
 use std::snapshot::Snapshot;
 
+/// The table that keeps a turn's value, by its rule.
 pub(crate) type Lock<T> = Table<
     Option<T>,
     View<<T as Counted>::Entry>,
@@ -17,7 +18,7 @@ pub(crate) type Lock<T> = Table<
     Global,
 >;
 
-/// One value behind one lock, which chairs share by reference.
+/// One value guarded by one lock. Chairs share it by reference.
 #[derive(Drop)]
 pub struct Turn<T: Counted> {
     pub(crate) table: Lock<T>,
@@ -25,6 +26,7 @@ pub struct Turn<T: Counted> {
 }
 
 impl<T: Counted> Turn<T> {
+    /// The turn's table.
     pub(crate) fn into_table(self) -> Lock<T>
         ensures { result ≡ self.table }
     {

@@ -1,4 +1,5 @@
--- Beacons: from a bit on, a bit that is lit and whose index a read may give.
+-- Beacons. The beacon of a read that has reached some bit is a lit bit, at or above that bit, whose
+-- index the read may give.
 use Rattle.std.proofs.Common.{eq-eqb, ◌+◌, ◌≡◌, ℕ, suc, Bool, true, false, Option, Some, None, ◌<◌, ◌≤◌, ◌==◌, IsTrue, refl, sym, ap, ◌∙◌, subst, arith, List, ◌∷◌, inl, inr}
 use Rattle.std.specs.Prelude.{◌⊎◌, ◌||◌}
 use Rattle.std.proofs.lemmas.Bool.{eqb-true, cases_lt, cases_eq}
@@ -18,7 +19,8 @@ pub record IsLit (s : Seen) : Type 0 where
 abbrev pub MayShow : Seen → Type 0
 MayShow s = (s.last ≡ 1) ⊎ (s.writing ≡ Some 1)
 
--- from bit p on, bit k is lit and its index is allowed, and so is that of each bit below it that may show
+-- Bit k is at or above bit p, it is lit, and its index is allowed. The index of each bit from p up
+-- to k that a read may find lit is allowed too.
 pub record Beacon (top p k : ℕ) (A : ℕ → Type 0) (parts : ℕ → Seen) : Type 0 where
   pub low : p ≤ k
   pub high : k ≤ top
@@ -47,7 +49,7 @@ beacon_raise top p k x A parts b ax = record {
   below = put_all (λ i s. p ≤ i → i < k → MayShow s → A i) x (raised (parts x)) parts (λ l h m. ax) (λ i ne. b.below i);
 }
 
--- it ends
+-- the write of 1 to a bit whose index is allowed ends
 pub beacon_raised : (top p k x : ℕ) (A : ℕ → Type 0) (parts : ℕ → Seen) → Beacon top p k A parts → (parts x).writing ≡ Some 1 → A x → Beacon top p k A (put x (written (parts x)) parts)
 beacon_raised top p k x A parts b w ax = record {
   low = b.low;
@@ -65,7 +67,7 @@ no_one A e = let n : ⊥ = cc in absurd n
 may_lower : (s : Seen) → MayShow (lowered s) → MayShow s
 may_lower s m = elim m [ inl e ↦ inl e | inr e ↦ no_one (MayShow s) e ]
 
--- a write of 0 to another bit than the beacon begins
+-- a write of 0 to a bit other than the beacon begins
 pub beacon_lower : (top p k i : ℕ) (A : ℕ → Type 0) (parts : ℕ → Seen) → Beacon top p k A parts → (k ≡ i → ⊥) → Beacon top p k A (put i (lowered (parts i)) parts)
 beacon_lower top p k i A parts b ne = record {
   low = b.low;
@@ -77,7 +79,8 @@ beacon_lower top p k i A parts b ne = record {
   below = put_all (λ y s. p ≤ y → y < k → MayShow s → A y) i (lowered (parts i)) parts (λ l h m. b.below i l h (may_lower (parts i) m)) (λ y n. b.below y);
 }
 
--- a write of 0 to the beacon begins, where bit x above it is lit and none between shows
+-- A write of 0 to the beacon, bit i, begins. The new beacon is bit x above it, which is lit, and no
+-- read finds a bit between them lit.
 pub beacon_jump : (top p i x : ℕ) (A : ℕ → Type 0) (parts : ℕ → Seen) → Beacon top p i A parts → i < x → x ≤ top → A x → (parts x).last ≡ 1 → (parts x).writing ≡ None
     → ((y : ℕ) → i < y → y < x → MayShow (parts y) → ⊥) → Beacon top p x A (put i (lowered (parts i)) parts)
 beacon_jump top p i x A parts b l high ax one quiet none = record {
@@ -99,7 +102,7 @@ beacon_jump top p i x A parts b l high ax one quiet none = record {
           | inr ge ↦ (let gt : i < y = omega (arith, ge, n) in absurd (none y gt hi m))
         ]
 
--- a write of 0 to another bit than the beacon ends
+-- a write of 0 to a bit other than the beacon ends
 pub beacon_lowered : (top p k i : ℕ) (A : ℕ → Type 0) (parts : ℕ → Seen) → Beacon top p k A parts → (parts i).writing ≡ Some 0 → Beacon top p k A (put i (written (parts i)) parts)
 beacon_lowered top p k i A parts b w = record {
   low = b.low;
@@ -137,7 +140,8 @@ beacon_read top p k i q A parts b = record {
   below = put_all (λ y s. p ≤ y → y < k → MayShow s → A y) i (sees (Some (Invoke q Read)) (parts i)) parts (b.below i) (λ y n. b.below y);
 }
 
--- what a read of the number may give: the fresh value, or one of the writes that it overlaps; and were it invoked now
+-- the values that read r of the number may give: its fresh value, and the values of the writes that
+-- it overlaps; and the values that a read may give if it is invoked now
 abbrev pub MayGive : ℕ → Seen → ℕ → Type 0
 MayGive r u y = (y ≡ u.fresh r) ⊎ IsTrue (among y (u.overlaps r))
 
@@ -150,11 +154,11 @@ among_more x v vs h = elim (v == x) as (λ c. IsTrue (c || among x vs)) [ true �
 pub among_here : (x : ℕ) (vs : List ℕ) → IsTrue (among x (x ∷ vs))
 among_here x vs = ap (λ c. c || among x vs) (eq-eqb x x refl)
 
--- what is read of bit i, where of bit d the same is read as before
+-- a property of bit i stays the same if bit d changes but keeps this property
 same_at : {X : Type 0} (of : Seen → X) (i d : ℕ) (s : Seen) (parts : ℕ → Seen) → of s ≡ of (parts d) → of (put d s parts i) ≡ of (parts i)
 same_at of i d s parts same = put_all (λ y z. of z ≡ of (parts y)) d s parts same (λ y ne. refl) i
 
--- process r reads bit i, with so many left above: bit k is its beacon
+-- process r reads bit i, with `left` bits above it, and bit k is its beacon
 pub record Looks (top r i left k : ℕ) (u : Seen) (parts : ℕ → Seen) : Type 0 where
   pub room : i + left ≡ top
   pub beacon : Beacon top i k (MayGive r u) parts
@@ -190,7 +194,7 @@ looking_written top r i left k d u parts l b = record {
   over_one = λ m. l.over_one (subst IsTrue (same_at (λ z. among 1 (z.overlaps r)) i d (written (parts d)) parts refl) m);
 }
 
--- a write of 0 to bit d begins, and k or a higher bit is the beacon then
+-- a write of 0 to bit d begins, and then k or a higher bit is the beacon
 pub looking_lower : (top r i left k z d : ℕ) (u : Seen) (parts : ℕ → Seen) → Looks top r i left k u parts → Beacon top i z (MayGive r u) (put d (lowered (parts d)) parts)
     → (z ≡ i → (k ≡ i) × (i ≡ d → ⊥)) → Looks top r i left z u (put d (lowered (parts d)) parts)
 looking_lower top r i left k z d u parts l b which = record {

@@ -1,4 +1,5 @@
--- A unary number over a regular bit is regular, and no scan reads its last bit as 0.
+-- A unary number built on a regular bit is regular, and a scan that reads the last bit reads 1
+-- there.
 use Rattle.std.proofs.Common.{eq-eqb, ◌+◌, ◌-◌, ◌≡◌, ℕ, zero, suc, Bool, true, false, Option, Some, None, ◌<◌, ◌≤◌, ◌==◌, IsTrue, refl, sym, ap, ◌∙◌, subst, arith, [], inl, inr}
 use Rattle.std.specs.Prelude.{if◌then◌else◌}
 use Rattle.std.specs.List.{AllByRecursion}
@@ -27,7 +28,7 @@ use Rattle.layers.specs.Nested.{Program, Ends, Asks, Table, layered}
 use Rattle.layers.specs.Sound.{IsNotSpent, IsSoundTable, FitsBelow}
 use Rattle.layers.specs.laws.Over.{over}
 use Rattle.layers.proofs.LayerLaw.{Told, told_begun, told_gone, told_void, told_stop, layer_promises}
-use Rattle.unary_number.specs.Program.{unary_table_with, unary_program, unary_rest, clears_below, looks_above, behind_look, UnaryStands}
+use Rattle.unary_number.specs.Program.{unary_table_with, unary_program, unary_rest, clears_below, looks_above, after_look, UnaryMayBeAt}
 use Rattle.unary_number.proofs.Beacons.{Beacon, raised, lowered, written, MayGive, MayGiveNow, among_here, Looks, beacon_more, beacon_read, looking_other, looking_mine, looked_one, looked_zero}
 use Rattle.unary_number.proofs.Phases.{lights_for, lights_put, Idle, Rising, Cleared, Falling, WriterAt, WriterSays, ReaderAt, ReaderSays, Lights, reader_map, lights_begin, lights_raised, lights_lower, lights_lowered, lights_end, idle_end, rising_begin, rising_end, falling_begin, falling_end}
 
@@ -35,14 +36,14 @@ pub record UnaryInv (top : ℕ) (u : Seen) (j : View UnaryTask) : Type 0 where
   pub lights : Lights top 0 u j.tasks j.parts
   pub writer : WriterSays top (j.tasks 0) u j.parts
 
--- the looks from bit i on, of which so many are left above it
+-- the scan from bit i on, upward; the last number is how many bits are above bit i
 abbrev pub looks_from : Outcome → ℕ → ℕ → ℕ → Program UnaryTask
-looks_from none who i left = Asks (Looking who i left) (λ o. behind_look i (looks_above none who i left) o)
+looks_from none who i left = Asks (Looking who i left) (λ o. after_look i (looks_above none who i left) o)
 
 abbrev pub unary_watch : ℕ → Watch UnaryTask Seen
 unary_watch top = record { Good = IsNotStray; Inv = UnaryInv top }
 
--- what is said of the writer is by the values of the bits and the writes in progress alone
+-- the claim about the writer depends only on the bits' values and the writes in progress
 writer_same : (top : ℕ) (u v : Seen) (parts to : ℕ → Seen) → u.last ≡ v.last → u.writing ≡ v.writing → ((k : ℕ) → (parts k).last ≡ (to k).last) → ((k : ℕ) → (parts k).writing ≡ (to k).writing)
     → (task : Option (Standing UnaryTask)) → WriterSays top task u parts → WriterSays top task v to
 writer_same top u v parts to ul uw l w None h = record {
@@ -197,7 +198,7 @@ module _ (none : Outcome) (values processes : ℕ) (two : 2 ≤ values) where
   -- the bit was read as v
   runs_found : (i left k p v : ℕ) (op : Op) (Out : Option Event → Seen → Type 0) (u : Seen) (j : View UnaryTask) (on : Program UnaryTask) → (p ≡ 0 → ⊥) → v < 2 → Looks top p i left k u j.parts
       → Lights top p u j.tasks j.parts → WriterSays top (j.tasks 0) u j.parts → IsNotStray (record { reader = p; value = v; fresh = (j.parts i).fresh p; overlaps = (j.parts i).overlaps p })
-      → ((x : ℕ) → MayGive p u x → Out (Some (Got p x)) u) → (Beacon top (suc i) k (MayGive p u) j.parts → Runs t w p op Out on j) → Runs t w p op Out (behind_look i on (Value v)) j
+      → ((x : ℕ) → MayGive p u x → Out (Some (Got p x)) u) → (Beacon top (suc i) k (MayGive p u) j.parts → Runs t w p op Out on j) → Runs t w p op Out (after_look i on (Value v)) j
   runs_found i left k p v op Out u j on np lv look l wr good og more = go (v == 1) refl
     where
       go : (c : Bool) → (v == 1) ≡ c → Runs t w p op Out (if c then Ends (Value i) else on) j
@@ -217,11 +218,11 @@ module _ (none : Outcome) (values processes : ℕ) (two : 2 ≤ values) where
           let is : v ≡ 0 = omega (arith, lv, ne) in
           more (looked_zero top p i left k u j.parts look (subst (λ x. IsNotStray (record { reader = p; value = x; fresh = (j.parts i).fresh p; overlaps = (j.parts i).overlaps p })) is good))
 
-  -- what comes before a look: the bit's read is invoked, and ends at once or later
+  -- before a read of a bit: the read is invoked, and ends at once or later
   runs_look : (i left k p : ℕ) (op : Op) (Out : Option Event → Seen → Type 0) (u : Seen) (j : View UnaryTask) (on : Program UnaryTask) → (p ≡ 0 → ⊥) → i + left ≡ top → Beacon top i k (MayGive p u) j.parts
       → Lights top p u j.tasks j.parts → WriterSays top (j.tasks 0) u j.parts → Out None u → ((x : ℕ) → MayGive p u x → Out (Some (Got p x)) u)
       → ((z : View UnaryTask) → Beacon top (suc i) k (MayGive p u) z.parts → Lights top p u z.tasks z.parts → WriterSays top (z.tasks 0) u z.parts → Runs t w p op Out on z)
-      → Runs t w p op Out (Asks (Looking p i left) (λ o. behind_look i on o)) j
+      → Runs t w p op Out (Asks (Looking p i left) (λ o. after_look i on o)) j
   runs_look i left k p op Out u j on np room bk l wr out og more =
       let n : Option (Standing UnaryTask) = Some (record { op = op; task = Looking p i left }) in
       let mid : ℕ → Seen = put i (sees (Some (Invoke p Read)) (j.parts i)) j.parts in
@@ -241,7 +242,7 @@ module _ (none : Outcome) (values processes : ℕ) (two : 2 ≤ values) where
           ),
         ),
         λ o ans pass good. elim o as (λ o. Answers 2 Read o → IsNotSpent o → AllByRecursion IsNotStray (got (Some (ended p o)) (sees (Some (Invoke p Read)) (j.parts i)))
-            → Runs t w p op Out (behind_look i on o) (record j { parts = put i (sees (Some (ended p o)) (sees (Some (Invoke p Read)) (j.parts i))) j.parts })) [
+            → Runs t w p op Out (after_look i on o) (record j { parts = put i (sees (Some (ended p o)) (sees (Some (Invoke p Read)) (j.parts i))) j.parts })) [
               | Value v ↦ λ ans pass good. runs_found i left k p v op Out u z on np ans look lm wm
                   (subst (λ s. IsNotStray (record { reader = p; value = v; fresh = s.fresh p; overlaps = s.overlaps p })) (sym me) good.0) og (λ bk2. more z bk2 lm wm)
               | Written ↦ λ ans pass good. absurd ans
@@ -274,7 +275,7 @@ module _ (none : Outcome) (values processes : ℕ) (two : 2 ≤ values) where
       (told_begun IsNotStray p Read None u refl tt)
       (λ x m. told_begun IsNotStray p Read (Some (Got p x)) u refl (not_stray_give p v x m, tt))
 
-  -- an operation of the writer has ended on a bit
+  -- an operation of the writer on a bit has ended
   writer_ends : (u : Seen) (j : View UnaryTask) (p : ℕ) (op : Op) (task : UnaryTask) (chosen : Option (ℕ × Bool)) (o : Outcome) → UnaryInv top u j → p ≡ 0 → WriterAt top task u j.parts
       → Answers 2 (t.asks task).op o → IsNotSpent o
       → Runs t w p op (λ e. Told IsNotStray u (in_order (chosen_of p chosen) e)) (unary_rest none task o)
@@ -297,7 +298,7 @@ module _ (none : Outcome) (values processes : ℕ) (two : 2 ≤ values) where
       (told_gone IsNotStray p chosen None u refl tt) (told_gone IsNotStray p chosen (Some (Wrote p)) u refl tt)
   writer_ends u j p op (Looking q i left) chosen o h zp wr ans pass = absurd wr
 
-  -- a reader's look has ended
+  -- a reader's read of a bit has ended
   look_ends : (u : Seen) (j : View UnaryTask) (p i left k v : ℕ) (op : Op) (chosen : Option (ℕ × Bool)) → UnaryInv top u j → (p ≡ 0 → ⊥) → Looks top p i left k u j.parts → v < 2
       → IsNotStray (record { reader = p; value = v; fresh = (j.parts i).fresh p; overlaps = (j.parts i).overlaps p })
       → Runs t w p op (λ e. Told IsNotStray u (in_order (chosen_of p chosen) e)) (unary_rest none (Looking p i left) (Value v)) j
@@ -372,7 +373,7 @@ module _ (none : Outcome) (values processes : ℕ) (two : 2 ≤ values) where
         });
       }
 
-  pub unary_kept : IsKept t (UnaryStands values processes) w opening (Told IsNotStray)
+  pub unary_kept : IsKept t (UnaryMayBeAt values processes) w opening (Told IsNotStray)
   unary_kept = record {
     initial = λ v l j ew et ep. at_first v l j et ep;
     void = told_void IsNotStray;
@@ -383,7 +384,7 @@ module _ (none : Outcome) (values processes : ℕ) (two : 2 ≤ values) where
   }
 
   -- each process acts as itself on every bit
-  pub unary_user : IsUser t (UnaryStands values processes) (λ part who. who)
+  pub unary_user : IsUser t (UnaryMayBeAt values processes) (λ part who. who)
   unary_user p (Write x) (Setting y) s = sym s.0
   unary_user p (Write x) (Clearing y i) s = sym s.0
   unary_user p Read (Looking q i left) s = s.0
@@ -391,9 +392,9 @@ module _ (none : Outcome) (values processes : ℕ) (two : 2 ≤ values) where
   unary_user p Read (Setting y) s = absurd s
   unary_user p Read (Clearing y i) s = absurd s
 
--- a unary number over a regular bit is regular, whatever a scan that finds none would end as
+-- a unary number over a regular bit is regular, whatever the answer of a scan that finds no 1
 pub unary_over_regular : {P : Type 0} (b : Behaviour P) (Holds : Memory → Type 0) (Reaches : ℕ → Op → P → Type 0) (none : Outcome) (values processes : ℕ) (left : UnaryTask → ℕ) → 2 ≤ values → IsLawful b Holds Reaches
-    → IsSoundTable (unary_table_with none values processes) (UnaryStands values processes) left → FitsBelow (unary_table_with none values processes) b → IsRegular b
+    → IsSoundTable (unary_table_with none values processes) (UnaryMayBeAt values processes) left → FitsBelow (unary_table_with none values processes) b → IsRegular b
     → IsRegular (layered (unary_table_with none values processes) b)
 unary_over_regular b Holds Reaches none values processes left two lawful sound fit regular =
     layer_promises (over lawful sound fit) (λ part who. who) (unary_user none values processes two) IsNotStray (unary_watch (values - 1)) stray_alike stray_alike (λ who o h. h) regular (unary_kept none values processes two)

@@ -1,4 +1,4 @@
--- Where the writer stands, with the bits as it left them, and what each read in progress has before it.
+-- The phases of a write, the bits in each phase, and the beacon of each read in progress.
 use Rattle.std.proofs.Common.{◌≡◌, ℕ, suc, Option, Some, None, ◌<◌, ◌≤◌, IsTrue, refl, sym, ap, ◌∙◌, subst, arith, ◌∷◌, inl, inr}
 use Rattle.std.specs.Prelude.{◌⊎◌}
 use Rattle.std.proofs.lemmas.Bool.{cases_eq}
@@ -11,7 +11,7 @@ use Rattle.unary_number.specs.declared.task.UnaryTask.{UnaryTask}
 use Rattle.unary_number.specs.declared.task.UnaryTask.TheVariants.{Setting, Clearing, Looking}
 use Rattle.unary_number.proofs.Beacons.{MayShow, Beacon, raised, lowered, written, MayGive, MayGiveNow, among_here, Looks, beacon_raise, beacon_raised, beacon_lower, beacon_jump, beacon_lowered, beacon_more, looking_begin, looking_written, looking_lower}
 
--- where the writer stands, with the bits as it left them
+-- no write is in progress, and the bits are as the last write left them
 
 pub record Idle (top : ℕ) (u : Seen) (parts : ℕ → Seen) : Type 0 where
   pub writing : u.writing ≡ None
@@ -26,7 +26,7 @@ pub record Rising (top x : ℕ) (u : Seen) (parts : ℕ → Seen) : Type 0 where
   pub here : (parts x).writing ≡ Some 1
   pub quiet : (i : ℕ) → i ≤ top → (i ≡ x → ⊥) → (parts i).writing ≡ None
 
--- bit x is 1, and those from i on below it are 0
+-- a write of x is in progress, between two bits: bit x is 1, and the bits from i to x - 1 are 0
 pub record Cleared (top i x : ℕ) (u : Seen) (parts : ℕ → Seen) : Type 0 where
   pub writing : u.writing ≡ Some x
   pub small : x ≤ top
@@ -62,8 +62,8 @@ abbrev pub ReaderSays : ℕ → ℕ → Option (Standing UnaryTask) → Seen →
 ReaderSays top r None u parts = Unit {0}
 ReaderSays top r (Some n) u parts = ReaderAt top r n.task u parts
 
--- what holds whoever's turn it is, but for p: each read in progress overlaps the write in progress, a read invoked now would
--- have a beacon, and each read in progress has one
+-- In a step of process p, every read overlaps the write in progress, if there is one. A read that
+-- is invoked now has a beacon, and so does each read in progress except that of p.
 pub record Lights (top p : ℕ) (u : Seen) (tasks : ℕ → Option (Standing UnaryTask)) (parts : ℕ → Seen) : Type 0 where
   pub overlap : (r x : ℕ) → u.writing ≡ Some x → IsTrue (among x (u.overlaps r))
   pub ready : (k : ℕ) × Beacon top 0 k (MayGiveNow u) parts
@@ -156,7 +156,7 @@ lights_lowered top p i u tasks parts l w = record {
       (λ y left k h. (k, looking_written top r y left k i u parts h (beacon_lowered top y k i (MayGive r u) parts h.beacon w))) (tasks r) (l.readers r z ne);
 }
 
--- the write returns
+-- the write of the number returns
 pub lights_end : (top p q x : ℕ) (u : Seen) (tasks : ℕ → Option (Standing UnaryTask)) (parts : ℕ → Seen) → Lights top p u tasks parts → Cleared top 0 x u parts
     → Lights top p (sees (Some (Wrote q)) u) tasks parts
 lights_end top p q x u tasks parts l c =
@@ -239,7 +239,7 @@ falling_end top i x u parts f =
 pub lights_for : (top p : ℕ) (u : Seen) (tasks : ℕ → Option (Standing UnaryTask)) (parts : ℕ → Seen) → Lights top 0 u tasks parts → Lights top p u tasks parts
 lights_for top p u tasks parts l = record { overlap = l.overlap; ready = l.ready; readers = λ r z ne. l.readers r z z }
 
--- p's turn ends
+-- the step of process p ends
 pub lights_put : (top p : ℕ) (u : Seen) (x : Option (Standing UnaryTask)) (tasks : ℕ → Option (Standing UnaryTask)) (parts : ℕ → Seen) → Lights top p u tasks parts
     → ((p ≡ 0 → ⊥) → ReaderSays top p x u parts) → Lights top 0 u (put p x tasks) parts
 lights_put top p u x tasks parts l mine = record {

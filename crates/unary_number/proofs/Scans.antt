@@ -1,5 +1,6 @@
--- Of the operations on bits that end in a step, none is a look at the last bit that gives 0: such a scan would be refused, were the answer
--- of a scan that finds none a refusal; and up to the first such scan the number does what it would do then.
+-- No read of the last bit gives 0. The proof compares the number with a variant that refuses a scan
+-- that finds no 1. Up to the first such refusal both do the same, and the variant, which is
+-- regular, never refuses.
 use Rattle.std.proofs.Common.{◌≡◌, ◌≢◌, ℕ, zero, suc, ◌+◌, ◌-◌, ◌<◌, ◌≤◌, ◌==◌, Bool, true, false, List, [], ◌∷◌, ◌++◌, Option, Some, None, refl, sym, ap, subst, arith, append_assoc}
 use Rattle.std.specs.Prelude.{⊤, ◌||◌, if◌then◌else◌, MatchOption}
 use Rattle.std.specs.List.{AllByRecursion, list_any}
@@ -20,7 +21,7 @@ use Rattle.frames.specs.declared.types.Next.{Next}
 use Rattle.frames.specs.declared.types.Next.TheVariants.{Pending, Done}
 use Rattle.frames.specs.declared.running.Running.{Running}
 use Rattle.frames.specs.Behaviour.{Behaviour, Begun, Moved, IsLawful}
-use Rattle.frames.specs.Configuration.{Configuration, in_order, return_of, chosen_of, acted, Acted, acting_unless, acted_on, events_of, stepped, replayed, history, put_acted, mark, running_at, is_stopped, fits_step}
+use Rattle.frames.specs.Configuration.{Configuration, in_order, return_of, chosen_of, acted, Acted, acting_unless, acted_on, events_of, stepped, replayed, history, put_acted, with_stop_mark, running_at, is_stopped, fits_step}
 use Rattle.frames.specs.Fitting.{process_of}
 use Rattle.frames.specs.Flat.{IsReached}
 use Rattle.frames.specs.Parked.{IsConfiguration}
@@ -29,14 +30,14 @@ use Rattle.frames.specs.Regularity.{is_refusal, IsRegular}
 use Rattle.frames.specs.laws.Steps.{step_keeps}
 use Rattle.frames.proofs.Pending.{first_well}
 use Rattle.layers.specs.declared.nested.Nested.{Nested}
-use Rattle.layers.specs.Nested.{Program, Ends, Asks, Reads, Sets, Table, asked, pushed, behind_part, advance, resume, layered}
+use Rattle.layers.specs.Nested.{Program, Ends, Asks, Reads, Sets, Table, asked, pushed, after_part, advance, resume, layered}
 use Rattle.layers.specs.Sound.{IsSoundTable, FitsBelow, LayerHolds, LayerReaches}
 use Rattle.layers.specs.laws.Layered.{layer_lawful}
 use Rattle.layers.specs.laws.Over.{LayerOver, over}
 use Rattle.unary_number.specs.declared.task.UnaryTask.{UnaryTask}
 use Rattle.unary_number.specs.declared.task.UnaryTask.TheVariants.{Setting, Clearing, Looking}
-use Rattle.unary_number.specs.Program.{unary_table_with, unary_table, unary_program, unary_rest, unary_asks, clears_below, looks_above, behind_look, UnaryStands}
-use Rattle.unary_number.specs.Scans.{Ended, ended_behind, ended_by, ended_unless, ended_in, FindsOne, AlwaysFinds}
+use Rattle.unary_number.specs.Program.{unary_table_with, unary_table, unary_program, unary_rest, unary_asks, clears_below, looks_above, after_look, UnaryMayBeAt}
+use Rattle.unary_number.specs.Scans.{Ended, ended_after, ended_by, ended_unless, ended_in, FindsOne, AlwaysFinds}
 use Rattle.unary_number.proofs.Kept.{unary_over_regular}
 
 -- an operation isn't refused
@@ -46,7 +47,7 @@ Goes (Done (Value v)) = ⊤
 Goes (Done Written) = ⊤
 Goes (Done (Spent layer)) = ⊥
 
--- an event that may be missing is no refusal, and neither of a step's is one
+-- an event, if there is one, isn't a refusal; and neither of a step's two events is a refusal
 abbrev IsQuiet : Option Event → Type 0
 IsQuiet e = MatchOption e ⊤ (λ e. is_refusal e ≡ false)
 
@@ -70,7 +71,8 @@ step_goes : {N : Type 0} (who : ℕ) (event : Option Event) (next : Next N) → 
 step_goes who None next h = end_goes who next h.0
 step_goes who (Some e) next h = end_goes who next h.1
 
--- no refusal among the events of a list's first step, and none among those of the others
+-- if there is no refusal among an event and the later events, the event isn't a refusal, and there
+-- is none later
 quiet_first : (index : ℕ) (e : Option Event) (later : List (ℕ × Event)) → list_any (λ e. is_refusal e.1) (at_index index e ++ later) ≡ false
     → IsQuiet e × (list_any (λ e. is_refusal e.1) later ≡ false)
 quiet_first index None later h = (tt, h)
@@ -85,7 +87,7 @@ quiet_step index e later h =
     ((one.0, two.0), two.1)
 
 module _ {P : Type 0} (b : Behaviour P) (values processes : ℕ) (layer : Layer) (some : 1 ≤ values) where
-  -- the number, and the one that refuses a scan that finds none
+  -- the tables of the number and of the variant that refuses a scan that finds no 1
   abbrev t : Table UnaryTask
   t = unary_table values processes
 
@@ -98,16 +100,17 @@ module _ {P : Type 0} (b : Behaviour P) (values processes : ℕ) (layer : Layer)
   abbrev AllFind : List (Ended UnaryTask) → Type 0
   AllFind ends = AllByRecursion (λ e. FindsOne values e.task e.outcome) ends
 
-  -- two programs do the same, the first as the number's and the second as the other's, and no look of the first at the last bit gives 0
+  -- a program of the number and one of the variant do the same, and in the number's no read of the
+  -- last bit gives 0
   abbrev Alike : Program UnaryTask → Program UnaryTask → Memory → Type 0
   Alike k l m = (advance t b k m ≡ advance r b l m) × AllFind (ended_by t b k m)
 
   abbrev AlikeBehind : UnaryTask → (Outcome → Program UnaryTask) → (Outcome → Program UnaryTask) → Next P → Memory → Type 0
   AlikeBehind task k l next m =
-      (behind_part (λ o n. advance t b (k o) n) task next m ≡ behind_part (λ o n. advance r b (l o) n) task next m)
-      × AllFind (ended_behind (λ o n. ended_by t b (k o) n) task next m)
+      (after_part (λ o n. advance t b (k o) n) task next m ≡ after_part (λ o n. advance r b (l o) n) task next m)
+      × AllFind (ended_after (λ o n. ended_by t b (k o) n) task next m)
 
-  -- behind a write of a bit
+  -- both do the same after a write of a bit
   behind_write : (task : UnaryTask) (k : Program UnaryTask) (next : Next P) (m : Memory) → ((o : Outcome) → FindsOne values task o) → ((n : Memory) → Alike k k n) → AlikeBehind task (λ o. k) (λ o. k) next m
   behind_write task k (Pending p) m says same = (refl, tt)
   behind_write task k (Done (Spent l)) m says same = (refl, (says (Spent l), tt))
@@ -122,11 +125,12 @@ module _ {P : Type 0} (b : Behaviour P) (values processes : ℕ) (layer : Layer)
   one_isnt : {A : Type 0} (v : ℕ) → (v == 1) ≡ true → Value v ≡ Value 0 → A
   one_isnt v one e = absurd (let is : v ≡ 1 = eqb-true v 1 one in let no : v ≡ 0 = cc in omega (arith, is, no))
 
-  -- behind a look, where what follows one that finds 0 does the same; behind one at the last bit nothing follows but the refusal
+  -- both do the same after a read of a bit, if they do so after a 0; after a 0 in the last bit the
+  -- variant only refuses
   behind_look_at : (who i left : ℕ) (next : Next P) (m : Memory) → i + left + 1 ≡ values
       → ((n : Memory) → Goes (advance r b (looks_above (Spent layer) who i left) n).next → Alike (looks_above top who i left) (looks_above (Spent layer) who i left) n)
-      → Goes (behind_part (λ o n. advance r b (behind_look i (looks_above (Spent layer) who i left) o) n) (Looking who i left) next m).next
-      → AlikeBehind (Looking who i left) (behind_look i (looks_above top who i left)) (behind_look i (looks_above (Spent layer) who i left)) next m
+      → Goes (after_part (λ o n. advance r b (after_look i (looks_above (Spent layer) who i left) o) n) (Looking who i left) next m).next
+      → AlikeBehind (Looking who i left) (after_look i (looks_above top who i left)) (after_look i (looks_above (Spent layer) who i left)) next m
   behind_look_at who i left (Pending p) m all same goes = (refl, tt)
   behind_look_at who i left (Done (Spent l)) m all same goes = absurd goes
   behind_look_at who i left (Done Written) m all same goes = (refl, ((λ last e. (let n : ⊥ = cc in n)), tt))
@@ -150,7 +154,7 @@ module _ {P : Type 0} (b : Behaviour P) (values processes : ℕ) (layer : Layer)
   looks (suc left) who i m all goes =
       behind_look_at who (suc i) left (asked b (unary_asks (Looking who (suc i) left)) m).next (asked b (unary_asks (Looking who (suc i) left)) m).memory (omega (arith, all)) (λ n. looks left who (suc i) n (omega (arith, all))) goes
 
-  -- as an operation begins, and as it goes on
+  -- both do the same as an operation begins, and as it goes on
   begins : (who : ℕ) (o : Op) (m : Memory) → Goes (advance r b (unary_program (Spent layer) values who o) m).next
       → Alike (unary_program top values who o) (unary_program (Spent layer) values who o) m
   begins who (op.Write x) m goes = behind_write (Setting x) (clears_below x x) (asked b (unary_asks (Setting x)) m).next (asked b (unary_asks (Setting x)) m).memory (λ o. tt) (λ n. clears x x n)
@@ -158,7 +162,7 @@ module _ {P : Type 0} (b : Behaviour P) (values processes : ℕ) (layer : Layer)
       behind_look_at who 0 (values - 1) (asked b (unary_asks (Looking who 0 (values - 1))) m).next (asked b (unary_asks (Looking who 0 (values - 1))) m).memory (omega (arith, some))
       (λ n. looks (values - 1) who 0 n (omega (arith, some))) goes
 
-  goes_on : (who : ℕ) (o : Op) (task : UnaryTask) (next : Next P) (m : Memory) → UnaryStands values processes who o task → Goes (behind_part (λ o n. advance r b (unary_rest (Spent layer) task o) n) task next m).next
+  goes_on : (who : ℕ) (o : Op) (task : UnaryTask) (next : Next P) (m : Memory) → UnaryMayBeAt values processes who o task → Goes (after_part (λ o n. advance r b (unary_rest (Spent layer) task o) n) task next m).next
       → AlikeBehind task (unary_rest top task) (unary_rest (Spent layer) task) next m
   goes_on who (op.Write w) (Setting x) next m stands goes = behind_write (Setting x) (clears_below x x) next m (λ o. tt) (λ n. clears x x n)
   goes_on who (op.Write w) (Clearing x i) next m stands goes = behind_write (Clearing x i) (clears_below x i) next m (λ o. tt) (λ n. clears x i n)
@@ -178,9 +182,9 @@ module _ {P : Type 0} (b : Behaviour P) (values processes : ℕ) (layer : Layer)
 
   module _ (Reaches : ℕ → Op → P → Type 0) where
     abbrev StandsAt : ℕ → Option (Running N) → Type 0
-    StandsAt p running = IsReached (LayerReaches r (UnaryStands values processes) Reaches) p running
+    StandsAt p running = IsReached (LayerReaches r (UnaryMayBeAt values processes) Reaches) p running
 
-    -- in a step
+    -- both do the same in a step
     abbrev AlikeIn : Bool → Step → Option (Running N) → Memory → Type 0
     AlikeIn halted s running m = (acting_unless halted L s running m ≡ acting_unless halted R s running m) × AllFind (ended_unless t b halted s running m)
 
@@ -199,19 +203,20 @@ module _ {P : Type 0} (b : Behaviour P) (values processes : ℕ) (layer : Layer)
         (ap (λ (x : Begun N). acted p op.Read (Some (Invoke p op.Read)) x.next x.memory) same.0, same.1)
     acts (step.Go p c) false (Some x) m stands quiet =
         let moved : Moved P = pushed b (unary_asks x.point.task).part x.point.below (c == 1) m in
-        let same = goes_on p x.op x.point.task moved.next moved.memory stands.stands (step_goes p (chosen_of p moved.chosen) (resume r b x.point (c == 1) m).next quiet) in
+        let same = goes_on p x.op x.point.task moved.next moved.memory stands.may_be_at (step_goes p (chosen_of p moved.chosen) (resume r b x.point (c == 1) m).next quiet) in
         (ap (λ (y : Begun N). acted p x.op (chosen_of p moved.chosen) y.next y.memory) same.0, same.1)
 
-    module _ (Holds : Memory → Type 0) (left : UnaryTask → ℕ) (lawful : IsLawful b Holds Reaches) (sound : IsSoundTable r (UnaryStands values processes) left) (fit : FitsBelow r b) where
+    module _ (Holds : Memory → Type 0) (left : UnaryTask → ℕ) (lawful : IsLawful b Holds Reaches) (sound : IsSoundTable r (UnaryMayBeAt values processes) left) (fit : FitsBelow r b) where
       abbrev Well : Alone N → Type 0
-      Well c = IsConfiguration R (LayerHolds r b Holds) (LayerReaches r (UnaryStands values processes) Reaches) c
+      Well c = IsConfiguration R (LayerHolds r b Holds) (LayerReaches r (UnaryMayBeAt values processes) Reaches) c
 
       steps_alike : (c : Alone N) (s : Step) → Well c → AreQuiet (events_of R c s) → (stepped L c s ≡ stepped R c s) × AllFind (ended_in t b c s)
       steps_alike c s well quiet =
           let same = acts s (is_stopped (process_of s) c) (running_at (process_of s) c) c.memory (well.reached (process_of s)) quiet in
-          (ap (λ (a : Acted N). put_acted (process_of s) a (mark s c)) same.0, same.1)
+          (ap (λ (a : Acted N). put_acted (process_of s) a (with_stop_mark s c)) same.0, same.1)
 
-      -- after steps that the other refuses nothing of, the number is where that is
+      -- after steps in which the variant refuses nothing, the number is in the variant's
+      -- configuration
       runs_alike : (steps : List Step) (s : Step) (index : ℕ) (c : Alone N) → Well c → AllFit R steps → list_any (λ e. is_refusal e.1) (indexed index (history R c (steps ++ s ∷ []))) ≡ false
           → AllFind (ended_in t b (replayed L c steps) s)
       runs_alike [] s index c well fits none = (steps_alike c s well (quiet_step index (events_of R c s) [] none).0).1
@@ -219,13 +224,13 @@ module _ {P : Type 0} (b : Behaviour P) (values processes : ℕ) (layer : Layer)
           let quiet = quiet_step index (events_of R c x) (history R (stepped R c x) (steps ++ s ∷ [])) none in
           let here : fits_step R x ≡ true = All-head (λ s. fits_step R s ≡ true) x steps fits in
           let on = runs_alike steps s (index + 1) (stepped R c x)
-          (step_keeps R (LayerHolds r b Holds) (LayerReaches r (UnaryStands values processes) Reaches) (layer_lawful (over lawful sound fit)) c x well here)
+          (step_keeps R (LayerHolds r b Holds) (LayerReaches r (UnaryMayBeAt values processes) Reaches) (layer_lawful (over lawful sound fit)) c x well here)
           (All-tail (λ s. fits_step R s ≡ true) x steps fits) quiet.1 in
           subst (λ (d : Alone N). AllFind (ended_in t b (replayed L d steps) s)) (sym (steps_alike c x well quiet.0).0) on
 
--- over a regular bit the number never reads its last bit as 0 in a scan
+-- over a regular bit, no scan of the number reads 0 from the last bit
 pub always_finds : {P : Type 0} (b : Behaviour P) (Holds : Memory → Type 0) (Reaches : ℕ → Op → P → Type 0) (layer : Layer) (values processes : ℕ) (left : UnaryTask → ℕ) → 2 ≤ values → IsLawful b Holds Reaches
-    → IsSoundTable (unary_table_with (Spent layer) values processes) (UnaryStands values processes) left → FitsBelow (unary_table_with (Spent layer) values processes) b → IsRegular b
+    → IsSoundTable (unary_table_with (Spent layer) values processes) (UnaryMayBeAt values processes) left → FitsBelow (unary_table_with (Spent layer) values processes) b → IsRegular b
     → AlwaysFinds values processes b
 always_finds b Holds Reaches layer values processes left two lawful sound fit below value steps s within fits here =
     let refusing = layered (unary_table_with (Spent layer) values processes) b in
@@ -233,5 +238,5 @@ always_finds b Holds Reaches layer values processes left two lawful sound fit be
     let all : AllFit refusing (steps ++ s ∷ []) = All-append (λ x. fits_step refusing x ≡ true) steps (s ∷ []) fits (All-cons (λ x. fits_step refusing x ≡ true) s [] here (All-nil (λ x. fits_step refusing x ≡ true))) in
     All-from_recursion (λ e. FindsOne values e.task e.outcome) (ended_in (unary_table values processes) b (replayed (layered (unary_table values processes) b) (first_configuration refusing value) steps) s)
     (runs_alike b values processes layer (omega (arith, two)) Reaches Holds left lawful sound fit steps s 0 (first_configuration refusing value)
-    (first_well refusing (LayerHolds (unary_table_with (Spent layer) values processes) b Holds) (LayerReaches (unary_table_with (Spent layer) values processes) (UnaryStands values processes) Reaches)
+    (first_well refusing (LayerHolds (unary_table_with (Spent layer) values processes) b Holds) (LayerReaches (unary_table_with (Spent layer) values processes) (UnaryMayBeAt values processes) Reaches)
     (layer_lawful (over lawful sound fit)) value within) fits (regular.refuses_none value (steps ++ s ∷ []) within all))

@@ -1,6 +1,6 @@
--- A unary number of M values over M bits (Lamport 1986, construction of a regular register of many values from regular bits;
--- Herlihy and Shavit, chapter 4). Value x is a 1 in bit x below which each bit is 0. What a scan that finds no 1 answers is this
--- project's own.
+-- A unary number of M values over M bits (Lamport 1986, a regular register of many values from
+-- regular bits; Herlihy and Shavit, chapter 4). Value x is written as a 1 in bit x and a 0 in each
+-- bit below bit x. What a scan gives if it finds no 1 is this project's own.
 use Rattle.std.specs.Prelude.{◌≡◌, ℕ, zero, suc, ◌+◌, ◌-◌, ◌<◌, ◌≤◌, ◌==◌, ◌&&◌, nat_le, Option, Some, if◌then◌else◌}
 use Rattle.frames.specs.declared.types.Op.{Op}
 use Rattle.frames.specs.declared.types.Op.TheVariants as op
@@ -19,48 +19,54 @@ use Rattle.layers.specs.OneWriter.{one_writer}
 use Rattle.unary_number.specs.declared.task.UnaryTask.{UnaryTask}
 use Rattle.unary_number.specs.declared.task.UnaryTask.TheVariants.{Setting, Clearing, Looking}
 
--- a write of x clears the i bits below bit i, downward, and ends behind bit 0
+-- a write of x clears the bits below bit i, downward, and ends after bit 0
 abbrev pub clears_below : ℕ → ℕ → Program UnaryTask
 clears_below x zero = Ends Written
 clears_below x (suc i) = Asks (Clearing x i) (λ outcome. clears_below x i)
 
--- a look at bit i that finds 1 ends the read by i; behind one that finds 0 the read goes on
-abbrev pub behind_look : ℕ → Program UnaryTask → Outcome → Program UnaryTask
-behind_look i onward (Value bit) = if bit == 1 then Ends (Value i) else onward
-behind_look i onward Written = Ends Written
-behind_look i onward (Spent layer) = Ends (Spent layer)
+-- after a read of bit i: if it gives 1, the scan ends and gives i; if it gives 0, the scan goes on
+abbrev pub after_look : ℕ → Program UnaryTask → Outcome → Program UnaryTask
+after_look i onward (Value bit) = if bit == 1 then Ends (Value i) else onward
+after_look i onward Written = Ends Written
+after_look i onward (Spent layer) = Ends (Spent layer)
 
--- behind bit i come this many more bits to look at, upward; behind the last bit the scan has found none
+-- the scan of the bits above bit i, upward; the last number is how many there are; if none of them
+-- is 1, the scan ends with `none`
 abbrev pub looks_above : Outcome → ℕ → ℕ → ℕ → Program UnaryTask
 looks_above none who i zero = Ends none
-looks_above none who i (suc left) = Asks (Looking who (suc i) left) (λ outcome. behind_look (suc i) (looks_above none who (suc i) left) outcome)
+looks_above none who i (suc left) = Asks (Looking who (suc i) left) (λ outcome. after_look (suc i) (looks_above none who (suc i) left) outcome)
 
--- a write of x sets bit x and then clears the bits below it; a read looks from bit 0 upward for the first 1
+-- a write of x sets bit x and then clears the bits below it; a read scans from bit 0 upward for the
+-- first 1
 abbrev pub unary_program : Outcome → ℕ → ℕ → Op → Program UnaryTask
 unary_program none values who (op.Write x) = Asks (Setting x) (λ outcome. clears_below x x)
-unary_program none values who op.Read = Asks (Looking who 0 (values - 1)) (λ outcome. behind_look 0 (looks_above none who 0 (values - 1)) outcome)
+unary_program none values who op.Read = Asks (Looking who 0 (values - 1)) (λ outcome. after_look 0 (looks_above none who 0 (values - 1)) outcome)
 
--- the same programs, from behind a task
+-- the rest of these programs, after a task with this outcome
 abbrev pub unary_rest : Outcome → UnaryTask → Outcome → Program UnaryTask
 unary_rest none (Setting x) outcome = clears_below x x
 unary_rest none (Clearing x i) outcome = clears_below x i
-unary_rest none (Looking who i left) outcome = behind_look i (looks_above none who i left) outcome
+unary_rest none (Looking who i left) outcome = after_look i (looks_above none who i left) outcome
 
+-- the operation that a task makes on a bit
 abbrev pub unary_asks : UnaryTask → Ask
 unary_asks (Setting x) = record { part = x; who = 0; op = op.Write 1 }
 unary_asks (Clearing x i) = record { part = i; who = 0; op = op.Write 0 }
 unary_asks (Looking who i left) = record { part = i; who = who; op = op.Read }
 
+-- the frame of a task
 abbrev pub unary_frame : UnaryTask → Frame
 unary_frame (Setting x) = record { layer = Unary; op = op.Write x; i = x; x = 0 }
 unary_frame (Clearing x i) = record { layer = Unary; op = op.Write x; i = i; x = 0 }
 unary_frame (Looking who i left) = record { layer = Unary; op = op.Read; i = i; x = 0 }
 
--- a write of x at bit x sets it, and at any other bit clears that; a read looks at its bit, behind which are all that follow
+-- the task of a frame: a write of x sets bit x or clears another bit; a read reads the frame's bit,
+-- and all higher bits are left
 abbrev pub unary_find : ℕ → ℕ → Frame → UnaryTask
 unary_find values who f = elim (f.op) [ op.Write x ↦ (if f.i == x then Setting x else Clearing x f.i) | op.Read ↦ Looking who f.i (values - 1 - f.i) ]
 
--- the layer over registers of so many processes: `none` is the answer of a scan that finds no 1
+-- the layer of `values` values over registers of `processes` processes; a scan that finds no 1 ends
+-- with `none`
 abbrev pub unary_table_with : Outcome → ℕ → ℕ → Table UnaryTask
 unary_table_with none values processes = record {
   values = values;
@@ -80,19 +86,21 @@ unary_table_with none values processes = record {
   find = unary_find values;
 }
 
--- the register's own table: a scan that finds none answers the greatest value
+-- the table of the unary number: a scan that finds no 1 gives the greatest value
 abbrev pub unary_table : ℕ → ℕ → Table UnaryTask
 unary_table values processes = unary_table_with (Value (values - 1)) values processes
 
--- process 0's write of x stands at bit x or at a bit below it; a read stands in its process's look at a bit, with the number of bits behind it
-abbrev pub UnaryStands : ℕ → ℕ → ℕ → Op → UnaryTask → Type 0
-UnaryStands values processes who (op.Write w) (Setting x) = (who ≡ 0) × (x ≡ w) × (w < values)
-UnaryStands values processes who (op.Write w) (Clearing x i) = (who ≡ 0) × (x ≡ w) × (i < w) × (w < values)
-UnaryStands values processes who op.Read (Looking reader i left) = (reader ≡ who) × (1 ≤ who) × (who < processes) × (i + left + 1 ≡ values)
-UnaryStands values processes who (op.Write w) (Looking reader i left) = ⊥
-UnaryStands values processes who op.Read (Setting x) = ⊥
-UnaryStands values processes who op.Read (Clearing x i) = ⊥
+-- process 0's write of x is at bit x or at a lower bit; or a reader is reading bit i, and `left` is
+-- the number of bits above it
+abbrev pub UnaryMayBeAt : ℕ → ℕ → ℕ → Op → UnaryTask → Type 0
+UnaryMayBeAt values processes who (op.Write w) (Setting x) = (who ≡ 0) × (x ≡ w) × (w < values)
+UnaryMayBeAt values processes who (op.Write w) (Clearing x i) = (who ≡ 0) × (x ≡ w) × (i < w) × (w < values)
+UnaryMayBeAt values processes who op.Read (Looking reader i left) = (reader ≡ who) × (1 ≤ who) × (who < processes) × (i + left + 1 ≡ values)
+UnaryMayBeAt values processes who (op.Write w) (Looking reader i left) = ⊥
+UnaryMayBeAt values processes who op.Read (Setting x) = ⊥
+UnaryMayBeAt values processes who op.Read (Clearing x i) = ⊥
 
--- why there is no unary number of so many values over a register, if there is none: it has 2 to 512 values
+-- why a unary number of `values` values over register b is refused, or `None` if it isn't; there
+-- may be 2 to 512 values
 abbrev pub unary_refusal : {P : Type 0} → ℕ → Behaviour P → Option LayerError
 unary_refusal values b = if nat_le LEAST_VALUES values && nat_le values MOST_VALUES then refusal_below (unary_table values b.processes) b else Some BadSize

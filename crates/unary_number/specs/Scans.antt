@@ -1,4 +1,5 @@
--- What no scan does: of the operations on bits that end in a step of the number, none is a look at the last bit that gives 0.
+-- No read of the last bit gives 0: among the operations on bits that end in a step, there is no
+-- such read.
 use Rattle.std.specs.Prelude.{◌≡◌, ◌≢◌, ℕ, ◌<◌, ◌+◌, ◌==◌, ⊤, Bool, true, false, List, [], ◌∷◌, Option, Some, None}
 use Rattle.std.specs.List.{All}
 use Rattle.safe_bit.specs.Memory.{Memory, word_at, with_word}
@@ -21,27 +22,29 @@ use Rattle.unary_number.specs.declared.task.UnaryTask.{UnaryTask}
 use Rattle.unary_number.specs.declared.task.UnaryTask.TheVariants.{Setting, Clearing, Looking}
 use Rattle.unary_number.specs.Program.{unary_table}
 
--- an operation of a part, by its task, and how it ended
+-- an operation of a part, given by its task, with its outcome
 pub record Ended (Task : Type 0) : Type 0 where
   pub task : Task
   pub outcome : Outcome
 
--- the operations of parts that end from a part's on: none where it still stands, and none after it where it is spent
-abbrev pub ended_behind : {Task P : Type 0} → (Outcome → Memory → List (Ended Task)) → Task → Next P → Memory → List (Ended Task)
-ended_behind later task (Pending p) m = []
-ended_behind later task (Done (Spent layer)) m = record { task = task; outcome = Spent layer } ∷ []
-ended_behind later task (Done Written) m = record { task = task; outcome = Written } ∷ later Written m
-ended_behind later task (Done (Value v)) m = record { task = task; outcome = Value v } ∷ later (Value v) m
+-- the operations of parts that end, beginning with this one: none if this one is still pending, and
+-- no later one if this one is spent
+abbrev pub ended_after : {Task P : Type 0} → (Outcome → Memory → List (Ended Task)) → Task → Next P → Memory → List (Ended Task)
+ended_after later task (Pending p) m = []
+ended_after later task (Done (Spent layer)) m = record { task = task; outcome = Spent layer } ∷ []
+ended_after later task (Done Written) m = record { task = task; outcome = Written } ∷ later Written m
+ended_after later task (Done (Value v)) m = record { task = task; outcome = Value v } ∷ later (Value v) m
 
 module _ {Task P : Type 0} (t : Table Task) (b : Behaviour P) where
-  -- those that end as a program runs to its next bit action or its end
+  -- the operations of parts that end as a program runs to its next bit action or its end
   abbrev pub ended_by : Program Task → Memory → List (Ended Task)
   ended_by (Ends o) m = []
-  ended_by (Asks task k) m = ended_behind (λ o n. ended_by (k o) n) task (asked b (t.asks task) m).next (asked b (t.asks task) m).memory
+  ended_by (Asks task k) m = ended_after (λ o n. ended_by (k o) n) task (asked b (t.asks task) m).next (asked b (t.asks task) m).memory
   ended_by (Reads i k) m = ended_by (k (word_at (own_words t b.size + i) m)) m
   ended_by (Sets i x k) m = ended_by k (with_word (own_words t b.size + i) x m)
 
-  -- those that end as a process invokes an operation, and as it makes its next bit action
+  -- the operations of parts that end as a process invokes an operation, and those that end as the
+  -- process makes its next bit action
   abbrev pub ended_invoking : ℕ → Op → Option (Running (Nested Task P)) → Memory → List (Ended Task)
   ended_invoking who o None m = ended_by (t.program who o) m
   ended_invoking who o (Some r) m = []
@@ -50,9 +53,10 @@ module _ {Task P : Type 0} (t : Table Task) (b : Behaviour P) where
   ended_going choice None m = []
   ended_going choice (Some r) m =
       let moved = pushed b (t.asks r.point.task).part r.point.below choice m in
-      ended_behind (λ o n. ended_by (t.rest r.point.task o) n) r.point.task moved.next moved.memory
+      ended_after (λ o n. ended_by (t.rest r.point.task o) n) r.point.task moved.next moved.memory
 
-  -- those that end in a step of a process that hasn't stopped, and of one that may have
+  -- the operations of parts that end in a step of a process that hasn't stopped, and those that end
+  -- in a step of a process that may have stopped
   abbrev pub ended_acting : Step → Option (Running (Nested Task P)) → Memory → List (Ended Task)
   ended_acting (step.Write p v) running m = ended_invoking p (op.Write v) running m
   ended_acting (step.Read p) running m = ended_invoking p op.Read running m
@@ -63,17 +67,18 @@ module _ {Task P : Type 0} (t : Table Task) (b : Behaviour P) where
   ended_unless true s running m = []
   ended_unless false s running m = ended_acting s running m
 
-  -- those that end in a step from a configuration of the layer
+  -- the operations of parts that end in a step from a configuration of the layer
   abbrev pub ended_in : Alone (Nested Task P) → Step → List (Ended Task)
   ended_in c s = ended_unless (is_stopped (process_of s) c) s (running_at (process_of s) c) c.memory
 
--- a look at the last of so many bits doesn't give 0
+-- the operation isn't a read of the last bit that gives 0
 abbrev pub FindsOne : ℕ → UnaryTask → Outcome → Type 0
 FindsOne values (Looking who i left) outcome = i + 1 ≡ values → outcome ≢ Value 0
 FindsOne values (Setting x) outcome = ⊤
 FindsOne values (Clearing x i) outcome = ⊤
 
--- no scan reads its last bit as 0: from every initial value, after every list of fitting steps, none does so in a further step that fits
+-- a scan that reads the last bit reads 1 there, in every fitting step after any list of fitting
+-- steps from any initial value
 abbrev pub AlwaysFinds : {P : Type 0} → ℕ → ℕ → Behaviour P → Type 0
 AlwaysFinds values processes b =
     let t = unary_table values processes in

@@ -1,4 +1,4 @@
--- The unary number's table is sound, and its tasks are equal only to themselves.
+-- The unary number's table is sound, and the test of two tasks decides whether they are equal.
 use Rattle.std.proofs.Common.{◌≡◌, ℕ, zero, suc, ◌+◌, ◌-◌, ◌<◌, ◌≤◌, Bool, true, false, refl, sym, ap, arith, nat_eq}
 use mathlib.Core.Bool.{◌&&◌}
 use Rattle.std.specs.Bool.{Decides}
@@ -16,9 +16,9 @@ use Rattle.layers.specs.OneWriter.{one_writer}
 use Rattle.layers.specs.laws.OneWriter as writer
 use Rattle.unary_number.specs.declared.task.UnaryTask.{UnaryTask}
 use Rattle.unary_number.specs.declared.task.UnaryTask.TheVariants.{Setting, Clearing, Looking}
-use Rattle.unary_number.specs.Program.{clears_below, behind_look, looks_above, unary_program, unary_rest, unary_asks, unary_frame, unary_find, unary_table_with, unary_table, UnaryStands}
+use Rattle.unary_number.specs.Program.{clears_below, after_look, looks_above, unary_program, unary_rest, unary_asks, unary_frame, unary_find, unary_table_with, unary_table, UnaryMayBeAt}
 
--- how many bits are still to be cleared or to be looked at behind a task
+-- how many bits at most are still to be cleared or read after a task
 abbrev pub unary_left : UnaryTask → ℕ
 unary_left (Setting x) = x
 unary_left (Clearing x i) = i
@@ -33,21 +33,21 @@ module _ (none : Outcome) (values processes : ℕ) (two : LEAST_VALUES ≤ value
       by_test true = omega arith
       by_test false = omega arith
 
-  clears_sound : (who w x i : ℕ) → who ≡ 0 → x ≡ w → i ≤ w → w < values → IsSound (unary_table_with none values processes) (UnaryStands values processes who (op.Write w)) (Answers values (op.Write w)) (clears_below x i)
+  clears_sound : (who w x i : ℕ) → who ≡ 0 → x ≡ w → i ≤ w → w < values → IsSound (unary_table_with none values processes) (UnaryMayBeAt values processes who (op.Write w)) (Answers values (op.Write w)) (clears_below x i)
   clears_sound who w x zero writer same below low = tt
   clears_sound who w x (suc i) writer same below low = ((writer, same, omega arith, low), λ o. refl)
 
   looks_sound : (who reader i left : ℕ) → reader ≡ who → 1 ≤ who → who < processes → i + left + 1 ≡ values
-      → IsSound (unary_table_with none values processes) (UnaryStands values processes who op.Read) (Answers values op.Read) (looks_above none reader i left)
+      → IsSound (unary_table_with none values processes) (UnaryMayBeAt values processes who op.Read) (Answers values op.Read) (looks_above none reader i left)
   looks_sound who reader i zero same above below all = answered
   looks_sound who reader i (suc left) same above below all = ((same, above, below, omega arith), λ o. refl)
 
-  -- a look that finds 1 may answer any value
+  -- a scan that reads 1 may end with any of the values
   looked_sound : (who reader i left bit x : ℕ) → reader ≡ who → 1 ≤ who → who < processes → i + left + 1 ≡ values → x < values
-      → IsSound (unary_table_with none values processes) (UnaryStands values processes who op.Read) (Answers values op.Read) (behind_look x (looks_above none reader i left) (Value bit))
+      → IsSound (unary_table_with none values processes) (UnaryMayBeAt values processes who op.Read) (Answers values op.Read) (after_look x (looks_above none reader i left) (Value bit))
   looked_sound who reader i left bit x same above below all small = by_test (bit == 1)
     where
-      by_test : (found : Bool) → IsSound (unary_table_with none values processes) (UnaryStands values processes who op.Read) (Answers values op.Read)
+      by_test : (found : Bool) → IsSound (unary_table_with none values processes) (UnaryMayBeAt values processes who op.Read) (Answers values op.Read)
           (if found then Ends (Value x) else looks_above none reader i left)
       by_test true = small
       by_test false = looks_sound who reader i left same above below all
@@ -66,7 +66,7 @@ module _ (none : Outcome) (values processes : ℕ) (two : LEAST_VALUES ≤ value
   looks_fall who i zero = tt
   looks_fall who i (suc left) = omega arith
 
-  look_falls : (who i left bit x : ℕ) → Falls unary_left left (behind_look x (looks_above none who i left) (Value bit))
+  look_falls : (who i left bit x : ℕ) → Falls unary_left left (after_look x (looks_above none who i left) (Value bit))
   look_falls who i left bit x = by_test (bit == 1)
     where
       by_test : (found : Bool) → Falls unary_left left (if found then Ends (Value x) else looks_above none who i left)
@@ -74,11 +74,11 @@ module _ (none : Outcome) (values processes : ℕ) (two : LEAST_VALUES ≤ value
       by_test false = looks_fall who i left
 
   begins_sound : (who : ℕ) (o : Op) → one_writer values processes who o ≡ true
-      → IsSound (unary_table_with none values processes) (UnaryStands values processes who o) (Answers values o) (unary_program none values who o)
+      → IsSound (unary_table_with none values processes) (UnaryMayBeAt values processes who o) (Answers values o) (unary_program none values who o)
   begins_sound who (op.Write x) h = ((writer.writer_zero values processes who x h, refl, writer.no_other_value values processes who x h), λ o. refl)
   begins_sound who op.Read h = ((refl, writer.reader_some values processes who h, writer.reader_few values processes who h, omega arith), λ o. refl)
 
-  asks_fit : (who : ℕ) (o : Op) (task : UnaryTask) → UnaryStands values processes who o task
+  asks_fit : (who : ℕ) (o : Op) (task : UnaryTask) → UnaryMayBeAt values processes who o task
       → ((unary_asks task).part < values) × FitsPart 2 processes (unary_asks task).who (unary_asks task).op
   asks_fit who (op.Write w) (Setting x) stands = (omega (arith, stands.1, stands.2), (refl, omega arith))
   asks_fit who (op.Write w) (Clearing x i) stands = (omega (arith, stands.1, stands.2, stands.3), (refl, omega arith))
@@ -87,8 +87,8 @@ module _ (none : Outcome) (values processes : ℕ) (two : LEAST_VALUES ≤ value
   asks_fit who op.Read (Setting x) stands = absurd stands
   asks_fit who op.Read (Clearing x i) stands = absurd stands
 
-  rest_sound : (who : ℕ) (o : Op) (task : UnaryTask) (outcome : Outcome) → UnaryStands values processes who o task → Answers 2 (unary_asks task).op outcome → IsNotSpent outcome
-      → IsSound (unary_table_with none values processes) (UnaryStands values processes who o) (Answers values o) (unary_rest none task outcome)
+  rest_sound : (who : ℕ) (o : Op) (task : UnaryTask) (outcome : Outcome) → UnaryMayBeAt values processes who o task → Answers 2 (unary_asks task).op outcome → IsNotSpent outcome
+      → IsSound (unary_table_with none values processes) (UnaryMayBeAt values processes who o) (Answers values o) (unary_rest none task outcome)
   rest_sound who (op.Write w) (Setting x) outcome stands answers on = clears_sound who w x x stands.0 stands.1 (omega (arith, stands.1)) stands.2
   rest_sound who (op.Write w) (Clearing x i) outcome stands answers on = clears_sound who w x i stands.0 stands.1 (omega (arith, stands.2)) stands.3
   rest_sound who op.Read (Looking reader i left) (Value bit) stands answers on =
@@ -99,7 +99,7 @@ module _ (none : Outcome) (values processes : ℕ) (two : LEAST_VALUES ≤ value
   rest_sound who op.Read (Setting x) outcome stands answers on = absurd stands
   rest_sound who op.Read (Clearing x i) outcome stands answers on = absurd stands
 
-  rest_falls : (who : ℕ) (o : Op) (task : UnaryTask) (outcome : Outcome) → UnaryStands values processes who o task → Answers 2 (unary_asks task).op outcome → IsNotSpent outcome
+  rest_falls : (who : ℕ) (o : Op) (task : UnaryTask) (outcome : Outcome) → UnaryMayBeAt values processes who o task → Answers 2 (unary_asks task).op outcome → IsNotSpent outcome
       → Falls unary_left (unary_left task) (unary_rest none task outcome)
   rest_falls who o (Setting x) outcome stands answers on = clears_fall x x x (omega arith)
   rest_falls who o (Clearing x i) outcome stands answers on = clears_fall x i i (omega arith)
@@ -107,7 +107,7 @@ module _ (none : Outcome) (values processes : ℕ) (two : LEAST_VALUES ≤ value
   rest_falls who o (Looking reader i left) Written stands answers on = tt
   rest_falls who o (Looking reader i left) (Spent layer) stands answers on = tt
 
-  stands_suits : (who : ℕ) (o : Op) (task : UnaryTask) → UnaryStands values processes who o task → one_writer values processes who o ≡ true
+  stands_suits : (who : ℕ) (o : Op) (task : UnaryTask) → UnaryMayBeAt values processes who o task → one_writer values processes who o ≡ true
   stands_suits who (op.Write w) (Setting x) stands = writer.writer_suits values processes who w stands.0 some stands.2
   stands_suits who (op.Write w) (Clearing x i) stands = writer.writer_suits values processes who w stands.0 some stands.3
   stands_suits who op.Read (Looking reader i left) stands = writer.others_read values processes who stands.1 stands.2
@@ -115,7 +115,7 @@ module _ (none : Outcome) (values processes : ℕ) (two : LEAST_VALUES ≤ value
   stands_suits who op.Read (Setting x) stands = absurd stands
   stands_suits who op.Read (Clearing x i) stands = absurd stands
 
-  frame_tells : (who : ℕ) (o : Op) (task : UnaryTask) → UnaryStands values processes who o task → (unary_find values who (unary_frame task) ≡ task) × ((unary_frame task).op ≡ o)
+  frame_tells : (who : ℕ) (o : Op) (task : UnaryTask) → UnaryMayBeAt values processes who o task → (unary_find values who (unary_frame task) ≡ task) × ((unary_frame task).op ≡ o)
   frame_tells who (op.Write w) (Setting x) stands = (ap (λ same. if same then Setting x else Clearing x x) (same_bit x), ap op.Write stands.1)
   frame_tells who (op.Write w) (Clearing x i) stands = (ap (λ same. if same then Setting x else Clearing x i) (other_bit i x (omega (arith, stands.1, stands.2))), ap op.Write stands.1)
   frame_tells who op.Read (Looking reader i left) stands =
@@ -125,44 +125,48 @@ module _ (none : Outcome) (values processes : ℕ) (two : LEAST_VALUES ≤ value
   frame_tells who op.Read (Setting x) stands = absurd stands
   frame_tells who op.Read (Clearing x i) stands = absurd stands
 
-  pub table_sound : IsSoundTable (unary_table_with none values processes) (UnaryStands values processes) unary_left
-  table_sound = writer.one_writer_sound (unary_table_with none values processes) (UnaryStands values processes) unary_left (λ who o. refl) (some)
+  -- the table is sound if a scan that finds no 1 gives one of the values
+  pub table_sound : IsSoundTable (unary_table_with none values processes) (UnaryMayBeAt values processes) unary_left
+  table_sound = writer.one_writer_sound (unary_table_with none values processes) (UnaryMayBeAt values processes) unary_left (λ who o. refl) (some)
       (λ v j lt below. first_bit v j) (λ v k lt below. omega arith)
       asks_fit stands_suits frame_tells begins_sound rest_sound rest_falls
 
--- the register's own table: the answer of a scan that finds none is one of its values
-pub unary_sound : (values processes : ℕ) → LEAST_VALUES ≤ values → 0 < processes → IsSoundTable (unary_table values processes) (UnaryStands values processes) unary_left
+-- the table of the unary number is sound, since a scan that finds no 1 gives one of the number's
+-- values
+pub unary_sound : (values processes : ℕ) → LEAST_VALUES ≤ values → 0 < processes → IsSoundTable (unary_table values processes) (UnaryMayBeAt values processes) unary_left
 unary_sound values processes two some =
     let greatest : Answers values op.Read (Value (values - 1)) = omega arith in
     table_sound (Value (values - 1)) values processes two some greatest
 
--- the test of two tasks
-abbrev pub task_eq : UnaryTask → UnaryTask → Bool
-task_eq (Setting x) (Setting y) = nat_eq x y
-task_eq (Clearing x i) (Clearing y j) = nat_eq x y && nat_eq i j
-task_eq (Looking p i m) (Looking q j n) = nat_eq p q && (nat_eq i j && nat_eq m n)
-task_eq (Setting x) (Clearing y j) = false
-task_eq (Setting x) (Looking q j n) = false
-task_eq (Clearing x i) (Setting y) = false
-task_eq (Clearing x i) (Looking q j n) = false
-task_eq (Looking p i m) (Setting y) = false
-task_eq (Looking p i m) (Clearing y j) = false
+-- the equality test of two tasks
+abbrev pub unary_task_eq : UnaryTask → UnaryTask → Bool
+unary_task_eq (Setting x) (Setting y) = nat_eq x y
+unary_task_eq (Clearing x i) (Clearing y j) = nat_eq x y && nat_eq i j
+unary_task_eq (Looking p i m) (Looking q j n) = nat_eq p q && (nat_eq i j && nat_eq m n)
+unary_task_eq (Setting x) (Clearing y j) = false
+unary_task_eq (Setting x) (Looking q j n) = false
+unary_task_eq (Clearing x i) (Setting y) = false
+unary_task_eq (Clearing x i) (Looking q j n) = false
+unary_task_eq (Looking p i m) (Setting y) = false
+unary_task_eq (Looking p i m) (Clearing y j) = false
 
-pub task_decides : (a b : UnaryTask) → Decides (task_eq a b) (a ≡ b)
-task_decides (Setting x) (Setting y) = Decides-like (nat_eq x y) (λ p. ap Setting p) (λ p. cc) (Decides-eqb x y)
-task_decides (Clearing x i) (Clearing y j) =
+-- the test of two tasks decides whether they are equal
+pub unary_task_decides : (a b : UnaryTask) → Decides (unary_task_eq a b) (a ≡ b)
+unary_task_decides (Setting x) (Setting y) = Decides-like (nat_eq x y) (λ p. ap Setting p) (λ p. cc) (Decides-eqb x y)
+unary_task_decides (Clearing x i) (Clearing y j) =
     Decides-like (nat_eq x y && nat_eq i j) (λ e. λ k. Clearing (e.0 k) (e.1 k)) (λ e. (cc, cc)) (Decides-and (nat_eq x y) (nat_eq i j) (Decides-eqb x y) (Decides-eqb i j))
-task_decides (Looking p i m) (Looking q j n) =
+unary_task_decides (Looking p i m) (Looking q j n) =
     Decides-like (nat_eq p q && (nat_eq i j && nat_eq m n)) (λ e. λ k. Looking (e.0 k) (e.1.0 k) (e.1.1 k)) (λ e. (cc, (cc, cc)))
     (Decides-and (nat_eq p q) (nat_eq i j && nat_eq m n) (Decides-eqb p q) (Decides-and (nat_eq i j) (nat_eq m n) (Decides-eqb i j) (Decides-eqb m n)))
-task_decides (Setting x) (Clearing y j) = (λ h. cc, λ h. cc)
-task_decides (Setting x) (Looking q j n) = (λ h. cc, λ h. cc)
-task_decides (Clearing x i) (Setting y) = (λ h. cc, λ h. cc)
-task_decides (Clearing x i) (Looking q j n) = (λ h. cc, λ h. cc)
-task_decides (Looking p i m) (Setting y) = (λ h. cc, λ h. cc)
-task_decides (Looking p i m) (Clearing y j) = (λ h. cc, λ h. cc)
+unary_task_decides (Setting x) (Clearing y j) = (λ h. cc, λ h. cc)
+unary_task_decides (Setting x) (Looking q j n) = (λ h. cc, λ h. cc)
+unary_task_decides (Clearing x i) (Setting y) = (λ h. cc, λ h. cc)
+unary_task_decides (Clearing x i) (Looking q j n) = (λ h. cc, λ h. cc)
+unary_task_decides (Looking p i m) (Setting y) = (λ h. cc, λ h. cc)
+unary_task_decides (Looking p i m) (Clearing y j) = (λ h. cc, λ h. cc)
 
-pub table_alike : (m n p q : ℕ) → nat_eq m n && nat_eq p q ≡ true → unary_table m p ≡ unary_table n q
-table_alike m n p q h =
+-- unary numbers of equally many values and processes have equal tables
+pub unary_table_alike : (m n p q : ℕ) → nat_eq m n && nat_eq p q ≡ true → unary_table m p ≡ unary_table n q
+unary_table_alike m n p q h =
     let both = (Decides-and (nat_eq m n) (nat_eq p q) (Decides-eqb m n) (Decides-eqb p q)).0 h in
     λ i. unary_table (both.0 i) (both.1 i)

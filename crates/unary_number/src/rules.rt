@@ -1,4 +1,4 @@
-//! The rules of a unary number, whatever registers stand below.
+//! The rules of a unary number, over any registers.
 
 ghost use Rattle.std.specs.Prelude.{◌≡◌, ℕ, ◌<◌, ◌≤◌, ◌+◌, ◌-◌, ◌^◌, MatchResult, IfOk, Some, None};
 ghost use Rattle.safe_bit.specs.Memory.{Memory};
@@ -18,17 +18,17 @@ use layers::layered::Layered;
 use layers::nested::{Ask, Continuation};
 use safe_bit::Store;
 
-/// A unary number of 2 to 512 values over as many registers of two values, its bits: a write of x
-/// sets bit x and then clears the bits below it, downward; a read looks from bit 0 upward for the
-/// first 1 (Lamport 1986; Herlihy and Shavit, chapter 4).
+/// A unary number of 2 to 512 values over as many registers of two values, which are its bits. A
+/// write of x sets bit x, and then clears the bits below bit x, downward. A read scans from bit 0
+/// upward for the first 1 (Lamport 1986; Herlihy and Shavit, chapter 4).
 pub type Unary<S> = Layered<UnaryRules, S>;
 
 /// The rules of a unary number.
 #[derive(Debug, PartialEq, Eq)]
 pub struct UnaryRules {
-    /// How many values it has, and so how many bits.
+    /// The number of values, and so of bits.
     pub values: u32,
-    /// How many processes it has: one writes, the others read.
+    /// The number of processes: one writes, the others read.
     pub processes: u32,
     ghost two: { LEAST_VALUES ≤ values },
     ghost few: { values ≤ MOST_VALUES },
@@ -43,19 +43,22 @@ impl Clone for UnaryRules {
 
 impl Copy for UnaryRules {}
 
-impl UnaryRules {
-    /// The unary number of this many values over registers of two values, with those registers'
-    /// processes. Refused as BadSize where the values aren't 2 to 512, or where the register below
-    /// hasn't two values, hasn't 2 to 5
-    /// processes or has depth 8, else as TooManyBits where there would be more than 4,096
-    /// cells or 65,536 words.
-    pub fn new<S: Register>(below: S, values: u32) -> Result<Unary<S>, LayerError>
-        ensures refused { MatchResult result (λ _. unary_refusal values (S.is below) ≡ None)
-            (λ e. unary_refusal values (S.is below) ≡ Some e) }
-        ensures built { IfOk result (λ r. ⟦<Layered<UnaryRules, S> as Behaves>⟧.is r
-            ≡ layered (unary_table values (S.is below).processes) (S.is below)) }
-        ensures below { IfOk result (λ r. r.below ≡ below) }
-    {
+/// The trait of `Unary::new`. It has to be in scope in each module that calls `Unary::new`.
+pub trait NewUnary<S: Register>: Sized {
+    /// The unary number of `values` values over registers of two values, whose processes are the
+    /// number's processes too. Refused as BadSize if `values` isn't 2 to 512, or if the register
+    /// below doesn't have two values, doesn't have 2 to 5 processes, or has depth 8; otherwise
+    /// refused as TooManyBits if there would be more than 4,096 cells or 65,536 words.
+    fn new(below: S, values: u32) -> Result<Unary<S>, LayerError>
+        ensures refused { MatchResult result (λ _. unary_refusal values (S.behaviour below) ≡ None)
+            (λ e. unary_refusal values (S.behaviour below) ≡ Some e) }
+        ensures built { IfOk result (λ r. ⟦<Layered<UnaryRules, S> as Behaves>⟧.behaviour r
+            ≡ layered (unary_table values (S.behaviour below).processes) (S.behaviour below)) }
+        ensures below { IfOk result (λ r. r.below ≡ below) };
+}
+
+impl<S: Register> NewUnary<S> for Unary<S> {
+    fn new(below: S, values: u32) -> Result<Unary<S>, LayerError> {
         if !(LEAST_VALUES..=MOST_VALUES).contains(&values) {
             return Err(LayerError::BadSize);
         }
@@ -64,12 +67,13 @@ impl UnaryRules {
             return Err(LayerError::BadSize);
         }
         let layer = UnaryRules { values, processes };
-        Layered::new(below, layer)
+        Layered::over(below, layer)
     }
 }
 
 impl UnaryRules {
-    /// A read by process `who` found 0 in bit `i`, behind which there are `left` more.
+    /// The next task, or the end, of a read by process `who` that found 0 in bit `i`. There are
+    /// `left` bits above bit `i`.
     fn look_above(&self, who: u32, i: u32, left: u32) -> Continuation<UnaryTask>
         requires { i + left < self.now.values }
         ensures { (base : ℕ) (m : Memory) → settled base
@@ -87,7 +91,7 @@ impl UnaryRules {
     }
 }
 
-/// A write of `x` has the bits below bit `i` left to clear.
+/// The next task, or the end, of a write of `x` that still has to clear the bits below bit `i`.
 fn clear_below(x: u32, i: u32) -> Continuation<UnaryTask>
     ensures { (base : ℕ) (m : Memory) → settled base (clears_below x i) m
         ≡ record { continuation = result; memory = m } }
@@ -106,12 +110,12 @@ impl Rules for UnaryRules {
 
 impl Construction for UnaryRules {
     ghost use Rattle.std.specs.Prelude.{refl};
-    ghost use Rattle.unary_number.specs.Program.{unary_table, UnaryStands};
-    ghost use Rattle.unary_number.specs.Sound.{unary_left, unary_sound, task_eq, task_decides, table_alike};
+    ghost use Rattle.unary_number.specs.Program.{unary_table, UnaryMayBeAt};
+    ghost use Rattle.unary_number.specs.Sound.{unary_left, unary_sound, unary_task_eq, unary_task_decides, unary_table_alike};
     ghost use Rattle.unary_number.specs.declared.task.UnaryTask.TheVariants.{Setting, Clearing, Looking};
     ghost use Rattle.layers.specs.laws.Equality.{decides_like};
 
-    ghost Stands = { λ l. UnaryStands l.values l.processes };
+    ghost MayBeAt = { λ l. UnaryMayBeAt l.values l.processes };
 
     ghost left = { λ _. unary_left };
 
@@ -225,7 +229,7 @@ impl Construction for UnaryRules {
         }
     }
 
-    fn stands(&self, who: u32, op: Op, task: UnaryTask) -> bool {
+    fn may_be_at(&self, who: u32, op: Op, task: UnaryTask) -> bool {
         match (op, task) {
             (Op::Write(w), UnaryTask::Setting(x)) => who == 0 && x == w && w < self.values,
             (Op::Write(w), UnaryTask::Clearing { x, i }) => {
@@ -249,7 +253,7 @@ impl Construction for UnaryRules {
 
     ghost sound = { λ l. unary_sound l.values l.processes l.two l.some };
 
-    ghost alike = { λ a b h. table_alike a.values b.values a.processes b.processes h };
+    ghost alike = { λ a b h. unary_table_alike a.values b.values a.processes b.processes h };
 
-    ghost same_task = { decides_like ⟦<UnaryTask as PartialEq>⟧.eq task_eq (elim [ Setting _ ↦ elim [ Setting _ ↦ refl | Clearing _ _ ↦ refl | Looking _ _ _ ↦ refl ] | Clearing _ _ ↦ elim [ Setting _ ↦ refl | Clearing _ _ ↦ refl | Looking _ _ _ ↦ refl ] | Looking _ _ _ ↦ elim [ Setting _ ↦ refl | Clearing _ _ ↦ refl | Looking _ _ _ ↦ refl ] ]) task_decides };
+    ghost same_task = { decides_like ⟦<UnaryTask as PartialEq>⟧.eq unary_task_eq (elim [ Setting _ ↦ elim [ Setting _ ↦ refl | Clearing _ _ ↦ refl | Looking _ _ _ ↦ refl ] | Clearing _ _ ↦ elim [ Setting _ ↦ refl | Clearing _ _ ↦ refl | Looking _ _ _ ↦ refl ] | Looking _ _ _ ↦ elim [ Setting _ ↦ refl | Clearing _ _ ↦ refl | Looking _ _ _ ↦ refl ] ]) unary_task_decides };
 }

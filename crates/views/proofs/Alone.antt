@@ -1,4 +1,4 @@
--- A register alone: what its steps do is the same whatever value of a type stands for it.
+-- What the steps of a register do depends on the register's behaviour alone, not on its value.
 use Rattle.std.proofs.Common.{◌≡◌, ℕ, Bool, List, [], ◌∷◌, ◌++◌, refl, sym, ap, ◌∙◌}
 use Rattle.std.specs.Prelude.{⊤}
 use Rattle.frames.specs.declared.types.Event.{Event}
@@ -6,7 +6,7 @@ use Rattle.frames.specs.declared.types.Step.{Step}
 use Rattle.frames.specs.Behaviour.{Behaviour}
 use Rattle.frames.specs.Configuration.{Configuration, events_of, stepped, replayed, history}
 use Rattle.frames.specs.Equality.{SameConfiguration}
-use Rattle.cutoff.specs.Links.{alone}
+use Rattle.cutoff.specs.Links.{without_register}
 use Rattle.cutoff.proofs.Fits.{alone_same}
 use Rattle.views.specs.declared.query.PlaceKind.{PlaceKind}
 use Rattle.views.specs.declared.query.PlaceKind.TheVariants.{State, Process, Bits, Pending, History, Verdict}
@@ -14,15 +14,15 @@ use Rattle.views.specs.declared.page.head.Head.{Head}
 use Rattle.views.specs.Pages.{page_at}
 
 module _ {R P : Type 0} (b : Behaviour P) where
-  pub replayed_alone : (c : Configuration R P) (steps : List Step) → alone (replayed b c steps) ≡ replayed b (alone c) steps
+  pub replayed_alone : (c : Configuration R P) (steps : List Step) → without_register (replayed b c steps) ≡ replayed b (without_register c) steps
   replayed_alone c [] = refl
   replayed_alone c (s ∷ steps) = replayed_alone (stepped b c s) steps
 
-  pub history_alone : (c : Configuration R P) (steps : List Step) → history b c steps ≡ history b (alone c) steps
+  pub history_alone : (c : Configuration R P) (steps : List Step) → history b c steps ≡ history b (without_register c) steps
   history_alone c [] = refl
   history_alone c (s ∷ steps) = ap (λ later. events_of b c s ∷ later) (history_alone (stepped b c s) steps)
 
-  -- steps behind others
+  -- to replay a list of steps after another is to replay both as one list
   pub replayed-append : (c : Configuration R P) (first later : List Step) → replayed b c (first ++ later) ≡ replayed b (replayed b c first) later
   replayed-append c [] later = refl
   replayed-append c (s ∷ first) later = replayed-append (stepped b c s) first later
@@ -34,8 +34,8 @@ module _ {R P : Type 0} (b : Behaviour P) where
   pub history_same : (E : R → R → Bool) (a c : Configuration R P) (steps : List Step) → SameConfiguration E a c → history b a steps ≡ history b c steps
   history_same E a c steps same = history_alone a steps ∙ ap (λ d. history b d steps) (alone_same E a c same) ∙ sym (history_alone c steps)
 
--- a page says nothing of its register's value
-pub page_alone : {R P : Type 0} (b d : Behaviour P) (kind : PlaceKind) (head : Head) (c : Configuration R P) (m : Configuration ⊤ P) (events : List (ℕ × Event)) → b ≡ d → alone c ≡ m
+-- a page doesn't depend on the value of its register
+pub page_alone : {R P : Type 0} (b d : Behaviour P) (kind : PlaceKind) (head : Head) (c : Configuration R P) (m : Configuration ⊤ P) (events : List (ℕ × Event)) → b ≡ d → without_register c ≡ m
     → page_at b kind head c events ≡ page_at d kind head m events
 page_alone b d State head c m events e f = λ i. page_at (e i) State head (f i) events
 page_alone b d (Process p) head c m events e f = λ i. page_at (e i) (Process p) head (f i) events

@@ -1,4 +1,5 @@
--- Numbers of returned reads, by what is known as a read returns, are those of Lamport's words.
+-- Returned reads can be numbered by what `Known` holds when they return exactly if they can be
+-- numbered in Lamport's words.
 use Rattle.std.proofs.Common.{◌≡◌, ℕ, zero, suc, ◌+◌, ◌<◌, ◌≤◌, Bool, true, false, ◌||◌, cond, List, [], ◌∷◌, ◌++◌, length, Option, Some, None, ◌⊎◌, inl, inr, refl, sym, ap, subst, ◌∙◌, true≢false, arith, get_or, append_assoc, length-append}
 use Rattle.std.specs.Prelude.{◌==◌, ◌↔◌, if◌then◌else◌}
 use Rattle.std.specs.List.{list_any, list_all, filter}
@@ -16,7 +17,7 @@ use Rattle.frames.specs.OneWriter.{HasOneWriter}
 use Rattle.frames.specs.Recorded.{AllFit, recorded}
 use Rattle.frames.specs.Verdicts.{Known, is_refused, counts, accepted, initially, invoked_now, returning, after, reading}
 use Rattle.frames.specs.Regularity.{in_progress, OnReturn, by_number, IsNumber, Numbered, IsAtomic}
-use Rattle.views.specs.VerdictWords.{is_turn, IsQuiet, InProgress, has_role, IsHistory, ReturnedRead, during, afterwards, is_written, is_got, returned_reads, RecordsHistories}
+use Rattle.views.specs.VerdictWords.{is_turn, IsQuiet, InProgress, has_role, IsOneWriterHistory, ReturnedRead, during, afterwards, is_written, is_got, returned_reads, RecordsHistories}
 use Rattle.views.specs.LawWords.{returned_writes, IsWrite, NumbersRead, AreNumbered, IsAtomicInWords}
 use Rattle.views.proofs.VerdictKnown.{no_event, HaveRoles, roles-left, roles-right, history-left, noting, known, known-append, parted, known_writing, writing_of_progress, progress_of_writing, noting_returned, known_grows, EndsWrites, ends_behind, reading_of_progress}
 use Rattle.views.proofs.VerdictOverlaps.{write_ends, not_refused, still_unrefused, returned_unrefused, roles_since}
@@ -70,7 +71,7 @@ returned_count k (e ∷ es) later ends =
     let first = writes_first e es in
     omega (arith, rest, one, first)
 
--- the write that returned as so many had
+-- the write that returned when m writes had
 record ReturnAt (k : Known) (xs later : List (ℕ × Event)) (m v : ℕ) : Type 0 where
   before : List (ℕ × Event)
   step : ℕ
@@ -129,7 +130,7 @@ module _ (initial : ℕ) where
   values xs later = (known first xs later).returned ++ in_progress (known first xs later).writing
 
   -- a write in progress, and one that returned, with their numbers
-  write_in_progress : (xs later : List (ℕ × Event)) (v : ℕ) → IsHistory (xs ++ later) → (known first xs later).writing ≡ Some v
+  write_in_progress : (xs later : List (ℕ × Event)) (v : ℕ) → IsOneWriterHistory (xs ++ later) → (known first xs later).writing ≡ Some v
       → IsWrite (length (known first xs later).returned + 1) v xs later
   write_in_progress xs later v whole writing =
       let h = history-left xs later whole in
@@ -144,10 +145,10 @@ module _ (initial : ℕ) where
         number = (let all = returned_count first xs later (ends_writes initial xs later h) in let same = progress_writes v xs w h.roles in omega (arith, all, same));
       }
 
-  write_returned : (xs later : List (ℕ × Event)) (m v : ℕ) → IsHistory xs → ReturnAt first xs later m v → IsWrite (m + 1) v xs later
+  write_returned : (xs later : List (ℕ × Event)) (m v : ℕ) → IsOneWriterHistory xs → ReturnAt first xs later m v → IsWrite (m + 1) v xs later
   write_returned xs later m v h r =
       let y : ℕ × Event = (r.step, Wrote 0) in
-      let left : IsHistory r.before = history-left r.before (y ∷ r.since) (subst IsHistory r.split h) in
+      let left : IsOneWriterHistory r.before = history-left r.before (y ∷ r.since) (subst IsOneWriterHistory r.split h) in
       let w = (progress_of_writing initial v r.before (y ∷ (r.since ++ later)) left r.writing).0 in
       let x : ℕ × Event = (w.step, Invoke 0 (op.Write v)) in
       record {
@@ -164,7 +165,7 @@ module _ (initial : ℕ) where
       }
 
   -- a value by its number is that of the write with this number
-  write_of_value : (xs later : List (ℕ × Event)) (m v d : ℕ) → IsHistory (xs ++ later) → m < length (values xs later) → get_or (values xs later) m d ≡ v → IsWrite (m + 1) v xs later
+  write_of_value : (xs later : List (ℕ × Event)) (m v d : ℕ) → IsOneWriterHistory (xs ++ later) → m < length (values xs later) → get_or (values xs later) m d ≡ v → IsWrite (m + 1) v xs later
   write_of_value xs later m v d whole high value =
       elim (cases_lt m (length k.returned)) as (λ _. IsWrite (m + 1) v xs later) [
         | inl low ↦ subst (λ u. IsWrite (m + 1) u xs later) (sym (get_or_append_left k.returned (in_progress k.writing) d m low) ∙ value)
@@ -175,7 +176,7 @@ module _ (initial : ℕ) where
       k : Known
       k = known first xs later
 
-      h : IsHistory xs
+      h : IsOneWriterHistory xs
       h = history-left xs later whole
 
       last : (o : Option ℕ) → (known first xs later).writing ≡ o → length (known first xs later).returned ≤ m
@@ -198,7 +199,7 @@ module _ (initial : ℕ) where
     value = ap (λ l. get_or (initial ∷ l) n initial) e ∙ get_or_at (initial ∷ front) v rest initial n (omega (arith, at));
   }
 
-  value_of_write : (xs later : List (ℕ × Event)) (n v : ℕ) → IsHistory (xs ++ later) → IsWrite n v xs later → HasValue xs later n v
+  value_of_write : (xs later : List (ℕ × Event)) (n v : ℕ) → IsOneWriterHistory (xs ++ later) → IsWrite n v xs later → HasValue xs later n v
   value_of_write xs later n v whole w =
       elim (write_ends v xs later w.before w.step w.since whole w.split w.unrefused) [
         | inl still ↦
@@ -215,7 +216,7 @@ module _ (initial : ℕ) where
             let upto = w.before ++ x ∷ e.before in
             let cut : xs ≡ upto ++ y ∷ e.later = w.split ∙ ap (λ es. w.before ++ x ∷ es) e.split ∙ sym (append_assoc w.before (x ∷ e.before) (y ∷ e.later)) in
             let p : InProgress 0 (op.Write v) upto = record { earlier = w.before; step = w.step; since = e.before; split = refl; quiet = e.quiet } in
-            let left : IsHistory upto = history-left upto (y ∷ e.later) (subst IsHistory cut h) in
+            let left : IsOneWriterHistory upto = history-left upto (y ∷ e.later) (subst IsOneWriterHistory cut h) in
             let k : Known = known first upto (y ∷ (e.later ++ later)) in
             let writing : k.writing ≡ Some v = writing_of_progress first v upto (y ∷ (e.later ++ later)) p left.roles refl in
             let grown = known_grows (returning k.writing k) e.later later in
@@ -230,15 +231,15 @@ module _ (initial : ℕ) where
             (omega (arith, all, same, number))
       ]
     where
-      h : IsHistory xs
+      h : IsOneWriterHistory xs
       h = history-left xs later whole
 
-  module _ (history : List (ℕ × Event)) (h : IsHistory history) (r : ReturnedRead history) where
+  module _ (history : List (ℕ × Event)) (h : IsOneWriterHistory history) (r : ReturnedRead history) where
     abbrev before : List (ℕ × Event)
     before = r.earlier ++ during r
 
-    full : IsHistory (before ++ afterwards r)
-    full = subst IsHistory r.split h
+    full : IsOneWriterHistory (before ++ afterwards r)
+    full = subst IsOneWriterHistory r.split h
 
     -- how many writes had returned as a read was invoked
     since_is : (reading r.process (then_known initial r)).since ≡ returned_writes r.earlier
@@ -300,7 +301,7 @@ module _ (initial : ℕ) where
   numbered_cut true floor k x xs c = (c.n, (c.low, (c.says refl, c.others)))
   numbered_cut false floor k x xs c = lower floor c.n k xs c.low c.others
 
-  -- numbers with one more before them, where the first event is a read's return
+  -- one more number in front, if the first event is a read's return
   abbrev with_first : Bool → ℕ → (ℕ → ℕ) → ℕ → ℕ
   with_first true n f zero = n
   with_first true n f (suc i) = f i
@@ -405,7 +406,7 @@ module _ (initial : ℕ) where
         others = numbered_of n (noting counted e.1 k) es (given_behind floor k e es g);
       })
 
-  module _ (history : List (ℕ × Event)) (h : IsHistory history) where
+  module _ (history : List (ℕ × Event)) (h : IsOneWriterHistory history) where
     numbered_in_words : Numbered initial 0 first (accepted history) → AreNumbered initial history
     numbered_in_words numbered =
         let g = given_of 0 first history numbered in
@@ -426,7 +427,7 @@ module _ (initial : ℕ) where
           subst (λ l. IsNumber initial (known first l ((i, Got p v) ∷ ys)) p v (a.number (returned_reads l))) (sym w.split) (number_by_words history h r _ (a.each r));
     })
 
--- a register is atomic by the one where it is by the other
+-- the two definitions of an atomic register are equivalent
 pub atomic_words_alike : {P : Type 0} (b : Behaviour P) → (HasOneWriter b → RecordsHistories b) → IsAtomic b ↔ IsAtomicInWords b
 atomic_words_alike b records = (
   λ h. record {

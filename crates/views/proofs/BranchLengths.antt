@@ -36,7 +36,7 @@ branch_told branches i name len apart named counts =
     let b = branch_at branches i name len apart named counts in
     (b.here, b.at, λ j. branch_length (sym b.named j) (sym b.counted j))
 
--- one branch more
+-- one more branch adds its name and length to those of the branches before it
 take_more : (branches : List Branch) (i : ℕ) (b : Branch) → slice_get branches i ≡ Some b → map length_of (take (suc i) branches) ≡ map length_of (take i branches) ++ length_of b ∷ []
 take_more [] i b e = cc
 take_more (c ∷ cs) zero b e =

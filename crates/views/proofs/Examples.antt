@@ -1,4 +1,5 @@
--- Worked examples of the definitions by which something is there: one that holds, and a near miss.
+-- Worked examples of definitions which state that something exists: for each, one that holds, and
+-- one that nearly does.
 use Rattle.std.proofs.Common.{ℕ, ◌≡◌, ◌++◌, ◌<◌, Bool, true, false, true≢false, List, [], ◌∷◌, inr, ⊎_elim, drop, slice_index_or, ap, refl, sym, ◌∙◌, subst, arith}
 use Rattle.std.proofs.Common.{nat_lt, ltb-true}
 use mathlib.Core.Bool.{◌&&◌}
@@ -32,7 +33,8 @@ Events = List (ℕ × Event)
 abbrev event_at : ℕ → Events → Event
 event_at k events = (slice_index_or events k (0, Stop 9)).1
 
--- the value of a write that is invoked, and whose write returns
+-- the value of the write that an event invokes, and the process whose write it returns; 7 for any
+-- other event
 abbrev value_of : Event → ℕ
 value_of (Invoke p (Write v)) = v
 value_of e = 7
@@ -59,7 +61,7 @@ op_of e = Read
 abbrev writes : ℕ × Event
 writes = (0, Invoke 0 (Write 1))
 
--- process 1 begins to read, once the write has returned or not
+-- process 1 begins to read, whether or not the write has returned
 abbrev reads : ℕ × Event
 reads = (2, Invoke 1 Read)
 
@@ -67,7 +69,7 @@ reads = (2, Invoke 1 Read)
 InProgress-holds : InProgress 0 (Write 1) (writes ∷ reads ∷ [])
 InProgress-holds = record { earlier = []; step = 0; since = reads ∷ []; split = refl; quiet = refl }
 
--- its write has returned
+-- the write of process 0 has returned
 InProgress-fails : InProgress 0 (Write 1) (writes ∷ (1, Wrote 0) ∷ []) → ⊥
 InProgress-fails h = by h.earlier h.step h.since h.split h.quiet
   where
@@ -95,7 +97,7 @@ no_other_write h = by h.earlier h.step h.since h.split
 Follows-holds : Follows (writes ∷ []) (Wrote 0)
 Follows-holds = (1, record { earlier = []; step = 0; since = []; split = refl; quiet = refl })
 
--- and not after that of a read
+-- but not after the invocation of a read
 Follows-fails : Follows (reads ∷ []) (Wrote 0) → ⊥
 Follows-fails h = no_write h.0 h.1
 
@@ -122,7 +124,7 @@ ReturnedRead-fails h = by h.earlier h.since h.later h.split
 IsLastWritten-holds : IsLastWritten 1 (writes ∷ (1, Wrote 0) ∷ [])
 IsLastWritten-holds = record { earlier = writes ∷ []; step = 1; since = []; split = refl; write = record { earlier = []; step = 0; since = []; split = refl; quiet = refl }; last = refl }
 
--- the last that returned was not one of 0
+-- the last write that returned was not one of 0
 IsLastWritten-fails : IsLastWritten 0 (writes ∷ (1, Wrote 0) ∷ []) → ⊥
 IsLastWritten-fails h = by h.earlier h.step h.since h.split h.write
   where
@@ -136,7 +138,7 @@ IsLastWritten-fails h = by h.earlier h.step h.since h.split h.write
 EndsBy-holds : EndsBy 0 (Wrote 0) (reads ∷ (3, Wrote 0) ∷ [])
 EndsBy-holds = record { before = reads ∷ []; step = 3; later = []; split = refl; quiet = refl }
 
--- it is refused, and another one returns
+-- the write is refused, and another write returns
 EndsBy-fails : EndsBy 0 (Wrote 0) ((1, Refused 0 Stamped) ∷ (3, Wrote 0) ∷ []) → ⊥
 EndsBy-fails h = by h.before h.step h.later h.split h.quiet
   where
@@ -182,7 +184,7 @@ IsOverlapping-fails h = by h.before h.step h.since h.split h.unreturned
     by (x ∷ y ∷ []) k since e unreturned = read_written 1 (ap op_of (ap (event_at 2) e))
     by (x ∷ y ∷ z ∷ before) k since e unreturned = nothing before since _ (ap (drop 3) e)
 
--- process 0 is refused once process 1 has read
+-- the write of process 0 is refused after process 1 has read
 abbrev refused_late : Events
 refused_late = (3, Got 1 1) ∷ (4, Refused 0 Stamped) ∷ []
 
@@ -190,7 +192,7 @@ refused_late = (3, Got 1 1) ∷ (4, Refused 0 Stamped) ∷ []
 IsWrite-holds : IsWrite 1 1 (writes ∷ []) []
 IsWrite-holds = record { before = []; step = 0; since = []; split = refl; unrefused = λ layer h. no_end (Refused 0 layer) h; number = refl }
 
--- it is refused, though after the read has returned
+-- the write is refused, although only after the read has returned
 IsWrite-fails : IsWrite 1 1 (writes ∷ reads ∷ []) refused_late → ⊥
 IsWrite-fails h = by h.before h.step h.since h.split (h.unrefused Stamped)
   where
@@ -229,9 +231,9 @@ AreNumbered-fails h = ⊎_elim initial written (h.each returned).write
 
 -- a read of the initial value, with no write, is fresh, and is the first that is judged
 IsJudged-holds : IsJudged 0 one_read returned
-IsJudged-holds = record { verdict = Fresh; on_it = inr (refl, refl); before = []; behind = []; split = refl; place = refl }
+IsJudged-holds = record { verdict = Fresh; on_it = inr (refl, refl); before = []; following = []; split = refl; place = refl }
 
--- process 1 writes 1, which is not its part, and process 2 reads it
+-- process 1 writes 1, although only process 0 may write, and process 2 reads the 1
 abbrev strange : Events
 strange = (0, Invoke 1 (Write 1)) ∷ (1, Wrote 1) ∷ (2, Invoke 2 Read) ∷ (3, Got 2 1) ∷ []
 
@@ -252,9 +254,9 @@ abbrev first_verdict : List ReadVerdict → Verdict
 first_verdict [] = Stray
 first_verdict (read ∷ more) = read.verdict
 
--- its verdict is fresh, and no write of process 0 has returned
+-- the verdict on that read is fresh, and yet no write of process 0 has returned
 IsJudged-fails : IsJudged 0 strange strange_read → ⊥
-IsJudged-fails h = by h.before h.verdict h.behind h.split h.on_it
+IsJudged-fails h = by h.before h.verdict h.following h.split h.on_it
   where
     none : (front back : List ReadVerdict) (r : ReadVerdict) → [] ≡ front ++ r ∷ back → ⊥
     none [] back r e = cc
@@ -292,7 +294,7 @@ AreOf-holds = record { value = 0; steps = step.Read 1 ∷ step.Go 1 0 ∷ step.G
     fit = All-cons fits (step.Read 1) (step.Go 1 0 ∷ step.Go 1 0 ∷ []) refl
         (All-cons fits (step.Go 1 0) (step.Go 1 0 ∷ []) refl (All-cons fits (step.Go 1 0) [] refl (All-nil fits)))
 
--- a bit of which no process makes a step
+-- a bit on which no process makes a step
 abbrev unused : Behaviour SafePoint
 unused = record safe_behaviour { processes = 0; suits = λ who o. false }
 
@@ -309,7 +311,7 @@ no_step (step.Read p) e = true≢false (sym e)
 no_step (step.Go p c) e = no_less p (nat_lt c 2) e
 no_step (step.Stop p) e = let less : p < 0 = ltb-true p 0 e in omega (arith, less)
 
--- no read of it is judged
+-- no read of that bit is judged
 AreOf-fails : AreOf unused (read_verdict ∷ []) → ⊥
 AreOf-fails h = by h.steps h.fit h.judged
   where

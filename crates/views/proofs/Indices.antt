@@ -1,4 +1,4 @@
--- Events with the indices of their steps, behind others.
+-- Events with the indices of their steps, added after others.
 use Rattle.std.proofs.Common.{◌≡◌, ◌∙◌, ℕ, suc, ◌+◌, List, [], ◌∷◌, ◌++◌, length, sym, ap, arith, append_assoc}
 use Rattle.std.proofs.lemmas.List.{length-append}
 use Rattle.frames.specs.declared.types.Event.{Event}
@@ -16,17 +16,17 @@ indexed-append i (events ∷ steps) later =
     ∙ sym (append_assoc own (indexed (i + 1) steps) (indexed ((i + 1) + length steps) later))
     ∙ ap (λ n. (own ++ indexed (i + 1) steps) ++ indexed n later) behind
 
--- what is told of the steps so far, with those of one more part
+-- `all` has the events of the steps so far, and `index` is the index of the next step
 pub record IsIndexed (all : List (ℕ × Event)) (index : ℕ) (steps : List StepEvents) : Type 0 where
-  pub told : all ≡ indexed 0 steps
-  pub behind : index ≡ length steps
+  pub reported : all ≡ indexed 0 steps
+  pub following : index ≡ length steps
 
 pub indexed_more : (all more : List (ℕ × Event)) (index next : ℕ) (steps later both : List StepEvents) → all ≡ indexed 0 steps → index ≡ length steps
     → more ≡ all ++ indexed index later → next ≡ index + length later → both ≡ steps ++ later → IsIndexed more next both
 indexed_more all more index next steps later both is_all is_index is_more is_next is_both =
     let place : index ≡ 0 + length steps = omega (arith, is_index) in
     record {
-      told = is_more ∙ ap (λ l. l ++ indexed index later) is_all ∙ ap (λ n. indexed 0 steps ++ indexed n later) place
+      reported = is_more ∙ ap (λ l. l ++ indexed index later) is_all ∙ ap (λ n. indexed 0 steps ++ indexed n later) place
           ∙ sym (ap (indexed 0) is_both ∙ indexed-append 0 steps later);
-      behind = is_next ∙ ap (λ n. n + length later) is_index ∙ sym (ap length is_both ∙ length-append steps later);
+      following = is_next ∙ ap (λ n. n + length later) is_index ∙ sym (ap length is_both ∙ length-append steps later);
     }

@@ -1,4 +1,4 @@
--- The law's words, by what is known as a read returns, say what Lamport's say.
+-- A law about what `Known` holds when each read returns is equivalent to Lamport's law.
 use Rattle.std.proofs.Common.{◌≡◌, ◌≢◌, ℕ, ◌<◌, Bool, true, false, ◌||◌, List, [], ◌∷◌, ◌++◌, length, drop, Option, Some, None, ◌⊎◌, inl, inr, refl, sym, ap, subst, ◌∙◌, true≢false, eq-eqb}
 use Rattle.std.specs.Prelude.{◌==◌, ◌↔◌, if◌then◌else◌}
 use Rattle.std.specs.List.{list_any}
@@ -14,14 +14,15 @@ use Rattle.frames.specs.Recorded.{AllFit, recorded}
 use Rattle.frames.specs.declared.types.Step.{Step}
 use Rattle.frames.specs.Verdicts.{Known, is_refused, counts, accepted, initially, invoked_now, reading, is_value, judged}
 use Rattle.frames.specs.Regularity.{in_progress, overlapped, OnReturn, EachRead, FreshAlone, NotStray, AlwaysReads, IsSafe, IsRegular}
-use Rattle.views.specs.VerdictWords.{InProgress, IsHistory, ReturnedRead, during, afterwards, MatchVerdict, RecordsHistories}
+use Rattle.views.specs.VerdictWords.{InProgress, IsOneWriterHistory, ReturnedRead, during, afterwards, MatchVerdict, RecordsHistories}
 use Rattle.views.specs.LawWords.{Overlaps, FreshIfAlone, FreshOrOverlapping, AlwaysInWords, IsSafeInWords, IsRegularInWords}
 use Rattle.views.proofs.VerdictKnown.{history-left, noting, known, reading_of_progress}
 use Rattle.views.proofs.VerdictOverlaps.{crossing_of_words, words_of_crossing}
 use Rattle.views.proofs.VerdictWords.{then_known, read_of, verdict_words, test_of_crossing, crossing_of_test}
 
 module _ (Says : Known → ℕ → ℕ → Type 0) where
-  -- an event that counts, or doesn't, before others
+  -- a law that holds with one more event in front, which counts or doesn't, holds without that
+  -- event
   each_behind : (counted : Bool) (k : Known) (x : ℕ × Event) (xs : List (ℕ × Event)) → EachRead Says k (if counted then x ∷ xs else xs) → EachRead Says (noting counted x.1 k) xs
   each_behind true k x xs h = h.1
   each_behind false k x xs h = h
@@ -53,8 +54,8 @@ module _ (Says : Known → ℕ → ℕ → Type 0) where
       by (Stop p) same = tt
       by (Chosen p bit v) same = tt
 
--- what is said of each return, and what is said in words, where they are the same of each read
-module _ (initial : ℕ) (history : List (ℕ × Event)) (h : IsHistory history) (Says : Known → ℕ → ℕ → Type 0) (Words : ReturnedRead history → Type 0) where
+-- a law of each return, and the same in words, if the two agree on each read
+module _ (initial : ℕ) (history : List (ℕ × Event)) (h : IsOneWriterHistory history) (Says : Known → ℕ → ℕ → Type 0) (Words : ReturnedRead history → Type 0) where
   words_of_each : ((r : ReturnedRead history) → Says (then_known initial r) r.process r.value → Words r) → EachRead Says (initially initial) (accepted history) → (r : ReturnedRead history) → Words r
   words_of_each f each r =
       f r (at_return Says (initially initial) (r.earlier ++ during r) r.returned r.process r.value r.later (subst (λ l. EachRead Says (initially initial) (accepted l)) r.split each))
@@ -89,7 +90,7 @@ so_if_fresh Fresh A B h a = refl
 so_if_fresh Overlap A B h a = absurd (h.0 a)
 so_if_fresh Stray A B h a = absurd (h.0 a)
 
--- no value passes both tests where there is none
+-- if there are no values, none passes either test
 none_among : (xs : List ℕ) (o : Option ℕ) → xs ++ in_progress o ≡ [] → (v : ℕ) → (list_any (λ u. u == v) xs || is_value v o) ≡ false
 none_among [] None e v = refl
 none_among [] (Some u) e v = absurd cc
@@ -100,23 +101,23 @@ none_if_none [] None n = refl
 none_if_none [] (Some u) n = absurd (n u (eq-eqb u u refl))
 none_if_none (x ∷ xs) o n = absurd (n x (ap (λ b. (b || list_any (λ u. u == x) xs) || is_value x o) (eq-eqb x x refl)))
 
-module _ (initial : ℕ) (history : List (ℕ × Event)) (h : IsHistory history) (r : ReturnedRead history) where
+module _ (initial : ℕ) (history : List (ℕ × Event)) (h : IsOneWriterHistory history) (r : ReturnedRead history) where
   abbrev all : Known
   all = then_known initial r
 
   abbrev upto : Known
   upto = known (initially initial) r.earlier (during r ++ afterwards r)
 
-  full : IsHistory ((r.earlier ++ during r) ++ afterwards r)
-  full = subst IsHistory r.split h
+  full : IsOneWriterHistory ((r.earlier ++ during r) ++ afterwards r)
+  full = subst IsOneWriterHistory r.split h
 
-  whole : IsHistory (r.earlier ++ during r)
+  whole : IsOneWriterHistory (r.earlier ++ during r)
   whole = history-left (r.earlier ++ during r) (afterwards r) full
 
   invoked : reading r.process all ≡ invoked_now r.process upto
   invoked = reading_of_progress r.process (initially initial) r.earlier r.since (afterwards r) r.invoked r.quiet
 
-  -- it overlaps no write where no value overlaps it
+  -- if no value overlaps a read, no write overlaps it
   alone_in_words : overlapped r.process all ≡ [] → (v : ℕ) → ¬ Overlaps v r
   alone_in_words e v w =
       let none : drop (length upto.returned) all.returned ++ in_progress all.writing ≡ [] =
@@ -144,7 +145,7 @@ module _ (initial : ℕ) (history : List (ℕ × Event)) (h : IsHistory history)
 -- what is said of each read that returns, and in words
 module _ {P : Type 0} (b : Behaviour P) (records : HasOneWriter b → RecordsHistories b) where
   module _ (Says : Known → ℕ → ℕ → Type 0) (Words : (history : List (ℕ × Event)) → ℕ → ReturnedRead history → Type 0) where
-    always_in_words : ((initial : ℕ) (history : List (ℕ × Event)) → IsHistory history → (r : ReturnedRead history) → Says (then_known initial r) r.process r.value → Words history initial r)
+    always_in_words : ((initial : ℕ) (history : List (ℕ × Event)) → IsOneWriterHistory history → (r : ReturnedRead history) → Says (then_known initial r) r.process r.value → Words history initial r)
         → AlwaysReads b Says → AlwaysInWords b Words
     always_in_words to h = record { one_writer = h.one_writer; refuses_none = h.refuses_none; each_read = each }
       where
@@ -153,7 +154,7 @@ module _ {P : Type 0} (b : Behaviour P) (records : HasOneWriter b → RecordsHis
             let history = records h.one_writer value steps within fit in
             words_of_each value (recorded b value steps) history Says (Words (recorded b value steps) value) (to value (recorded b value steps) history) (h.each_read value steps within fit)
 
-    always_by_words : ((initial : ℕ) (history : List (ℕ × Event)) → IsHistory history → (r : ReturnedRead history) → Words history initial r → Says (then_known initial r) r.process r.value)
+    always_by_words : ((initial : ℕ) (history : List (ℕ × Event)) → IsOneWriterHistory history → (r : ReturnedRead history) → Words history initial r → Says (then_known initial r) r.process r.value)
         → AlwaysInWords b Words → AlwaysReads b Says
     always_by_words from h = record { one_writer = h.one_writer; refuses_none = h.refuses_none; each_read = each }
       where

@@ -1,4 +1,4 @@
--- What a lens keeps stays true, and what is found in it is like what was asked for.
+-- What a lens keeps stays true, and a configuration that is found in it is like the one asked for.
 use Rattle.std.proofs.Common.{◌≡◌, ℕ, zero, suc, ◌≤◌, Bool, true, List, [], ◌∷◌, ◌++◌, take, drop, length, ◌-◌, Some, refl, sym, ap, subst, ◌∙◌, inl, inr, arith}
 use Rattle.std.specs.Prelude.{Result, Ok, Err, OnOk, OnErr}
 use Rattle.std.specs.Bool.{Decides}
@@ -9,7 +9,7 @@ use Rattle.frames.specs.declared.types.Step.{Step}
 use Rattle.frames.specs.Behaviour.{Behaviour}
 use Rattle.frames.specs.Configuration.{Configuration, replayed}
 use Rattle.cutoff.specs.Fitting.{RunPart}
-use Rattle.cutoff.specs.Links.{alone}
+use Rattle.cutoff.specs.Links.{without_register}
 use Rattle.cutoff.proofs.Fits.{register_kept, alone_same}
 use Rattle.checkpoints.specs.Segment.{SegmentRun}
 use Rattle.lru.specs.LruCache.{LruCache, lru_cache, promoted, put_entries}
@@ -28,7 +28,7 @@ take-take (suc n) zero steps h = absurd (omega (arith, h))
 take-take (suc n) (suc m) [] h = refl
 take-take (suc n) (suc m) (s ∷ steps) h = ap (λ later. s ∷ later) (take-take n m steps (omega (arith, h)))
 
--- what `steps[n..]` is
+-- the slice `steps[n..]` has all steps after the first n
 pub tail_is : (n : ℕ) (steps : List Step) → take (length steps - n) (drop n steps) ≡ drop n steps
 tail_is zero steps = take_all (length steps - 0) steps (omega arith)
 tail_is (suc n) [] = take_all (length {A = Step} [] - suc n) [] (omega arith)
@@ -40,20 +40,20 @@ module _ {R P : Type 0} (is : R → Behaviour P) where
   abbrev behaviour_of : RunPart R P → Behaviour P
   behaviour_of part = is part.run.entry.register
 
-  -- what a part comes to, but for its register
-  end_alone : (part : RunPart R P) → alone (part_end is part) ≡ replayed (behaviour_of part) (alone part.run.entry) (take part.count part.run.steps)
+  -- the configuration that a part reaches, without its register
+  end_alone : (part : RunPart R P) → without_register (part_end is part) ≡ replayed (behaviour_of part) (without_register part.run.entry) (take part.count part.run.steps)
   end_alone part = replayed_alone (behaviour_of part) part.run.entry (take part.count part.run.steps)
 
   pub end_home : (part : RunPart R P) → is (part_end is part).register ≡ behaviour_of part
   end_home part = ap is (register_kept (behaviour_of part) part.run.entry (take part.count part.run.steps))
 
   like_symm : (c d : Configuration R P) → IsAlike is c d → IsAlike is d c
-  like_symm c d e = record { home = sym e.home; comes = sym e.comes }
+  like_symm c d e = record { home = sym e.home; arrives = sym e.arrives }
 
   like_trans : (c d e : Configuration R P) → IsAlike is c d → IsAlike is d e → IsAlike is c e
-  like_trans c d e f g = record { home = f.home ∙ g.home; comes = f.comes ∙ g.comes }
+  like_trans c d e f g = record { home = f.home ∙ g.home; arrives = f.arrives ∙ g.arrives }
 
-  -- steps that are made from a place of a run on come to a later place of it
+  -- steps replayed from a place of a run reach a later place of it
   pub goes_on : (run : SegmentRun R P) (made count : ℕ) (c d : Configuration R P) → made ≤ count → IsAlike is c (part_end is (record { run = run; count = made }))
       → d ≡ replayed (is c.register) c (drop made (take count run.steps)) → IsAlike is d (part_end is (record { run = run; count = count }))
   goes_on run made count c d less like went =
@@ -64,22 +64,22 @@ module _ {R P : Type 0} (is : R → Behaviour P) where
       ap (λ first. first ++ rest) (sym (take-take made count run.steps less)) ∙ take-append-drop made (take count run.steps) in
       record {
         home = ap (λ x. is x.register) went ∙ ap is (register_kept (is c.register) c rest) ∙ home ∙ sym (end_home (record { run = run; count = count }));
-        comes = ap alone went ∙ replayed_alone (is c.register) c rest ∙ ap (λ x. replayed x (alone c) rest) home ∙ ap (λ x. replayed b x rest) like.comes
+        arrives = ap without_register went ∙ replayed_alone (is c.register) c rest ∙ ap (λ x. replayed x (without_register c) rest) home ∙ ap (λ x. replayed b x rest) like.arrives
             ∙ sym (replayed_alone b (part_end is (record { run = run; count = made })) rest)
-            ∙ ap alone (sym (replayed-append b run.entry (take made run.steps) rest)) ∙ ap (λ steps. alone (replayed b run.entry steps)) before;
+            ∙ ap without_register (sym (replayed-append b run.entry (take made run.steps) rest)) ∙ ap (λ steps. without_register (replayed b run.entry steps)) before;
       }
 
   module _ (E : R → R → Bool) (F : P → P → Bool) (alike : (x y : R) → E x y ≡ true → is x ≡ is y) (d : (x y : P) → Decides (F x y) (x ≡ y)) where
-    -- equal places come to what is alike
+    -- equal places reach configurations that are alike
     ends_alike : (a b : RunPart R P) → SamePlace E a b → IsAlike is (part_end is a) (part_end is b)
     ends_alike a b same =
         let behave : behaviour_of a ≡ behaviour_of b = alike a.run.entry.register b.run.entry.register same.entry.register in
         record {
           home = end_home a ∙ behave ∙ sym (end_home b);
-          comes = end_alone a ∙ ap (λ x. replayed x (alone a.run.entry) (take a.count a.run.steps)) behave
+          arrives = end_alone a ∙ ap (λ x. replayed x (without_register a.run.entry) (take a.count a.run.steps)) behave
               ∙ ap (λ x. replayed (behaviour_of b) x (take a.count a.run.steps)) (alone_same E a.run.entry b.run.entry same.entry)
-              ∙ ap (λ n. replayed (behaviour_of b) (alone b.run.entry) (take n a.run.steps)) same.count
-              ∙ ap (λ steps. replayed (behaviour_of b) (alone b.run.entry) (take b.count steps)) same.steps ∙ sym (end_alone b);
+              ∙ ap (λ n. replayed (behaviour_of b) (without_register b.run.entry) (take n a.run.steps)) same.count
+              ∙ ap (λ steps. replayed (behaviour_of b) (without_register b.run.entry) (take b.count steps)) same.steps ∙ sym (end_alone b);
         }
 
     module _ (places : LruCache (RunPart R P) (Configuration R P)) (all : AreTrue is places) where
@@ -107,9 +107,9 @@ module _ {R P : Type 0} (is : R → Behaviour P) where
       put_kept place c new (Ok x) like ok err = subst (AreTrue is) (sym ok) (put_true place c like)
       put_kept place c new (Err x) like ok err = subst (AreTrue is) (sym err) all
 
-  -- pages of what is alike
+  -- configurations that are alike have the same pages
   pub like_page : (kind : PlaceKind) (head : Head) (c d : Configuration R P) (events : List (ℕ × Event)) → IsAlike is c d
       → page_at (is c.register) kind head c events ≡ page_at (is d.register) kind head d events
   like_page kind head c d events like =
-      page_alone (is c.register) (is d.register) kind head c (alone d) events like.home like.comes
-      ∙ sym (page_alone (is d.register) (is d.register) kind head d (alone d) events refl refl)
+      page_alone (is c.register) (is d.register) kind head c (without_register d) events like.home like.arrives
+      ∙ sym (page_alone (is d.register) (is d.register) kind head d (without_register d) events refl refl)

@@ -3,30 +3,31 @@ use Rattle.std.proofs.Common.{◌≡◌, ◌∙◌, ℕ, ◌+◌, ◌<◌, ◌�
 use Rattle.std.specs.Prelude.{OnOk, Result}
 use Rattle.std.proofs.lemmas.List.{append-nil, drop_all, drop_more}
 use Rattle.std.proofs.lemmas.Result.{on_ok_weaker}
-use Rattle.views.specs.Numbered.{numbered}
+use Rattle.views.specs.Numbered.{numbered_lines}
 
--- one piece more behind those that were pushed
+-- one more piece after those that were pushed
 pub piece_more : (out pieces now piece new : List ℕ) → now ≡ out ++ pieces → new ≡ now ++ piece
     → new ≡ out ++ (pieces ++ piece)
 piece_more out pieces now piece new so_far h = h ∙ ap (λ l. l ++ piece) so_far ∙ append_assoc out pieces piece
 
--- the last piece, which a call pushes that may fail
+-- the last piece, pushed by a call that may fail
 pub piece_last : {T E : Type 0} (r : Result T E) (out pieces now piece text whole new : List ℕ) → now ≡ out ++ pieces
     → piece ≡ text → whole ≡ pieces ++ text → OnOk r (new ≡ now ++ piece) → OnOk r (new ≡ out ++ whole)
 piece_last r out pieces now piece text whole new so_far same all ok =
     let end : pieces ++ piece ≡ whole = ap (λ l. pieces ++ l) same ∙ sym all in
     on_ok_weaker r (λ h. piece_more out pieces now piece new so_far h ∙ ap (λ l. out ++ l) end) ok
 
--- where those still to come make it the whole: one line more, and all lines
+-- If the text so far and the lines not yet pushed are the whole text, then this also holds after
+-- one more line; after all lines, the text so far is the whole text.
 pub lines_more : {X : Type 0} (line : ℕ → X → List ℕ) (xs : List X) (i : ℕ) (d : X) (now new whole : List ℕ)
-    → i < length xs → now ++ numbered line i (drop i xs) ≡ whole → new ≡ now ++ line i (get_or xs i d)
-    → new ++ numbered line (i + 1) (drop (i + 1) xs) ≡ whole
+    → i < length xs → now ++ numbered_lines line i (drop i xs) ≡ whole → new ≡ now ++ line i (get_or xs i d)
+    → new ++ numbered_lines line (i + 1) (drop (i + 1) xs) ≡ whole
 lines_more line xs i d now new whole here so_far h =
-    let later = numbered line (i + 1) (drop (i + 1) xs) in
+    let later = numbered_lines line (i + 1) (drop (i + 1) xs) in
     ap (λ l. l ++ later) h ∙ append_assoc now (line i (get_or xs i d)) later
-    ∙ ap (λ l. now ++ numbered line i l) (sym (drop_more xs i d here)) ∙ so_far
+    ∙ ap (λ l. now ++ numbered_lines line i l) (sym (drop_more xs i d here)) ∙ so_far
 
 pub lines_all : {X : Type 0} (line : ℕ → X → List ℕ) (xs : List X) (i : ℕ) (now whole : List ℕ) → length xs ≤ i
-    → now ++ numbered line i (drop i xs) ≡ whole → now ≡ whole
+    → now ++ numbered_lines line i (drop i xs) ≡ whole → now ≡ whole
 lines_all line xs i now whole done so_far =
-    sym (append-nil now) ∙ ap (λ l. now ++ numbered line i l) (sym (drop_all i xs done)) ∙ so_far
+    sym (append-nil now) ∙ ap (λ l. now ++ numbered_lines line i l) (sym (drop_all i xs done)) ∙ so_far

@@ -1,4 +1,4 @@
--- What a settled place's runs come to and record.
+-- What a settled place's runs reach and record.
 use Rattle.std.proofs.Common.{◌≡◌, ℕ, zero, suc, ◌+◌, ◌-◌, ◌<◌, ◌≤◌, Bool, true, false, nat_eq, cond, List, [], ◌∷◌, ◌++◌, length, map, take, Option, Some, None, refl, sym, ap, subst, ◌∙◌, arith, inl, inr, append-nil, append_assoc, get_or, eqb-true}
 use Rattle.std.specs.Option.{option_map, unwrap_or}
 use Rattle.std.specs.Cmp.{IsEquivalence}
@@ -18,19 +18,19 @@ use Rattle.schedule_trie.specs.Cut.{Cut, piece_at, slots_of, line, forest}
 use Rattle.schedule_trie.proofs.Lines.{slots_in_on}
 use Rattle.cutoff.specs.Fitting.{StoredRun, RunPart, RunFits, Settles, steps_at, reached, counted, part_of}
 use Rattle.cutoff.specs.Held.{Charted, keys_named, IsSettled}
-use Rattle.cutoff.specs.Links.{alone}
+use Rattle.cutoff.specs.Links.{without_register}
 use Rattle.cutoff.proofs.Fits.{register_kept, replayed_same, alone_same}
 use Rattle.frames.specs.Recorded.{first_configuration}
-use Rattle.views.specs.Spots.{part_end, part_events, end_of, events_of, IsSpotOf}
+use Rattle.views.specs.Spots.{part_end, part_events, parts_end, parts_events, IsSpotOf}
 use Rattle.views.specs.Looks.{steps_in}
 use Rattle.views.proofs.Alone.{replayed_alone, history_alone, replayed-append, history-append, history_same}
 
 module _ {R P : Type 0} (E : R → R → Bool) (equal : IsEquivalence E) (is : R → Behaviour P) (alike : (x y : R) → E x y ≡ true → is x ≡ is y)
     (b : Behaviour P) (old new : Cut (StoredRun R P)) where
-  -- from d on, parts come to what steps come to from c on, and record their events
+  -- from d, the parts reach what the steps reach from c, and record their events
   record Comes (c d : Configuration R P) (parts : List (RunPart R P)) (steps : List Step) : Type 0 where
-    pub end : SameConfiguration E (end_of is d parts) (replayed b c steps)
-    pub events : events_of is parts ≡ history b c steps
+    pub end : SameConfiguration E (parts_end is d parts) (replayed b c steps)
+    pub events : parts_events is parts ≡ history b c steps
 
   nothing : (c d : Configuration R P) (parts : List (RunPart R P)) (place : ℕ) (steps : List Step) → SameConfiguration E d c → parts ≡ [] → place ≡ 0 → Comes c d parts (take place steps)
   nothing c d parts place steps same none e =
@@ -73,7 +73,7 @@ module _ {R P : Type 0} (E : R → R → Bool) (equal : IsEquivalence E) (is : R
   settled c d place [] parts n home same sum h = nothing c d parts place [] same h.0 (sym sum ∙ ap counted h.0)
   settled c d place (k ∷ ks) parts n home same sum h = by (λ c' d' place' parts' n'. settled c' d' place' ks parts' n') (nat_eq place 0) refl parts sum h
     where
-      -- the same of the segments behind this one
+      -- the same of the segments after this one
       Later : Type 0
       Later = (c' d' : Configuration R P) (place' : ℕ) (parts' : List (RunPart R P)) (n' : ℕ) → is c'.register ≡ b → SameConfiguration E d' c' → counted parts' ≡ place'
           → Settles E b old new c' place' (reached old place' ks) parts' n' → Comes c' d' parts' (take place' (along ks))
@@ -93,8 +93,8 @@ module _ {R P : Type 0} (E : R → R → Bool) (equal : IsEquivalence E) (is : R
           let every : take len (steps_at old k) ≡ steps_at old k = take_all len (steps_at old k) (omega arith) in
           subst (Comes c d (part ∷ rest)) (sym all)
           (record {
-            end = subst (SameConfiguration E (end_of is (part_end is part) rest)) (sym (replayed-append b c (steps_at old k) (take (place - len) (along ks)))) later.end;
-            events = ap (λ es. es ++ events_of is rest) (part_records c k len part home fits count ∙ ap (history b c) every)
+            end = subst (SameConfiguration E (parts_end is (part_end is part) rest)) (sym (replayed-append b c (steps_at old k) (take (place - len) (along ks)))) later.end;
+            events = ap (λ es. es ++ parts_events is rest) (part_records c k len part home fits count ∙ ap (history b c) every)
                 ∙ ap (λ es. history b c (steps_at old k) ++ es) later.events ∙ sym (history-append b c (steps_at old k) (take (place - len) (along ks)));
           })
 
@@ -136,18 +136,18 @@ history-take b c zero steps = refl
 history-take b c (suc n) [] = refl
 history-take b c (suc n) (s ∷ steps) = ap (λ events. events_of_step b c s ∷ events) (history-take b (stepped b c s) n steps)
 
--- one part more
+-- one more part adds the events of its first steps to those of the parts before it
 pub events_more : {R P Z : Type 0} (is : R → Behaviour P) (runs : List (Arc (SegmentRun R P) Z × ℕ)) (i : ℕ) (x : Arc (SegmentRun R P) Z × ℕ) → i < length runs → x ≡ get_or runs i x
-    → IsRun (is (arc_value x.0).entry.register) (arc_value x.0) → events_of is (map part_of (take (suc i) runs)) ≡ events_of is (map part_of (take i runs)) ++ take x.1 (arc_value x.0).events
+    → IsRun (is (arc_value x.0).entry.register) (arc_value x.0) → parts_events is (map part_of (take (suc i) runs)) ≡ parts_events is (map part_of (take i runs)) ++ take x.1 (arc_value x.0).events
 events_more is [] i x within e run = absurd (omega (arith, within))
 events_more {R} {P} {Z} is (y ∷ runs) zero x within e run =
     append-nil (part_events is (part_of y)) ∙ ap (λ (z : Arc (SegmentRun R P) Z × ℕ). part_events is (part_of z)) (sym e)
     ∙ sym (ap (take x.1) run.events ∙ history-take (is (arc_value x.0).entry.register) (arc_value x.0).entry x.1 (arc_value x.0).steps)
 events_more is (y ∷ runs) (suc i) x within e run =
     ap (λ events. part_events is (part_of y) ++ events) (events_more is runs i x (omega (arith, within)) e run)
-    ∙ sym (append_assoc (part_events is (part_of y)) (events_of is (map part_of (take i runs))) (take x.1 (arc_value x.0).events))
+    ∙ sym (append_assoc (part_events is (part_of y)) (parts_events is (map part_of (take i runs))) (take x.1 (arc_value x.0).events))
 
--- the steps of the branch of a name are those along its keys
+-- the steps of a named branch are those of the segments with its keys, one after another
 pub steps_named : {R P : Type 0} (cut : Cut (StoredRun R P)) (name : List ℕ) → steps_in (forest cut) name ≡ map step_of (line (piece_at cut.pieces) (keys_named cut name))
 steps_named cut name = by (index_of (forest cut).branches name) refl
   where
@@ -155,7 +155,7 @@ steps_named cut name = by (index_of (forest cut).branches name) refl
     by None e = rw e refl
     by (Some i) e = rw e (ap (map step_of) (slots_in_on (piece_at cut.pieces) cut.strands i))
 
--- how long a branch is
+-- the length of a branch is the number of its steps
 pub length_told : (f : Forest) (name : List ℕ) (len : ℕ) → Some len ≡ len_of f name → len ≡ length (steps_in f name)
 length_told f name len told = by (index_of f.branches name) refl
   where
@@ -172,7 +172,7 @@ length_told f name len told = by (index_of f.branches name) refl
         subst (λ (o : Option ℕ). len ≡ length (unwrap_or (path_by o f) [])) (sym e) (same ∙ sym (length-map (slots_in f.branches i) step_of))
 
 module _ {R P : Type 0} (E : R → R → Bool) (equal : IsEquivalence E) (is : R → Behaviour P) (alike : (x y : R) → E x y ≡ true → is x ≡ is y) where
-  -- what a settle of a place answers
+  -- the parts that a settle of a place answers are as `IsSpotOf` states
   pub spot_of : (old new : Charted R P) (name : List ℕ) (place len : ℕ) (parts : List (RunPart R P)) (n : ℕ) → Some len ≡ len_of (forest old.cut) name
       → old.start ≡ initial_configuration (is old.start.register) old.start.register old.value
       → IsSettled E (is old.start.register) old new name place parts n
@@ -183,12 +183,12 @@ module _ {R P : Type 0} (E : R → R → Bool) (equal : IsEquivalence E) (is : R
       (record { register = equal.refl old.start.register; memory = refl; running = refl; stopped = refl }) h.sum h.settles in
       let whole : List Step = map step_of (line (piece_at old.cut.pieces) (keys_named old.cut name)) in
       let steps : whole ≡ steps_in (forest old.cut) name = sym (steps_named old.cut name) in
-      let first : alone old.start ≡ first_configuration b old.value = ap alone begins in
+      let first : without_register old.start ≡ first_configuration b old.value = ap without_register begins in
       record {
         counted = length_told (forest old.cut) name len told;
-        home = alike (end_of is old.start parts).register (replayed b old.start (take place whole)).register comes.end.register ∙ ap is (register_kept b old.start (take place whole));
-        comes = alone_same E (end_of is old.start parts) (replayed b old.start (take place whole)) comes.end ∙ replayed_alone b old.start (take place whole)
-            ∙ ap (λ xs. replayed b (alone old.start) (take place xs)) steps ∙ ap (λ c. replayed b c (take place (steps_in (forest old.cut) name))) first;
-        records = comes.events ∙ history_alone b old.start (take place whole) ∙ ap (λ xs. history b (alone old.start) (take place xs)) steps
+        home = alike (parts_end is old.start parts).register (replayed b old.start (take place whole)).register comes.end.register ∙ ap is (register_kept b old.start (take place whole));
+        arrives = alone_same E (parts_end is old.start parts) (replayed b old.start (take place whole)) comes.end ∙ replayed_alone b old.start (take place whole)
+            ∙ ap (λ xs. replayed b (without_register old.start) (take place xs)) steps ∙ ap (λ c. replayed b c (take place (steps_in (forest old.cut) name))) first;
+        records = comes.events ∙ history_alone b old.start (take place whole) ∙ ap (λ xs. history b (without_register old.start) (take place xs)) steps
             ∙ ap (λ c. history b c (take place (steps_in (forest old.cut) name))) first;
       }

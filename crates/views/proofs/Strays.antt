@@ -1,4 +1,4 @@
--- Where no read of a register is ever stray, no page shows a stray one.
+-- If no read of a register is ever stray, no page shows a stray one.
 use Rattle.std.proofs.Common.{◌≡◌, ◌≢◌, ℕ, ◌<◌, Bool, true, false, List, [], ◌∷◌, Option, Some, None, Result, Ok, Err, refl, sym, ap, subst, take, inl, inr}
 use Rattle.std.specs.Prelude.{if◌then◌else◌, IfSome, IfOk}
 use Rattle.std.specs.List.{All}
@@ -13,7 +13,7 @@ use Rattle.frames.specs.declared.verdict.Verdict.TheVariants.{Stray}
 use Rattle.frames.specs.Behaviour.{Behaviour}
 use Rattle.frames.specs.Configuration.{Configuration, fits_step}
 use Rattle.frames.specs.Recorded.{AllFit, recorded}
-use Rattle.frames.specs.Verdicts.{Known, accepted, initially, after, told, verdicts_from, verdicts}
+use Rattle.frames.specs.Verdicts.{Known, accepted, initially, after, verdict_of_event, verdicts_from, verdicts}
 use Rattle.frames.specs.Regularity.{OnReturn, EachRead, NotStray}
 use Rattle.frames.specs.Regularity.{NeverStray}
 use Rattle.frames.proofs.NeverStray.{regular_never_stray, atomic_never_stray}
@@ -35,7 +35,7 @@ use Rattle.views.proofs.Slips.{slip_told}
 NoneStray : List ReadVerdict → Type 0
 NoneStray reads = All (λ read. read.verdict ≢ Stray) reads
 
-told_one : (k : Known) (i : ℕ) (e : Event) → OnReturn NotStray k e → NoneStray (told k i e)
+told_one : (k : Known) (i : ℕ) (e : Event) → OnReturn NotStray k e → NoneStray (verdict_of_event k i e)
 unfolding NoneStray
 told_one k i (Got p v) h = All-cons (λ read. read.verdict ≢ Stray) _ [] h (All-nil (λ read. read.verdict ≢ Stray))
 told_one k i (Invoke p o) h = All-nil (λ read. read.verdict ≢ Stray)
@@ -49,7 +49,7 @@ none_stray : (k : Known) (events : List (ℕ × Event)) → EachRead NotStray k 
 unfolding NoneStray
 none_stray k [] h = All-nil (λ read. read.verdict ≢ Stray)
 none_stray k (e ∷ es) h =
-    All-append (λ read. read.verdict ≢ Stray) (told k e.0 e.1) (verdicts_from (after k e.1) es) (told_one k e.0 e.1 h.0) (none_stray (after k e.1) es h.1)
+    All-append (λ read. read.verdict ≢ Stray) (verdict_of_event k e.0 e.1) (verdicts_from (after k e.1) es) (told_one k e.0 e.1 h.0) (none_stray (after k e.1) es h.1)
 
 -- what holds of verdicts holds of those that a page shows
 on_verdicts : {A B : List ReadVerdict → Type 0} → ((reads : List ReadVerdict) → A reads → B reads) → (p : Page) → OnVerdicts A p → OnVerdicts B p
@@ -80,21 +80,19 @@ never_stray : {P : Type 0} (b : Behaviour P) → IsRegularOrAtomic b → NeverSt
 never_stray b (inl regular) = regular_never_stray b regular
 never_stray b (inr atomic) = atomic_never_stray b atomic
 
-its_shows_no_stray : {R P : Type 0} (is : R → Behaviour P) (judged : Option R) → IfSome judged (λ register. IsRegularOrAtomic (is register)) → (p : Page) → JudgesIts is judged p → ShowsNoStray p
-unfolding NoneStray
-its_shows_no_stray is None lawful = on_verdicts (λ reads none. absurd none)
-its_shows_no_stray is (Some register) lawful = on_verdicts (never_there (is register) (never_stray (is register) lawful))
-
--- the same of an answer
-pub ok_its_shows_no_stray : {R P E : Type 0} (is : R → Behaviour P) (judged : Option R) → IfSome judged (λ register. IsRegularOrAtomic (is register)) → (r : Result Page E) → IfOk r (JudgesIts is judged) → IfOk r ShowsNoStray
-ok_its_shows_no_stray is judged lawful (Ok p) h = its_shows_no_stray is judged lawful p h
-ok_its_shows_no_stray is judged lawful (Err e) h = tt
+-- if a page judges the register `judged`, and that register is regular or atomic, the page shows no
+-- stray read
+pub ok_its_shows_no_stray : {R P E : Type 0} (is : R → Behaviour P) (judged : Option R) (r : Result Page E) → IfOk r (JudgesIts is judged)
+    → IfSome judged (λ register. IsRegularOrAtomic (is register) → IfOk r ShowsNoStray)
+ok_its_shows_no_stray is None r h = tt
+ok_its_shows_no_stray is (Some register) (Ok p) h = λ lawful. shows_no_stray (is register) (never_stray (is register) lawful) p h
+ok_its_shows_no_stray is (Some register) (Err e) h = λ lawful. tt
 
 pub ok_shows_no_stray : {R P E : Type 0} (b : Behaviour P) → IsRegularOrAtomic b → (r : Result (Slipped R) E) → IfOk r (λ slip. Judges b slip.page) → IfOk r (λ slip. ShowsNoStray slip.page)
 ok_shows_no_stray b lawful (Ok slip) h = shows_no_stray b (never_stray b lawful) slip.page h
 ok_shows_no_stray b lawful (Err e) h = tt
 
--- what judges the history of a register judges that of the one that is named, where that is it
+-- a page that judges this register judges the register `judged`, if that is the same register
 pub judges_its : {R P : Type 0} (is : R → Behaviour P) (register : R) (judged : Option R) → judged ≡ Some register → (p : Page) → Judges (is register) p → JudgesIts is judged p
 judges_its is register judged named p h = subst (λ o. JudgesIts is o p) (sym named) h
 
@@ -119,7 +117,7 @@ place_judges b value kind.Bits branch place steps within fit h = tt
 place_judges b value kind.Pending branch place steps within fit h = tt
 place_judges b value kind.History branch place steps within fit h = tt
 
--- and so does what a settled place's slip stands for
+-- the page of a settled place's slip judges what the register records on the branch's first steps
 pub slip_judges : {R P : Type 0} (is : R → Behaviour P) (start : Configuration R P) (value : ℕ) (steps : List Step) (place len : ℕ) (parts : List (RunPart R P))
     → IsSpotOf is start value steps place len parts → value < (is start.register).values → AllFit (is start.register) steps → (what : PlaceKind) (branch : List ℕ) → JudgesFrom value what
     → Judges (is start.register) (run_page is what (record { branch = branch; place = place; len = len }) start parts)
@@ -135,7 +133,7 @@ fit_in b f name fits = by (index_of f.branches name)
     by None = All-nil (λ s. fits_step b s ≡ true)
     by (Some i) = fits i
 
--- a tower's verdicts are judged from its initial value
+-- the page of verdicts judges reads from the register's initial value
 pub judged_from_it : {P : Type 0} (b : Behaviour P) (value : ℕ) → JudgesFrom value (kind.Verdict (judged_from b value))
 judged_from_it b value = by (b.suits 1 (op.Write 0))
   where

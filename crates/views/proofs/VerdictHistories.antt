@@ -1,4 +1,4 @@
--- What a register with one writer records is a history, event by event.
+-- What a register with one writer records is a history of such a register, event by event.
 use Rattle.std.proofs.Common.{◌≡◌, ℕ, zero, suc, ◌+◌, ◌<◌, Bool, true, false, ◌||◌, ◌&&◌, List, [], ◌∷◌, ◌++◌, length, Option, Some, None, ◌⊎◌, inl, inr, refl, sym, ap, subst, ◌∙◌, true≢false, arith, eq-eqb, get_or, replicate, append_assoc}
 use Rattle.std.specs.Prelude.{◌==◌, nat_lt}
 use Rattle.std.specs.List.{list_any}
@@ -21,7 +21,7 @@ use Rattle.frames.specs.declared.types.Event.{Event}
 use Rattle.frames.specs.declared.types.Event.TheVariants.{Invoke, Got, Wrote, Refused, Void, Stop, Chosen}
 use Rattle.frames.specs.declared.types.StepEvents.{StepEvents}
 use Rattle.frames.specs.declared.running.Running.{Running}
-use Rattle.frames.specs.Behaviour.{Behaviour, IsLawful, StandsWell, Answers}
+use Rattle.frames.specs.Behaviour.{Behaviour, IsLawful, ReachedOrAnswered, Answers}
 use Rattle.frames.specs.Fitting.{process_of}
 use Rattle.frames.specs.OneWriter.{HasOneWriter}
 use Rattle.frames.specs.Configuration.{Configuration, running_at, is_stopped, fits_step, stepped, history, events_of, acted_on, acting, acting_unless, invoking, going, return_of, still_running, chosen_of, in_order}
@@ -31,7 +31,7 @@ use Rattle.frames.specs.laws.OneWriter.{writer_zero, reader_some}
 use Rattle.frames.specs.Recorded.{at_index, indexed}
 use Rattle.frames.specs.Recorded.{AllFit}
 use Rattle.frames.specs.Recorded.{first_configuration, recorded}
-use Rattle.views.specs.VerdictWords.{is_turn, IsQuiet, InProgress, has_role, Follows, IsHistory, RecordsHistories, RecordsJudged}
+use Rattle.views.specs.VerdictWords.{is_turn, IsQuiet, InProgress, has_role, Follows, IsOneWriterHistory, RecordsHistories, RecordsJudged}
 use Rattle.views.proofs.VerdictKnown.{no_event, with_event, progress_still}
 use Rattle.views.proofs.VerdictOverlaps.{parted_at, goes_on}
 use Rattle.views.proofs.VerdictWords.{judged_in_words}
@@ -42,17 +42,17 @@ quiet-left p xs ys q = (or_parts (list_any (λ e. is_turn p e.1) xs) (list_any (
 quiet-right : (p : ℕ) (xs ys : List (ℕ × Event)) → IsQuiet p (xs ++ ys) → IsQuiet p ys
 quiet-right p xs ys q = (or_parts (list_any (λ e. is_turn p e.1) xs) (list_any (λ e. is_turn p e.1) ys) (sym (list_any-append (λ e. is_turn p e.1) xs ys) ∙ q)).1
 
--- a list of one that is parted
+-- a list of one, split
 only_one : (s since : List (ℕ × Event)) (x y : ℕ × Event) → x ∷ [] ≡ s ++ y ∷ since → (s ≡ []) × (x ≡ y)
 only_one [] since x y h = (refl, cc h)
 only_one (z ∷ []) since x y h = cc h
 only_one (z ∷ w ∷ s) since x y h = cc h
 
-no_history : IsHistory []
+no_history : IsOneWriterHistory []
 no_history = record { roles = refl; follows = λ earlier i e later s. absurd (no_event earlier (i, e) later s) }
 
 -- an event that can follow makes a longer history
-history_with : (before : List (ℕ × Event)) (i : ℕ) (e : Event) → IsHistory before → Follows before e → has_role e ≡ true → IsHistory (with_event before i e)
+history_with : (before : List (ℕ × Event)) (i : ℕ) (e : Event) → IsOneWriterHistory before → Follows before e → has_role e ≡ true → IsOneWriterHistory (with_event before i e)
 history_with before i e h f r = record {
   roles = list_all-append (λ x. has_role x.1) before ((i, e) ∷ []) ∙ ap (λ b. b && (has_role e && true)) h.roles ∙ ap (λ b. b && true) r;
   follows = λ earlier j d later s. elim (parted_at before ((i, e) ∷ []) earlier later (j, d) s) [
@@ -64,12 +64,12 @@ history_with before i e h f r = record {
   ];
 }
 
--- what a process has pending behind events: an operation in progress, or none
+-- what a process has pending after events: an operation in progress, or none
 abbrev Pends : ℕ → List (ℕ × Event) → Option Op → Type 0
 Pends p before None = (o : Op) → ¬ InProgress p o before
 Pends p before (Some o) = InProgress p o before
 
--- an operation in progress behind one more event was so before, or is invoked by it
+-- an operation in progress after one more event was so before, or is invoked by it
 progress_before : (p : ℕ) (o : Op) (before : List (ℕ × Event)) (i : ℕ) (e : Event) → InProgress p o (with_event before i e) → (e ≡ Invoke p o) ⊎ ((is_turn p e ≡ false) × InProgress p o before)
 progress_before p o before i e w =
     elim (parted_at before ((i, e) ∷ []) w.earlier w.since (w.step, Invoke p o) w.split) [
@@ -101,13 +101,14 @@ pends_ended p before i e t n = λ o w. elim (progress_before p o before i e w) [
   | inr old ↦ true≢false (sym t ∙ old.0)
 ]
 
--- events of one process behind others: they make a history, and tell what it has pending; the others have what they had
+-- After events of process p are added, the events still are a history, and determine what p has
+-- pending. The other processes have pending what they had.
 record Tells (p : ℕ) (before after : List (ℕ × Event)) (x : Option Op) : Type 0 where
-  history : IsHistory after
+  history : IsOneWriterHistory after
   own : Pends p after x
   others : (q : ℕ) (y : Option Op) → ¬ (q ≡ p) → Pends q before y → Pends q after y
 
-tells_nothing : (p : ℕ) (before : List (ℕ × Event)) (x : Option Op) → IsHistory before → Pends p before x → Tells p before (before ++ []) x
+tells_nothing : (p : ℕ) (before : List (ℕ × Event)) (x : Option Op) → IsOneWriterHistory before → Pends p before x → Tells p before (before ++ []) x
 tells_nothing p before x h own =
     subst (λ after. Tells p before after x) (sym (append-nil before)) (record { history = h; own = own; others = λ q y other is. is })
 
@@ -115,8 +116,8 @@ tells_more : (p : ℕ) (before first after : List (ℕ × Event)) (x y : Option 
 tells_more p before first after x y a b =
     record { history = b.history; own = b.own; others = λ q z other is. b.others q z other (a.others q z other is) }
 
--- an event of one process is told
-tells_event : (p : ℕ) (before : List (ℕ × Event)) (i : ℕ) (e : Event) (x : Option Op) → IsHistory before → Follows before e → has_role e ≡ true
+-- one event of a process
+tells_event : (p : ℕ) (before : List (ℕ × Event)) (i : ℕ) (e : Event) (x : Option Op) → IsOneWriterHistory before → Follows before e → has_role e ≡ true
     → ((q : ℕ) → ¬ (q ≡ p) → is_turn q e ≡ false) → Pends p (with_event before i e) x → Tells p before (with_event before i e) x
 tells_event p before i e x h f r alone own =
     record { history = history_with before i e h f r; own = own; others = λ q y other is. pends_still q y before i e (alone q other) is }
@@ -134,8 +135,8 @@ module _ {P : Type 0} (b : Behaviour P) (one : HasOneWriter b) where
   role_of p op.Read h = let some = reader_some b.values b.processes p (one p op.Read h) in grind (arith, nat_tests)
 
   -- the end of an operation in progress
-  tells_end : (Reached : P → Type 0) (p : ℕ) (o : Op) (next : Next P) (before : List (ℕ × Event)) (i : ℕ) → b.suits p o ≡ true → StandsWell Reached (Answers b.values o) next
-      → IsHistory before → InProgress p o before → Tells p before (before ++ at_index i (return_of p next)) (op_of (still_running o next))
+  tells_end : (Reached : P → Type 0) (p : ℕ) (o : Op) (next : Next P) (before : List (ℕ × Event)) (i : ℕ) → b.suits p o ≡ true → ReachedOrAnswered Reached (Answers b.values o) next
+      → IsOneWriterHistory before → InProgress p o before → Tells p before (before ++ at_index i (return_of p next)) (op_of (still_running o next))
   tells_end Reached p o (Pending point) before i fits well h w = tells_nothing p before (Some o) h w
   tells_end Reached p (op.Write v) (Done (Value x)) before i fits well h w = absurd well
   tells_end Reached p op.Read (Done (Value x)) before i fits well h w =
@@ -150,23 +151,23 @@ module _ {P : Type 0} (b : Behaviour P) (one : HasOneWriter b) where
       (pends_ended p before i (Refused p layer) (eq-eqb p p refl) (λ o same. cc same))
 
   -- an event that is nobody's turn, and nothing else
-  tells_only : (p : ℕ) (before : List (ℕ × Event)) (i : ℕ) (e : Event) (x : Option Op) → IsHistory before → Follows before e → has_role e ≡ true → ((q : ℕ) → is_turn q e ≡ false)
+  tells_only : (p : ℕ) (before : List (ℕ × Event)) (i : ℕ) (e : Event) (x : Option Op) → IsOneWriterHistory before → Follows before e → has_role e ≡ true → ((q : ℕ) → is_turn q e ≡ false)
       → Pends p before x → Tells p before (with_events before i (in_order (Some e) None)) x
   tells_only p before i e x h f r nobody own = tells_event p before i e x h f r (λ q other. nobody q) (pends_still p x before i e (nobody p) own)
 
   module _ (Holds : Memory → Type 0) (Reaches : ℕ → Op → P → Type 0) (lawful : IsLawful b Holds Reaches) where
-    tells_invoking : (p : ℕ) (o : Op) (slot : Option (Running P)) (m : Memory) (before : List (ℕ × Event)) (i : ℕ) → Holds m → b.suits p o ≡ true → IsHistory before → Pends p before (op_of slot)
+    tells_invoking : (p : ℕ) (o : Op) (slot : Option (Running P)) (m : Memory) (before : List (ℕ × Event)) (i : ℕ) → Holds m → b.suits p o ≡ true → IsOneWriterHistory before → Pends p before (op_of slot)
         → Tells p before (with_events before i (invoking b p o slot m).events) (op_of (invoking b p o slot m).running)
     tells_invoking p o None m before i holds fits h own =
         let next = (b.begins p o m).next in
         let first = tells_event p before i (Invoke p o) (Some o) h own (role_of p o fits) (λ q other. ne_eqb p q (λ same. other (sym same))) (pends_invoked p o before i) in
-        let rest = tells_end (Reaches p o) p o next (with_event before i (Invoke p o)) i fits (lawful.begins_well p o m holds fits).stands first.history first.own in
+        let rest = tells_end (Reaches p o) p o next (with_event before i (Invoke p o)) i fits (lawful.begins_well p o m holds fits).may_be_at first.history first.own in
         subst (λ after. Tells p before after (op_of (still_running o next))) (append_assoc before ((i, Invoke p o) ∷ []) (at_index i (return_of p next)))
         (tells_more p before (with_event before i (Invoke p o)) _ (Some o) (op_of (still_running o next)) first rest)
     tells_invoking p o (Some r) m before i holds fits h own = tells_only p before i (Void p Busy) (Some r.op) h tt refl (λ q. refl) own
 
-    tells_acted : (p : ℕ) (o : Op) (chosen : Option (ℕ × Bool)) (next : Next P) (before : List (ℕ × Event)) (i : ℕ) → b.suits p o ≡ true → StandsWell (Reaches p o) (Answers b.values o) next
-        → IsHistory before → InProgress p o before → Tells p before (with_events before i (in_order (chosen_of p chosen) (return_of p next))) (op_of (still_running o next))
+    tells_acted : (p : ℕ) (o : Op) (chosen : Option (ℕ × Bool)) (next : Next P) (before : List (ℕ × Event)) (i : ℕ) → b.suits p o ≡ true → ReachedOrAnswered (Reaches p o) (Answers b.values o) next
+        → IsOneWriterHistory before → InProgress p o before → Tells p before (with_events before i (in_order (chosen_of p chosen) (return_of p next))) (op_of (still_running o next))
     tells_acted p o None next before i fits well h own =
         subst (λ events. Tells p before (before ++ events) (op_of (still_running o next))) (sym (append-nil (at_index i (return_of p next))))
         (tells_end (Reaches p o) p o next before i fits well h own)
@@ -177,14 +178,14 @@ module _ {P : Type 0} (b : Behaviour P) (one : HasOneWriter b) where
         subst (λ after. Tells p before after (op_of (still_running o next))) (append_assoc before ((i, e) ∷ []) (at_index i (return_of p next)))
         (tells_more p before (with_event before i e) _ (Some o) (op_of (still_running o next)) first rest)
 
-    tells_going : (p : ℕ) (choice : Bool) (slot : Option (Running P)) (m : Memory) (before : List (ℕ × Event)) (i : ℕ) → Holds m → IsReached Reaches p slot → IsHistory before
+    tells_going : (p : ℕ) (choice : Bool) (slot : Option (Running P)) (m : Memory) (before : List (ℕ × Event)) (i : ℕ) → Holds m → IsReached Reaches p slot → IsOneWriterHistory before
         → Pends p before (op_of slot) → Tells p before (with_events before i (going b p choice slot m).events) (op_of (going b p choice slot m).running)
     tells_going p choice None m before i holds reached h own = tells_only p before i (Void p Idle) None h tt refl (λ q. refl) own
     tells_going p choice (Some r) m before i holds reached h own =
         let moved = b.goes r.point choice m in
-        tells_acted p r.op moved.chosen moved.next before i (lawful.reached_suits p r.op r.point reached) (lawful.goes_well p r.op r.point choice m holds reached).stands h own
+        tells_acted p r.op moved.chosen moved.next before i (lawful.reached_suits p r.op r.point reached) (lawful.goes_well p r.op r.point choice m holds reached).may_be_at h own
 
-    tells_acting : (s : Step) (slot : Option (Running P)) (m : Memory) (before : List (ℕ × Event)) (i : ℕ) → fits_step b s ≡ true → Holds m → IsReached Reaches (process_of s) slot → IsHistory before
+    tells_acting : (s : Step) (slot : Option (Running P)) (m : Memory) (before : List (ℕ × Event)) (i : ℕ) → fits_step b s ≡ true → Holds m → IsReached Reaches (process_of s) slot → IsOneWriterHistory before
         → Pends (process_of s) before (op_of slot) → Tells (process_of s) before (with_events before i (acting b s slot m).events) (op_of (acting b s slot m).running)
     tells_acting (step.Write p v) slot m before i fits holds reached h own = tells_invoking p (op.Write v) slot m before i holds fits h own
     tells_acting (step.Read p) slot m before i fits holds reached h own = tells_invoking p op.Read slot m before i holds fits h own
@@ -192,7 +193,7 @@ module _ {P : Type 0} (b : Behaviour P) (one : HasOneWriter b) where
     tells_acting (step.Stop p) slot m before i fits holds reached h own = tells_only p before i (Stop p) (op_of slot) h tt refl (λ q. refl) own
 
     tells_acting_unless : (stopped : Bool) (s : Step) (slot : Option (Running P)) (m : Memory) (before : List (ℕ × Event)) (i : ℕ) → fits_step b s ≡ true → Holds m → IsReached Reaches (process_of s) slot
-        → IsHistory before → Pends (process_of s) before (op_of slot) → Tells (process_of s) before (with_events before i (acting_unless stopped b s slot m).events) (op_of (acting_unless stopped b s slot m).running)
+        → IsOneWriterHistory before → Pends (process_of s) before (op_of slot) → Tells (process_of s) before (with_events before i (acting_unless stopped b s slot m).events) (op_of (acting_unless stopped b s slot m).running)
     tells_acting_unless true s slot m before i fits holds reached h own = tells_only (process_of s) before i (Void (process_of s) Stopped) (op_of slot) h tt refl (λ q. refl) own
     tells_acting_unless false s slot m before i fits holds reached h own = tells_acting s slot m before i fits holds reached h own
 
@@ -203,7 +204,7 @@ module _ {P : Type 0} (b : Behaviour P) (one : HasOneWriter b) where
     process_there (step.Go p c) h = ltb-true p b.processes (and_parts (nat_lt p b.processes) (nat_lt c 2) h).0
     process_there (step.Stop p) h = ltb-true p b.processes h
 
-    -- events tell what a configuration's processes have pending
+    -- events determine what each process of a configuration has pending
     abbrev Tracks : {R : Type 0} → List (ℕ × Event) → Configuration R P → Type 0
     Tracks before c = (p : ℕ) → Pends p before (op_of (running_at p c))
 
@@ -216,16 +217,16 @@ module _ {P : Type 0} (b : Behaviour P) (one : HasOneWriter b) where
           | inr other ↦ rw (get_or-set_other c.running (process_of s) q (acted_on b c s).running None other) (tells.others q (op_of (running_at q c)) other (was q))
         ]
 
-    history_from : {R : Type 0} (c : Configuration R P) (steps : List Step) (before : List (ℕ × Event)) (i : ℕ) → IsConfiguration b Holds Reaches c → AllFit b steps → IsHistory before → Tracks before c
-        → IsHistory (before ++ indexed i (history b c steps))
-    history_from c [] before i is fit h was = subst IsHistory (sym (append-nil before)) h
+    history_from : {R : Type 0} (c : Configuration R P) (steps : List Step) (before : List (ℕ × Event)) (i : ℕ) → IsConfiguration b Holds Reaches c → AllFit b steps → IsOneWriterHistory before → Tracks before c
+        → IsOneWriterHistory (before ++ indexed i (history b c steps))
+    history_from c [] before i is fit h was = subst IsOneWriterHistory (sym (append-nil before)) h
     history_from c (s ∷ steps) before i is fit h was =
         let fits : fits_step b s ≡ true = All-head (λ x. fits_step b x ≡ true) s steps fit in
         let p = process_of s in
         let tells = tells_acting_unless (is_stopped p c) s (running_at p c) c.memory before i fits is.holds (is.reached p) h (was p) in
         let after = with_events before i (events_of b c s) in
         let later = indexed (i + 1) (history b (stepped b c s) steps) in
-        subst IsHistory (append_assoc before (at_index i (events_of b c s).first ++ at_index i (events_of b c s).second) later)
+        subst IsOneWriterHistory (append_assoc before (at_index i (events_of b c s).first ++ at_index i (events_of b c s).second) later)
         (history_from (stepped b c s) steps after (i + 1) (step_keeps b Holds Reaches lawful c s is fits) (All-tail (λ x. fits_step b x ≡ true) s steps fit) tells.history
         (tracks_step c s before i (subst (λ n. p < n) (sym is.each) (process_there s fits)) tells was))
 

@@ -1,4 +1,5 @@
--- A write that overlaps a read is in progress as the read returns and isn't refused later, or has returned since the read was invoked.
+-- A write that overlaps a read is in progress as the read returns and isn't refused later, or has
+-- returned since the read was invoked.
 use Rattle.std.proofs.Common.{◌≡◌, ℕ, Bool, true, false, ◌||◌, List, [], ◌∷◌, ◌++◌, ◌⊎◌, inl, inr, refl, sym, ap, subst, ◌∙◌, true≢false, append_assoc}
 use Rattle.std.specs.Prelude.{◌==◌}
 use Rattle.std.specs.List.{list_any, list_all}
@@ -10,10 +11,10 @@ use Rattle.frames.specs.declared.types.Layer.{Layer}
 use Rattle.frames.specs.declared.types.Event.{Event}
 use Rattle.frames.specs.declared.types.Event.TheVariants.{Invoke, Got, Wrote, Refused, Void, Stop, Chosen}
 use Rattle.frames.specs.Verdicts.{refused_by, is_refused}
-use Rattle.views.specs.VerdictWords.{is_turn, IsQuiet, InProgress, has_role, Follows, IsHistory, EndsBy, IsOverlapping}
+use Rattle.views.specs.VerdictWords.{is_turn, IsQuiet, InProgress, has_role, Follows, IsOneWriterHistory, EndsBy, IsOverlapping}
 use Rattle.views.proofs.VerdictKnown.{HaveRoles, roles-left, roles-right, history-left, quiet_refused}
 
--- a write of this value returns in the second events
+-- a write of the value v, in progress until then, returns in `during`
 pub record ReturnsIn (v : ℕ) (earlier during : List (ℕ × Event)) : Type 0 where
   pub before : List (ℕ × Event)
   pub step : ℕ
@@ -21,7 +22,8 @@ pub record ReturnsIn (v : ℕ) (earlier during : List (ℕ × Event)) : Type 0 w
   pub split : during ≡ before ++ (step, Wrote 0) ∷ since
   pub write : InProgress 0 (op.Write v) (earlier ++ before)
 
--- or is in progress after them, and isn't refused later
+-- a write of the value v returns in `during`, or is in progress after these events and isn't
+-- refused in `later`
 abbrev pub Crosses : ℕ → List (ℕ × Event) → List (ℕ × Event) → List (ℕ × Event) → Type 0
 Crosses v earlier during later = (InProgress 0 (op.Write v) (earlier ++ during) × (is_refused later ≡ false)) ⊎ ReturnsIn v earlier during
 
@@ -75,7 +77,7 @@ same_turn p (z ∷ xs) (w ∷ ys) later rest x y h a b s t =
     s
     t
 
--- events that are parted and have one at a place: it stands in the second part, or in the first
+-- an event of a list split in two is in the second part, or in the first
 abbrev pub InSecond : List (ℕ × Event) → List (ℕ × Event) → List (ℕ × Event) → List (ℕ × Event) → ℕ × Event → Type 0
 InSecond xs ys before since x = (s : List (ℕ × Event)) × (before ≡ xs ++ s) × (ys ≡ s ++ x ∷ since)
 
@@ -147,7 +149,7 @@ refused_by_end layer es r e =
     let x : ℕ × Event = (e.step, Refused 0 layer) in
     ap is_refused e.split ∙ quiet_refused e.before (x ∷ e.later) e.quiet (roles-left e.before (x ∷ e.later) (subst HaveRoles e.split r))
 
--- where no refusal ends it, it isn't refused
+-- if no refusal ends a write in progress, the write isn't refused
 pub not_refused : (since later : List (ℕ × Event)) → IsQuiet 0 since → HaveRoles later → ((layer : Layer) → ¬ EndsBy 0 (Refused 0 layer) (since ++ later)) → is_refused later ≡ false
 unfolding RefusedIn
 not_refused since later quiet roles none = by (is_refused later) refl
@@ -166,10 +168,10 @@ not_refused since later quiet roles none = by (is_refused later) refl
         }))
 
 -- a write that isn't refused is in progress after these events, or returns in them
-pub write_ends : (v : ℕ) (xs later before : List (ℕ × Event)) (step : ℕ) (since : List (ℕ × Event)) → IsHistory (xs ++ later) → xs ≡ before ++ (step, Invoke 0 (op.Write v)) ∷ since
+pub write_ends : (v : ℕ) (xs later before : List (ℕ × Event)) (step : ℕ) (since : List (ℕ × Event)) → IsOneWriterHistory (xs ++ later) → xs ≡ before ++ (step, Invoke 0 (op.Write v)) ∷ since
     → ((layer : Layer) → ¬ EndsBy 0 (Refused 0 layer) (since ++ later)) → (IsQuiet 0 since × (is_refused later ≡ false)) ⊎ EndsBy 0 (Wrote 0) since
 write_ends v xs later before step since whole split unrefused =
-    let h : IsHistory xs = history-left xs later whole in
+    let h : IsOneWriterHistory xs = history-left xs later whole in
     let x : ℕ × Event = (step, Invoke 0 (op.Write v)) in
     elim (first_turn 0 since) [
       | inl quiet ↦ inl (quiet, not_refused since later quiet (roles-right xs later whole.roles) unrefused)
@@ -191,7 +193,7 @@ write_ends v xs later before step since whole split unrefused =
           inr (record { before = f.before; step = f.step; later = f.since; split = f.split ∙ ap (λ y. f.before ++ (f.step, y) ∷ f.since) returns; quiet = f.quiet })
     ]
 
-pub crossing_of_words : (v : ℕ) (earlier during later : List (ℕ × Event)) → IsHistory ((earlier ++ during) ++ later) → IsOverlapping v earlier during later → Crosses v earlier during later
+pub crossing_of_words : (v : ℕ) (earlier during later : List (ℕ × Event)) → IsOneWriterHistory ((earlier ++ during) ++ later) → IsOverlapping v earlier during later → Crosses v earlier during later
 crossing_of_words v earlier during later whole o =
     let x : ℕ × Event = (o.step, Invoke 0 (op.Write v)) in
     elim (write_ends v (earlier ++ during) later o.before o.step o.since whole o.split o.unrefused) [
@@ -208,7 +210,7 @@ crossing_of_words v earlier during later whole o =
           ]
     ]
 
--- what follows an event in the first part goes on in the second
+-- what follows an event of `earlier` is the rest of `earlier`, and then `later`
 pub goes_on : (before since rest earlier later : List (ℕ × Event)) (x : ℕ × Event) → earlier ++ later ≡ before ++ x ∷ since → earlier ≡ before ++ x ∷ rest → since ≡ rest ++ later
 goes_on before since rest earlier later x whole part =
     let same : x ∷ since ≡ x ∷ (rest ++ later) =
@@ -222,7 +224,8 @@ no_return since rest later q s e =
     s ∙ ap (λ es. es ++ later) e.split ∙ append_assoc e.before ((e.step, Wrote 0) ∷ e.later) later in
     true≢false (quiet_at 0 e.before (e.later ++ later) e.step (Wrote 0) (subst (IsQuiet 0) split q))
 
--- nor is it refused later, where it is in progress after these events and they say so, or returns in them
+-- a write with neither return nor refusal in `since` isn't refused if `later` doesn't refuse it,
+-- nor if it returns right after `since`
 pub still_unrefused : (since later : List (ℕ × Event)) → IsQuiet 0 since → HaveRoles (since ++ later) → is_refused later ≡ false → (layer : Layer) → ¬ EndsBy 0 (Refused 0 layer) (since ++ later)
 still_unrefused since later quiet roles kept = λ layer e.
     true≢false (sym (refused_by_end layer (since ++ later) roles e) ∙ quiet_refused since later quiet (roles-left since later roles) ∙ kept)
@@ -235,7 +238,7 @@ returned_unrefused since rest later step quiet = λ layer e.
     ap (λ (y : ℕ × Event). y.1) (same_turn 0 since e.before (rest ++ later) e.later (step, Wrote 0) (e.step, Refused 0 layer) split quiet e.quiet refl refl) in
     cc same
 
--- the roles of what comes since an event
+-- if all events have their roles, so have those after an event x
 pub roles_since : (xs later before since : List (ℕ × Event)) (x : ℕ × Event) → HaveRoles (xs ++ later) → xs ≡ before ++ x ∷ since → HaveRoles (since ++ later)
 roles_since xs later before since x roles split =
     let all = roles-right before (x ∷ (since ++ later)) (subst HaveRoles (ap (λ es. es ++ later) split ∙ append_assoc before (x ∷ since) later) roles) in

@@ -7,7 +7,7 @@ use Rattle.frames.specs.declared.types.StepEvents.{StepEvents}
 use Rattle.views.specs.declared.breakpoint.Break.{Break}
 use Rattle.views.specs.declared.breakpoint.Break.TheVariants.{Returns, Bit, Chosen, Void, Refused}
 
--- a return of a process
+-- whether an event is the return of an operation of process p
 abbrev pub is_return_of : ℕ → Event → Bool
 is_return_of p (event.Got q v) = p == q
 is_return_of p (event.Wrote q) = p == q
@@ -17,31 +17,35 @@ is_return_of p (event.Void q reason) = false
 is_return_of p (event.Stop q) = false
 is_return_of p (event.Chosen q bit v) = false
 
+-- whether an event is the end of a hit read of a bit
 abbrev pub is_choice : Event → Bool
 is_choice (event.Chosen q bit v) = true
 is_choice e = false
 
+-- whether an event records that a step wasn't enabled
 abbrev pub is_void : Event → Bool
 is_void (event.Void q reason) = true
 is_void e = false
 
-abbrev pub is_refusal : Event → Bool
-is_refusal (event.Refused q layer) = true
-is_refusal e = false
+-- whether an event is the refusal of an operation
+abbrev pub is_refused_event : Event → Bool
+is_refused_event (event.Refused q layer) = true
+is_refused_event e = false
 
--- an event meets a break
+-- whether an event meets a break
 abbrev pub is_met_by : Break → Event → Bool
 is_met_by (Returns p) e = is_return_of p e
 is_met_by (Bit j v) e = false
 is_met_by Chosen e = is_choice e
 is_met_by Void e = is_void e
-is_met_by Refused e = is_refusal e
+is_met_by Refused e = is_refused_event e
 
+-- whether an event, if there is one, meets a break
 abbrev pub is_in : Break → Option Event → Bool
 is_in break None = false
 is_in break (Some e) = is_met_by break e
 
--- a step that records these events meets a break
+-- whether a step that records these events meets a break
 abbrev pub is_recorded : Break → StepEvents → Bool
 is_recorded break events = is_in break events.first || is_in break events.second
 
@@ -49,7 +53,8 @@ is_recorded break events = is_in break events.first || is_in break events.second
 abbrev pub bit_number : Bool → ℕ
 bit_number v = if v then 1 else 0
 
--- memory meets a break: it has the break's bit, at the break's value
+-- whether a memory meets a break: the break is on a bit that the memory has, and that bit has the
+-- break's value
 abbrev pub is_shown : Break → Memory → Bool
 is_shown (Bit j v) m = nat_lt j (length m.cells) && (bit_number (cell_at j m).value == v)
 is_shown (Returns p) m = false
@@ -57,7 +62,7 @@ is_shown Chosen m = false
 is_shown Void m = false
 is_shown Refused m = false
 
--- one of these breaks is met by a step that records these events, or by the memory behind it
+-- whether a step that records these events, or the memory after it, meets one of these breaks
 abbrev pub is_met : List Break → StepEvents → Memory → Bool
 is_met [] events m = false
 is_met (break ∷ breaks) events m = (is_recorded break events || is_shown break m) || is_met breaks events m

@@ -1,4 +1,4 @@
--- Looks at the branches of a chart, whose register's type tells what each of its registers does.
+-- Looks at the branches of a chart. `is` gives the behaviour of each register of the chart's type.
 use Rattle.std.specs.Prelude.{ℕ, List, Option}
 use Rattle.frames.specs.Behaviour.{Behaviour}
 use Rattle.schedule_trie.specs.Forest.{Forest}
@@ -12,7 +12,7 @@ use Rattle.views.specs.declared.page.Page.TheVariants.{Steps}
 use Rattle.views.specs.Spots.{IsSpotOf}
 use Rattle.views.specs.Looks.{steps_in, place_page, page_of}
 
--- the page of a look at a branch, of a place of a branch, and of a branch's steps
+-- the pages of a look at a branch, of a place of a branch, and of a branch's steps
 abbrev pub shown_by : {R P : Type 0} → (R → Behaviour P) → Charted R P → Query → Option Page
 shown_by is chart query = page_of (is chart.start.register) chart.value (forest chart.cut) query
 
@@ -22,6 +22,6 @@ page_in is chart what branch place = place_page (is chart.start.register) chart.
 abbrev pub steps_page : Forest → List ℕ → Page
 steps_page f branch = Steps (record { branch = branch; steps = steps_in f branch })
 
--- parts that a settle answers for a place of a branch, which is so long
+-- these parts of runs are what a settle answers for a place of a branch of length `len`
 abbrev pub IsSpotIn : {R P : Type 0} → (R → Behaviour P) → Charted R P → List ℕ → ℕ → ℕ → List (RunPart R P) → Type 0
 IsSpotIn is chart branch place len parts = IsSpotOf is chart.start chart.value (steps_in (forest chart.cut) branch) place len parts

@@ -1,4 +1,4 @@
--- Safe, regular and atomic registers in Lamport's words: what they say of each read that returned.
+-- Lamport's safe, regular and atomic registers: what each means for every read that returned.
 use Rattle.std.specs.Prelude.{◌≡◌, ℕ, ◌+◌, ◌<◌, ◌≤◌, List, ◌∷◌, ◌++◌, ◌⊎◌, length}
 use Rattle.std.specs.List.{filter}
 use Rattle.frames.specs.declared.types.Op.TheVariants as op
@@ -12,25 +12,26 @@ use Rattle.frames.specs.Recorded.{AllFit, recorded}
 use Rattle.frames.specs.Regularity.{NoneRefused}
 use Rattle.views.specs.VerdictWords.{ReturnedRead, during, afterwards, is_written, returned_reads, IsFresh, EndsBy, IsOverlapping}
 
--- a write of this value overlaps a read
+-- a write of the value v overlaps the read r
 abbrev pub Overlaps : {history : List (ℕ × Event)} → ℕ → ReturnedRead history → Type 0
 Overlaps v r = IsOverlapping v r.earlier (during r) (afterwards r)
 
--- a read that no write overlaps gives the last value; each read gives that, or one of a write that overlaps it
+-- Safe: a read that no write overlaps gives the value written last. Regular: each read gives that
+-- value, or the value of a write that overlaps the read.
 abbrev pub FreshIfAlone : {history : List (ℕ × Event)} → ℕ → ReturnedRead history → Type 0
 FreshIfAlone initial r = ((v : ℕ) → ¬ Overlaps v r) → IsFresh initial r.value r.earlier
 
 abbrev pub FreshOrOverlapping : {history : List (ℕ × Event)} → ℕ → ReturnedRead history → Type 0
 FreshOrOverlapping initial r = IsFresh initial r.value r.earlier ⊎ Overlaps r.value r
 
--- a register with one writer: on every list of fitting steps, from every initial value, no operation is refused, and so it is of each read
--- that returned
+-- a register has one writer, and on every list of fitting steps, from every initial value, no
+-- operation is refused and `Says` holds of each read that returned
 pub record AlwaysInWords {P : Type 0} (b : Behaviour P) (Says : (history : List (ℕ × Event)) → ℕ → ReturnedRead history → Type 0) : Type 0 where
   pub one_writer : HasOneWriter b
   pub refuses_none : (value : ℕ) (steps : List Step) → value < b.values → AllFit b steps → NoneRefused (recorded b value steps)
   pub each_read : (value : ℕ) (steps : List Step) → value < b.values → AllFit b steps → (r : ReturnedRead (recorded b value steps)) → Says (recorded b value steps) value r
 
--- a register that is safe, and one that is regular, in Lamport's words
+-- Lamport's safe and regular registers
 abbrev pub IsSafeInWords : {P : Type 0} → Behaviour P → Type 0
 IsSafeInWords b = AlwaysInWords b (λ history initial r. FreshIfAlone initial r)
 
@@ -41,8 +42,8 @@ IsRegularInWords b = AlwaysInWords b (λ history initial r. FreshOrOverlapping i
 abbrev pub returned_writes : List (ℕ × Event) → ℕ
 returned_writes events = length (filter (λ e. is_written e.1) events)
 
--- the write with a number has this value: it is invoked in these events, when all writes with lesser numbers have returned, and isn't
--- refused in them or later
+-- write number n is of the value v: it is invoked in `events`, when n - 1 writes have returned, and
+-- is refused neither in `events` nor in `later`
 pub record IsWrite (n v : ℕ) (events later : List (ℕ × Event)) : Type 0 where
   pub before : List (ℕ × Event)
   pub step : ℕ
@@ -51,20 +52,21 @@ pub record IsWrite (n v : ℕ) (events later : List (ℕ × Event)) : Type 0 whe
   pub unrefused : (layer : Layer) → ¬ EndsBy 0 (Refused 0 layer) (since ++ later)
   pub number : n ≡ returned_writes before + 1
 
--- a number can be a read's: no write with a greater number returned before the read, and the write with this number has the read's
--- value and is invoked before the read's end, or the number is 0 and the initial value is the read's
+-- n can be the number of a read. No write with a number above n returned before the read was
+-- invoked. Either write n has the read's value and is invoked before the read returns, or n is 0
+-- and the read gives the initial value.
 pub record NumbersRead {history : List (ℕ × Event)} (initial n : ℕ) (r : ReturnedRead history) : Type 0 where
   pub low : returned_writes r.earlier ≤ n
   pub write : ((n ≡ 0) × (r.value ≡ initial)) ⊎ IsWrite n r.value (r.earlier ++ during r) (afterwards r)
 
--- returned reads can be given numbers that never fall, each by how many reads returned before it
+-- the returned reads, in the order in which they return, can be given numbers that never fall
 pub record AreNumbered (initial : ℕ) (history : List (ℕ × Event)) : Type 0 where
   pub number : ℕ → ℕ
   pub rises : (i j : ℕ) → i ≤ j → number i ≤ number j
   pub each : (r : ReturnedRead history) → NumbersRead initial (number (returned_reads (r.earlier ++ during r))) r
 
--- a register with one writer and one reader that is atomic, in Lamport's words: so it is on every list of fitting steps, from every
--- initial value
+-- Lamport's atomic register with one writer and one reader: on every list of fitting steps, from
+-- every initial value, the reads that returned can be numbered as `AreNumbered` states
 pub record IsAtomicInWords {P : Type 0} (b : Behaviour P) : Type 0 where
   pub one_writer : HasOneWriter b
   pub one_reader : b.processes ≡ 2

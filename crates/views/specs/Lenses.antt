@@ -7,10 +7,10 @@ use Rattle.cutoff.specs.Fitting.{RunPart}
 use Rattle.lru.specs.LruCache.{LruCache}
 use Rattle.views.specs.Spots.{IsAlike, part_end}
 
--- a configuration is at a place of a run: it is like the one that the run's first so many steps come to
+-- a configuration is like the one that a run's first `count` steps reach
 abbrev pub IsAt : {R P : Type 0} → (R → Behaviour P) → SegmentRun R P → ℕ → Configuration R P → Type 0
 IsAt is run count c = IsAlike is c (part_end is (record { run = run; count = count }))
 
--- each configuration is like the one that the steps of its run that count come to
+-- each configuration in the cache is like the one that its key, a part of a run, reaches
 abbrev pub AreTrue : {R P : Type 0} → (R → Behaviour P) → LruCache (RunPart R P) (Configuration R P) → Type 0
 AreTrue {R} {P} is places = (e : RunPart R P × Configuration R P) → Contains places.entries e → IsAlike is e.1 (part_end is e.0)

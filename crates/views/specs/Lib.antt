@@ -1,9 +1,10 @@
 pub mod Numbered
-pub mod Cells
 pub mod Breaks
+pub mod Digests
 pub mod page
 pub mod Pages
 pub mod Spots
+pub mod Places
 pub mod Lenses
 pub mod laws
 pub mod RunPages

@@ -1,4 +1,4 @@
--- Looks at the branches of a forest: why one is refused, and its page.
+-- Looks at the branches of a forest: why a look is refused, and the page that it shows.
 use Rattle.std.specs.Prelude.{ℕ, ◌≡◌, Bool, true, false, List, [], Option, Some, None, Result, Ok, take, length, if◌then◌else◌}
 use Rattle.std.specs.Option.{unwrap_or}
 use Rattle.frames.specs.declared.types.Op.TheVariants as op
@@ -17,8 +17,9 @@ use Rattle.views.specs.declared.page.Page.TheVariants as page
 use Rattle.frames.specs.Recorded.{shown, recorded}
 use Rattle.views.specs.Pages.{page_at}
 
--- a look at a branch leaves the forest: NoBranch where there is no such branch, NoPlace where it is shorter. A branch's steps are
--- looked at from its beginning
+-- A look leaves the forest unchanged, or is refused: NoBranch if there is no such branch, NoPlace
+-- if the branch has fewer steps than the place. A look at a branch's steps is refused as a look at
+-- place 0 is.
 abbrev pub looked : Query → Forest → Result Forest Refusal
 looked (State branch place) f = look f branch place
 looked (Process branch place process) f = look f branch place
@@ -30,20 +31,22 @@ looked (Steps branch) f = look f branch 0
 looked Branches f = Ok f
 looked (Cursor who) f = Ok f
 
--- the steps of a branch; none where there is no such branch
+-- the steps of a branch; no steps if there is no such branch
 abbrev pub steps_in : Forest → List ℕ → List Step
 steps_in f branch = unwrap_or (path_of f branch) []
 
--- the page of a place of a branch with these steps, of a register from a value on: it is after the first so many steps
+-- the page of the place after the first `place` steps of a branch, if the register's initial value
+-- is `value`
 abbrev pub place_page : {P : Type 0} → Behaviour P → ℕ → PlaceKind → List ℕ → ℕ → List Step → Page
 place_page b value what branch place steps =
     page_at b what (record { branch = branch; place = place; len = length steps }) (shown b value (take place steps)) (recorded b value (take place steps))
 
--- verdicts are of registers with one writer: process 1 doesn't write
+-- the initial value, from which reads are judged; `None` if process 1 can write, since verdicts are
+-- defined for registers with one writer
 abbrev pub judged_from : {P : Type 0} → Behaviour P → ℕ → Option ℕ
 judged_from b value = if b.suits 1 (op.Write 0) then None else Some value
 
--- the page of a look at a branch; none of a look at all branches or at a session
+-- the page of a look at a branch; `None` for a look at all branches or at a session
 abbrev pub page_of : {P : Type 0} → Behaviour P → ℕ → Forest → Query → Option Page
 page_of b value f (State branch place) = Some (place_page b value kind.State branch place (steps_in f branch))
 page_of b value f (Process branch place process) = Some (place_page b value (kind.Process process) branch place (steps_in f branch))
@@ -55,14 +58,15 @@ page_of b value f (Steps branch) = Some (page.Steps (record { branch = branch; s
 page_of b value f Branches = None
 page_of b value f (Cursor who) = None
 
--- a look at a branch
+-- whether a query looks at one branch
 abbrev pub is_at_branch : Query → Bool
 is_at_branch Branches = false
 is_at_branch (Cursor who) = false
 is_at_branch query = true
 
--- a chart behind a look or a seek: all but the stored runs is as before
-pub record IsKept {R P : Type 0} (old new : Charted R P) : Type 0 where
+-- the two charts are equal except for their stored runs, which are all that a look or a seek
+-- changes
+pub record IsChartKept {R P : Type 0} (old new : Charted R P) : Type 0 where
   pub branches : forest new.cut ≡ forest old.cut
   pub limits : new.cut.limits ≡ old.cut.limits
   pub start : new.start ≡ old.start

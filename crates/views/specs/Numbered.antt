@@ -2,6 +2,6 @@
 use Rattle.std.specs.Prelude.{ℕ, ◌+◌, List, [], ◌∷◌, ◌++◌}
 
 -- a line for each item, numbered from i
-abbrev pub numbered : {A : Type 0} → (ℕ → A → List ℕ) → ℕ → List A → List ℕ
-numbered line i [] = []
-numbered line i (x ∷ xs) = line i x ++ numbered line (i + 1) xs
+abbrev pub numbered_lines : {A : Type 0} → (ℕ → A → List ℕ) → ℕ → List A → List ℕ
+numbered_lines line i [] = []
+numbered_lines line i (x ∷ xs) = line i x ++ numbered_lines line (i + 1) xs

@@ -1,5 +1,5 @@
--- Pages of what runs come to.
-use Rattle.std.specs.Prelude.{ℕ, ⊤, ◌≡◌, Bool, true, false, List, [], Option, Some, None, map}
+-- Pages of what runs reach.
+use Rattle.std.specs.Prelude.{ℕ, ⊤, ◌≡◌, Bool, true, false, List, [], Option, Some, None}
 use Rattle.std.specs.declared.alloc.Global.{Global}
 use Rattle.std.specs.declared.sync.Arc.{Arc}
 use Rattle.checkpoints.specs.Segment.{SegmentRun}
@@ -17,9 +17,9 @@ use Rattle.views.specs.declared.slip.content.Found.{Found}
 use Rattle.views.specs.declared.slip.content.Found.TheVariants.{Initial, Last, Runs}
 use Rattle.views.specs.page.Verdict.{verdict_page}
 use Rattle.views.specs.Pages.{page_at}
-use Rattle.views.specs.Spots.{part_end, end_of, events_of}
+use Rattle.views.specs.Spots.{part_end, parts_end, parts_events}
 
--- whether a page shows events; else a configuration alone is enough for it
+-- whether a page of this kind shows events; such a page can't be made from a configuration alone
 abbrev pub shows_events : PlaceKind → Bool
 shows_events State = false
 shows_events (Process p) = false
@@ -28,7 +28,8 @@ shows_events Pending = false
 shows_events History = true
 shows_events (Verdict value) = true
 
--- the page of a configuration, where that is enough; the page of events, where it shows them
+-- the page of a configuration, for the kinds that show no events; the page of events, for the kinds
+-- that do
 abbrev pub config_page : {R P : Type 0} → Behaviour P → PlaceKind → Head → Configuration R P → Page
 config_page b kind head c = page_at b kind head c []
 
@@ -37,11 +38,11 @@ events_page (Verdict value) head events = page.Verdict (verdict_page head value 
 events_page kind head events = page.History (record { head = head; events = events })
 
 module _ {R P : Type 0} (is : R → Behaviour P) where
-  -- the page of what runs come to from a first configuration on
+  -- the page of what these parts of runs reach and record from the configuration `first`
   abbrev pub run_page : PlaceKind → Head → Configuration R P → List (RunPart R P) → Page
-  run_page kind head first parts = page_at (is (end_of is first parts).register) kind head (end_of is first parts) (indexed 0 (events_of is parts))
+  run_page kind head first parts = page_at (is (parts_end is first parts).register) kind head (parts_end is first parts) (indexed 0 (parts_events is parts))
 
-  -- the page of the configuration that a part of a run comes to
+  -- the page of the configuration that a part of a run reaches
   abbrev pub part_page : PlaceKind → Head → RunPart R P → Page
   part_page kind head part = config_page (is (part_end is part).register) kind head (part_end is part)
 
@@ -49,20 +50,22 @@ module _ {R P : Type 0} (is : R → Behaviour P) where
   abbrev pub found_page : PlaceKind → Head → Found R P → Page
   found_page kind head (Initial c) = config_page (is c.register) kind head c
   found_page kind head (Last run count) = part_page kind head (part_of (run, count))
-  found_page kind head (Runs runs) = events_page kind head (indexed 0 (events_of is (map part_of runs.items)))
+  found_page kind head (Runs runs) = events_page kind head (indexed 0 (parts_events is runs))
 
--- a configuration is found only for a page that it is enough for
+-- what was found is enough for a page of this kind: all runs always are; a configuration, or the
+-- last run, is enough only if the page shows no events
 abbrev pub IsFor : {R P : Type 0} → PlaceKind → Found R P → Type 0
 IsFor kind (Initial c) = shows_events kind ≡ false
 IsFor kind (Last run count) = shows_events kind ≡ false
 IsFor kind (Runs runs) = ⊤
 
--- what is found where a configuration is enough: the last run, and the first configuration where there is none
+-- what is found for a page without events: the last run, or the configuration `first` if there are
+-- no runs
 abbrev pub found_last : {R P : Type 0} → Configuration R P → Option (Arc (SegmentRun R P) Global × ℕ) → Found R P
 found_last first None = Initial first
 found_last first (Some part) = Last part.0 part.1
 
--- what was found at a place shows what parts do
+-- what was found at a place is enough for the page, and gives the same page as these parts of runs
 pub record Shows {R P : Type 0} (is : R → Behaviour P) (kind : PlaceKind) (first : Configuration R P) (parts : List (RunPart R P)) (found : Found R P) : Type 0 where
   pub page : (head : Head) → found_page is kind head found ≡ run_page is kind head first parts
   pub enough : IsFor kind found

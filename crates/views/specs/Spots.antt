@@ -1,40 +1,43 @@
--- What runs one after the other come to and record, each as far as it counts.
+-- What successive parts of runs reach and record. A part is a run, and how many of its first steps
+-- count.
 use Rattle.std.specs.Prelude.{ℕ, ◌≡◌, List, [], ◌∷◌, ◌++◌, length, take}
 use Rattle.frames.specs.declared.types.Step.{Step}
 use Rattle.frames.specs.declared.types.StepEvents.{StepEvents}
 use Rattle.frames.specs.Behaviour.{Behaviour}
 use Rattle.frames.specs.Configuration.{Configuration, replayed, history}
 use Rattle.cutoff.specs.Fitting.{RunPart}
-use Rattle.cutoff.specs.Links.{alone}
+use Rattle.cutoff.specs.Links.{without_register}
 use Rattle.frames.specs.Recorded.{first_configuration, shown}
 
 module _ {R P : Type 0} (is : R → Behaviour P) where
-  -- what the steps of a part that count come to from its entry, and their events
+  -- the configuration that a part reaches from its run's entry, and the events that it records
   abbrev pub part_end : RunPart R P → Configuration R P
   part_end part = replayed (is part.run.entry.register) part.run.entry (take part.count part.run.steps)
 
   abbrev pub part_events : RunPart R P → List StepEvents
   part_events part = history (is part.run.entry.register) part.run.entry (take part.count part.run.steps)
 
-  -- the end of the last part; c where there is none
-  abbrev pub end_of : Configuration R P → List (RunPart R P) → Configuration R P
-  end_of c [] = c
-  end_of c (part ∷ parts) = end_of (part_end part) parts
+  -- the configuration that the last part reaches; c if there are no parts
+  abbrev pub parts_end : Configuration R P → List (RunPart R P) → Configuration R P
+  parts_end c [] = c
+  parts_end c (part ∷ parts) = parts_end (part_end part) parts
 
   -- the events of all parts, in order
-  abbrev pub events_of : List (RunPart R P) → List StepEvents
-  events_of [] = []
-  events_of (part ∷ parts) = part_events part ++ events_of parts
+  abbrev pub parts_events : List (RunPart R P) → List StepEvents
+  parts_events [] = []
+  parts_events (part ∷ parts) = part_events part ++ parts_events parts
 
--- a configuration like another one: registers that answer alike, and the same cells, words, pending operations and stopped marks
+-- two configurations are alike: their registers behave alike, and their cells, words, pending
+-- operations and stopped marks are equal
 pub record IsAlike {R P : Type 0} (is : R → Behaviour P) (c d : Configuration R P) : Type 0 where
   pub home : is c.register ≡ is d.register
-  pub comes : alone c ≡ alone d
+  pub arrives : without_register c ≡ without_register d
 
--- parts that a settle answers for the first `place` of a branch's steps: from the register's initial configuration on they come to
--- what these steps come to, and record their events; the branch is so long
+-- These parts of runs are what a settle answers for the place after the first `place` of a branch's
+-- `len` steps. From the register's initial configuration the parts reach the configuration that
+-- these first steps reach, and record the events of these steps.
 pub record IsSpotOf {R P : Type 0} (is : R → Behaviour P) (start : Configuration R P) (value : ℕ) (steps : List Step) (place len : ℕ) (parts : List (RunPart R P)) : Type 0 where
   pub counted : len ≡ length steps
-  pub home : is (end_of is start parts).register ≡ is start.register
-  pub comes : alone (end_of is start parts) ≡ shown (is start.register) value (take place steps)
-  pub records : events_of is parts ≡ history (is start.register) (first_configuration (is start.register) value) (take place steps)
+  pub home : is (parts_end is start parts).register ≡ is start.register
+  pub arrives : without_register (parts_end is start parts) ≡ shown (is start.register) value (take place steps)
+  pub records : parts_events is parts ≡ history (is start.register) (first_configuration (is start.register) value) (take place steps)

@@ -1,5 +1,5 @@
--- Whose history a page of verdicts judges, and pages that show no stray read.
-use Rattle.std.specs.Prelude.{◌≡◌, ◌≢◌, ℕ, ◌<◌, ◌⊎◌, ⊤, List, Option, IfSome, MatchOption}
+-- The register whose history a page of verdicts judges, and pages that show no stray read.
+use Rattle.std.specs.Prelude.{◌≡◌, ◌≢◌, ℕ, ◌<◌, ◌⊎◌, ⊤, List, Option, IfSome}
 use Rattle.std.specs.List.{All}
 use Rattle.frames.specs.declared.types.Step.{Step}
 use Rattle.frames.specs.declared.verdict.ReadVerdict.{ReadVerdict}
@@ -17,7 +17,7 @@ use Rattle.views.specs.declared.page.Page.{Page}
 use Rattle.views.specs.declared.page.Page.TheVariants.{State, Process, Bits, Pending, History, Verdict, Branches, Cursor, Steps}
 use Rattle.views.specs.Looks.{page_of}
 
--- what is said of the verdicts that a page shows, where it shows verdicts
+-- `Says` holds of the verdicts that a page shows, if it shows verdicts
 abbrev pub OnVerdicts : (List ReadVerdict → Type 0) → Page → Type 0
 OnVerdicts Says (Verdict page) = IfSome page.reads Says
 OnVerdicts Says (State page) = ⊤
@@ -29,7 +29,8 @@ OnVerdicts Says (Branches page) = ⊤
 OnVerdicts Says (Cursor page) = ⊤
 OnVerdicts Says (Steps page) = ⊤
 
--- verdicts are on what a register records: on some fitting steps, from one of its values on
+-- `reads` are the verdicts on what the register records, for some fitting steps and some initial
+-- value of the register
 pub record AreOf {P : Type 0} (b : Behaviour P) (reads : List ReadVerdict) : Type 0 where
   pub value : ℕ
   pub steps : List Step
@@ -37,14 +38,15 @@ pub record AreOf {P : Type 0} (b : Behaviour P) (reads : List ReadVerdict) : Typ
   pub fit : AllFit b steps
   pub judged : reads ≡ verdicts value (recorded b value steps)
 
--- a page judges the history of a register, and of the one that is named
+-- if a page shows verdicts, they are on a history of this register, or of the register `judged`, if
+-- there is one
 abbrev pub Judges : {P : Type 0} → Behaviour P → Page → Type 0
 Judges b page = OnVerdicts (AreOf b) page
 
 abbrev pub JudgesIts : {R P : Type 0} → (R → Behaviour P) → Option R → Page → Type 0
-JudgesIts is judged page = OnVerdicts (λ reads. MatchOption judged ⊥ (λ register. AreOf (is register) reads)) page
+JudgesIts is judged page = IfSome judged (λ register. Judges (is register) page)
 
--- no read that a page shows is stray
+-- no read on a page is stray
 abbrev pub ShowsNoStray : Page → Type 0
 ShowsNoStray page = OnVerdicts (λ reads. All (λ read. read.verdict ≢ Stray) reads) page
 
@@ -52,11 +54,11 @@ ShowsNoStray page = OnVerdicts (λ reads. All (λ read. read.verdict ≢ Stray) 
 abbrev pub IsRegularOrAtomic : {P : Type 0} → Behaviour P → Type 0
 IsRegularOrAtomic b = IsRegular b ⊎ IsAtomic b
 
--- no look at a branch of a register ever shows a stray read, whatever the initial value, and the branches of steps that fit
+-- if the steps of all branches fit, no look at a branch shows a stray read, from any initial value
 abbrev pub NeverShowsStray : {P : Type 0} → Behaviour P → Type 0
 NeverShowsStray b = (value : ℕ) (f : Forest) (query : Query) → value < b.values → StepsFit b f → IfSome (page_of b value f query) ShowsNoStray
 
--- verdicts on a place are judged from this value, where they are judged
+-- if a page of this kind judges reads, it judges them from the initial value `value`
 abbrev pub JudgesFrom : ℕ → PlaceKind → Type 0
 JudgesFrom value (kind.Verdict from) = IfSome from (λ initial. initial ≡ value)
 JudgesFrom value kind.State = ⊤

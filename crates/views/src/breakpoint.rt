@@ -2,19 +2,18 @@
 
 ghost use Rattle.std.specs.Prelude.{◌≡◌};
 ghost use Rattle.views.specs.Breaks as spec;
-ghost use Rattle.views.specs.Cells.{HasCells};
 
 use frames::types::{Event, StepEvents};
 use safe_bit::Store;
 
-/// What a seek stops at. A break that names a process or a bit which the tower lacks is never met.
+/// What a seek stops at. A break on a process or a bit that the tower doesn't have is never met.
 #[derive(Clone, Copy, Debug, PartialEq, Eq)]
 pub enum Break {
-    /// A return of a process.
+    /// An operation of this process returned.
     Returns(u32),
-    /// A bit has a value, 0 or 1, after the step.
+    /// After the step, the bit with this number has this value, 0 or 1.
     Bit(u32, u32),
-    /// A read of a bit that a write overlapped ended.
+    /// A read of a bit ended, and a write of that bit had overlapped the read.
     Chosen,
     /// A step wasn't enabled.
     Void,
@@ -23,14 +22,14 @@ pub enum Break {
 }
 
 impl Break {
-    /// Whether a step that records these events meets it.
+    /// Whether a step that records these events meets the break.
     pub fn is_recorded(self, events: StepEvents) -> bool
         ensures { result ≡ spec.is_recorded self events }
     {
         self.is_in(events.first) || self.is_in(events.second)
     }
 
-    /// Whether an event, if there is one, meets it.
+    /// Whether an event, if there is one, meets the break.
     fn is_in(self, event: Option<Event>) -> bool
         ensures { result ≡ spec.is_in self event }
     {
@@ -40,7 +39,7 @@ impl Break {
         }
     }
 
-    /// Whether an event meets it.
+    /// Whether an event meets the break.
     pub fn is_met_by(self, event: Event) -> bool
         ensures { result ≡ spec.is_met_by self event }
     {
@@ -53,19 +52,20 @@ impl Break {
         }
     }
 
-    /// Whether memory of so many bit cells meets it.
-    pub fn is_shown(self, store: &Store, cells: u32) -> bool
-        requires { HasCells store.now cells }
+    /// Whether the contents of `store` meet the break. Only a break on a bit depends on memory.
+    pub fn is_shown(self, store: &Store) -> bool
         ensures { result ≡ spec.is_shown self store.now }
     {
         match self {
-            Break::Bit(j, v) => j < cells && u32::from(store.cell(j).value) == v,
+            Break::Bit(j, v) => {
+                (j as usize) < store.cells().len() && u32::from(store.cell(j).value) == v
+            }
             Break::Returns(_) | Break::Chosen | Break::Void | Break::Refused => false,
         }
     }
 }
 
-/// Whether an event is a return of a process.
+/// Whether an event is the return of an operation of process `p`.
 fn is_return_of(p: u32, event: Event) -> bool
     ensures { result ≡ spec.is_return_of p event }
 {

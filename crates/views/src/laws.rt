@@ -1,4 +1,4 @@
-//! What all pages keep, whatever steps they are of.
+//! What holds of every page, whatever the steps.
 
 ghost use Rattle.views.specs.Strays.{IsRegularOrAtomic, NeverShowsStray};
 
@@ -6,5 +6,6 @@ use frames::register::Register;
 
 /// No page of a regular or an atomic register ever shows a stray read.
 pub fn never_shows_stray<R: Register>(register: &R)
-    ensures { IsRegularOrAtomic (R.is register.now) → NeverShowsStray (R.is register.now) }
+    ensures { IsRegularOrAtomic (R.behaviour register.now)
+        → NeverShowsStray (R.behaviour register.now) }
 {}

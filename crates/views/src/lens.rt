@@ -1,4 +1,4 @@
-//! What is kept between pages.
+//! A cache of configurations, kept from one page to the next.
 
 ghost use Rattle.std.specs.Prelude.{◌≡◌, ◌≤◌, ◌<◌, [], IfOk, IfSome, OnErr, length};
 ghost use Rattle.std.specs.Arc.{arc_value};
@@ -21,11 +21,12 @@ use std::sync::Arc;
 /// How many places a lens keeps.
 const PLACES: usize = 32;
 
-/// How many places one who goes backwards passes until steps are replayed again.
+/// How many places are kept at once when looks go backwards, so that most of these looks replay no
+/// steps.
 const STRETCH: u32 = 16;
 
-/// What pages that were made leave for those that follow: the configurations of the places of runs that were looked at last. A place is
-/// found by the value of its run, so a lens serves any branches.
+/// A cache of the configurations at the places looked at most recently. A place is found by the
+/// value of its run, not by its branch, so one lens serves all branches.
 #[derive(Drop)]
 pub struct Lens<R: Register> {
     places: LruCache<RunPlace<R>, Config<R>>,
@@ -41,11 +42,11 @@ impl<R: Register> Model for Lens<R> {
 
     ghost view = { λ l. l.places };
 
-    ghost invariant = { λ l. AreTrue R.is l.places };
+    ghost invariant = { λ l. AreTrue R.behaviour l.places };
 }
 
 impl<R: Register> Lens<R> {
-    /// A lens that holds nothing, with room for 32 places.
+    /// An empty lens, which keeps at most 32 places.
     pub fn new(alloc: Global) -> Result<Lens<R>, AllocError>
         ensures { IfOk result (λ lens. lens ≡ lru_cache [] PLACES) }
     {
@@ -56,8 +57,8 @@ impl<R: Register> Lens<R> {
         Ok(Lens { places })
     }
 
-    /// A configuration like the one that the first `count` steps of a run come to, which has more. It goes on from the nearest place that
-    /// it looks for.
+    /// A configuration like the one after the first `count` steps of `run`, which has more steps
+    /// than that. It is replayed from the place that `nearest` finds.
     pub(crate) fn config_in(
         &mut self,
         alloc: Global,
@@ -65,7 +66,7 @@ impl<R: Register> Lens<R> {
         count: u32,
     ) -> Result<Config<R>, AllocError>
         requires { count < length (arc_value run.now).steps }
-        ensures { IfOk result (λ c. IsAt R.is (arc_value run.now) count c) }
+        ensures { IfOk result (λ c. IsAt R.behaviour (arc_value run.now) count c) }
     {
         let (made, config) = self.nearest(alloc, run, count)?;
         let first = self.kept_from(run, made, count);
@@ -73,7 +74,8 @@ impl<R: Register> Lens<R> {
         Ok(self.walk(alloc, run, first, count, config))
     }
 
-    /// From where the first `count` steps of a run are made: that place, or the one before it, where it is kept, and else the run's entry.
+    /// The place from which to replay to place `count`, with the configuration there: `count`
+    /// itself or the place before it, if the lens keeps one of them, or else the run's entry.
     fn nearest(
         &mut self,
         alloc: Global,
@@ -81,7 +83,7 @@ impl<R: Register> Lens<R> {
         count: u32,
     ) -> Result<(u32, Config<R>), AllocError>
         ensures before { IfOk result (λ r. r.0 ≤ count) }
-        ensures config { IfOk result (λ r. IsAt R.is (arc_value run.now) r.0 r.1) }
+        ensures config { IfOk result (λ r. IsAt R.behaviour (arc_value run.now) r.0 r.1) }
     {
         if let Some(config) = self.find(alloc, run, count) {
             return Ok((count, config));
@@ -94,8 +96,9 @@ impl<R: Register> Lens<R> {
         Ok((0, entry))
     }
 
-    /// From where on the way to a place the places are kept: from the one before it. Who comes from the place behind that one goes backwards,
-    /// and so more places before it are kept.
+    /// The place after which `walk` keeps each place up to `count`: usually `count` - 1, so that
+    /// one place is kept. If the place after `count` is kept already, looks are going backwards,
+    /// and up to 16 places are kept.
     fn kept_from(&self, run: &Arc<Run<R>>, made: u32, count: u32) -> u32
         requires { made ≤ count }
         ensures { (made ≤ result) × (result ≤ count) }
@@ -105,7 +108,7 @@ impl<R: Register> Lens<R> {
         made.max(count.saturating_sub(passed))
     }
 
-    /// Goes on from a place of a run to a later one, and keeps each place behind the first.
+    /// Replays from place `made` of a run to place `count`, and keeps each place after `made`.
     fn walk(
         &mut self,
         alloc: Global,
@@ -116,8 +119,8 @@ impl<R: Register> Lens<R> {
     ) -> Config<R>
         requires order { made ≤ count }
         requires within { count < length (arc_value run.now).steps }
-        requires from { IsAt R.is (arc_value run.now) made config }
-        ensures { IsAt R.is (arc_value run.now) count result }
+        requires from { IsAt R.behaviour (arc_value run.now) made config }
+        ensures { IsAt R.behaviour (arc_value run.now) count result }
     {
         let mut config = config;
         for place in made..count {
@@ -127,7 +130,7 @@ impl<R: Register> Lens<R> {
         config
     }
 
-    /// Whether a place is kept.
+    /// Whether the lens keeps place `count` of a run; false if memory runs out.
     fn has(&self, run: &Arc<Run<R>>, count: u32) -> bool {
         let Ok(place) = RunPlace::new(run, count) else {
             return false;
@@ -135,9 +138,10 @@ impl<R: Register> Lens<R> {
         self.places.contains(&place)
     }
 
-    /// The configuration of a place, where it is kept and there is memory for a copy. The place is then the last to go.
+    /// A copy of the configuration of place `count`, if the lens keeps that place and there is
+    /// memory for the copy. Marks the place as used.
     fn find(&mut self, alloc: Global, run: &Arc<Run<R>>, count: u32) -> Option<Config<R>>
-        ensures { IfSome result (λ c. IsAt R.is (arc_value run.now) count c) }
+        ensures { IfSome result (λ c. IsAt R.behaviour (arc_value run.now) count c) }
     {
         let Ok(place) = RunPlace::new(run, count) else {
             return None;
@@ -149,7 +153,8 @@ impl<R: Register> Lens<R> {
         Some(copy)
     }
 
-    /// Keeps the configuration of a place, in place of the one that was looked at longest ago. Where memory is refused the lens is as it was.
+    /// Keeps the configuration of place `count`, and drops the least recently used place if the
+    /// lens is full. If memory runs out, the lens is unchanged.
     fn keep(
         &mut self,
         alloc: Global,
@@ -157,7 +162,7 @@ impl<R: Register> Lens<R> {
         count: u32,
         config: &Config<R>,
     ) -> Result<(), AllocError>
-        requires { IsAt R.is (arc_value run.now) count config.now }
+        requires { IsAt R.behaviour (arc_value run.now) count config.now }
         ensures { OnErr result (self.new ≡ self.old) }
     {
         let place = RunPlace::new(run, count)?;
@@ -169,12 +174,12 @@ impl<R: Register> Lens<R> {
     }
 }
 
-/// Goes on from a place of a run to a later one.
+/// Replays from place `made` of a run, which has the configuration `config`, to place `count`.
 fn advanced<R: Register>(run: &Run<R>, made: u32, count: u32, config: Config<R>) -> Config<R>
     requires order { made ≤ count }
     requires within { count < length run.now.steps }
-    requires from { IsAt R.is run.now made config }
-    ensures { IsAt R.is run.now count result }
+    requires from { IsAt R.behaviour run.now made config }
+    ensures { IsAt R.behaviour run.now count result }
 {
     let mut config = config;
     make(

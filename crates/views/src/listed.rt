@@ -5,7 +5,7 @@ ghost use Rattle.std.specs.Prelude.{◌≡◌, IfOk};
 use std::alloc::{AllocError, Global};
 use std::marker::Model;
 
-/// A list of values. Contracts see it as that, and nothing of the room that it has.
+/// A list of values. Contracts see the values, not the capacity.
 #[derive(Drop)]
 pub struct Listed<T> {
     items: Vec<T>,
@@ -20,7 +20,7 @@ impl<T> Model for Listed<T> {
 }
 
 impl<T> Listed<T> {
-    /// The list of these values. It takes no memory.
+    /// The list of these values. Allocates nothing.
     pub fn new(items: Vec<T>) -> Listed<T>
         ensures { result ≡ items.items }
     {
@@ -34,7 +34,12 @@ impl<T> Listed<T> {
         &self.items
     }
 
-    /// The list of these values, with memory of its own.
+    /// The allocator of the list's memory.
+    pub(crate) fn allocator(&self) -> Global {
+        *self.items.allocator()
+    }
+
+    /// A list of copies of `items`, in newly allocated memory.
     pub(crate) fn of(alloc: Global, items: &[T]) -> Result<Listed<T>, AllocError>
     where
         T: Copy,
@@ -44,13 +49,13 @@ impl<T> Listed<T> {
     }
 }
 
-/// A clone is the same list, with memory of its own.
+/// A clone is an equal list, in newly allocated memory.
 impl<T: Copy> Clone for Listed<T> {
     ghost use Rattle.std.specs.Prelude.{◌≡◌};
 
     ghost is_clone = { λ l m. m ≡ l };
 
     fn clone(&self) -> Result<Listed<T>, AllocError> {
-        Listed::of(*self.items.allocator(), &self.items)
+        Listed::of(self.allocator(), &self.items)
     }
 }

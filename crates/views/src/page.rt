@@ -28,11 +28,11 @@ use steps::{StepsPage, push_steps};
 use verdict::{VerdictPage, push_verdict};
 use words::text::Pushed;
 
-/// How many bytes a page has room for from its beginning on: most have fewer.
+/// Bytes reserved for a page's text at first; most pages are shorter.
 const SHORT_PAGE: usize = 256;
 
-/// What a look shows.
-#[derive(Drop)]
+/// The result of a look, as data.
+#[derive(Clone, Drop)]
 pub enum Page {
     State(StatePage),
     Process(ProcessPage),
@@ -45,7 +45,7 @@ pub enum Page {
     Steps(StepsPage),
 }
 
-/// The text of a page, as a session sees it.
+/// The text of a page, as the answer to session `who`.
 pub fn page_text(alloc: Global, who: u32, page: &Page) -> Result<Vec<u8>, AllocError>
     ensures { IfOk result (λ text. text.items ≡ spec.page_text who page.now) }
 {

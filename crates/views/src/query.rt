@@ -1,54 +1,31 @@
-//! What is asked of a desk's branches and sessions.
+//! What a session can look at.
 
 use schedule_trie::name::Name;
 
-/// A look. A place is after so many steps of a branch.
+/// A look. Its place is after the first `k` steps of branch `b`; `p` is a process, `who` a session.
 #[derive(Clone, Copy, Debug, PartialEq, Eq)]
 pub enum Query {
     /// The processes, and the values of all bit cells and words.
-    State {
-        branch: Name,
-        place: u32,
-    },
+    State { b: Name, k: u32 },
     /// One process.
-    Process {
-        branch: Name,
-        place: u32,
-        process: u32,
-    },
+    Process { b: Name, k: u32, p: u32 },
     /// Each bit cell and each word.
-    Bits {
-        branch: Name,
-        place: u32,
-    },
-    /// What each process has pending, in frames.
-    Pending {
-        branch: Name,
-        place: u32,
-    },
+    Bits { b: Name, k: u32 },
+    /// The pending operation of each process, as frames.
+    Pending { b: Name, k: u32 },
     /// The events up to a place.
-    History {
-        branch: Name,
-        place: u32,
-    },
-    /// The verdicts on the reads that returned up to a place.
-    Verdict {
-        branch: Name,
-        place: u32,
-    },
+    History { b: Name, k: u32 },
+    /// The verdict on each read that returned up to a place.
+    Verdict { b: Name, k: u32 },
     /// The branches.
     Branches,
-    /// A session's cursor and its breaks.
-    Cursor {
-        who: u32,
-    },
+    /// The cursor and the breaks of a session.
+    Cursor { who: u32 },
     /// The steps of a branch.
-    Steps {
-        branch: Name,
-    },
+    Steps { b: Name },
 }
 
-/// What is asked of a place of a branch.
+/// The kind of a look at a place of a branch.
 #[derive(Clone, Copy, Debug, PartialEq, Eq)]
 pub(crate) enum PlaceKind {
     State,
@@ -56,6 +33,6 @@ pub(crate) enum PlaceKind {
     Bits,
     Pending,
     History,
-    /// From the initial value, on a tower with one writer.
+    /// Has the initial value if the tower has one writer, else `None`.
     Verdict(Option<u32>),
 }

@@ -1,18 +1,27 @@
-//! Places of runs: what a lens finds a configuration by.
+//! Places of runs: the keys of a lens.
 
-ghost use Rattle.std.specs.Prelude.{◌≡◌, ◌++◌, IfOk, length};
+ghost use Rattle.std.specs.Prelude.{◌≡◌, ◌++◌, IfOk};
 ghost use Rattle.std.specs.Arc.{arc_value};
 ghost use Rattle.std.specs.Hash as fed;
+ghost use Rattle.views.specs.Digests.{digest};
+ghost use Rattle.views.specs.Places.{last_made};
 
+use crate::digest::digest;
 use checkpoints::run::Run;
+use checkpoints::slices::{following, front};
 use frames::register::Register;
+use frames::types::Step;
 use std::alloc::AllocError;
 use std::hash::{Hash, Hasher};
 use std::marker::Model;
 use std::sync::Arc;
 
-/// A place of a run: how many of its steps are made. Two are equal where their runs begin from equal configurations and have the same
-/// steps, and as many of them are made.
+/// How many steps before a place are hashed. To hash more would slow each look down. Places with
+/// equal hashes may differ: equality decides.
+const HASHED_STEPS: usize = 4;
+
+/// The place after the first `count` steps of a run. Two places are equal if their counts are
+/// equal, and their runs have the same steps and begin from equal configurations.
 #[derive(Drop)]
 pub(crate) struct RunPlace<R: Register> {
     run: Arc<Run<R>>,
@@ -29,12 +38,20 @@ impl<R: Register> Model for RunPlace<R> {
 }
 
 impl<R: Register> RunPlace<R> {
-    /// The place of a run behind so many of its steps.
+    /// The place after the first `count` steps of `run`.
     pub(crate) fn new(run: &Arc<Run<R>>, count: u32) -> Result<RunPlace<R>, AllocError>
         ensures { IfOk result (λ p. p ≡ record { run = arc_value run.now; count = count }) }
     {
         let run = Arc::try_clone(run)?;
         Ok(RunPlace { run, count })
+    }
+
+    /// The last steps before the place: at most `HASHED_STEPS` of them.
+    fn last_made(&self) -> &[Step]
+        ensures { result.now ≡ last_made self.now }
+    {
+        let made = front(self.run.steps(), self.count as usize);
+        following(made, made.len().saturating_sub(HASHED_STEPS))
     }
 }
 
@@ -61,12 +78,12 @@ impl<R: Register> Eq for RunPlace<R> {
 impl<R: Register> Hash for RunPlace<R> {
     ghost use Rattle.views.specs.laws.PlaceLaws.{places_hash_alike};
 
-    ghost hash_input = { λ p. fed.usize (length p.run.steps) ++ fed.u32 p.count };
+    ghost hash_input = { λ p. fed.u64 (digest (last_made p)) ++ fed.u32 p.count };
 
     ghost respects_eq = { places_hash_alike R.PartialEq.eq R.Pending.PartialEq.eq R.same_pending };
 
     fn hash<H: Hasher>(&self, state: &mut H) {
-        state.write_usize(self.run.steps().len());
+        state.write_u64(digest(self.last_made()));
         state.write_u32(self.count);
     }
 }

@@ -1,4 +1,4 @@
-//! Slips: what a look found, from which its page is made later.
+//! Slips: what a look found, from which a page is made later.
 
 ghost use Rattle.std.specs.Prelude.{◌≡◌, ◌<◌, List, Some, None, true, false, Ok, IfOk, OnOk, IfErr, IfSome};
 ghost use Rattle.schedule_trie.specs.Forest.{IsRefused};
@@ -6,11 +6,10 @@ ghost use Rattle.schedule_trie.specs.Cut.{forest};
 ghost use Rattle.cutoff.specs.Fitting.{RunPart};
 ghost use Rattle.cutoff.specs.Held.{look};
 ghost use Rattle.views.specs.Looks as spec;
-ghost use Rattle.views.specs.Looks.{looked, steps_in, IsKept};
+ghost use Rattle.views.specs.Looks.{looked, steps_in, IsChartKept};
 ghost use Rattle.views.specs.ChartLooks.{shown_by, page_in, steps_page, IsSpotIn};
 ghost use Rattle.views.specs.RunPages as pages;
 ghost use Rattle.views.specs.RunPages.{Shows};
-ghost use Rattle.views.specs.Slips.{IsReady};
 ghost use Rattle.frames.specs.Recorded.{AllFit};
 ghost use Rattle.views.specs.Strays.{IsRegularOrAtomic, Judges, JudgesIts, JudgesFrom, ShowsNoStray};
 
@@ -36,8 +35,9 @@ mod content;
 
 use content::{Content, Found, PlaceSlip};
 
-/// What a look found. It stands for the page that is made of it, whatever happens to the branches meanwhile. Proofs remember the
-/// register that was looked at: a page of verdicts judges what it records.
+/// What a look found. The slip's page is fixed, whatever happens to the branches before the page is
+/// made. For proofs alone, the slip also remembers the register that was looked at: a page of
+/// verdicts judges that register's history.
 #[derive(Drop)]
 pub struct Slip<R: Register> {
     content: Content<R>,
@@ -52,7 +52,7 @@ impl<R: Register> Model for Slip<R> {
 
     ghost view = { λ s. record { page = content_page s.content; judged = s.judged.value } };
 
-    ghost invariant = { λ s. JudgesIts R.is s.judged.value (content_page s.content) };
+    ghost invariant = { λ s. JudgesIts R.behaviour s.judged.value (content_page s.content) };
 }
 
 impl<R: Register> Slip<R> {
@@ -60,88 +60,66 @@ impl<R: Register> Slip<R> {
     ///
     /// # Errors
     ///
-    /// NoBranch; NoPlace where the branch is shorter; Memory. In any case the branches are as before, and true runs may have been
-    /// stored.
+    /// NoBranch if there is no such branch; NoPlace if the branch has fewer steps than the place;
+    /// Memory. In each case the branches are unchanged. Runs may have been stored, and each is a
+    /// true replay.
     pub fn at(alloc: Global, chart: &mut Chart<R>, query: Query) -> Result<Slip<R>, Refusal>
         requires { spec.is_at_branch query ≡ true }
-        ensures page { IfOk result (λ slip. Some slip.page ≡ shown_by R.is chart.old query) }
+        ensures page { IfOk result (λ slip. Some slip.page ≡ shown_by R.behaviour chart.old query) }
         ensures found { OnOk result (looked query (forest chart.old.cut)
             ≡ Ok (forest chart.old.cut)) }
         ensures err { IfErr result (IsRefused (looked query (forest chart.old.cut))) }
-        ensures kept { IsKept chart.old chart.new }
+        ensures kept { IsChartKept chart.old chart.new }
         ensures judged { IfOk result (λ slip. slip.judged ≡ Some chart.old.start.register) }
-        ensures judges { IfOk result (λ slip. Judges (R.is chart.old.start.register) slip.page) }
-        ensures never_stray { IsRegularOrAtomic (R.is chart.old.start.register)
+        ensures judges { IfOk result
+            (λ slip. Judges (R.behaviour chart.old.start.register) slip.page) }
+        ensures never_stray { IsRegularOrAtomic (R.behaviour chart.old.start.register)
             → IfOk result (λ slip. ShowsNoStray slip.page) }
     {
         match query {
-            Query::State { branch, place } => {
-                place_slip(alloc, chart, PlaceKind::State, branch, place)
-            }
-            Query::Process {
-                branch,
-                place,
-                process,
-            } => place_slip(alloc, chart, PlaceKind::Process(process), branch, place),
-            Query::Bits { branch, place } => {
-                place_slip(alloc, chart, PlaceKind::Bits, branch, place)
-            }
-            Query::Pending { branch, place } => {
-                place_slip(alloc, chart, PlaceKind::Pending, branch, place)
-            }
-            Query::History { branch, place } => {
-                place_slip(alloc, chart, PlaceKind::History, branch, place)
-            }
-            Query::Verdict { branch, place } => {
+            Query::State { b, k } => place_slip(alloc, chart, PlaceKind::State, b, k),
+            Query::Process { b, k, p } => place_slip(alloc, chart, PlaceKind::Process(p), b, k),
+            Query::Bits { b, k } => place_slip(alloc, chart, PlaceKind::Bits, b, k),
+            Query::Pending { b, k } => place_slip(alloc, chart, PlaceKind::Pending, b, k),
+            Query::History { b, k } => place_slip(alloc, chart, PlaceKind::History, b, k),
+            Query::Verdict { b, k } => {
                 let value = judged_from(chart);
-                place_slip(alloc, chart, PlaceKind::Verdict(value), branch, place)
+                place_slip(alloc, chart, PlaceKind::Verdict(value), b, k)
             }
-            Query::Steps { branch } => steps_slip(alloc, chart, branch),
+            Query::Steps { b } => steps_slip(alloc, chart, b),
             Query::Branches | Query::Cursor { .. } => unreachable!(),
         }
     }
 
-    /// The slip of a page of the branches, or of a session. It takes no memory.
+    /// The slip of a page that is already made, such as that of the branches or of a session.
+    /// Allocates nothing.
     pub fn of(page: Page) -> Slip<R>
-        requires { IsReady page }
         ensures page { result.page ≡ page }
         ensures judged { result.judged ≡ None }
     {
-        let content = match page {
-            Page::Branches(page) => Content::Branches(page),
-            Page::Cursor(page) => Content::Cursor(page),
-            Page::State(_)
-            | Page::Process(_)
-            | Page::Bits(_)
-            | Page::Pending(_)
-            | Page::History(_)
-            | Page::Verdict(_)
-            | Page::Steps(_) => unreachable!(),
-        };
+        let content = Content::Ready(page);
         let judged = Snapshot::of(&None);
         Slip { content, judged }
     }
 
-    /// Its page, which doesn't depend on what the lens holds. Where the register that was looked at is regular or atomic, it shows no
-    /// stray read.
+    /// The page, which is the same with any lens. If the register that was looked at is regular or
+    /// atomic, the page shows no stray read.
     pub fn page(&self, alloc: Global, lens: &mut Lens<R>) -> Result<Page, AllocError>
         ensures page { IfOk result (λ page. page ≡ self.now.page) }
-        ensures judges { IfOk result (JudgesIts R.is self.now.judged) }
-        ensures never_stray { IfSome self.now.judged (λ register. IsRegularOrAtomic (R.is register))
-            → IfOk result ShowsNoStray }
+        ensures judges { IfOk result (JudgesIts R.behaviour self.now.judged) }
+        ensures never_stray { IfSome self.now.judged
+            (λ register. IsRegularOrAtomic (R.behaviour register) → IfOk result ShowsNoStray) }
     {
         match &self.content {
             Content::Place(slip) => slip.page(alloc, lens),
-            Content::Branches(page) => Ok(Page::Branches(page.clone()?)),
-            Content::Cursor(page) => Ok(Page::Cursor(page.clone()?)),
-            Content::Steps(page) => Ok(Page::Steps(page.clone()?)),
+            Content::Ready(page) => page.clone(),
         }
     }
 }
 
-/// The initial value, on a tower with one writer.
+/// The initial value, from which reads are judged; `None` if process 1 can write too.
 fn judged_from<R: Register>(chart: &Chart<R>) -> Option<u32>
-    ensures { result ≡ spec.judged_from (R.is chart.now.start.register) chart.now.value }
+    ensures { result ≡ spec.judged_from (R.behaviour chart.now.start.register) chart.now.value }
 {
     let register = chart.initial().register();
     if register.fits(1, Op::Write(0)) {
@@ -151,7 +129,7 @@ fn judged_from<R: Register>(chart: &Chart<R>) -> Option<u32>
     }
 }
 
-/// What proofs remember of the register that is looked at.
+/// The register that is looked at, for proofs alone.
 fn judged_by<R: Register>(chart: &Chart<R>) -> Snapshot<Option<R>>
     ensures { result.value ≡ Some chart.now.start.register }
 {
@@ -168,13 +146,14 @@ fn place_slip<R: Register>(
     place: u32,
 ) -> Result<Slip<R>, Refusal>
     requires { JudgesFrom chart.old.value kind }
-    ensures page { IfOk result (λ slip. slip.page ≡ page_in R.is chart.old kind branch place) }
+    ensures page { IfOk result
+        (λ slip. slip.page ≡ page_in R.behaviour chart.old kind branch place) }
     ensures found { OnOk result (look (forest chart.old.cut) branch place
         ≡ Ok (forest chart.old.cut)) }
     ensures err { IfErr result (IsRefused (look (forest chart.old.cut) branch place)) }
-    ensures kept { IsKept chart.old chart.new }
+    ensures kept { IsChartKept chart.old chart.new }
     ensures judged { IfOk result (λ slip. slip.judged ≡ Some chart.old.start.register) }
-    ensures judges { IfOk result (λ slip. Judges (R.is chart.old.start.register) slip.page) }
+    ensures judges { IfOk result (λ slip. Judges (R.behaviour chart.old.start.register) slip.page) }
 {
     let judged = judged_by(chart);
     let (len, found) = settled(alloc, chart, kind, &branch, place)?;
@@ -183,7 +162,7 @@ fn place_slip<R: Register>(
     Ok(Slip { content, judged })
 }
 
-/// Settles a place of a branch: the branch's length, and what a page of this kind shows of the place.
+/// Settles a place of a branch; returns the branch's length, and what a page of this kind needs.
 fn settled<R: Register>(
     alloc: Global,
     chart: &mut Chart<R>,
@@ -192,27 +171,30 @@ fn settled<R: Register>(
     place: u32,
 ) -> Result<(u32, Found<R>), Refusal>
     ensures spot { IfOk result (λ s. (parts : List (RunPart R R.Pending))
-        × IsSpotIn R.is chart.old branch.now place s.0 parts
-        × Shows R.is kind chart.old.start parts s.1) }
+        × IsSpotIn R.behaviour chart.old branch.now place s.0 parts
+        × Shows R.behaviour kind chart.old.start parts s.1) }
     ensures found { OnOk result (look (forest chart.old.cut) branch.now place
         ≡ Ok (forest chart.old.cut)) }
     ensures err { IfErr result (IsRefused (look (forest chart.old.cut) branch.now place)) }
-    ensures kept { IsKept chart.old chart.new }
-    ensures fit { AllFit (R.is chart.old.start.register)
+    ensures kept { IsChartKept chart.old chart.new }
+    ensures fit { AllFit (R.behaviour chart.old.start.register)
         (steps_in (forest chart.old.cut) branch.now) }
-    ensures within { chart.old.value < (R.is chart.old.start.register).values }
+    ensures within { chart.old.value < (R.behaviour chart.old.start.register).values }
 {
     chart.steps_fit();
     if shows_events(kind) {
+        let Some(len) = chart.len(branch) else {
+            return Err(Refusal::NoBranch);
+        };
         let spot = chart.settle(alloc, branch, place)?;
-        return Ok((spot.len, Found::Runs(spot.runs)));
+        return Ok((len, Found::Runs(spot.runs)));
     }
     let last = chart.settle_last(alloc, branch, place)?;
     let found = found_last(alloc, chart.initial(), last.part)?;
     Ok((last.len, found))
 }
 
-/// Whether a page of a kind shows events, and so more than a configuration.
+/// Whether a page of this kind shows events. Such a page can't be made from a configuration alone.
 fn shows_events(kind: PlaceKind) -> bool
     ensures { result ≡ pages.shows_events kind }
 {
@@ -222,7 +204,8 @@ fn shows_events(kind: PlaceKind) -> bool
     }
 }
 
-/// What a page that shows no events is made of: the last run, and the first configuration where there is none.
+/// What a page without events is made of: the last run up to the place, or the configuration
+/// `first` if there is no run.
 fn found_last<R: Register>(
     alloc: Global,
     first: &Config<R>,
@@ -246,10 +229,10 @@ fn steps_slip<R: Register>(
     ensures found { OnOk result (look (forest chart.now.cut) branch 0 ≡ Ok (forest chart.now.cut)) }
     ensures err { IfErr result (IsRefused (look (forest chart.now.cut) branch 0)) }
     ensures judged { IfOk result (λ slip. slip.judged ≡ Some chart.now.start.register) }
-    ensures judges { IfOk result (λ slip. Judges (R.is chart.now.start.register) slip.page) }
+    ensures judges { IfOk result (λ slip. Judges (R.behaviour chart.now.start.register) slip.page) }
 {
     let judged = judged_by(chart);
     let steps = Listed::new(chart.path(alloc, &branch)?);
-    let content = Content::Steps(StepsPage { branch, steps });
+    let content = Content::Ready(Page::Steps(StepsPage { branch, steps }));
     Ok(Slip { content, judged })
 }

@@ -28,14 +28,14 @@ next_digit xs i v d h lt e f =
     let m = digits_value_more 10 xs i lt in
     omega (arith, e, f, g, m)
 
--- digits in front of a place, and one at it
+-- if the first i bytes are digits, and the next byte is one, then the first i + 1 bytes are digits
 pub more_digits : (xs : List ℕ) (i : ℕ) → i < length xs → list_all is_ascii_digit (take i xs) ≡ true → is_ascii_digit (get_or xs i 0) ≡ true → list_all is_ascii_digit (take (i + 1) xs) ≡ true
 more_digits xs i lt h k = list_all_more is_ascii_digit xs i 0 lt ∙ and_from (list_all is_ascii_digit (take i xs)) (is_ascii_digit (get_or xs i 0)) h k
 
 pub next_small : (i v d : ℕ) → v < 10 ^ i → d ≤ 9 → v * 10 + d < 10 ^ (i + 1)
 next_small i v d h le = rw (add-one, pow-suc 10 i) (omega arith)
 
--- a number's text is that of its tens, and its last digit
+-- the decimal form of n is that of n / 10, and then the last digit of n
 pub last_digit : (out front : List ℕ) (n : ℕ) → 10 ≤ n → n < 2 ^ 64 → front ≡ out ++ decimal (n / 10) → front ++ (48 + n % 10) ∷ [] ≡ out ++ decimal n
 last_digit out front n many small e =
     ap (λ (ds : List ℕ). ds ++ (48 + n % 10) ∷ []) e

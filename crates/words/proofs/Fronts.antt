@@ -12,11 +12,11 @@ use Rattle.frames.specs.declared.types.Step.{Step}
 use Rattle.frames.specs.declared.types.Step.TheVariants as step
 use Rattle.frames.specs.Fitting.{process_of}
 use Rattle.words.specs.Steps.{step_text, HasShortNumbers}
-use Rattle.words.specs.Fronts.{begins_with_digit, IsWhole}
+use Rattle.words.specs.Fronts.{begins_with_digit, IsWholeNumber}
 use Rattle.words.proofs.Numbers.{digits-decimal, digit_first, eight_digits, nine_digits}
 use Rattle.words.proofs.Digits.{digit_bounds}
 
--- a digit more of a number
+-- one more digit is taken from the text that is left, and added to the number
 pub one_more : (first v d b : ℕ) (text left behind : List ℕ) → 0 < v → v < 100000000 → is_ascii_digit b ≡ true → d ≡ b - 48 → left ≡ b ∷ behind
     → decimal first ++ text ≡ decimal v ++ left → decimal first ++ text ≡ decimal (v * 10 + d) ++ behind
 one_more first v d b text left behind some short h e is front =
@@ -31,16 +31,16 @@ one_more first v d b text left behind some short h e is front =
 pub small_more : (v d b : ℕ) → v < 100000000 → is_ascii_digit b ≡ true → d ≡ b - 48 → v * 10 + d < 10 ^ 9
 small_more v d b short h e = let bounds = digit_bounds b h in omega arith
 
--- a first digit
+-- a text that begins with a space and a digit begins with a space and that digit's number
 pub one_digit : (text digits left : List ℕ) (b d : ℕ) → text ≡ 32 ∷ digits → digits ≡ b ∷ left → is_ascii_digit b ≡ true → d ≡ b - 48 → text ≡ 32 ∷ (decimal d ++ left)
 one_digit text digits left b d e f h is =
     let bounds = digit_bounds b h in
     let digit : decimal d ≡ b ∷ [] = decimal_digit d (omega arith) ∙ ap (λ (c : ℕ). c ∷ []) (omega arith) in
     e ∙ ap (λ (xs : List ℕ). 32 ∷ xs) (f ∙ ap (λ (ds : List ℕ). ds ++ left) (sym digit))
 
--- ---- what is read is all that can be
+-- ---- no longer number or step could be read
 
--- digits, and what comes behind them
+-- digits, and what follows them
 digits_split : (xs ys left : List ℕ) (c : ℕ) (rest : List ℕ) → list_all is_ascii_digit xs ≡ true → list_all is_ascii_digit ys ≡ true → is_ascii_digit c ≡ false
     → (length xs < length ys → begins_with_digit left ≡ false) → xs ++ left ≡ ys ++ c ∷ rest → left ≡ c ∷ rest
 digits_split [] [] left c rest dx dy other h e = e
@@ -68,8 +68,8 @@ left_of_zero n left c rest short e =
           absurd (omega (arith, first, ap (λ (ds : List ℕ). get_or ds 0 0) a.3, first_decimal n (omega arith) (omega arith)))
     ]
 
--- a number that has all its digits is the one that a text begins with
-pub left_of_number : (v n : ℕ) (left : List ℕ) (c : ℕ) (rest : List ℕ) → v < 10 ^ 9 → n < 10 ^ 9 → is_ascii_digit c ≡ false → IsWhole v left
+-- a number that was read with all its digits is the number at the front of the text
+pub left_of_number : (v n : ℕ) (left : List ℕ) (c : ℕ) (rest : List ℕ) → v < 10 ^ 9 → n < 10 ^ 9 → is_ascii_digit c ≡ false → IsWholeNumber v left
     → decimal v ++ left ≡ decimal n ++ c ∷ rest → left ≡ c ∷ rest
 left_of_number v n left c rest hv hn other whole e =
     elim (cases_eq v 0) [
@@ -79,7 +79,7 @@ left_of_number v n left c rest hv hn other whole e =
           (λ l. whole (omega arith) (eight_digits v hv (omega (arith, l, nine_digits n hn)))) e
     ]
 
--- no space and digit, and no line end, at the front
+-- the text doesn't begin with a space and a digit
 abbrev pub HasNoNumber : List ℕ → Type 0
 HasNoNumber text = (d : ℕ) (rest : List ℕ) → is_ascii_digit d ≡ true → text ≡ 32 ∷ d ∷ rest → ⊥
 
@@ -91,7 +91,7 @@ no_number text n more short none e =
     let a = digit_first n short in
     none a.0 (a.1 ++ more) a.2 (e ∙ ap (λ (ds : List ℕ). 32 ∷ (ds ++ more)) a.3)
 
--- a step's letter, its first number, and what stands behind that
+-- a step's letter, its first number, and what follows that
 abbrev letter : Step → ℕ
 letter (step.Write p v) = 119
 letter (step.Read p) = 114
@@ -118,7 +118,7 @@ short_process (step.Read p) h = h
 short_process (step.Go p c) h = h.0
 short_process (step.Stop p) h = h
 
--- what stands there begins with no digit
+-- what follows begins with no digit
 first_behind : (s : Step) (rest : List ℕ) → (c : ℕ) × (more : List ℕ) × (is_ascii_digit c ≡ false) × (behind_first s (10 ∷ rest) ≡ c ∷ more)
 first_behind (step.Write p v) rest = (32, decimal v ++ 10 ∷ rest, refl, refl)
 first_behind (step.Read p) rest = (10, rest, refl, refl)
@@ -140,7 +140,7 @@ one_number_behind word (step.Stop p) rest e nw ng = refl
 
 -- ---- what a text doesn't begin with
 
--- no step's line is at the front of a text
+-- the text doesn't begin with a step's line
 abbrev pub HasNoStep : List ℕ → Type 0
 HasNoStep text = (s : Step) (rest : List ℕ) → HasShortNumbers s → text ≡ step_text s ++ 10 ∷ rest → ⊥
 
@@ -152,7 +152,7 @@ module _ (text numbers : List ℕ) (word : ℕ) (is : text ≡ word ∷ numbers)
   pub no_first : HasNoNumber numbers → HasNoStep text
   no_first none s rest short e = no_number numbers (process_of s) (behind_first s (10 ∷ rest)) (short_process s short) none (letter_is s rest e).1
 
-  module _ (p : ℕ) (left : List ℕ) (short_p : p < 10 ^ 9) (front : numbers ≡ 32 ∷ (decimal p ++ left)) (whole : IsWhole p left) where
+  module _ (p : ℕ) (left : List ℕ) (short_p : p < 10 ^ 9) (front : numbers ≡ 32 ∷ (decimal p ++ left)) (whole : IsWholeNumber p left) where
     left_is : (s : Step) (rest : List ℕ) → HasShortNumbers s → text ≡ step_text s ++ 10 ∷ rest → left ≡ behind_first s (10 ∷ rest)
     left_is s rest short e =
         let a = first_behind s rest in
@@ -169,7 +169,7 @@ module _ (text numbers : List ℕ) (word : ℕ) (is : text ≡ word ∷ numbers)
     no_end nw ng none s rest short e =
         none rest (left_is s rest short e ∙ one_number_behind word s (10 ∷ rest) (letter_is s rest e).0 nw ng)
 
-    pub no_second_end : (word ≡ 114 → ⊥) → (word ≡ 120 → ⊥) → (v : ℕ) (last : List ℕ) → v < 10 ^ 9 → left ≡ 32 ∷ (decimal v ++ last) → IsWhole v last → HasNoEnd last → HasNoStep text
+    pub no_second_end : (word ≡ 114 → ⊥) → (word ≡ 120 → ⊥) → (v : ℕ) (last : List ℕ) → v < 10 ^ 9 → left ≡ 32 ∷ (decimal v ++ last) → IsWholeNumber v last → HasNoEnd last → HasNoStep text
     no_second_end nr nx v last short_v front_v whole_v none s rest short e =
         let a = two_numbers_behind word s (10 ∷ rest) (letter_is s rest e).0 nr nx short in
         let both : 32 ∷ (decimal v ++ last) ≡ 32 ∷ (decimal a.0 ++ 10 ∷ rest) = sym front_v ∙ left_is s rest short e ∙ a.2 in

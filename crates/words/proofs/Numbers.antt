@@ -1,4 +1,4 @@
--- A word is a number exactly where it is the decimal form of one below 10 ^ 9.
+-- A word is read as a number n exactly if n is below 10 ^ 9 and the word is the decimal form of n.
 use Rattle.std.proofs.Common.{◌≡◌, ℕ, ◌^◌, ◌<◌, ◌≤◌, Bool, true, false, cond, ◌||◌, ◌&&◌, ◌==◌, not, nat_le, List, [], ◌∷◌, length, get_or, Some, None, refl, sym, ap, ◌∙◌, subst, arith, rules, inl, inr, lit<}
 use Rattle.std.specs.List.{list_all}
 use Rattle.std.specs.Char.{is_ascii_digit}
@@ -79,7 +79,7 @@ number-decimal n lt =
     let test = is_number_from (decimal n) (decimal_nonempty n few) (length-decimal-le 9 n (lit< tt) lt few) (plain_decimal n few) (digits-decimal n lt) in
     ap (λ b. cond b (Some (digits_value 10 (decimal n))) None) test ∙ ap (λ m. Some m) (digits_value-decimal own n few)
 
--- a number with at most 8 digits
+-- a number with at most 8 digits is below 10 ^ 8
 pub eight_digits : (n : ℕ) → n < 10 ^ 9 → length (decimal n) ≤ 8 → n < 10 ^ 8
 eight_digits n lt short =
     let few : n < 2 ^ 64 = omega arith in
@@ -88,7 +88,7 @@ eight_digits n lt short =
 pub nine_digits : (n : ℕ) → n < 10 ^ 9 → length (decimal n) ≤ 9
 nine_digits n lt = length-decimal-le 9 n (lit< tt) lt (omega arith)
 
--- the first digit of a number
+-- the decimal form of a number begins with a digit
 pub digit_first : (n : ℕ) → n < 10 ^ 9 → (d : ℕ) × (ds : List ℕ) × (is_ascii_digit d ≡ true) × (decimal n ≡ d ∷ ds)
 digit_first n lt = by (decimal n) (decimal_nonempty n (omega arith)) (digits-decimal n lt)
   where

@@ -1,10 +1,10 @@
--- The texts of a list's items, pushed one behind the other.
+-- The texts of a list's items, pushed one after another.
 use Rattle.std.proofs.Common.{◌≡◌, ◌∙◌, ℕ, ◌+◌, ◌<◌, ◌≤◌, List, ◌++◌, length, get_or, take, sym, ap}
 use Rattle.std.specs.List.{flat_map}
 use Rattle.std.proofs.lemmas.List.{flat_map_more, take_all, take_more}
 
 module _ {X : Type 0} (text : X → List ℕ) (xs : List X) (i : ℕ) where
-  -- the texts so far, with that of one item more
+  -- the texts of the items so far, and that of one more item
   pub texts_more : (d : X) (out now new : List ℕ) → i < length xs → now ≡ out ++ flat_map text (take i xs) → new ≡ now ++ text (get_or xs i d)
       → new ≡ out ++ flat_map text (take (i + 1) xs)
   texts_more d out now new here so_far h =

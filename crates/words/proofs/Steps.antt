@@ -11,7 +11,7 @@ use Rattle.std.proofs.lemmas.Slice.Eq.{bytes_eq-Decides}
 use Rattle.frames.specs.declared.types.Step.{Step}
 use Rattle.frames.specs.declared.types.Step.TheVariants as step
 use Rattle.words.specs.Words.{parts, parts_left, lines, words, next, after_next, is_end, number, one_number, two_numbers, three_numbers, four_numbers}
-use Rattle.words.specs.Steps.{step_of, text, step_text, HasShortNumbers}
+use Rattle.words.specs.Steps.{step_of_words, text, step_text, HasShortNumbers}
 use Rattle.words.proofs.Splits.{split_some}
 use Rattle.words.proofs.Numbers.{decimal-number, number-decimal}
 use Rattle.words.proofs.Texts.{all_weaker, is_not, is_print, print_stays, text_prints, cut_at, words-text, join-words}
@@ -69,7 +69,8 @@ four_are (w ∷ ws) n h =
     let all : (w ∷ ws) ≡ map decimal (a.0 ∷ b.0.0 ∷ b.0.1 ∷ b.0.2 ∷ []) = cc in
     subst (λ (m : ℕ × ℕ × ℕ × ℕ). (w ∷ ws) ≡ map decimal (m.0 ∷ m.1 ∷ m.2 ∷ m.3 ∷ [])) (same_Some (a.0, b.0.0, b.0.1, b.0.2) n b.2) all
 
--- a word and numbers, joined
+-- a word and the decimal forms of numbers, joined by spaces, are the text of the word and the
+-- numbers
 pub joined : (w v : List ℕ) (ws : List (List ℕ)) (ns : List ℕ) → w ≡ v → ws ≡ map decimal ns → join_with_byte 32 (w ∷ ws) ≡ text v ns
 joined w v ws ns e f = ap (λ x. join_with_byte 32 (x ∷ ws)) e ∙ ap (λ xs. join_with_byte 32 (v ∷ xs)) f ∙ join-words v ns
 
@@ -78,7 +79,7 @@ is_word w v h = (bytes_eq-Decides w v).0 h
 
 -- ---- steps
 
--- a word, and the numbers behind it of which a step is made
+-- a word, and the numbers after it of which a step is made
 with_two : (w v : List ℕ) (ws : List (List ℕ)) (s : Step) (of : ℕ × ℕ → Step) → ((n : ℕ × ℕ) → text v (n.0 ∷ n.1 ∷ []) ≡ step_text (of n)) → w ≡ v → option_map of (two_numbers ws) ≡ Some s
     → join_with_byte 32 (w ∷ ws) ≡ step_text s
 with_two w v ws s of spells e h =
@@ -100,11 +101,11 @@ step_by false false true isx w ws s e f g k h = with_two w (codes "g") ws s (λ 
 step_by false false false true w ws s e f g k h = with_one w (codes "x") ws s (λ p. step.Stop p) (λ p. refl) (k refl) h
 step_by false false false false w ws s e f g k h = absurd cc
 
-pub step_is : (ws : List (List ℕ)) (s : Step) → step_of ws ≡ Some s → join_with_byte 32 ws ≡ step_text s
+pub step_is : (ws : List (List ℕ)) (s : Step) → step_of_words ws ≡ Some s → join_with_byte 32 ws ≡ step_text s
 step_is [] s h = absurd cc
 step_is (w ∷ ws) s h = step_by (bytes_eq w (codes "w")) (bytes_eq w (codes "r")) (bytes_eq w (codes "g")) (bytes_eq w (codes "x")) w ws s (is_word w (codes "w")) (is_word w (codes "r")) (is_word w (codes "g")) (is_word w (codes "x")) h
 
--- the first word of a step is none but those four
+-- the first word of a step is one of these four
 words_of_steps : (isw isr isg isx : Bool) (ws : List (List ℕ)) (w other : List ℕ) (s : Step) → (isw ≡ true → w ≡ codes "w") → (isr ≡ true → w ≡ codes "r") → (isg ≡ true → w ≡ codes "g") → (isx ≡ true → w ≡ codes "x")
     → bytes_eq (codes "w") other ≡ false → bytes_eq (codes "r") other ≡ false → bytes_eq (codes "g") other ≡ false → bytes_eq (codes "x") other ≡ false
     → cond isw (option_map (λ n. step.Write n.0 n.1) (two_numbers ws)) (cond isr (option_map (λ p. step.Read p) (one_number ws)) (cond isg (option_map (λ n. step.Go n.0 n.1) (two_numbers ws)) (cond isx (option_map (λ p. step.Stop p) (one_number ws)) None))) ≡ Some s
@@ -116,7 +117,7 @@ words_of_steps false false false true ws w other s e f g k nw nr ng nx h = ap (�
 words_of_steps false false false false ws w other s e f g k nw nr ng nx h = absurd cc
 
 pub first_word : (ws : List (List ℕ)) (s : Step) (other : List ℕ) → bytes_eq (codes "w") other ≡ false → bytes_eq (codes "r") other ≡ false → bytes_eq (codes "g") other ≡ false → bytes_eq (codes "x") other ≡ false
-    → step_of ws ≡ Some s → bytes_eq (next ws) other ≡ false
+    → step_of_words ws ≡ Some s → bytes_eq (next ws) other ≡ false
 first_word ws s other nw nr ng nx h =
     let w = next ws in
     words_of_steps (bytes_eq w (codes "w")) (bytes_eq w (codes "r")) (bytes_eq w (codes "g")) (bytes_eq w (codes "x")) (after_next ws) w other s
@@ -149,25 +150,25 @@ short_by false false true isx ws s h = with_short (two_numbers ws) (λ n. step.G
 short_by false false false true ws s h = with_short (one_number ws) (λ p. step.Stop p) s (one_short ws) h
 short_by false false false false ws s h = absurd cc
 
-step_short : (ws : List (List ℕ)) (s : Step) → step_of ws ≡ Some s → HasShortNumbers s
+step_short : (ws : List (List ℕ)) (s : Step) → step_of_words ws ≡ Some s → HasShortNumbers s
 step_short [] s h = absurd cc
 step_short (w ∷ ws) s h = short_by (bytes_eq w (codes "w")) (bytes_eq w (codes "r")) (bytes_eq w (codes "g")) (bytes_eq w (codes "x")) ws s h
 
-pub step_again : (s : Step) → HasShortNumbers s → step_of (words (step_text s)) ≡ Some s
+pub step_again : (s : Step) → HasShortNumbers s → step_of_words (words (step_text s)) ≡ Some s
 step_again (step.Write p v) h =
-    ap step_of (words-text (codes "w") (p ∷ v ∷ []) refl (h.0, (h.1, tt))) ∙ rw (number-decimal p h.0, number-decimal v h.1) refl
+    ap step_of_words (words-text (codes "w") (p ∷ v ∷ []) refl (h.0, (h.1, tt))) ∙ rw (number-decimal p h.0, number-decimal v h.1) refl
 step_again (step.Read p) h =
-    ap step_of (words-text (codes "r") (p ∷ []) refl (h, tt)) ∙ rw (number-decimal p h) refl
+    ap step_of_words (words-text (codes "r") (p ∷ []) refl (h, tt)) ∙ rw (number-decimal p h) refl
 step_again (step.Go p c) h =
-    ap step_of (words-text (codes "g") (p ∷ c ∷ []) refl (h.0, (h.1, tt))) ∙ rw (number-decimal p h.0, number-decimal c h.1) refl
+    ap step_of_words (words-text (codes "g") (p ∷ c ∷ []) refl (h.0, (h.1, tt))) ∙ rw (number-decimal p h.0, number-decimal c h.1) refl
 step_again (step.Stop p) h =
-    ap step_of (words-text (codes "x") (p ∷ []) refl (h, tt)) ∙ rw (number-decimal p h) refl
+    ap step_of_words (words-text (codes "x") (p ∷ []) refl (h, tt)) ∙ rw (number-decimal p h) refl
 
--- a line spells a step exactly where it is its text
-pub one_step : (line : List ℕ) (s : Step) → (step_of (words line) ≡ Some s) ↔ (HasShortNumbers s × (line ≡ step_text s))
+-- a line spells a step exactly if it is the step's text
+pub one_step : (line : List ℕ) (s : Step) → (step_of_words (words line) ≡ Some s) ↔ (HasShortNumbers s × (line ≡ step_text s))
 one_step line s = (
   λ h. (step_short (words line) s h, sym (join_with_byte-slice_split 32 line) ∙ step_is (words line) s h),
-  λ h. ap (λ l. step_of (words l)) h.1 ∙ step_again s h.0,
+  λ h. ap (λ l. step_of_words (words l)) h.1 ∙ step_again s h.0,
 )
 
 pub step_prints : (s : Step) → HasShortNumbers s → list_all is_print (step_text s) ≡ true
@@ -176,13 +177,14 @@ step_prints (step.Read p) h = text_prints (codes "r") (p ∷ []) refl (h, tt)
 step_prints (step.Go p c) h = text_prints (codes "g") (p ∷ c ∷ []) refl (h.0, (h.1, tt))
 step_prints (step.Stop p) h = text_prints (codes "x") (p ∷ []) refl (h, tt)
 
--- the first line of a text that begins with a step's, and the lines behind it
+-- if a text begins with a step's line, that is its first line, and its other lines are those of the
+-- rest
 pub step_first : (text rest : List ℕ) (s : Step) → HasShortNumbers s → text ≡ step_text s ++ 10 ∷ rest → parts 10 text ≡ step_text s ∷ parts 10 rest
 step_first text rest s h e = ap (parts 10) e ∙ cut_at 10 (step_text s) rest (all_weaker is_print (is_not 10) print_stays (step_text s) (step_prints s h))
 
--- the next of these lines spells this step, and has its end; the others are those of the rest
+-- the next of these lines spells the step s and has its end; the lines after it are those of `rest`
 pub record IsNextStep (all : List (List ℕ)) (s : Step) (rest : List ℕ) : Type 0 where
-  pub step : step_of (words (next all)) ≡ Some s
+  pub step : step_of_words (words (next all)) ≡ Some s
   pub whole : is_end (after_next all) ≡ false
   pub left : lines rest ≡ after_next all
 
@@ -192,26 +194,26 @@ step_next text left all rest s e view h front =
     let is : all ≡ step_text s ∷ lines rest =
     sym view ∙ ap (λ (o : Option (Bor (List ℕ))). parts_left 10 (option_map (λ t. t.now) o)) e ∙ step_first left.now rest s h front in
     record {
-      step = ap (λ (ls : List (List ℕ)). step_of (words (next ls))) is ∙ step_again s h;
+      step = ap (λ (ls : List (List ℕ)). step_of_words (words (next ls))) is ∙ step_again s h;
       whole = ap (λ (ls : List (List ℕ)). is_end (after_next ls)) is ∙ split_some (λ b. b == 10) rest;
       left = sym (ap after_next is);
     }
 
--- a line with its end, and what stands behind that
+-- a line with its end, and what follows that
 joined_next : (ls : List (List ℕ)) → is_end (after_next ls) ≡ false → join_with_byte 10 ls ≡ next ls ++ 10 ∷ join_with_byte 10 (after_next ls)
 joined_next [] h = absurd cc
 joined_next (l ∷ []) h = absurd cc
 joined_next (l ∷ k ∷ ls) h = refl
 
--- where no step's line is at the front of a text, its first line spells none, or has no end
+-- if a text doesn't begin with a step's line, its first line spells no step, or has no end
 pub no_step_next : (text : Option (Bor (List ℕ))) (left : Bor (List ℕ)) (all : List (List ℕ)) → text ≡ Some left → parts_left 10 (option_map (λ t. t.now) text) ≡ all
-    → ((s : Step) (rest : List ℕ) → HasShortNumbers s → left.now ≡ step_text s ++ 10 ∷ rest → ⊥) → is_end (after_next all) ≡ false → step_of (words (next all)) ≡ None
-no_step_next text left all e view none whole = by (step_of (words (next all))) refl
+    → ((s : Step) (rest : List ℕ) → HasShortNumbers s → left.now ≡ step_text s ++ 10 ∷ rest → ⊥) → is_end (after_next all) ≡ false → step_of_words (words (next all)) ≡ None
+no_step_next text left all e view none whole = by (step_of_words (words (next all))) refl
   where
     is : lines left.now ≡ all
     is = ap (λ (o : Option (Bor (List ℕ))). parts_left 10 (option_map (λ t. t.now) o)) (sym e) ∙ view
 
-    by : (o : Option Step) → step_of (words (next all)) ≡ o → step_of (words (next all)) ≡ None
+    by : (o : Option Step) → step_of_words (words (next all)) ≡ o → step_of_words (words (next all)) ≡ None
     by None h = h
     by (Some s) h =
         let a = (one_step (next all) s).0 h in
@@ -219,7 +221,7 @@ no_step_next text left all e view none whole = by (step_of (words (next all))) r
         (sym (join_with_byte-slice_split 10 left.now) ∙ ap (join_with_byte 10) is ∙ joined_next all whole ∙ ap (λ (l : List ℕ). l ++ 10 ∷ join_with_byte 10 (after_next all)) a.1))
 
 pub no_line_next : (text : Option (Bor (List ℕ))) (all : List (List ℕ)) → text ≡ None → parts_left 10 (option_map (λ t. t.now) text) ≡ all
-    → is_end (after_next all) ≡ false → step_of (words (next all)) ≡ None
+    → is_end (after_next all) ≡ false → step_of_words (words (next all)) ≡ None
 no_line_next text all e view whole =
     let is : all ≡ [] = sym view ∙ ap (λ (o : Option (Bor (List ℕ))). parts_left 10 (option_map (λ t. t.now) o)) e in
     let end : is_end (after_next all) ≡ true = ap (λ (ls : List (List ℕ)). is_end (after_next ls)) is in

@@ -13,7 +13,7 @@ use Rattle.words.specs.Steps.{text}
 use Rattle.words.proofs.Digits.{digit_bounds}
 use Rattle.words.proofs.Numbers.{digits-decimal}
 
--- what passes one test passes another
+-- if each byte that passes test p passes test q, then bytes that all pass p all pass q
 pub all_weaker : (p q : ℕ → Bool) → ((x : ℕ) → p x ≡ true → q x ≡ true) → (xs : List ℕ) → list_all p xs ≡ true → list_all q xs ≡ true
 all_weaker p q weaker [] h = refl
 all_weaker p q weaker (x ∷ xs) h =
@@ -23,11 +23,11 @@ all_weaker p q weaker (x ∷ xs) h =
 pub all_append : (p : ℕ → Bool) (xs ys : List ℕ) → list_all p xs ≡ true → list_all p ys ≡ true → list_all p (xs ++ ys) ≡ true
 all_append p xs ys h k = list_all-append p xs ys ∙ and_from (list_all p xs) (list_all p ys) h k
 
--- a byte that no cut is at
+-- whether a byte isn't the separator c
 abbrev pub is_not : ℕ → ℕ → Bool
 is_not c b = not (b == c)
 
--- a byte of a word, and of a line
+-- whether a byte is a space or another printable ASCII character
 abbrev pub is_print : ℕ → Bool
 is_print b = nat_le 32 b && nat_le b 126
 
@@ -40,7 +40,7 @@ digit_prints b h = let d = digit_bounds b h in grind (arith, nat_tests, d)
 pub print_stays : (b : ℕ) → is_print b ≡ true → is_not 10 b ≡ true
 print_stays b h = grind (arith, nat_tests)
 
--- numbers with at most 9 digits
+-- a number has at most 9 digits
 abbrev pub IsShort : ℕ → Type 0
 IsShort n = n < 10 ^ 9
 
@@ -53,7 +53,7 @@ text_prints word (n ∷ ns) h small =
 eq_true : (c : ℕ) → (c == c) ≡ true
 eq_true c = grind (arith, nat_tests)
 
--- the first part ends at the first cut
+-- the first part of a text ends at the first separator
 pub cut_at : (c : ℕ) (xs ys : List ℕ) → list_all (is_not c) xs ≡ true → parts c (xs ++ c ∷ ys) ≡ xs ∷ parts c ys
 cut_at c [] ys h = slice_split-cons_yes (λ b. b == c) c ys (eq_true c)
 cut_at c (x ∷ xs) ys h =
@@ -66,14 +66,15 @@ no_cut c (x ∷ xs) h =
     let a = and_parts (is_not c x) (list_all (is_not c) xs) h in
     slice_split-cons_no (λ b. b == c) x xs (not-true (x == c) a.0) ∙ ap (onto_first x) (no_cut c xs a.1)
 
--- the words of a text
+-- the words of a text: its first word, and the decimal form of each number
 pub words-text : (word : List ℕ) (ns : List ℕ) → list_all (is_not 32) word ≡ true → AllByRecursion IsShort ns → words (text word ns) ≡ word ∷ map decimal ns
 words-text word [] h small = ap words (append-nil word) ∙ no_cut 32 word h
 words-text word (n ∷ ns) h small =
     let digits = all_weaker is_ascii_digit (is_not 32) (digit_not 32 (omega arith)) (decimal n) (digits-decimal n small.0) in
     cut_at 32 word (text (decimal n) ns) h ∙ ap (λ ws. word ∷ ws) (words-text (decimal n) ns digits small.1)
 
--- and joined again
+-- a word and the decimal forms of numbers, joined by spaces, are the text of the word and the
+-- numbers
 pub join-words : (word : List ℕ) (ns : List ℕ) → join_with_byte 32 (word ∷ map decimal ns) ≡ text word ns
 join-words word [] = sym (append-nil word)
 join-words word (n ∷ ns) = ap (λ xs. word ++ 32 ∷ xs) (join-words (decimal n) ns)

@@ -1,4 +1,4 @@
--- Steps in words, and their text.
+-- Steps as words, and as text.
 use Rattle.std.specs.Prelude.{ℕ, ◌<◌, ◌^◌, List, [], ◌∷◌, ◌++◌, Option, None, codes, decimal, if◌then◌else◌}
 use Rattle.std.specs.Option.{option_map}
 use Rattle.std.specs.List.{flat_map}
@@ -7,16 +7,17 @@ use Rattle.frames.specs.declared.types.Step.{Step}
 use Rattle.frames.specs.declared.types.Step.TheVariants as step
 use Rattle.words.specs.Words.{next, after_next, one_number, two_numbers}
 
--- a step: `w P V`, `r P`, `g P C` or `x P`, and no more words
-abbrev pub step_of : List (List ℕ) → Option Step
-step_of ws =
+-- the step that words spell as `w P V`, `r P`, `g P C` or `x P`, with no more words; `None` if they
+-- spell no step
+abbrev pub step_of_words : List (List ℕ) → Option Step
+step_of_words ws =
     if bytes_eq (next ws) (codes "w") then option_map (λ n. step.Write n.0 n.1) (two_numbers (after_next ws))
     else (if bytes_eq (next ws) (codes "r") then option_map (λ p. step.Read p) (one_number (after_next ws))
     else (if bytes_eq (next ws) (codes "g") then option_map (λ n. step.Go n.0 n.1) (two_numbers (after_next ws))
     else (if bytes_eq (next ws) (codes "x") then option_map (λ p. step.Stop p) (one_number (after_next ws))
     else None)))
 
--- a word, and numbers, with one space before each
+-- a word, and then each number after a space
 abbrev pub text : List ℕ → List ℕ → List ℕ
 text word numbers = word ++ flat_map (λ n. 32 ∷ decimal n) numbers
 
@@ -27,7 +28,7 @@ step_text (step.Read p) = text (codes "r") (p ∷ [])
 step_text (step.Go p c) = text (codes "g") (p ∷ c ∷ [])
 step_text (step.Stop p) = text (codes "x") (p ∷ [])
 
--- the numbers of a step are below 10 ^ 9, as those that words write
+-- the numbers of a step are below 10 ^ 9, so that words can spell them
 abbrev pub HasShortNumbers : Step → Type 0
 HasShortNumbers (step.Write p v) = (p < 10 ^ 9) × (v < 10 ^ 9)
 HasShortNumbers (step.Read p) = p < 10 ^ 9

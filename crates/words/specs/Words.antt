@@ -4,52 +4,53 @@ use Rattle.std.specs.List.{list_all, slice_split}
 use Rattle.std.specs.Char.{is_ascii_digit}
 use Rattle.std.specs.Str.Parse.{digits_value}
 
--- what stands between the bytes c of a text
+-- the parts of a text, cut at each byte c
 abbrev pub parts : ℕ → List ℕ → List (List ℕ)
 parts c text = slice_split (λ b. b == c) text
 
--- between line ends; the last part is what stands behind the last line end
+-- the lines of a text, cut at line ends; the last line is what follows the last line end
 abbrev pub lines : List ℕ → List (List ℕ)
 lines text = parts 10 text
 
--- between spaces
+-- the words of a line, cut at spaces
 abbrev pub words : List ℕ → List (List ℕ)
 words line = parts 32 line
 
--- the parts of which this text is left, if any
+-- the parts of the text that is left; none if no text is left
 abbrev pub parts_left : ℕ → Option (List ℕ) → List (List ℕ)
 parts_left c None = []
 parts_left c (Some text) = parts c text
 
--- the next part, empty where there is none
+-- the next part; an empty one if no part is left
 abbrev pub next : List (List ℕ) → List ℕ
 next [] = []
 next (part ∷ others) = part
 
--- the parts after it
+-- the parts after the next one
 abbrev pub after_next : List (List ℕ) → List (List ℕ)
 after_next [] = []
 after_next (part ∷ others) = others
 
--- whether there is no part
+-- whether no part is left
 abbrev pub is_end : List (List ℕ) → Bool
 is_end [] = true
 is_end (part ∷ others) = false
 
--- then, where there is a value
+-- applies f to the value of o, if o has one
 infixl 10 ◌>>=◌
 abbrev pub ◌>>=◌ : {A B : Type 0} → Option A → (A → Option B) → Option B
 o >>= f = option_and_then f o
 
--- a number: 0, or a digit from 1 on and then digits, at most 9 in all
+-- whether a word spells a number: `0`, or a digit from 1 to 9 followed by digits, at most 9 in all
 abbrev pub is_number : List ℕ → Bool
 is_number [] = false
 is_number (d ∷ ds) = (nat_le (length ds) 8 && (not (d == 48) || length ds == 0)) && list_all is_ascii_digit (d ∷ ds)
 
+-- the number that a word spells; `None` if it spells none
 abbrev pub number : List ℕ → Option ℕ
 number word = if is_number word then Some (digits_value 10 word) else None
 
--- so many numbers, and no more words
+-- one, two, three or four numbers; `None` if a word isn't a number, or if more words follow
 abbrev pub one_number : List (List ℕ) → Option ℕ
 one_number ws = do
   a ← number (next ws)

@@ -1,9 +1,10 @@
 //! Words: lines cut at spaces, numbers, and steps, as files and scripts have them.
 //!
-//! Words are parted by exactly one space, and there is none at the start or the end. A number is `0`, or a
-//! digit 1 to 9 followed by digits, at most 9 digits in all. A step is `w P V` (process P invokes a write
-//! of V), `r P` (a read), `g P C` (the next bit action of P, with choice C), or `x P` (P stops), of any
-//! numbers. Whether it fits a register is asked elsewhere.
+//! Words are separated by exactly one space, and no space is at the start or the end of a line. A
+//! number is `0`, or a digit 1 to 9 followed by digits, at most 9 digits in all. A step is `w P V`
+//! (process P invokes a write of V), `r P` (P invokes a read), `g P C` (P makes its next bit
+//! action, with choice C), or `x P` (P stops). P, V and C may be any numbers: whether the step fits
+//! a register is checked elsewhere.
 #![tactic(auto)]
 
 mod front;
@@ -13,3 +14,6 @@ pub mod number;
 pub mod parts;
 pub mod step;
 pub mod text;
+
+pub use lines::Lines;
+pub use parts::Parts;

@@ -2,14 +2,14 @@
 
 ghost use Rattle.std.specs.Prelude.{◌≡◌, Some, None, false, IfSome, IfNone, OnSome};
 ghost use Rattle.words.specs.Words.{lines, words, next, after_next, is_end};
-ghost use Rattle.words.specs.Steps.{step_of};
+ghost use Rattle.words.specs.Steps.{step_of_words};
 
 use crate::front::front_step;
 use crate::parts::first_part;
 use frames::types::Step;
 use std::marker::Model;
 
-/// The lines that are left of a text: what stands between its line ends.
+/// The lines that are left of a text. Lines are the parts between line ends.
 #[derive(Drop)]
 pub struct Lines<'a> {
     text: Option<&'a [u8]>,
@@ -33,7 +33,7 @@ impl<'a> Lines<'a> {
         Lines { text: Some(text) }
     }
 
-    /// The next line, empty where there is none.
+    /// Takes the next line; an empty one if no line is left.
     pub fn next(&mut self) -> &'a [u8]
         ensures part { result.now ≡ next self.old }
         ensures left { self.new ≡ after_next self.old }
@@ -46,14 +46,15 @@ impl<'a> Lines<'a> {
         line
     }
 
-    /// Takes the next line where it spells a step, and has its end. It looks at each byte of it once.
+    /// Takes the next line if it spells a step and has its end; else takes nothing. Reads each byte
+    /// once.
     pub fn next_step(&mut self) -> Option<Step>
-        ensures step { IfSome result (λ s. step_of (words (next self.old)) ≡ Some s) }
+        ensures step { IfSome result (λ s. step_of_words (words (next self.old)) ≡ Some s) }
         ensures whole { OnSome result (is_end (after_next self.old) ≡ false) }
         ensures left { OnSome result (self.new ≡ after_next self.old) }
         ensures kept { IfNone result (self.new ≡ self.old) }
         ensures none { IfNone result (is_end (after_next self.old) ≡ false
-            → step_of (words (next self.old)) ≡ None) }
+            → step_of_words (words (next self.old)) ≡ None) }
     {
         let (step, left) = front_step(self.text?)?;
         self.text = Some(left);

@@ -8,10 +8,11 @@ ghost use Rattle.words.specs.Words as spec;
 
 use crate::parts::Parts;
 
-/// The most digits of a number.
+/// The most digits that a number can have.
 const MOST_DIGITS: usize = 9;
 
-/// The number that a word writes: 0, or a digit from 1 on and more digits, at most 9 in all.
+/// The number that a word spells: `0`, or a digit 1 to 9 followed by digits, at most 9 digits in
+/// all. `None` if the word spells no number.
 pub fn number(word: &[u8]) -> Option<u32>
     ensures { result ≡ spec.number word.now }
 {
@@ -23,7 +24,7 @@ pub fn number(word: &[u8]) -> Option<u32>
     }
 }
 
-/// The number that digits write; none where a byte is no digit.
+/// The number that digits spell; `None` if some byte isn't a digit.
 fn value(word: &[u8]) -> Option<u32>
     requires short { length word.now ≤ 9 }
     ensures { result ≡ (if list_all is_ascii_digit word.now then Some (digits_value 10 word.now)
@@ -39,7 +40,7 @@ fn value(word: &[u8]) -> Option<u32>
     Some(value)
 }
 
-/// Reads the next word as a number.
+/// Reads the next word as a number; `None` if it isn't one.
 fn next_number(words: &mut Parts<'_>) -> Option<u32>
     ensures number { result ≡ spec.number (spec.next words.old) }
     ensures left { words.new ≡ spec.after_next words.old }
@@ -47,7 +48,7 @@ fn next_number(words: &mut Parts<'_>) -> Option<u32>
     number(words.next())
 }
 
-/// Reads one number, and no more.
+/// Reads one number; `None` if the word isn't a number, or if more words follow.
 pub fn one_number(words: &mut Parts<'_>) -> Option<u32>
     ensures { result ≡ spec.one_number words.old }
 {
@@ -55,7 +56,7 @@ pub fn one_number(words: &mut Parts<'_>) -> Option<u32>
     words.is_end().then_some(first)
 }
 
-/// Reads two numbers, and no more.
+/// Reads two numbers; `None` if a word isn't a number, or if more words follow.
 pub fn two_numbers(words: &mut Parts<'_>) -> Option<(u32, u32)>
     ensures { result ≡ spec.two_numbers words.old }
 {
@@ -64,7 +65,7 @@ pub fn two_numbers(words: &mut Parts<'_>) -> Option<(u32, u32)>
     Some((first, second))
 }
 
-/// Reads three numbers, and no more.
+/// Reads three numbers; `None` if a word isn't a number, or if more words follow.
 pub fn three_numbers(words: &mut Parts<'_>) -> Option<(u32, u32, u32)>
     ensures { result ≡ spec.three_numbers words.old }
 {
@@ -73,7 +74,7 @@ pub fn three_numbers(words: &mut Parts<'_>) -> Option<(u32, u32, u32)>
     Some((first, second, third))
 }
 
-/// Reads four numbers, and no more.
+/// Reads four numbers; `None` if a word isn't a number, or if more words follow.
 pub fn four_numbers(words: &mut Parts<'_>) -> Option<(u32, u32, u32, u32)>
     ensures { result ≡ spec.four_numbers words.old }
 {

@@ -1,12 +1,13 @@
-//! The parts of a text, as the words of a line.
+//! The parts of a text, such as the words of a line.
 
 ghost use Rattle.std.specs.Prelude.{◌≡◌, ◌==◌, ◌∷◌, position};
 ghost use Rattle.std.specs.Option.{option_map};
 ghost use Rattle.words.specs.Words.{parts, parts_left, next, after_next, is_end};
 
+use bstr::ByteSlice;
 use std::marker::Model;
 
-/// The parts that are left of a text: what stands between its bytes of one kind.
+/// The parts that are left of a text. Parts are what is between the separators.
 #[derive(Drop)]
 pub struct Parts<'a> {
     text: Option<&'a [u8]>,
@@ -24,7 +25,7 @@ impl<'a> Model for Parts<'a> {
 }
 
 impl<'a> Parts<'a> {
-    /// The parts of a text.
+    /// The parts of `text`, cut at each byte that equals `separator`.
     pub fn new(text: &'a [u8], separator: u8) -> Parts<'a>
         ensures { result ≡ parts separator text.now }
     {
@@ -34,7 +35,7 @@ impl<'a> Parts<'a> {
         }
     }
 
-    /// The next part, empty where there is none.
+    /// Takes the next part; an empty one if no part is left.
     pub fn next(&mut self) -> &'a [u8]
         ensures part { result.now ≡ next self.old }
         ensures left { self.new ≡ after_next self.old }
@@ -55,7 +56,8 @@ impl<'a> Parts<'a> {
     }
 }
 
-/// The first part of a text, and what is left after the separator behind it.
+/// The first part of a text, and the text after the first separator; `None` if there is no
+/// separator.
 pub(crate) fn first_part(text: &[u8], separator: u8) -> (&[u8], Option<&[u8]>)
     ensures { parts separator text.now ≡ result.0.now ∷ parts_left separator
         (option_map (λ t. t.now) result.1) }
@@ -63,15 +65,15 @@ pub(crate) fn first_part(text: &[u8], separator: u8) -> (&[u8], Option<&[u8]>)
     match first_place(text, separator) {
         None => (text, None),
         Some(end) => {
-            let (part, behind) = text.split_at(end);
-            (part, Some(&behind[1..]))
+            let (part, following) = text.split_at(end);
+            (part, Some(&following[1..]))
         }
     }
 }
 
-/// The place of the first byte of this kind. Parts are short: it looks at one byte after the other.
+/// The index of the first byte that equals `byte`; `None` if there is none.
 fn first_place(text: &[u8], byte: u8) -> Option<usize>
     ensures { result ≡ position (λ b. b == byte) text.now }
 {
-    text.iter().position(|b| *b == byte)
+    text.find_byte(byte)
 }

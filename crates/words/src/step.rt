@@ -1,4 +1,4 @@
-//! Steps in words.
+//! Steps as words.
 
 ghost use Rattle.std.specs.Prelude.{◌≡◌, ◌++◌, ◌∷◌, [], OnOk};
 ghost use Rattle.std.specs.Str.{bytes_eq};
@@ -12,9 +12,9 @@ use std::alloc::AllocError;
 use std::io;
 use std::io::Write;
 
-/// Reads a step, and no more.
+/// Reads a step; `None` if the words don't spell one, or if more words follow.
 pub fn step_of(words: &mut Parts<'_>) -> Option<Step>
-    ensures { result ≡ spec.step_of words.old }
+    ensures { result ≡ spec.step_of_words words.old }
 {
     let word = words.next();
     if is(word, "w") {
@@ -36,11 +36,11 @@ pub fn step_of(words: &mut Parts<'_>) -> Option<Step>
     None
 }
 
-/// Adds the words of a step.
+/// Adds the text of a step.
 ///
 /// # Errors
 ///
-/// Where there is no memory.
+/// If memory runs out.
 pub fn append_step(out: &mut Vec<u8>, step: Step) -> Result<(), AllocError>
     ensures { OnOk result (out.new.items ≡ out.old.items ++ spec.step_text step) }
 {
@@ -52,7 +52,7 @@ pub fn append_step(out: &mut Vec<u8>, step: Step) -> Result<(), AllocError>
     }
 }
 
-/// Adds a word of one letter, and numbers.
+/// Adds a word of one letter, and then each number after a space.
 fn append_letter(out: &mut Vec<u8>, letter: u8, numbers: &[u32]) -> Result<(), AllocError>
     ensures { OnOk result
         (out.new.items ≡ out.old.items ++ spec.text (letter ∷ []) numbers.now) }
@@ -61,7 +61,7 @@ fn append_letter(out: &mut Vec<u8>, letter: u8, numbers: &[u32]) -> Result<(), A
     append_numbers(out, numbers)
 }
 
-/// Adds a word and numbers, with one space before each. An error comes only where there is no memory.
+/// Adds a word, and then each number after a space. Fails only if memory runs out.
 pub fn push_words(out: &mut Vec<u8>, word: &str, numbers: &[u32]) -> io::Result<()>
     ensures { OnOk result (out.new.items ≡ out.old.items ++ spec.text word.now numbers.now) }
 {
@@ -70,7 +70,7 @@ pub fn push_words(out: &mut Vec<u8>, word: &str, numbers: &[u32]) -> io::Result<
     Ok(())
 }
 
-/// Adds numbers, with one space before each.
+/// Adds each number after a space.
 fn append_numbers(out: &mut Vec<u8>, numbers: &[u32]) -> Result<(), AllocError>
     ensures { OnOk result (out.new.items ≡ out.old.items ++ spec.text [] numbers.now) }
 {
@@ -81,7 +81,7 @@ fn append_numbers(out: &mut Vec<u8>, numbers: &[u32]) -> Result<(), AllocError>
     Ok(())
 }
 
-/// Whether a word is this text.
+/// Whether a word equals this text.
 pub fn is(word: &[u8], text: &str) -> bool
     ensures { result ≡ bytes_eq word.now text.now }
 {

@@ -1,10 +1,10 @@
-//! Texts that are put together from pieces.
+//! Texts that are built from pieces.
 
 ghost use Rattle.std.specs.Prelude.{◌≡◌, ◌++◌, OnOk, codes, decimal};
 
 use std::alloc::AllocError;
 
-/// What a call that adds a piece answers: an error only where there is no memory.
+/// The result of adding a piece: an error only if memory runs out.
 pub type Pushed = Result<(), AllocError>;
 
 /// Adds bytes.
@@ -23,7 +23,7 @@ pub fn push_text(out: &mut Vec<u8>, text: &str) -> Pushed
     push_bytes(out, text.as_bytes())
 }
 
-/// Adds a text behind a space.
+/// Adds a space and a text.
 pub fn push_word(out: &mut Vec<u8>, word: &str) -> Pushed
     ensures { OnOk result (out.new.items ≡ out.old.items ++ codes " " ++ word.now) }
 {
@@ -31,7 +31,7 @@ pub fn push_word(out: &mut Vec<u8>, word: &str) -> Pushed
     push_text(out, word)
 }
 
-/// Adds a number behind a text.
+/// Adds a text and a number.
 pub fn push_labelled(out: &mut Vec<u8>, label: &str, number: u64) -> Pushed
     ensures { OnOk result (out.new.items ≡ out.old.items ++ label.now ++ decimal number) }
 {

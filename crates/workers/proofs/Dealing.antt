@@ -7,7 +7,7 @@ use lib.ListN.{get_elem?}
 use Rattle.crossbeam_deque.specs.Tasks.{Pushes, Takes, Finds, Forks, Merges}
 use Rattle.crossbeam_deque.proofs.Lists.{at_set, at_snoc}
 use Rattle.workers.specs.declared.hand.Hand.{Hand}
-use Rattle.workers.specs.Hands.{weigh, weigh_below, one_at, hand, total, Knows, IsDealt, HasTaken, HasAll}
+use Rattle.workers.specs.Hands.{weigh, weigh_below, one_at, hand, total, KnowsCount, IsDealt, HasTaken, HasAllJobs}
 
 pub weigh-append : (h : ℕ → ℕ) (xs ys : List ℕ) → weigh h (xs ++ ys) ≡ weigh h xs + weigh h ys
 weigh-append h [] ys = omega arith
@@ -25,12 +25,12 @@ one_elsewhere x y other = grind (arith, nat_tests)
 pub one_here : (x : ℕ) → one_at x x ≡ 1
 one_here x = grind (arith, nat_tests)
 
--- a number that isn't below n weighs nothing there
+-- a number x that isn't below n isn't among the numbers below n
 pub one_at_above : (x n : ℕ) → n ≤ x → weigh_below (one_at x) n ≡ 0
 one_at_above x zero above = refl
 one_at_above x (suc n) above = let rest : weigh_below (one_at x) n ≡ 0 = one_at_above x n (omega arith) in let other : one_at x n ≡ 0 = one_elsewhere x n (omega arith) in omega arith
 
--- each number below n stands among them once
+-- a number x below n is among the numbers below n once
 pub one_below : (x n : ℕ) → x < n → weigh_below (one_at x) n ≡ 1
 one_below x zero below = absurd (omega arith)
 one_below x (suc n) below =
@@ -63,15 +63,15 @@ total_none : (f : Hand → ℕ) (views : List Hand) → ((j : ℕ) (u : Hand) �
 total_none f [] none = refl
 total_none f (x ∷ xs) none = let here : f x ≡ 0 = none 0 x refl in omega (arith, total_none f xs (λ j u e. none (suc j) u e))
 
--- where all others have nothing, one has what all have
+-- if all others have nothing, one has what all have
 only : (f : Hand → ℕ) (views : List Hand) (port : ℕ) (v : Hand) → get_elem? views port ≡ some v → ((j : ℕ) (u : Hand) → j ≢ port → get_elem? views j ≡ some u → f u ≡ 0) → total f views ≡ f v
 only f [] port v at others = absurd (some-ne-none v (sym at))
 only f (x ∷ xs) zero v at others = let same : x ≡ v = cc in let also : f x ≡ f v = ap f same in omega (arith, total_none f xs (λ j u e. others (suc j) u (omega arith) e))
 only f (x ∷ xs) (suc port) v at others = let here : f x ≡ 0 = others 0 x (omega arith) refl in omega (arith, only f xs port v at (λ j u other e. others (suc j) u (λ same. other (omega arith)) e))
 
-knows_set : (count : ℕ) (views : List Hand) (port : ℕ) (w : Hand) → Knows count w → ((j : ℕ) (u : Hand) → j ≢ port → get_elem? views j ≡ some u → Knows count u)
-    → (j : ℕ) (u : Hand) → get_elem? (set views port w) j ≡ some u → Knows count u
-knows_set count views port w mine others j u e = ⊎_elim (λ (x : (j ≡ port) × (w ≡ u)). subst (Knows count) x.1 mine)
+knows_set : (count : ℕ) (views : List Hand) (port : ℕ) (w : Hand) → KnowsCount count w → ((j : ℕ) (u : Hand) → j ≢ port → get_elem? views j ≡ some u → KnowsCount count u)
+    → (j : ℕ) (u : Hand) → get_elem? (set views port w) j ≡ some u → KnowsCount count u
+knows_set count views port w mine others j u e = ⊎_elim (λ (x : (j ≡ port) × (w ≡ u)). subst (KnowsCount count) x.1 mine)
     (λ (x : (j ≢ port) × (get_elem? views j ≡ some u)). others j u x.0 x.1) (at_set views port j w u e)
 
 -- a hand with every part is the only one with a part
@@ -79,8 +79,8 @@ alone : (items : List ℕ) (views : List Hand) (port : ℕ) (v : Hand) → IsDea
     → (j : ℕ) (u : Hand) → j ≢ port → get_elem? views j ≡ some u → u.parts ≡ 0
 alone items views port v h all at j u other e = let p = two (λ x. x.parts) views port j v u (λ same. other (sym same)) at e in let q = h.whole in omega arith
 
-starts_known : (j : ℕ) (u : Hand) → get_elem? (hand 8 0 [] ∷ []) j ≡ some u → Knows 0 u
-starts_known zero u e = let is : hand 8 0 [] ≡ u = cc in subst (Knows 0) is (record { dealt = λ _. refl; idle = λ _. refl })
+starts_known : (j : ℕ) (u : Hand) → get_elem? (hand 8 0 [] ∷ []) j ≡ some u → KnowsCount 0 u
+starts_known zero u e = let is : hand 8 0 [] ≡ u = cc in subst (KnowsCount 0) is (record { dealt = λ _. refl; idle = λ _. refl })
 starts_known (suc j) u e = absurd (some-ne-none u (sym e))
 
 pub starts : IsDealt [] (hand 8 0 [] ∷ [])
@@ -157,7 +157,7 @@ takes port v part xs items views _ _ h at = let w : Hand = hand v.parts v.count 
       },
     )
 
-pub finds : (port : ℕ) (v : Hand) → Finds IsDealt port v (HasAll v)
+pub finds : (port : ℕ) (v : Hand) → Finds IsDealt port v (HasAllJobs v)
 finds port v views h at all g =
     let same : v.count ≡ h.count = (h.knows port v at).dealt (omega arith) in
     let mine = only (λ u. weigh g u.taken) views port v at (λ j u other e. ap (weigh g) ((h.knows j u e).idle (alone [] views port v h all at j u other e))) in
@@ -175,7 +175,7 @@ hires port v part items views h at =
       whole = let p = total_set (λ u. u.parts) views port v l at in let q = h.whole in omega (arith, total_snoc (λ u. u.parts) vs r);
       once = λ g. let p = total_set (λ u. weigh g u.taken) views port v l at in let q = h.once g in omega (arith, total_snoc (λ u. weigh g u.taken) vs r);
       knows = λ j u e. ⊎_elim (λ x. knows_set h.count views port l (record { dealt = λ _. same; idle = λ none. absurd (omega arith) }) (λ j' u' other e'. h.knows j' u' e') j u x)
-          (λ (is : r ≡ u). subst (Knows h.count) is (record { dealt = λ _. same; idle = λ _. refl })) (at_snoc vs r u j e);
+          (λ (is : r ≡ u). subst (KnowsCount h.count) is (record { dealt = λ _. same; idle = λ _. refl })) (at_snoc vs r u j e);
     }
 
 pub comes_back : (port : ℕ) (v : Hand) (other : ℕ) (u : Hand) → 0 < v.parts → Merges IsDealt port v other u (hand (v.parts + u.parts) v.count (v.taken ++ u.taken)) (hand 0 0 [])

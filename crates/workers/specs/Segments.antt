@@ -10,6 +10,6 @@ use Rattle.cutoff.specs.Plans.{Planned}
 abbrev pub SharedRun : Type 0 → Type 0 → Type 0
 SharedRun R P = Arc (SegmentRun R P) Global
 
--- a run of a job begins from its entry, and has its steps
+-- a run of a job begins from the job's entry, and has its steps
 abbrev pub IsRunOf : {R P : Type 0} → Planned R P → SharedRun R P → Type 0
 IsRunOf job run = ((arc_value run).entry ≡ job.entry) × ((arc_value run).steps ≡ job.steps)

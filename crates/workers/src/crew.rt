@@ -1,16 +1,17 @@
-//! The crew: the caller deals the jobs' numbers to a deque, and works at it beside its thieves.
+//! The crew: the caller puts the jobs' numbers into a deque, and works on them together with its
+//! thieves.
 
 ghost use Rattle.std.specs.Prelude.{◌≡◌, ◌<◌, ◌≤◌, ◌-◌, [], length, vec_capacity, IfOk};
 ghost use denote.Param.Send.{IsSend, IsSync};
 ghost use Rattle.crossbeam_deque.specs.Handles.{view, IsPassOf, stealer_deque, worker_deque, worker_flavor, worker_view};
-ghost use Rattle.workers.specs.Hands.{hand, HasAll};
+ghost use Rattle.workers.specs.Hands.{hand, HasAllJobs};
 ghost use Rattle.workers.specs.Outcomes.{OneForEach};
 ghost use Rattle.workers.specs.Owner.{SameOwner};
 ghost use Rattle.workers.specs.Slots.{HasTray, IsAtWork};
 
 use crate::gate::Gate;
 use crate::hand::{ComesBack, Deals, Owner, Pops};
-use crate::job::{Done, Job};
+use crate::job::{Done, Runnable};
 use crate::slots::{Slots, put, put_all, under_keys, vacant};
 use crate::thief::{hire, run_job, steal_all};
 use std::alloc::{AllocError, Global};
@@ -21,7 +22,7 @@ use std::thread::Threads;
 /// A crew of the caller and its thieves.
 pub struct Crew;
 
-/// A deque into which the numbers of the jobs were dealt, in order.
+/// A new deque with the numbers of `jobs` jobs, in order.
 fn deal(alloc: Global, jobs: usize) -> Result<Owner, AllocError>
     ensures { IfOk result (λ owner. (worker_flavor owner ≡ 0)
         × (worker_view owner ≡ hand 8 jobs [])) }
@@ -35,8 +36,9 @@ fn deal(alloc: Global, jobs: usize) -> Result<Owner, AllocError>
     Ok(owner)
 }
 
-/// Takes jobs and runs them, until the deque is empty.
-fn work<W: Wait, J: Job, G: Gate<W>>(
+/// The caller takes jobs from the deque and runs them, until the deque is empty. The outcomes go
+/// into `slots`.
+fn work<W: Wait, J: Runnable, G: Gate<W>>(
     rt: &W,
     alloc: Global,
     gate: &G,
@@ -50,7 +52,7 @@ where
     requires ready { IsAtWork J.gives jobs.now (worker_view owner) slots.items }
     ensures same { SameOwner owner result.0 }
     ensures done { IsAtWork J.gives jobs.now (worker_view result.0) result.1.items }
-    ensures all { HasAll (worker_view result.0) }
+    ensures all { HasAllJobs (worker_view result.0) }
 {
     while let Some(index) = owner.pop_as::<Pops>() {
         let outcome = run_job(rt, alloc, gate, jobs, index);
@@ -62,10 +64,11 @@ where
 /// What the caller works with: its end of the deque, and a slot for the outcome of each job.
 type Bench<R> = (Owner, Slots<R>);
 
-/// Runs the jobs that are in the deque, with thieves in threads of their own. What a thief has taken
-/// goes over to the owner. A thief for which there is no memory is done without; one for which no
-/// thread can be made finds an empty deque, since the caller then works first.
-fn share<R: Threads + Wait + Sync, J: Job + Sync, G: Gate<R> + Sync>(
+/// Runs the jobs in the deque, with at most `thieves` thieves, each in a thread of its own. The
+/// caller takes over the jobs of each thief, with their outcomes. If there is no memory for a
+/// thief, no more thieves are used. If no thread can be made for one, the caller works first, and
+/// that thief then finds the deque empty.
+fn share<R: Threads + Wait + Sync, J: Runnable + Sync, G: Gate<R> + Sync>(
     rt: &R,
     alloc: Global,
     gate: &G,
@@ -111,7 +114,7 @@ where
     (owner, slots)
 }
 
-/// How many thieves find work: of so many jobs the caller runs one itself.
+/// How many of the thieves can find a job, since the caller takes one itself.
 fn needed(thieves: u32, jobs: usize) -> u32
     ensures { result ≤ thieves }
 {
@@ -123,14 +126,15 @@ fn needed(thieves: u32, jobs: usize) -> u32
 }
 
 impl Crew {
-    /// Runs each job once: the caller and its thieves take the jobs from one deque, in order. Gives
-    /// one outcome for each job, in the order of the jobs. Each job is offered to the gate by the
-    /// thread that is about to run it.
+    /// Runs each job once: the caller and its thieves take jobs from one deque, in order. Returns
+    /// one outcome for each job, in the order of the jobs. Each job is first offered to the gate,
+    /// by the thread that is about to run it.
     ///
-    /// There are at most 4 thieves, and no more than can find a job. One that can't be started is
-    /// done without, and with none the caller runs all jobs. Room for all outcomes is had before the first job is run; where it is
-    /// refused, the jobs are dropped. A job whose run is refused memory has the outcome `NoMemory`.
-    pub fn run<R: Threads + Wait + Sync, J: Job + Sync + Drop, G: Gate<R> + Sync>(
+    /// At most `thieves` thieves are used (up to 4), and no more than can find a job. A thief that
+    /// can't be started isn't used; without thieves, the caller runs all jobs. Memory for all
+    /// outcomes is reserved before the first job runs; without that memory the call fails, and the
+    /// jobs are dropped. A job that runs out of memory has the outcome `NoMemory`.
+    pub fn run<R: Threads + Wait + Sync, J: Runnable + Sync + Drop, G: Gate<R> + Sync>(
         rt: &R,
         alloc: Global,
         jobs: Vec<J>,

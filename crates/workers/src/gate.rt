@@ -1,10 +1,10 @@
-//! Gates, which see each job before it is run.
+//! Gates, which are offered each job before it runs.
 
 use std::sync::Wait;
 
-/// What is told of each job, once, by the thread that is about to run it.
+/// A gate: each job is offered to it once, by the thread that is about to run the job.
 pub trait Gate<W: Wait> {
-    /// The job with this index is about to be run. It may wait.
+    /// The job with this index is about to be run. The call may wait.
     fn offer(&self, rt: &W, index: usize);
 }
 

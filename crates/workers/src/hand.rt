@@ -1,19 +1,20 @@
-//! The deque of the jobs' numbers: what each pass knows, and what its calls tell.
+//! The deque of the jobs' numbers: what each pass knows, and what the calls of the deque guarantee.
 
 use crossbeam_deque::protocol::{Join, Outcome, Protocol, Split};
 use crossbeam_deque::{Pass, Stealer, Worker};
 use std::alloc::Global;
 use std::collections::LinkedList;
 
-/// What a pass knows: its parts of the right to know the whole, how many jobs were dealt, and which
-/// it has taken. No value of it is made.
+/// What a pass knows: how many of the 8 parts it has, how many jobs were dealt, and which jobs it
+/// has taken. A pass with all 8 parts is the only one that has taken any jobs. For contracts alone:
+/// no `Hand` is ever made.
 pub(crate) struct Hand {
     pub parts: u32,
     pub count: usize,
     pub taken: LinkedList<usize>,
 }
 
-/// The rule of the deque: each job's number is in it or with one pass, once.
+/// The rule of the deque: each job's number is in the deque, or was taken with one pass, once.
 pub(crate) struct Dealt;
 
 impl Protocol<usize, Hand> for Dealt {
@@ -37,18 +38,19 @@ impl Outcome<usize, Hand> for Deals {
     ghost then = { λ v xs w. w ≡ hand v.parts (v.count + 1) v.taken };
 }
 
-/// A pop by the owner, who knows that all is taken where it has every part and finds nothing.
+/// A pop by the owner. If the owner has every part and finds the deque empty, it has taken all
+/// jobs.
 pub(crate) struct Pops;
 
 impl Outcome<usize, Hand> for Pops {
-    ghost use Rattle.workers.specs.Hands.{HasTaken, HasAll};
+    ghost use Rattle.workers.specs.Hands.{HasTaken, HasAllJobs};
 
     ghost then = { HasTaken };
 
-    ghost empty = { HasAll };
+    ghost empty = { HasAllJobs };
 }
 
-/// A steal.
+/// A steal by a thief.
 pub(crate) struct Steals;
 
 impl Outcome<usize, Hand> for Steals {
@@ -57,7 +59,7 @@ impl Outcome<usize, Hand> for Steals {
     ghost then = { HasTaken };
 }
 
-/// A pass of one part, which has taken nothing, is made of the owner's.
+/// A new pass with one of the owner's parts. It has taken no job.
 pub(crate) struct Hires;
 
 impl Split<Hand> for Hires {
@@ -69,7 +71,7 @@ impl Split<Hand> for Hires {
     ghost right = { λ v. hand 1 v.count [] };
 }
 
-/// A pass comes back, and what it has taken goes over.
+/// A thief's pass returns to the owner, with the jobs that it has taken.
 pub(crate) struct ComesBack;
 
 impl Join<Hand> for ComesBack {
@@ -81,7 +83,7 @@ impl Join<Hand> for ComesBack {
     ghost spent = { hand 0 0 [] };
 }
 
-/// The caller's end of the deque, at which it deals the jobs' numbers and takes some.
+/// The caller's end of the deque. The caller deals the jobs' numbers here, and takes some itself.
 pub(crate) type Owner = Worker<usize, Global, Hand, Dealt>;
 
 /// A thief's end of the deque.

@@ -1,14 +1,14 @@
-//! Jobs, and what they come to.
+//! Jobs and their outcomes.
 
 ghost use Rattle.std.specs.Prelude.{◌≡◌, IfOk};
 
 use std::alloc::{AllocError, Global};
 
 /// A job that any thread can run.
-pub trait Job {
-    /// What names the job.
+pub trait Runnable {
+    /// The type of a job's key, which names the job.
     type Key;
-    /// What a run of it gives.
+    /// The type of what a job gives when it runs.
     type Run;
 
     ghost named: { Self → Self.Key };
@@ -24,18 +24,18 @@ pub trait Job {
         ensures { IfOk result (gives self.now) };
 }
 
-/// What a job came to.
+/// The outcome of a job.
 #[derive(Debug, PartialEq, Eq, Drop)]
-pub enum Outcome<R> {
-    /// It ran, and gave this.
+pub enum JobOutcome<R> {
+    /// The job ran, with this result.
     Ran(R),
-    /// Its run was refused memory.
+    /// The job ran out of memory.
     NoMemory,
 }
 
-/// A job's outcome, under the job's key.
+/// A job's outcome, with the job's key.
 #[derive(Debug, PartialEq, Eq, Drop)]
 pub struct Done<K, R> {
     pub key: K,
-    pub outcome: Outcome<R>,
+    pub outcome: JobOutcome<R>,
 }

@@ -1,4 +1,5 @@
-//! Jobs run by a crew: the caller and its thieves share one deque of the jobs' numbers. Those of a chart's plan are such jobs.
+//! A crew runs jobs: the caller and its thieves take the jobs' numbers from one deque. The jobs of
+//! a chart's plan can be run in this way.
 #![tactic(auto)]
 
 mod crew;
@@ -10,3 +11,5 @@ mod slots;
 mod thief;
 
 pub use crew::Crew;
+pub use gate::{Gate, NoGate};
+pub use job::{Done, JobOutcome};

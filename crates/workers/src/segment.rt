@@ -1,4 +1,4 @@
-//! The jobs of a chart's plan are jobs of a crew.
+//! A crew can run the jobs of a chart's plan.
 
 use crate::job;
 use checkpoints::run::{Run, run_segment};
@@ -8,7 +8,7 @@ use schedule_trie::trie::SegKey;
 use std::alloc::{AllocError, Global};
 use std::sync::Arc;
 
-impl<R: Register> job::Job for Job<R> {
+impl<R: Register> job::Runnable for Job<R> {
     ghost use Rattle.cutoff.specs.Plans.{key_of};
     ghost use Rattle.workers.specs.Segments.{IsRunOf};
 
@@ -21,11 +21,11 @@ impl<R: Register> job::Job for Job<R> {
     ghost gives = { IsRunOf };
 
     fn key(&self) -> SegKey {
-        self.key()
+        self.key
     }
 
     fn run(&self, alloc: Global) -> Result<Arc<Run<R>>, AllocError> {
-        let run = run_segment(alloc, self.entry(), self.steps())?;
+        let run = run_segment(alloc, &self.entry, self.steps.as_slice())?;
         Ok(Arc::new(alloc, run)?)
     }
 }

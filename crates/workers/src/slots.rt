@@ -1,17 +1,17 @@
-//! The jobs' outcomes, each in the place of its job, as they come.
+//! The jobs' outcomes, each in its job's slot.
 
 ghost use Rattle.std.specs.Prelude.{◌≡◌, ◌<◌, ◌≤◌, [], length, replicate, slice_set, vec_capacity, vec_len, IfOk, Some, None, All};
 ghost use Rattle.workers.specs.Outcomes.{OneForEach};
 ghost use Rattle.workers.specs.Slots.{AreFull, with_all};
 
-use crate::job::{Done, Job, Outcome};
+use crate::job::{Done, JobOutcome, Runnable};
 use crate::thief::Taken;
 use std::alloc::{AllocError, Global};
 
-/// A slot for each job, with nothing in it until the job's outcome is known.
-pub(crate) type Slots<R> = Vec<Option<Outcome<R>>>;
+/// A slot for each job, empty until the job's outcome is known.
+pub(crate) type Slots<R> = Vec<Option<JobOutcome<R>>>;
 
-/// Slots with nothing in them.
+/// `count` empty slots.
 pub(crate) fn vacant<R>(alloc: Global, count: usize) -> Result<Slots<R>, AllocError>
     ensures { IfOk result (λ slots. slots.items ≡ replicate count None) }
 {
@@ -23,14 +23,14 @@ pub(crate) fn vacant<R>(alloc: Global, count: usize) -> Result<Slots<R>, AllocEr
 }
 
 /// Puts an outcome into the slot of the job with this index.
-pub(crate) fn put<R: Drop>(slots: &mut Slots<R>, index: usize, outcome: Outcome<R>)
+pub(crate) fn put<R: Drop>(slots: &mut Slots<R>, index: usize, outcome: JobOutcome<R>)
     requires { index < length slots.old.items }
     ensures { slots.new.items ≡ slice_set slots.old.items index (Some outcome) }
 {
     slots[index] = Some(outcome);
 }
 
-/// Puts the outcomes of a tray into their slots.
+/// Puts each outcome of a tray into its job's slot.
 pub(crate) fn put_all<R: Drop>(slots: &mut Slots<R>, tray: Vec<Taken<R>>)
     requires { All (λ t. t.index < length slots.old.items) tray.items }
     ensures { slots.new.items ≡ with_all slots.old.items tray.items }
@@ -40,8 +40,9 @@ pub(crate) fn put_all<R: Drop>(slots: &mut Slots<R>, tray: Vec<Taken<R>>)
     }
 }
 
-/// The outcomes of all slots in the order of the jobs, each under its job's key.
-pub(crate) fn under_keys<J: Job>(
+/// The outcomes of all slots, in the order of the jobs, each with its job's key. They are put into
+/// `all`, which is empty and has memory reserved for them.
+pub(crate) fn under_keys<J: Runnable>(
     jobs: &[J],
     slots: Slots<J::Run>,
     mut all: Vec<Done<J::Key, J::Run>>,

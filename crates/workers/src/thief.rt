@@ -7,7 +7,7 @@ ghost use Rattle.workers.specs.Slots.{HasTray, IsOutcomeAt};
 
 use crate::gate::Gate;
 use crate::hand::{Hires, Other, Owner, Part, Steals};
-use crate::job::{Job, Outcome};
+use crate::job::{JobOutcome, Runnable};
 use crossbeam_deque::Steal;
 use std::alloc::{AllocError, Global};
 use std::sync::Wait;
@@ -16,7 +16,7 @@ use std::sync::Wait;
 #[derive(Drop)]
 pub(crate) struct Taken<R> {
     pub index: usize,
-    pub outcome: Outcome<R>,
+    pub outcome: JobOutcome<R>,
 }
 
 /// What a thief works with: its end of the deque, its pass, and a tray for the outcomes.
@@ -27,7 +27,7 @@ pub(crate) struct Thief<R> {
     pub tray: Vec<Taken<R>>,
 }
 
-/// A thief with one part of the owner's, and room for the outcomes of this many jobs.
+/// A new thief, with one of the owner's parts, and memory reserved for the outcomes of `jobs` jobs.
 pub(crate) fn hire<R: Drop>(
     alloc: Global,
     owner: &mut Owner,
@@ -49,26 +49,27 @@ pub(crate) fn hire<R: Drop>(
     Ok(Thief { deque, pass, tray })
 }
 
-/// Offers a job to the gate, and runs it.
-pub(crate) fn run_job<W: Wait, J: Job, G: Gate<W>>(
+/// Offers the job with this index to the gate, and then runs it.
+pub(crate) fn run_job<W: Wait, J: Runnable, G: Gate<W>>(
     rt: &W,
     alloc: Global,
     gate: &G,
     jobs: &[J],
     index: usize,
-) -> Outcome<J::Run>
+) -> JobOutcome<J::Run>
     requires { index < length jobs.now }
     ensures { IsOutcomeAt J.gives jobs.now index result }
 {
     gate.offer(rt, index);
     match jobs[index].run(alloc) {
-        Ok(run) => Outcome::Ran(run),
-        Err(AllocError) => Outcome::NoMemory,
+        Ok(run) => JobOutcome::Ran(run),
+        Err(AllocError) => JobOutcome::NoMemory,
     }
 }
 
-/// Takes jobs and runs them, until the deque is empty.
-pub(crate) fn steal_all<W: Wait, J: Job, G: Gate<W>>(
+/// The thief takes jobs from the deque and runs them, until the deque is empty. The outcomes go on
+/// its tray.
+pub(crate) fn steal_all<W: Wait, J: Runnable, G: Gate<W>>(
     rt: &W,
     alloc: Global,
     gate: &G,

@@ -1,5 +1,5 @@
-//! Cursors and edits: before, at and behind a cursor, on its branch, on one that shares the cell,
-//! and on one that doesn't.
+//! How a cursor moves at edits before, at and after it. The edits are of the cursor's branch, of a
+//! branch that shares the edited cell, and of one that doesn't.
 
 use super::commands::{detach, fork, insert, remove, replace};
 use super::{Ask, tried};
@@ -17,8 +17,8 @@ const LIMITS: Limits = Limits {
     log: 64,
 };
 
-/// The branches: `a` shares the first two of `main`'s three cells and has a third of its own; `b`'s
-/// three are its own.
+/// The names of three branches of three cells. `a` shares the first two cells of `main`, and has a
+/// third of its own; `b` has three of its own.
 #[derive(Clone, Copy)]
 struct Branches<'a> {
     main: &'a Name,
@@ -26,11 +26,11 @@ struct Branches<'a> {
     b: &'a Name,
 }
 
-/// Places of four cursors on `main`, on `a` and on `b`.
+/// The places of four cursors each on `main`, on `a` and on `b`.
 type Places = ([u32; 4], [u32; 4], [u32; 4]);
 
-/// The first row that goes wrong where cursors stand on the places 0 to 3 of each branch, and on
-/// these behind an edit.
+/// Moves cursors to places 0 to 3 of each branch, makes an edit, and compares the cursors' places
+/// with the given ones. Returns the index of the first row with a wrong result.
 fn first_wrong_move(
     alloc: Global,
     on: Branches<'_>,
@@ -53,11 +53,11 @@ fn first_wrong_move(
     tried(alloc, LIMITS, &[READ, GO, GO], &rows, 29)
 }
 
-/// Where no cursor moves.
+/// The places of four cursors that don't move.
 const STAY: [u32; 4] = [0, 1, 2, 3];
 
-/// Edits, and where the cursors of the places 0 to 3 of each branch stand behind them: what is
-/// inserted raises those behind it, what is removed lowers them, and what is replaced moves none.
+/// Edits, and the places to which each moves the cursors at places 0 to 3 of each branch. An insert
+/// raises the cursors after it, a removal lowers them, and a replacement moves none.
 fn moves(on: Branches<'_>) -> [(Command, Places); 14] {
     [
         (insert(on.main, 0, READ), ([0, 2, 3, 4], [0, 2, 3, 4], STAY)),
@@ -77,7 +77,7 @@ fn moves(on: Branches<'_>) -> [(Command, Places); 14] {
     ]
 }
 
-/// The first edit behind which a cursor stands elsewhere.
+/// The index of the first edit after which a cursor is at a wrong place.
 fn first_wrong_edit(alloc: Global, on: Branches<'_>) -> Result<Option<usize>, Refusal> {
     let rows = moves(on);
     for (i, (edit, places)) in rows.iter().enumerate() {

@@ -1,7 +1,7 @@
-//! Refusals come in their order: in each row the next refusal that the command can meet holds as
-//! well.
+//! Refusals are checked in order. In each test the command is refused for one reason, although the
+//! next reason in its row of this table holds too.
 //!
-//! | Command | Its refusals, in order; behind each the next one that holds too |
+//! | Command | Its refusals, in order; at each, the next one holds too |
 //! |---|---|
 //! | `join`, `leave`, `seek`, `back`, `break` | LogFull, NoSession, Newer |
 //! | `clear` | LogFull, NoSession, Newer, NoBreak |
@@ -12,7 +12,8 @@
 //! | `detach` | LogFull, NoSession, Newer, NoBranch, Full |
 //! | `drop` | LogFull, NoSession, Newer, NoBranch, LastBranch, Occupied |
 //!
-//! A `fork` is refused as BadName before NoPlace too: a name that is taken is no bad one.
+//! A `fork` is also refused as BadName before NoPlace. NameTaken and BadName never hold together: a
+//! name that is taken isn't a bad one.
 
 ghost use Rattle.std.specs.Prelude.{◌<◌};
 
@@ -27,11 +28,11 @@ use sessions::command::Command;
 use sessions::reply::Reply;
 use views::breakpoint::Break;
 
-/// A step that doesn't fit: process 1 writes.
+/// A step that doesn't fit: process 1 doesn't write.
 const BAD: Step = Step::Write { p: 1, v: 0 };
 
-/// Edits just behind so many cells of a branch, and a fork there.
-fn behind(branch: &Name, cells: u32, step: Step, name: &Name) -> [Command; 4]
+/// Three edits and a fork, each at its first place past the end of a branch of `cells` cells.
+fn following(branch: &Name, cells: u32, step: Step, name: &Name) -> [Command; 4]
     requires { cells < 100 }
 {
     [
@@ -42,7 +43,8 @@ fn behind(branch: &Name, cells: u32, step: Step, name: &Name) -> [Command; 4]
     ]
 }
 
-/// The commands of any session, refused for every late reason that they can meet.
+/// Commands that any session may give. If one can be refused for a late reason, such a reason
+/// holds.
 fn open_commands(main: &Name, zed: &Name) -> [Command; 7] {
     [
         Command::Join,
@@ -55,7 +57,7 @@ fn open_commands(main: &Name, zed: &Name) -> [Command; 7] {
     ]
 }
 
-/// The commands of a session that has joined, so too.
+/// The same for commands that only a session that has joined may give.
 fn own_commands(zed: &Name) -> [Command; 6] {
     [
         Command::Leave,
@@ -67,7 +69,8 @@ fn own_commands(zed: &Name) -> [Command; 6] {
     ]
 }
 
-/// Commands that miss their guards: those of any session, and those of one that has joined.
+/// Commands to give with a guard that fails: those of any session, and those of one that has
+/// joined.
 #[derive(Drop)]
 struct Early {
     open: [Command; 7],
@@ -81,7 +84,7 @@ fn early_commands(main: &Name, zed: &Name) -> Early {
     }
 }
 
-/// A log that is full after one command.
+/// Rows for a log that is full after one command.
 fn full_rows(early: &Early) -> [Ask<'_>; 8] {
     [
         Ask::Replies(Command::Join, Reply::Joined),
@@ -107,8 +110,10 @@ fn a_log_of_one_entry(rt: HostRuntime) {
     none_wrong(&rt, tried(rt.alloc(), limits, &[], &rows, 1));
 }
 
-/// Commands that are refused late in a book with one branch of three cells, room for no more of
-/// either, and session 0's cursor on it: for want of a branch, of a place, and for each reason.
+/// Commands that are refused late, for a reason that is checked after their guards. The book has
+/// one branch and three cells, as many as its limits allow, and session 0's cursor is on the
+/// branch. `branchless` commands name a missing branch, `placeless` ones a missing place; `others`
+/// are refused for the reasons given with them.
 #[derive(Drop)]
 struct Late {
     branchless: [Command; 4],
@@ -133,13 +138,13 @@ fn late_commands(main: &Name, zed: &Name, new: &Name, bad: &Name) -> Late {
         (Command::Clear(Break::Void), Refusal::NoBreak),
     ];
     Late {
-        branchless: behind(zed, 9, READ, main),
-        placeless: behind(main, 3, READ, new),
+        branchless: following(zed, 9, READ, main),
+        placeless: following(main, 3, READ, new),
         others,
     }
 }
 
-/// Commands that miss their guards, and commands that are refused late.
+/// Commands to give with a guard that fails, and commands that are refused late.
 #[derive(Drop)]
 struct Refused {
     early: Early,

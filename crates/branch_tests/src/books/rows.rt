@@ -1,4 +1,4 @@
-//! Worked rows: drops, seeks, looks, and runs made elsewhere.
+//! Rows worked out by hand: drops, seeks, looks, and a run that is made elsewhere.
 
 use super::commands::{drop_branch, fork, go, remove};
 use super::{Ask, tried};
@@ -28,7 +28,7 @@ const OVERLAPPED: [Step; 6] = [
     GO,
 ];
 
-/// A branch that a cursor stands on, and then none.
+/// A branch can't be dropped while a cursor is on it, and is dropped when none is.
 fn drop_rows(main: &Name, a: &Name, b: &Name) -> [Ask<'static>; 9] {
     [
         Ask::Replies(Command::Join, Reply::Joined),
@@ -49,7 +49,7 @@ fn drops(rt: HostRuntime) {
     none_wrong(&rt, tried(rt.alloc(), LIMITS, &[READ, GO, GO], &rows, 8));
 }
 
-/// Seeks and their way back, from the beginning of a branch.
+/// Seeks from the beginning of a branch, and back.
 fn seek_rows(main: &Name) -> [Ask<'static>; 20] {
     let on_bit = Break::Bit(0, 1);
     [
@@ -87,23 +87,20 @@ fn seeks(rt: HostRuntime) {
 
 fn verdict(branch: &Name, place: u32) -> Query {
     Query::Verdict {
-        branch: *branch,
-        place,
+        b: *branch,
+        k: place,
     }
 }
 
-/// Looks that are refused, and pages.
+/// Looks that are refused, and looks that give pages.
 fn look_rows(main: &Name, zed: &Name) -> [Ask<'static>; 7] {
-    let state = Query::State {
-        branch: *zed,
-        place: 7,
-    };
+    let state = Query::State { b: *zed, k: 7 };
     [
         Ask::Hides(Query::Cursor { who: 16 }, Refusal::NoSession),
         Ask::Hides(Query::Cursor { who: 0 }, Refusal::NoSession),
         Ask::Hides(state, Refusal::NoBranch),
         Ask::Hides(verdict(main, 7), Refusal::NoPlace),
-        Ask::Hides(Query::Steps { branch: *zed }, Refusal::NoBranch),
+        Ask::Hides(Query::Steps { b: *zed }, Refusal::NoBranch),
         Ask::Shows(
             verdict(main, 6),
             b"0: verdict main 6 of 6\n  5 p1 0 fresh\n",

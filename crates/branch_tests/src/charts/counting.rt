@@ -1,27 +1,28 @@
-//! A safe bit that counts the calls which make steps.
+//! A safe bit that counts the calls that make steps.
 
-use frames::flat::FlatStack;
 use frames::register::{Behaves, Register};
 use frames::safe::{Safe, SafePoint};
-use frames::types::{Action, Op, Outcome, Progress};
+use frames::types::{Action, Next, Op, Stack, Turned};
 use safe_bit::{Place, Store};
-use std::cell::Cell;
+use std::alloc::Global;
+use std::sync::atomic::{AtomicU64, Ordering};
 
-/// A safe bit, with a count of the calls of `begin_on` and `go_on` that lies outside of every store. All of them are equal.
+/// A safe bit that counts the calls of `begin` and `go`. The count lies outside of every store, and
+/// all such bits are equal.
 #[derive(Clone, Copy)]
 pub(crate) struct Counting<'a> {
-    calls: &'a Cell<u32>,
+    calls: &'a AtomicU64,
 }
 
 impl<'a> Counting<'a> {
-    /// A register that counts there.
-    pub(crate) fn new(calls: &'a Cell<u32>) -> Counting<'a> {
+    /// A safe bit that counts in `calls`.
+    pub(crate) fn new(calls: &'a AtomicU64) -> Counting<'a> {
         Counting { calls }
     }
 
-    /// One call more.
+    /// Counts one more call.
     fn count(&self) {
-        self.calls.set(self.calls.get().wrapping_add(1));
+        self.calls.fetch_add(1, Ordering::SeqCst);
     }
 }
 
@@ -51,7 +52,7 @@ impl Behaves for Counting<'_> {
 
     type Pending = SafePoint;
 
-    ghost is = { λ _. safe_behaviour };
+    ghost behaviour = { λ _. safe_behaviour };
 }
 
 impl Register for Counting<'_> {
@@ -91,44 +92,35 @@ impl Register for Counting<'_> {
         Safe.init(store, at, value);
     }
 
-    fn begin_on(
-        &self,
-        store: &mut Store,
-        at: Place,
-        who: u32,
-        op: Op,
-        stack: &mut FlatStack,
-    ) -> Option<Outcome> {
+    fn begin(&self, store: &mut Store, at: Place, who: u32, op: Op) -> Next<SafePoint> {
         self.count();
-        Safe.begin_on(store, at, who, op, stack)
+        Safe.begin(store, at, who, op)
     }
 
-    fn go_on(
+    fn go(
         &self,
         store: &mut Store,
         at: Place,
-        who: u32,
-        stack: &mut FlatStack,
-        first: usize,
+        pending: SafePoint,
         choice: bool,
-    ) -> Progress {
+    ) -> Turned<SafePoint> {
         self.count();
-        Safe.go_on(store, at, who, stack, first, choice)
+        Safe.go(store, at, pending, choice)
     }
 
-    fn pending(&self, stack: &FlatStack, first: usize, who: u32) -> Option<SafePoint> {
-        Safe.pending(stack, first, who)
-    }
-
-    fn lay(&self, pending: &SafePoint, stack: &mut FlatStack) {
-        Safe.lay(pending, stack);
+    fn stack(&self, alloc: Global, pending: &SafePoint) -> Stack {
+        Safe.stack(alloc, pending)
     }
 
     fn action(&self, pending: &SafePoint, at: Place) -> Action {
         Safe.action(pending, at)
     }
 
-    ghost tells = { λ _. safe_tells };
+    fn pending(&self, stack: &Stack, first: usize, who: u32) -> Option<SafePoint> {
+        Safe.pending(stack, first, who)
+    }
+
+    ghost reports = { λ _. safe_tells };
 
     ghost lawful = { λ _. safe_lawful };
 

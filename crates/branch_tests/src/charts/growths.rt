@@ -1,5 +1,5 @@
-//! Rows where memory may be refused. A call that is refused it is made again, and then answers as
-//! if it hadn't been made before; only the runs that it stored by then are replayed no more.
+//! Rows in which memory may run out. A call that ran out of memory is made again, and then has the
+//! result that it would have had before, except that it doesn't replay the runs that it had stored.
 
 ghost use Rattle.frames.specs.SafeBit.{safe_behaviour};
 ghost use Rattle.frames.specs.Recorded.{AllFit};
@@ -9,14 +9,14 @@ use crate::given::{Branch, none_wrong};
 use frames::types::Step;
 use schedule_trie::refusal::Refusal;
 use std::alloc::Global;
-use std::cell::Cell;
 use std::process::Abort;
+use std::sync::atomic::AtomicU64;
 
-/// How often a call is made at most: more often than growths are refused in a row.
+/// How often a call is made at most: more often than the allocator refuses in a row.
 const TRIES: u32 = 10;
 
-/// The first of these rows that goes wrong in a chart of these steps; none where it isn't opened for
-/// want of memory.
+/// The index of the first row that goes wrong in a chart of these steps; `None` if none does, or if
+/// there is no memory for the chart.
 fn tried(
     rt: &impl Abort,
     alloc: Global,
@@ -26,7 +26,7 @@ fn tried(
 ) -> Result<Option<usize>, Refusal>
     requires { AllFit safe_behaviour steps.now }
 {
-    let calls = Cell::new(0);
+    let calls = AtomicU64::new(0);
     match bench_of(alloc, &calls, steps, wanted, TRIES) {
         Ok(mut bench) => bench.first_wrong(rt, rows),
         Err(Refusal::Memory) => Ok(None),
@@ -37,14 +37,14 @@ fn tried(
 #[test]
 fn late_run_wanting_memory(rt: HostRuntime) {
     let mut rows = LATE;
-    // (the settle may have stored the run before it was refused memory)
+    // the settle may have stored the run before memory ran out
     rows[2] = (Branch::Main, Ask::Settle(1, 0, 1));
     let steps = [step_of(Kind::Read)];
     none_wrong(&rt, tried(&rt, rt.alloc(), &steps, Wanted::All, &rows));
 }
 
-/// A settle, one behind an edit, which may have stored runs before it was refused memory, and a plan
-/// between them.
+/// A settle; an edit, a plan and a second settle; and a third one, which replays nothing. The first
+/// two may have stored runs before memory ran out, and then replay fewer steps.
 const SETTLES: [Row; 6] = [
     (Branch::Main, Ask::Settle(1000, 0, 1000)),
     (Branch::Main, Ask::Replace(10, Kind::Go1)),

@@ -1,4 +1,4 @@
-//! Old runs, offered under every key of a chart whose branches are dropped and forked in turn.
+//! Old runs are offered at every key of a chart whose branches are dropped and forked in turn.
 
 ghost use Rattle.std.specs.Prelude.{◌≡◌, true};
 ghost use Rattle.frames.specs.Configuration.{fits_step};
@@ -23,17 +23,18 @@ use views::page::page_text;
 use views::query::Query;
 use views::slip::Slip;
 
-/// More keys than segments.
+/// Runs are offered at the keys below this number, which are more than there are segments.
 const KEYS: SegKey = 8;
 
-/// The segment of a branch below the read that all share: one write, of 1 or of 0.
+/// The segment of a branch that follows the read that all branches share: one write, of 1 or of 0.
 #[derive(Clone, Copy)]
 struct Piece {
     key: SegKey,
     is_one: bool,
 }
 
-/// The segments that there are, and whether a run is stored of the one that all share.
+/// The segment that all branches share, whether a run is stored at it, and the segments of `a` and
+/// `b`.
 #[derive(Clone, Copy)]
 struct Pieces {
     shared: SegKey,
@@ -42,14 +43,14 @@ struct Pieces {
     b: Option<Piece>,
 }
 
-/// A run of such a write behind the read; its segment may be gone.
+/// A run of a write after the read. The segment that the run was made for may be gone.
 #[derive(Drop)]
 struct Old {
     is_one: bool,
     run: Arc<Run<Safe>>,
 }
 
-/// A chart, what it has to be made of, and all runs that were made of it.
+/// A chart, its expected segments, and all runs that were made of its jobs.
 #[derive(Drop)]
 struct Shelf {
     chart: Chart<Safe>,
@@ -63,7 +64,7 @@ fn write_of(is_one: bool) -> Step
     step_of(if is_one { Kind::Write1 } else { Kind::Write0 })
 }
 
-/// What the rule says of a run under the key of a piece; none where the piece has another key.
+/// The expected result of installing a run at `key`, if the piece has that key; `None` if not.
 fn told_of(
     piece: Option<Piece>,
     key: SegKey,
@@ -78,31 +79,31 @@ fn told_of(
     }
 }
 
-/// What an install of a run of a write answers under a key: Gone where no segment has it, Installed
-/// where the segment is of that write and a run is stored above.
-fn told(pieces: Pieces, key: SegKey, is_one: bool) -> Installation {
+/// The expected result of installing a run of a write at a key: Gone if no segment has the key,
+/// Installed if its segment is that write and a run is stored at the shared read, and else Stale.
+fn reported(pieces: Pieces, key: SegKey, is_one: bool) -> Installation {
     let of_a = told_of(pieces.a, key, pieces.is_settled, is_one);
     let of_b = told_of(pieces.b, key, pieces.is_settled, is_one);
     match (of_a, of_b) {
-        (Some(told), _) | (_, Some(told)) => told,
+        (Some(reported), _) | (_, Some(reported)) => reported,
         _ if key == pieces.shared => Installation::Stale,
         _ => Installation::Gone,
     }
 }
 
-/// Whether an old run is answered so under each key.
+/// Whether the install of an old run has the expected result at each key.
 fn is_told(chart: &mut Chart<Safe>, pieces: Pieces, old: &Old) -> Result<bool, Refusal> {
     let mut all = true;
     for key in 0..KEYS {
         let Ok(run) = Arc::try_clone(&old.run) else {
             return Err(Refusal::Memory);
         };
-        all &= chart.install(key, run) == told(pieces, key, old.is_one);
+        all &= chart.install(key, run) == reported(pieces, key, old.is_one);
     }
     Ok(all)
 }
 
-/// Whether each old run is.
+/// The same for all old runs.
 fn are_told(shelf: &mut Shelf) -> Result<bool, Refusal> {
     let mut all = true;
     for old in shelf.runs.iter() {
@@ -113,14 +114,14 @@ fn are_told(shelf: &mut Shelf) -> Result<bool, Refusal> {
 
 /// The run of a job.
 fn run_of(alloc: Global, job: &Job<Safe>) -> Result<Arc<Run<Safe>>, Refusal> {
-    let Ok(run) = run_segment(alloc, job.entry(), job.steps()) else {
+    let Ok(run) = run_segment(alloc, &job.entry, job.steps.as_slice()) else {
         return Err(Refusal::Memory);
     };
     Arc::new(alloc, run).or(Err(Refusal::Memory))
 }
 
-/// Forks a branch behind the read, with a write, and keeps a run of that; none where its job isn't
-/// of that write alone.
+/// Forks a branch after the read, gives it a write, and keeps a run of the write. Returns the
+/// write's segment; `None` if the branch's job isn't of the write alone.
 fn forked(
     alloc: Global,
     shelf: &mut Shelf,
@@ -134,25 +135,32 @@ fn forked(
     let Some(job) = jobs.first() else {
         return Ok(None);
     };
-    if job.steps() != [write_of(is_one)].as_slice() {
+    if job.steps.as_slice() != [write_of(is_one)].as_slice() {
         return Ok(None);
     }
     let run = run_of(alloc, job)?;
-    let key = job.key();
+    let key = job.key;
     match shelf.runs.push(Old { is_one, run }) {
         Ok(()) => Ok(Some(Piece { key, is_one })),
         Err(_) => Err(Refusal::Memory),
     }
 }
 
-/// The text of a state.
+/// The text of the page of a branch's state at a place.
 fn text_of(
     alloc: Global,
     chart: &mut Chart<Safe>,
     branch: Name,
     place: u32,
 ) -> Result<Vec<u8>, Refusal> {
-    let slip = Slip::at(alloc, chart, Query::State { branch, place })?;
+    let slip = Slip::at(
+        alloc,
+        chart,
+        Query::State {
+            b: branch,
+            k: place,
+        },
+    )?;
     let Ok(mut lens) = Lens::new(alloc) else {
         return Err(Refusal::Memory);
     };
@@ -162,7 +170,7 @@ fn text_of(
     page_text(alloc, 0, &page).or(Err(Refusal::Memory))
 }
 
-/// What the state of a branch of a read and a write says.
+/// The expected text of the page of `a`'s or `b`'s state after the read and its write.
 fn state_of(is_a: bool, is_one: bool) -> &'static [u8] {
     match (is_a, is_one) {
         (true, false) =>
@@ -176,22 +184,22 @@ fn state_of(is_a: bool, is_one: bool) -> &'static [u8] {
     }
 }
 
-/// What is done to a chart.
+/// What is done with a chart.
 #[derive(Clone, Copy)]
 enum Ask {
-    /// The branch, `a` or `b`, gets the read and a write, of 1 or of 0.
+    /// `a` or `b` is forked after the read, and gets a write of 1 or of 0.
     Forks(bool, bool),
-    /// The branch, `a` or `b`, is dropped.
+    /// `a` or `b` is dropped.
     Drops(bool),
-    /// The read is replaced by itself, so that no run of it is stored.
+    /// The read is replaced by itself, so that no run is stored at it.
     Unsettles,
-    /// A run of it is stored.
+    /// A run is stored at the read.
     Settles,
-    /// The state of `a` or `b` is that of its steps.
+    /// The page of `a`'s or `b`'s state has the expected text.
     Shows(bool),
 }
 
-/// Forks, and tells whether what is forked has the job that it has to.
+/// Forks `a` or `b`, and returns whether the new branch has the expected job.
 fn forks(
     rt: &impl Abort,
     alloc: Global,
@@ -218,7 +226,7 @@ fn put(pieces: &mut Pieces, is_a: bool, piece: Option<Piece>) {
     }
 }
 
-/// Whether the state of a branch says what it has to.
+/// Whether the page of `a`'s or `b`'s state has the expected text.
 fn shows(rt: &impl Abort, alloc: Global, shelf: &mut Shelf, is_a: bool) -> Result<bool, Refusal> {
     let piece = if is_a { shelf.pieces.a } else { shelf.pieces.b };
     let Some(piece) = piece else {
@@ -228,7 +236,7 @@ fn shows(rt: &impl Abort, alloc: Global, shelf: &mut Shelf, is_a: bool) -> Resul
     Ok(text.as_slice() == state_of(is_a, piece.is_one))
 }
 
-/// Does what is asked, and tells whether it goes as it has to.
+/// Does what is asked, and returns whether the result is the expected one.
 fn goes(rt: &impl Abort, alloc: Global, shelf: &mut Shelf, ask: Ask) -> Result<bool, Refusal> {
     let main = name_of(rt, alloc, Branch::Main);
     match ask {
@@ -250,8 +258,8 @@ fn goes(rt: &impl Abort, alloc: Global, shelf: &mut Shelf, ask: Ask) -> Result<b
     Ok(true)
 }
 
-/// The first of these that doesn't go as it has to, or behind which an old run isn't answered so
-/// under some key.
+/// The index of the first of `asks` that has a wrong result, or after which the install of an old
+/// run has a wrong result at some key.
 fn first_wrong(
     rt: &impl Abort,
     alloc: Global,
@@ -266,7 +274,7 @@ fn first_wrong(
     Ok(None)
 }
 
-/// The same, of a chart of a read alone; 0 where it hasn't one job.
+/// The same for a new chart of a read alone; 0 if the chart has no job.
 fn tried(rt: &impl Abort, alloc: Global, asks: &[Ask]) -> Result<Option<usize>, Refusal> {
     let steps = [step_of(Kind::Read)];
     let chart = Chart::new(alloc, Safe, 0, limits(), &steps)?;
@@ -275,7 +283,7 @@ fn tried(rt: &impl Abort, alloc: Global, asks: &[Ask]) -> Result<Option<usize>, 
         return Ok(Some(0));
     };
     let pieces = Pieces {
-        shared: job.key(),
+        shared: job.key,
         is_settled: false,
         a: None,
         b: None,
@@ -292,7 +300,7 @@ const A: bool = true;
 
 const B: bool = false;
 
-/// Three branches, of which two are dropped and forked in turn, with the same write and with the
+/// The branches `a` and `b` are dropped and forked again in turn, with the same write and with the
 /// other one.
 const ASKS: [Ask; 21] = [
     Ask::Settles,

@@ -1,5 +1,5 @@
-//! Row `late-run`: what a branch shows directly before and after a run that comes too late, and a run
-//! that fits.
+//! Row `late-run`: a branch's page is the same right before and after the install of a run that is
+//! too late; then a run that fits is installed.
 
 use super::rows::{Kind, limits, step_of};
 use crate::given::{name, none_wrong};
@@ -18,35 +18,35 @@ use views::page::page_text;
 use views::query::Query;
 use views::slip::Slip;
 
-/// The state of `b` at 2.
+/// The text of the page of `b`'s state at place 2.
 const STATE: &[u8] =
     b"0: state b 2 of 2\n  p0 write 0 next ws 0\n  p1 read next rs 0\n  bits 0\n  words -\n";
 
 /// A job's key, and its run.
 type Made = (SegKey, Arc<Run<Safe>>);
 
-/// The run of the one job that a branch's plan has; none where there are others.
+/// The run of the only job in a branch's plan; `None` unless there is just one job.
 fn made_for(alloc: Global, chart: &Chart<Safe>, branch: &Name) -> Result<Option<Made>, Refusal> {
     let jobs = chart.plan(alloc, branch)?;
     let [job] = jobs.as_slice() else {
         return Ok(None);
     };
-    let run = run_segment(alloc, job.entry(), job.steps())?;
+    let run = run_segment(alloc, &job.entry, job.steps.as_slice())?;
     let Ok(run) = Arc::new(alloc, run) else {
         return Err(Refusal::Memory);
     };
-    Ok(Some((job.key(), run)))
+    Ok(Some((job.key, run)))
 }
 
-/// Whether `b` shows this state at 2.
+/// Whether the page of the branch's state at place 2 has the text `STATE`.
 fn is_shown(alloc: Global, chart: &mut Chart<Safe>, branch: Name) -> Result<bool, Refusal> {
-    let slip = Slip::at(alloc, chart, Query::State { branch, place: 2 })?;
+    let slip = Slip::at(alloc, chart, Query::State { b: branch, k: 2 })?;
     let mut lens = Lens::new(alloc)?;
     let page = slip.page(alloc, &mut lens)?;
     Ok(page_text(alloc, 0, &page)?.as_slice() == STATE)
 }
 
-/// The run of `a`, which is then dropped; `b` takes its place, with another step.
+/// Makes a run of `a`, drops `a`, and forks `b` in its place, with another step. Returns the run.
 fn old_run(
     rt: &impl Abort,
     alloc: Global,
@@ -63,7 +63,7 @@ fn old_run(
     Ok(old)
 }
 
-/// Which part of the row goes wrong.
+/// The number of the first check that fails; `None` if none does.
 fn first_wrong(rt: &impl Abort, alloc: Global) -> Result<Option<usize>, Refusal> {
     let mut chart = Chart::new(alloc, Safe, 0, limits(), &[step_of(Kind::Read)])?;
     let b = name(rt, b"b");

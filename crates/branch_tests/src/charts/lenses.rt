@@ -1,5 +1,5 @@
-//! Pages through a lens, place by place: each is that of a new lens, and hardly a step is made for
-//! it.
+//! Pages made through one lens, place by place. Each is the same as through a new lens, and takes
+//! few steps.
 
 ghost use Rattle.std.specs.Prelude.{◌≡◌, ◌<◌, true};
 ghost use Rattle.views.specs.Looks.{is_at_branch};
@@ -11,8 +11,8 @@ use cutoff::chart::Chart;
 use schedule_trie::name::Name;
 use schedule_trie::refusal::Refusal;
 use std::alloc::{AllocError, Global};
-use std::cell::Cell;
 use std::process::Abort;
+use std::sync::atomic::{AtomicU64, Ordering};
 use views::lens::Lens;
 use views::page::page_text;
 use views::query::Query;
@@ -28,16 +28,17 @@ fn text_of<'a>(
     page_text(alloc, 0, &page)
 }
 
-/// How many steps are made for a slip's page; none where it isn't that of a new lens.
+/// How many steps were made for a slip's page through `lens`; `None` if the page differs from that
+/// through a new lens.
 fn steps_for<'a>(
     alloc: Global,
-    calls: &Cell<u32>,
+    calls: &AtomicU64,
     slip: &Slip<Counting<'a>>,
     lens: &mut Lens<Counting<'a>>,
-) -> Result<Option<u32>, AllocError> {
-    let before = calls.get();
+) -> Result<Option<u64>, AllocError> {
+    let before = calls.load(Ordering::SeqCst);
     let text = text_of(alloc, slip, lens)?;
-    let made = calls.get().wrapping_sub(before);
+    let made = calls.load(Ordering::SeqCst).wrapping_sub(before);
     let mut new = Lens::new(alloc)?;
     let wanted = text_of(alloc, slip, &mut new)?;
     if text == wanted {
@@ -47,21 +48,21 @@ fn steps_for<'a>(
     }
 }
 
-/// A chart of the 1,000 writes on `main`, on a register that counts calls there.
+/// A chart of the 1,000 steps of `writes` on `main`, on a register that counts its calls.
 #[derive(Drop)]
 struct Counted<'a> {
     alloc: Global,
-    calls: &'a Cell<u32>,
+    calls: &'a AtomicU64,
     main: Name,
     chart: Chart<Counting<'a>>,
 }
 
 impl<'a> Counted<'a> {
-    /// Such a chart, whose register was at a value.
+    /// A chart of these steps, from an initial value.
     fn new(
         rt: &impl Abort,
         alloc: Global,
-        calls: &'a Cell<u32>,
+        calls: &'a AtomicU64,
         value: u32,
     ) -> Result<Counted<'a>, Refusal>
         requires { value < 2 }
@@ -77,21 +78,30 @@ impl<'a> Counted<'a> {
         })
     }
 
-    /// How many steps are made for the page of a place; none where it isn't that of a new lens.
+    /// How many steps were made for the page of the state at a place; `None` if the page differs
+    /// from that through a new lens.
     fn steps_at(
         &mut self,
         lens: &mut Lens<Counting<'a>>,
         place: u32,
-    ) -> Result<Option<u32>, Refusal> {
+    ) -> Result<Option<u64>, Refusal> {
         let branch = self.main;
-        let slip = Slip::at(self.alloc, &mut self.chart, Query::State { branch, place })?;
+        let slip = Slip::at(
+            self.alloc,
+            &mut self.chart,
+            Query::State {
+                b: branch,
+                k: place,
+            },
+        )?;
         match steps_for(self.alloc, self.calls, &slip, lens) {
             Ok(made) => Ok(made),
             Err(_) => Err(Refusal::Memory),
         }
     }
 
-    /// The first of these places, upwards, whose page isn't that of a new lens, or takes two steps.
+    /// Goes upwards through the first `places` places. Returns the first whose page differs from
+    /// that through a new lens, or takes more than one step.
     fn first_wrong_up(
         &mut self,
         lens: &mut Lens<Counting<'a>>,
@@ -106,8 +116,8 @@ impl<'a> Counted<'a> {
         Ok(None)
     }
 
-    /// The first of these places, downwards, whose page isn't that of a new lens; the one above them
-    /// where they take more than six steps each.
+    /// Goes downwards through the first `places` places. Returns the first whose page differs from
+    /// that through a new lens; `places` if the pages take more than six steps each on average.
     fn first_wrong_down(
         &mut self,
         lens: &mut Lens<Counting<'a>>,
@@ -117,7 +127,7 @@ impl<'a> Counted<'a> {
         for passed in 0..places {
             let place = places - 1 - passed;
             match self.steps_at(lens, place)? {
-                Some(made) => steps = steps.saturating_add(made as u64),
+                Some(made) => steps = steps.saturating_add(made),
                 None => return Ok(Some(place as usize)),
             }
         }
@@ -129,9 +139,10 @@ impl<'a> Counted<'a> {
     }
 }
 
-/// The first place that goes wrong, up to one and down again through one lens.
+/// Goes up through the first `places` places and down again, with one lens. Returns the first place
+/// that goes wrong.
 fn first_wrong(rt: &impl Abort, alloc: Global, places: u32) -> Result<Option<usize>, Refusal> {
-    let calls = Cell::new(0);
+    let calls = AtomicU64::new(0);
     let mut chart = Counted::new(rt, alloc, &calls, 0)?;
     let mut lens = Lens::new(alloc).expect(rt, "memory");
     match chart.first_wrong_up(&mut lens, places)? {
@@ -145,14 +156,15 @@ fn forty_places_up_and_down(rt: HostRuntime) {
     none_wrong(&rt, first_wrong(&rt, rt.alloc(), 40));
 }
 
-/// More than a lens keeps, over three segments.
+/// These are more places than a lens keeps, in three segments.
 #[test]
 fn three_hundred_places_up_and_down(rt: HostRuntime) {
     none_wrong(&rt, first_wrong(&rt, rt.alloc(), 300));
 }
 
-/// The first place, upwards, where the page of one of two charts isn't its own: both through the
-/// one lens by turns, and the second through its own.
+/// Goes upwards through 40 places of two charts: of both by turns through a shared lens, and of the
+/// second also through its own lens. Returns the first place with a page that differs from that
+/// through a new lens.
 fn first_foreign<'a>(
     zero: &mut Counted<'a>,
     one: &mut Counted<'a>,
@@ -170,9 +182,10 @@ fn first_foreign<'a>(
     Ok(None)
 }
 
-/// The same of charts of the same steps from 0 and from 1, whose cells and words are as many.
+/// The same for two charts of the same steps, from the initial values 0 and 1. Their registers have
+/// equal numbers of cells and words.
 fn first_foreign_place(rt: &impl Abort, alloc: Global) -> Result<Option<usize>, Refusal> {
-    let calls = Cell::new(0);
+    let calls = AtomicU64::new(0);
     let mut zero = Counted::new(rt, alloc, &calls, 0)?;
     let mut one = Counted::new(rt, alloc, &calls, 1)?;
     let mut shared = Lens::new(alloc).expect(rt, "memory");
@@ -185,29 +198,44 @@ fn charts_by_turns(rt: HostRuntime) {
     none_wrong(&rt, first_foreign_place(&rt, rt.alloc()));
 }
 
-/// How many kinds of page a place has.
+/// The number of kinds of page that a place has.
 const KINDS: u32 = 6;
 
-/// A query of a page of a place, by the number of its kind.
+/// The query for the page of a place that has kind number `kind`.
 fn query_of(kind: u32, branch: Name, place: u32) -> Query
     ensures { is_at_branch result ≡ true }
 {
     match kind {
-        0 => Query::State { branch, place },
-        1 => Query::Process {
-            branch,
-            place,
-            process: 0,
+        0 => Query::State {
+            b: branch,
+            k: place,
         },
-        2 => Query::Bits { branch, place },
-        3 => Query::Pending { branch, place },
-        4 => Query::History { branch, place },
-        _ => Query::Verdict { branch, place },
+        1 => Query::Process {
+            b: branch,
+            k: place,
+            p: 0,
+        },
+        2 => Query::Bits {
+            b: branch,
+            k: place,
+        },
+        3 => Query::Pending {
+            b: branch,
+            k: place,
+        },
+        4 => Query::History {
+            b: branch,
+            k: place,
+        },
+        _ => Query::Verdict {
+            b: branch,
+            k: place,
+        },
     }
 }
 
 impl<'a> Counted<'a> {
-    /// Whether each kind of page of a place is that of a new lens.
+    /// Whether each kind of page of a place is the same through `lens` as through a new lens.
     fn are_all_own(&mut self, lens: &mut Lens<Counting<'a>>, place: u32) -> Result<bool, Refusal> {
         for kind in 0..KINDS {
             let query = query_of(kind, self.main, place);
@@ -220,7 +248,7 @@ impl<'a> Counted<'a> {
         Ok(true)
     }
 
-    /// The text of a page.
+    /// The text of the page that a query asks for.
     fn text(&mut self, lens: &mut Lens<Counting<'a>>, query: Query) -> Result<Vec<u8>, Refusal>
         requires { is_at_branch query ≡ true }
     {
@@ -229,9 +257,10 @@ impl<'a> Counted<'a> {
     }
 }
 
-/// The first of 40 places, up and then down through one lens, where a page of some kind isn't that of a new lens.
+/// Goes up through 40 places and down again, with one lens. Returns how many places were passed
+/// before a page of some kind differed from that through a new lens.
 fn first_wrong_of_all_kinds(rt: &impl Abort, alloc: Global) -> Result<Option<usize>, Refusal> {
-    let calls = Cell::new(0);
+    let calls = AtomicU64::new(0);
     let mut chart = Counted::new(rt, alloc, &calls, 0)?;
     let mut lens = Lens::new(alloc).expect(rt, "memory");
     for passed in 0..80u32 {
@@ -248,22 +277,19 @@ fn forty_places_of_each_kind(rt: HostRuntime) {
     none_wrong(&rt, first_wrong_of_all_kinds(&rt, rt.alloc()));
 }
 
-/// The page at the end of row `thousand-steps`.
+/// The text of the page of the state at the end of row `thousand-steps`.
 const LAST_STATE: &[u8] =
     b"0: state main 1000 of 1000\n  p0 write 0 next ws 0\n  p1 idle\n  bits 1\n  words -\n";
 
-/// Which page of the last place is another one: before a choice is replaced, or after it, through the lens used
-/// before and through a new one.
+/// The number of the first page of the last place that is wrong: 0 is the page before a choice is
+/// replaced, 1 the page after that through the same lens, and 2 through a new lens.
 fn first_wrong_after_an_edit(rt: &impl Abort, alloc: Global) -> Result<Option<usize>, Refusal> {
-    let calls = Cell::new(0);
+    let calls = AtomicU64::new(0);
     let mut chart = Counted::new(rt, alloc, &calls, 0)?;
     let mut lens = Lens::new(alloc).expect(rt, "memory");
     let mut new = Lens::new(alloc).expect(rt, "memory");
     let main = chart.main;
-    let query = Query::State {
-        branch: main,
-        place: 1000,
-    };
+    let query = Query::State { b: main, k: 1000 };
     if chart.text(&mut lens, query)?.as_slice() != LAST_STATE {
         return Ok(Some(0));
     }

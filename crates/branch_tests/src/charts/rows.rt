@@ -1,5 +1,5 @@
-//! How many steps a settle replays, and that nothing else of a chart makes a step. What is done is
-//! data, so that one function alone makes a chart.
+//! Tests of how many steps a settle replays, and that no other call of a chart makes a step. The
+//! calls are data, so that only one function makes a chart.
 
 ghost use Rattle.std.specs.Prelude.{◌≡◌, true, IfOk};
 ghost use Rattle.frames.specs.Configuration.{fits_step};
@@ -19,9 +19,9 @@ use schedule_trie::name::Name;
 use schedule_trie::refusal::Refusal;
 use schedule_trie::trie::SegKey;
 use std::alloc::{AllocError, Global};
-use std::cell::Cell;
 use std::process::Abort;
 use std::sync::Arc;
+use std::sync::atomic::{AtomicU64, Ordering};
 
 /// A step of a safe bit.
 #[derive(Clone, Copy)]
@@ -55,7 +55,7 @@ pub(super) fn limits() -> Limits
     }
 }
 
-/// The step at a place of whole writes of 1 and of 0 by turns.
+/// The step at an index of `writes`, in which whole writes of 1 and of 0 alternate.
 fn write_at(index: u32) -> Step
     ensures { fits_step safe_behaviour result ≡ true }
 {
@@ -66,7 +66,7 @@ fn write_at(index: u32) -> Step
     }
 }
 
-/// Whole writes of 1 and of 0 by turns, 1,000 steps.
+/// 1,000 steps, in which whole writes of 1 and of 0 alternate.
 pub(super) fn writes(alloc: Global) -> Result<Vec<Step>, AllocError>
     ensures { IfOk result (λ steps. AllFit safe_behaviour steps.items) }
 {
@@ -77,75 +77,76 @@ pub(super) fn writes(alloc: Global) -> Result<Vec<Step>, AllocError>
     Ok(steps)
 }
 
-/// What a chart is asked, and what it has to tell.
+/// What a chart is asked, and the expected result.
 #[derive(Clone, Copy)]
 pub(super) enum Ask {
-    /// So many cells are settled, for which so many steps are replayed, at least and at most.
+    /// Settles the place after this number of cells. The number of steps replayed is at least the
+    /// second number, and at most the third.
     Settle(u32, u32, u32),
     Replace(u32, Kind),
     Insert(u32, Kind),
-    /// The branch gets the first cell of `main`.
+    /// The branch is forked from the first cell of `main`.
     Fork,
     Drop,
-    /// The branch has one job, of this step alone: its run is made, by one call, and kept.
+    /// The plan has one job, of this step alone. Its run is made, by one call, and kept.
     Plan(Kind),
-    /// The run that is kept longest is installed, or it isn't.
+    /// Whether the run that was kept first is installed when it is offered.
     Install(bool),
-    /// So many jobs are left.
+    /// The plan has this number of jobs.
     Left(usize),
 }
 
 /// A run, and the key of its segment.
 type Kept<'a> = (SegKey, Arc<Run<Counting<'a>>>);
 
-/// What a settle is asked for: all runs, or the last one alone. It replays the same steps.
+/// What a settle is asked for: all runs, or the last one alone. It replays the same steps for both.
 #[derive(Clone, Copy)]
 pub(super) enum Wanted {
     All,
     Last,
 }
 
-/// A chart on a register that counts calls, and runs that were made elsewhere. What is refused memory
-/// is asked again, until it was tried so often.
+/// A chart on a register that counts its calls, and runs that were made elsewhere. A call that runs
+/// out of memory is repeated; it is made at most `tries` times.
 #[derive(Drop)]
 pub(super) struct Bench<'a> {
     alloc: Global,
-    calls: &'a Cell<u32>,
+    calls: &'a AtomicU64,
     wanted: Wanted,
     tries: u32,
     chart: Chart<Counting<'a>>,
     runs: Vec<Kept<'a>>,
 }
 
-/// How many jobs there are.
+/// The number of jobs in a plan.
 fn jobs_left(alloc: Global, chart: &Chart<Counting<'_>>, branch: &Name) -> Result<usize, Refusal> {
     Ok(chart.plan(alloc, branch)?.len())
 }
 
-/// The run of the one job that there is, of this step alone; none where there are others.
+/// The run of the only job, if there is just one and it is of this step alone; else `None`.
 fn only_run<'a>(
     alloc: Global,
     jobs: &[Job<Counting<'a>>],
     step: Step,
 ) -> Result<Option<Kept<'a>>, Refusal> {
     match jobs {
-        [job] if job.steps() == [step].as_slice() => Ok(Some(run_of(alloc, job)?)),
+        [job] if job.steps.as_slice() == [step].as_slice() => Ok(Some(run_of(alloc, job)?)),
         _ => Ok(None),
     }
 }
 
 /// The run of a job.
 fn run_of<'a>(alloc: Global, job: &Job<Counting<'a>>) -> Result<Kept<'a>, Refusal> {
-    let Ok(run) = run_segment(alloc, job.entry(), job.steps()) else {
+    let Ok(run) = run_segment(alloc, &job.entry, job.steps.as_slice()) else {
         return Err(Refusal::Memory);
     };
     match Arc::new(alloc, run) {
-        Ok(run) => Ok((job.key(), run)),
+        Ok(run) => Ok((job.key, run)),
         Err(_) => Err(Refusal::Memory),
     }
 }
 
-/// Makes an edit of a branch; none where something else is asked.
+/// Makes an edit of a branch; does nothing if something else is asked.
 fn edited(
     rt: &impl Abort,
     alloc: Global,
@@ -162,11 +163,11 @@ fn edited(
     }
 }
 
-/// What a branch is asked.
+/// A branch, and what the chart is asked about it.
 pub(super) type Row = (Branch, Ask);
 
 impl Bench<'_> {
-    /// What a settle tells that it replayed.
+    /// The number of steps that a settle reports as replayed.
     fn replayed(&mut self, branch: &Name, place: u32) -> Result<u32, Refusal> {
         match self.wanted {
             Wanted::All => Ok(self.chart.settle(self.alloc, branch, place)?.replayed),
@@ -174,7 +175,8 @@ impl Bench<'_> {
         }
     }
 
-    /// Keeps the run of a branch's one job, where it is of this step alone.
+    /// Makes and keeps the run of the only job in a plan, if the job is of this step alone. Returns
+    /// whether it did.
     fn keeps_run(&mut self, branch: &Name, kind: Kind) -> Result<bool, Refusal> {
         let jobs = self.chart.plan(self.alloc, branch)?;
         let Some(kept) = only_run(self.alloc, &jobs, step_of(kind))? else {
@@ -186,7 +188,7 @@ impl Bench<'_> {
         }
     }
 
-    /// Whether the first run that is kept is installed.
+    /// Offers the run that was kept first, and returns whether it was installed.
     fn installs(&mut self) -> bool {
         if self.runs.is_empty() {
             return false;
@@ -195,9 +197,14 @@ impl Bench<'_> {
         self.chart.install(key, run) == Installation::Installed
     }
 
-    /// Whether the chart tells what it has to, and how many steps it tells to have replayed, or were
-    /// made of a run.
-    fn told(&mut self, rt: &impl Abort, branch: &Name, ask: Ask) -> Result<(bool, u32), Refusal> {
+    /// Asks the chart. Returns whether the result is the expected one, and how many steps the chart
+    /// reports as replayed, or a run took.
+    fn reported(
+        &mut self,
+        rt: &impl Abort,
+        branch: &Name,
+        ask: Ask,
+    ) -> Result<(bool, u32), Refusal> {
         match ask {
             Ask::Settle(place, least, most) => {
                 let steps = self.replayed(branch, place)?;
@@ -213,27 +220,29 @@ impl Bench<'_> {
         }
     }
 
-    /// Whether the chart tells what it has to, and just one call is made for each such step.
+    /// Asks the chart. Returns whether the result is the expected one, and the register was called
+    /// once for each of these steps.
     fn is_told(&mut self, rt: &impl Abort, row: Row) -> Result<bool, Refusal> {
         let (branch, ask) = row;
         let branch = name_of(rt, self.alloc, branch);
-        let before = self.calls.get();
-        let (is_wanted, steps) = self.told(rt, &branch, ask)?;
-        Ok(is_wanted && self.calls.get().wrapping_sub(before) == steps)
+        let before = self.calls.load(Ordering::SeqCst);
+        let (is_wanted, steps) = self.reported(rt, &branch, ask)?;
+        let made = self.calls.load(Ordering::SeqCst).wrapping_sub(before);
+        Ok(is_wanted && made == u64::from(steps))
     }
 
-    /// The same of a chart that is asked until it isn't refused memory.
+    /// The same, done up to `tries` times, until memory doesn't run out.
     fn is_told_at_last(&mut self, rt: &impl Abort, row: Row) -> Result<bool, Refusal> {
         for _ in 0..self.tries {
             match self.is_told(rt, row) {
                 Err(Refusal::Memory) => {}
-                told => return told,
+                reported => return reported,
             }
         }
         Err(Refusal::Memory)
     }
 
-    /// The first row where the chart tells something else, or where other calls are made.
+    /// The index of the first row with a wrong result, or with a wrong number of calls.
     pub(super) fn first_wrong(
         &mut self,
         rt: &impl Abort,
@@ -248,10 +257,10 @@ impl Bench<'_> {
     }
 }
 
-/// A chart of these steps, on a register that counts its calls there.
+/// A chart of these steps, on a register that counts its calls in `calls`.
 pub(super) fn bench_of<'a>(
     alloc: Global,
-    calls: &'a Cell<u32>,
+    calls: &'a AtomicU64,
     steps: &[Step],
     wanted: Wanted,
     tries: u32,
@@ -268,8 +277,8 @@ pub(super) fn bench_of<'a>(
     })
 }
 
-/// The first row that goes wrong in a chart of these steps, whether all runs are wanted or the last
-/// one. Each call is made once.
+/// The index of the first row that goes wrong in a chart of these steps: first all runs are wanted,
+/// then only the last. Each call is made once.
 fn first_wrong(
     rt: &impl Abort,
     alloc: Global,
@@ -279,7 +288,7 @@ fn first_wrong(
     requires { AllFit safe_behaviour steps.now }
 {
     for wanted in [Wanted::All, Wanted::Last] {
-        let calls = Cell::new(0);
+        let calls = AtomicU64::new(0);
         let mut bench = bench_of(alloc, &calls, steps, wanted, 1)?;
         let wrong = bench.first_wrong(rt, rows)?;
         if wrong.is_some() {
@@ -289,9 +298,9 @@ fn first_wrong(
     Ok(None)
 }
 
-/// The first row that goes wrong in a chart of 1,000 steps which is settled, edited, and settled twice
-/// up to a place: so many steps are replayed the first time, at least and at most, and none the second
-/// time.
+/// Settles a chart of 1,000 steps, edits it, and settles it twice up to a place: the first time
+/// `least` to `most` steps are replayed, and the second time none. Returns the index of the first
+/// of these calls that goes wrong.
 fn first_wrong_around(
     rt: &impl Abort,
     alloc: Global,
@@ -316,21 +325,22 @@ fn thousand_steps(rt: HostRuntime) {
     none_wrong(&rt, first_wrong_around(&rt, rt.alloc(), edit, 1000, 1, 128));
 }
 
-/// A write of 1 in the place of one of 0: the next write is one of 1 too, and behind it all is as
-/// before.
+/// A write of 0 is replaced by one of 1. The next write is also one of 1, and after it everything
+/// is as before.
 #[test]
 fn rejoined_suffix(rt: HostRuntime) {
     let edit = Ask::Replace(3, Kind::Write1);
     none_wrong(&rt, first_wrong_around(&rt, rt.alloc(), edit, 1000, 1, 256));
 }
 
-/// Places of a read that is put into 1,000 cells, and how many steps then differ. The read stays
-/// pending at every later place, so that no later segment begins from the same configuration as
-/// before: the segment that it is put into and all behind it differ, and none above. Segments begin
-/// at 0, 128, .. and 896, and a full one is cut in two new ones; each step makes one call.
+/// Places at which a read is inserted into 1,000 cells, and how many steps are then replayed. The
+/// read stays pending at every later place, so no later segment begins from the same configuration
+/// as before: the segment with the read and all after it are replayed, and none above. Segments
+/// begin at 0, 128, and so on to 896. A full segment is cut into two new ones. Each step makes one
+/// call.
 const READS: [(u32, u32); 4] = [(0, 1001), (512, 489), (630, 489), (1000, 105)];
 
-/// The first of these places where something goes wrong.
+/// The index of the first of `READS` with which something goes wrong.
 fn first_wrong_read(rt: &impl Abort, alloc: Global) -> Result<Option<usize>, Refusal> {
     for (i, (place, differ)) in READS.iter().enumerate() {
         let edit = Ask::Insert(*place, Kind::Read);
@@ -346,7 +356,7 @@ fn a_read_in_the_middle(rt: HostRuntime) {
     none_wrong(&rt, first_wrong_read(&rt, rt.alloc()));
 }
 
-/// A write and a read; the write then has another value.
+/// A write and a read are settled; then the write gets another value.
 #[test]
 fn settles_again_what_was_edited(rt: HostRuntime) {
     let rows = [
@@ -360,8 +370,8 @@ fn settles_again_what_was_edited(rt: HostRuntime) {
     none_wrong(&rt, first_wrong(&rt, rt.alloc(), &steps, &rows));
 }
 
-/// A run that was made for a branch which is gone, and one that was made for the branch in its
-/// place.
+/// A run that was made for a branch that is gone isn't installed; one for the branch that replaced
+/// it is.
 pub(super) const LATE: [Row; 10] = [
     (Branch::A, Ask::Fork),
     (Branch::A, Ask::Insert(1, Kind::Write1)),
@@ -375,7 +385,7 @@ pub(super) const LATE: [Row; 10] = [
     (Branch::B, Ask::Install(true)),
 ];
 
-/// The first of these rows that goes wrong in a chart of a read.
+/// The index of the first of these rows that goes wrong, in a chart of one read.
 fn first_wrong_late(rt: &impl Abort, alloc: Global) -> Result<Option<usize>, Refusal> {
     first_wrong(rt, alloc, &[step_of(Kind::Read)], &LATE)
 }

@@ -1,5 +1,5 @@
-//! Edits of a chart: those of its branches. Each keeps the stored run of every segment that it neither changes nor cuts, and
-//! forgets the mark, but for a fork of a whole branch.
+//! Edits of a chart's branches. Each edit keeps the stored run of every segment that it neither
+//! changes nor cuts. Each clears the mark, except for a fork of a whole branch.
 
 ghost use Rattle.std.specs.Prelude.{◌≡◌, ◌⊎◌, Some, None, true, OnOk, IfErr};
 ghost use Rattle.frames.specs.Configuration.{fits_step};
@@ -17,13 +17,13 @@ use schedule_trie::trie::{SegKey, Trie};
 use std::alloc::Global;
 
 impl<R: Register> Chart<R> {
-    /// Puts a new cell before the one at a place of a branch, in each branch that holds that one; at the branch's length,
-    /// last in that branch alone.
+    /// Inserts a new cell before the cell at `place` of a branch, in each branch that has that
+    /// cell. If `place` is the branch's length, the new cell goes to the end of that branch alone.
     ///
     /// # Errors
     ///
-    /// NoBranch; NoPlace where the place is behind the branch's length; Full where no more cells may be made; Memory. Then
-    /// nothing is changed.
+    /// NoBranch; NoPlace if the branch is shorter than `place`; Full if the number of cells made is
+    /// at its limit; Memory. Then nothing changes.
     pub fn insert(
         &mut self,
         alloc: Global,
@@ -31,7 +31,7 @@ impl<R: Register> Chart<R> {
         place: u32,
         step: Step,
     ) -> Result<(), Refusal>
-        requires { fits_step (R.is self.old.start.register) step ≡ true }
+        requires { fits_step (R.behaviour self.old.start.register) step ≡ true }
         ensures ok { OnOk result
             (IsEdited self.old.cut self.new.cut (Insert branch.now place step)) }
         ensures err { IfErr result
@@ -42,11 +42,12 @@ impl<R: Register> Chart<R> {
         self.trie.insert(alloc, branch, place, step)
     }
 
-    /// Takes the cell at a place of a branch out of each branch that holds it. It takes no memory.
+    /// Removes the cell at `place` of a branch from each branch that has that cell. Never
+    /// allocates.
     ///
     /// # Errors
     ///
-    /// NoBranch; NoPlace where the branch has no cell there. Then nothing is changed.
+    /// NoBranch; NoPlace if the branch has no cell there. Then nothing changes.
     pub fn remove(&mut self, branch: &Name, place: u32) -> Result<(), Refusal>
         ensures ok { OnOk result (IsEdited self.old.cut self.new.cut (Remove branch.now place)) }
         ensures err { IfErr result (IsUneditedChart self.old self.new (Remove branch.now place)) }
@@ -56,14 +57,14 @@ impl<R: Register> Chart<R> {
         self.trie.remove(branch, place)
     }
 
-    /// Gives the cell at a place of a branch another step, in each branch that holds it; it stays the same cell. It takes no
-    /// memory.
+    /// Replaces the step of the cell at `place` of a branch, in each branch that has that cell. The
+    /// cell keeps its number. Never allocates.
     ///
     /// # Errors
     ///
-    /// NoBranch; NoPlace where the branch has no cell there. Then nothing is changed.
+    /// NoBranch; NoPlace if the branch has no cell there. Then nothing changes.
     pub fn replace(&mut self, branch: &Name, place: u32, step: Step) -> Result<(), Refusal>
-        requires { fits_step (R.is self.old.start.register) step ≡ true }
+        requires { fits_step (R.behaviour self.old.start.register) step ≡ true }
         ensures ok { OnOk result
             (IsEdited self.old.cut self.new.cut (Replace branch.now place step)) }
         ensures err { IfErr result
@@ -74,12 +75,13 @@ impl<R: Register> Chart<R> {
         self.trie.replace(branch, place, step)
     }
 
-    /// Makes a new last branch of the first cells of a branch, which it shares with it. The place is how many cells they are.
+    /// Makes a new branch, after all others, which shares the first `place` cells of `branch`.
     ///
     /// # Errors
     ///
-    /// NoBranch; NameTaken; BadName where the name isn't a lower-case letter and then lower-case letters or digits; NoPlace
-    /// where the place is behind the branch's length; TooManyBranches; Memory. Then nothing is changed.
+    /// NoBranch; NameTaken; BadName if the name isn't a lower-case letter, followed by lower-case
+    /// letters or digits; NoPlace if the branch is shorter than `place`; TooManyBranches; Memory.
+    /// Then nothing changes.
     pub fn fork(
         &mut self,
         alloc: Global,
@@ -96,11 +98,13 @@ impl<R: Register> Chart<R> {
         self.trie.fork(alloc, branch, place, name)
     }
 
-    /// Gives a branch cells of its own: as many new cells, with the same steps.
+    /// Replaces a branch's cells by new cells with the same steps. No other branch has the new
+    /// cells.
     ///
     /// # Errors
     ///
-    /// NoBranch; Full where so many more cells may not be made; Memory. Then nothing is changed.
+    /// NoBranch; Full if the number of cells made would exceed its limit; Memory. Then nothing
+    /// changes.
     pub fn detach(&mut self, alloc: Global, branch: &Name) -> Result<(), Refusal>
         ensures ok { OnOk result (IsEdited self.old.cut self.new.cut (Detach branch.now)) }
         ensures err { IfErr result (IsUneditedChart self.old self.new (Detach branch.now)) }
@@ -110,11 +114,11 @@ impl<R: Register> Chart<R> {
         self.trie.detach(alloc, branch)
     }
 
-    /// Drops a branch; segments that no other branch has go with it, and their runs. It takes no memory.
+    /// Drops a branch, with the segments that no other branch has, and their runs. Never allocates.
     ///
     /// # Errors
     ///
-    /// NoBranch; LastBranch where it is the only one. Then nothing is changed.
+    /// NoBranch; LastBranch if it is the only one. Then nothing changes.
     pub fn drop_branch(&mut self, branch: &Name) -> Result<(), Refusal>
         ensures ok { OnOk result (IsEdited self.old.cut self.new.cut (Drop branch.now)) }
         ensures err { IfErr result (IsUneditedChart self.old self.new (Drop branch.now)) }
@@ -125,7 +129,8 @@ impl<R: Register> Chart<R> {
     }
 }
 
-/// The mark behind a fork. One of all cells of a branch cuts no segment, so that it stays.
+/// The mark after a fork. A fork of all cells of a branch cuts no segment, so the mark stays; any
+/// other fork clears it.
 fn mark_behind_fork<T: Drop>(
     trie: &Trie<T>,
     mark: Option<SegKey>,

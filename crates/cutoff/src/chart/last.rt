@@ -1,4 +1,4 @@
-//! A look at a place of a chart, of which the last run is wanted alone.
+//! A settle of a place of a chart that returns only the last run.
 
 ghost use Rattle.std.specs.Prelude.{◌≡◌, Ok, Some, IfOk, OnOk, IfErr};
 ghost use Rattle.std.specs.Option.{option_map};
@@ -16,14 +16,15 @@ use schedule_trie::refusal::Refusal;
 use std::alloc::Global;
 
 impl<R: Register> Chart<R> {
-    /// The last of the stored runs of a branch's first `place` cells, which are settled as `settle` does it. Asked for the same
-    /// place again, with no other place asked for, no install and no `settle` between, and no edit but forks of whole branches, it
-    /// goes over no segment but the one that holds the last of them.
+    /// Settles a branch's first `place` cells as `settle` does, but returns only the last of their
+    /// stored runs. A second call for the same place visits only the segment with the last of these
+    /// cells, if no `install`, no `settle`, no call for another place, and no edit but forks of
+    /// whole branches came in between.
     ///
     /// # Errors
     ///
-    /// NoBranch; NoPlace where the branch has fewer cells; Memory. The forest is as before then too, and true runs may have
-    /// been stored.
+    /// NoBranch; NoPlace if the branch has fewer than `place` cells; Memory. Even then the forest
+    /// doesn't change, but new runs that fit may have been stored.
     pub fn settle_last(
         &mut self,
         alloc: Global,
@@ -31,16 +32,17 @@ impl<R: Register> Chart<R> {
         place: u32,
     ) -> Result<Last<R>, Refusal>
         ensures ok { IfOk result
-            (λ last. IsSettledLast R.PartialEq.eq (R.is self.old.start.register) self.old self.new
+            (λ last. IsSettledLast R.PartialEq.eq (R.behaviour self.old.start.register) self.old
+            self.new
             branch.now place (option_map part_of last.part) last.replayed) }
         ensures found { OnOk result (look (forest self.old.cut) branch.now place
             ≡ Ok (forest self.new.cut)) }
         ensures len { IfOk result (λ last.
             len_of (forest self.old.cut) branch.now ≡ Some last.len) }
         ensures err { IfErr result (IsRefused (look (forest self.old.cut) branch.now place)) }
-        ensures keeps { KeepsOrFills R.PartialEq.eq R.is self.old self.new branch.now place }
+        ensures keeps { KeepsOrFills R.PartialEq.eq R.behaviour self.old self.new branch.now place }
         ensures begins { self.old.start ≡ initial_configuration
-            (R.is self.old.start.register) self.old.start.register self.old.value }
+            (R.behaviour self.old.start.register) self.old.start.register self.old.value }
         ensures start { self.new.start ≡ self.old.start }
         ensures value { self.new.value ≡ self.old.value }
     {

@@ -1,11 +1,11 @@
-//! Charts made of limbs, and the limbs of a chart.
+//! Charts made from limbs, and the limbs of a chart.
 
 ghost use Rattle.std.specs.Prelude.{◌≡◌, ◌<◌, length, IfOk, IfErr, Ok};
 ghost use Rattle.frames.specs.Configuration.{initial_configuration};
 ghost use Rattle.schedule_trie.specs.Forest.{IsRefused};
 ghost use Rattle.schedule_trie.specs.Cut.{AreLimits, IsBlank, IsCut, forest};
 ghost use Rattle.schedule_trie.specs.Limbs as spec;
-ghost use Rattle.schedule_trie.specs.Limbs.{FitLimits, IsLawful, forest_of, limbs, loaded};
+ghost use Rattle.schedule_trie.specs.Limbs.{FitLimits, AreLawfulLimbs, forest_of, limbs, loaded};
 ghost use Rattle.schedule_trie.specs.Renumbering.{IsRenumbered};
 ghost use Rattle.cutoff.specs.Held.{LimbsFit};
 
@@ -18,12 +18,13 @@ use schedule_trie::trie::Trie;
 use std::alloc::{AllocError, Global};
 
 impl<R: Register> Chart<R> {
-    /// A chart of the forest that grows from limbs, of which there is one, from the register's initial configuration at a value.
-    /// Its limbs are these again, and nothing is stored.
+    /// A chart of the forest that `limbs` describes; at least one limb is required. The chart
+    /// begins from the initial configuration of `register` with the value `value`. Its own limbs
+    /// are the same again, and no run is stored.
     ///
     /// # Errors
     ///
-    /// Full where they bring more cells than may be made; TooManyBranches; Memory.
+    /// Full if the limbs have more cells than `limits.cells`; TooManyBranches; Memory.
     pub fn load(
         alloc: Global,
         register: R,
@@ -31,15 +32,15 @@ impl<R: Register> Chart<R> {
         limits: Limits,
         limbs: &[Limb],
     ) -> Result<Chart<R>, Refusal>
-        requires value { value < (R.is register).values }
+        requires value { value < (R.behaviour register).values }
         requires limits { AreLimits limits }
-        requires lawful { IsLawful limbs.now }
+        requires lawful { AreLawfulLimbs limbs.now }
         requires some { 0 < length limbs.now }
-        requires fits { LimbsFit (R.is register) limbs.now }
+        requires fits { LimbsFit (R.behaviour register) limbs.now }
         ensures forest { IfOk result (λ c. loaded limits limbs.now ≡ Ok (forest c.cut)) }
         ensures again { IfOk result (λ c. spec.limbs (forest c.cut) ≡ limbs.now) }
         ensures limits { IfOk result (λ c. c.cut.limits ≡ limits) }
-        ensures start { let initial = initial_configuration (R.is register) register value in
+        ensures start { let initial = initial_configuration (R.behaviour register) register value in
             IfOk result (λ c. c.start ≡ initial) }
         ensures value { IfOk result (λ c. c.value ≡ value) }
         ensures blank { IfOk result (λ c. IsBlank c.cut) }
@@ -50,20 +51,20 @@ impl<R: Register> Chart<R> {
         Ok(Chart::over(alloc, trie, register, value)?)
     }
 
-    /// The limbs of its forest, in order of making. A chart can be loaded from them: its forest is this one, but for the numbers
-    /// of its cells.
+    /// The limbs of the chart's forest, in the order its branches were made. A chart loaded from
+    /// them has the same forest, except for the numbers of the cells.
     ///
     /// # Errors
     ///
-    /// Where there is no memory for them.
+    /// If there is no memory for the limbs.
     pub fn limbs(&self, alloc: Global) -> Result<Vec<Limb>, AllocError>
         ensures limbs { IfOk result (λ r. r.items ≡ limbs (forest self.now.cut)) }
         ensures kept { let f = forest self.now.cut in
             IfOk result (λ r. IsRenumbered f (forest_of r.items)) }
-        ensures lawful { IfOk result (λ r. IsLawful r.items) }
+        ensures lawful { IfOk result (λ r. AreLawfulLimbs r.items) }
         ensures some { IfOk result (λ r. 0 < length r.items) }
         ensures near { IfOk result (λ r. FitLimits self.now.cut.limits r.items) }
-        ensures fit { let b = R.is self.now.start.register in
+        ensures fit { let b = R.behaviour self.now.start.register in
             IfOk result (λ r. LimbsFit b r.items) }
     {
         self.steps_fit();

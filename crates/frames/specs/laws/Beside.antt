@@ -6,10 +6,10 @@ use Rattle.safe_bit.specs.Parts.{LiesIn, part, with_part}
 use Rattle.safe_bit.specs.laws.Parts.{part-with_part_beside}
 use Rattle.frames.specs.declared.types.Op.{Op}
 use Rattle.frames.specs.Behaviour.{Behaviour, IsLawful}
-use Rattle.frames.specs.Beside.{LeavesOthers}
+use Rattle.frames.specs.Others.{LeavesOthers}
 
 module _ {P : Type 0} (b : Behaviour P) (Holds : Memory → Type 0) (Reaches : ℕ → Op → P → Type 0) (lawful : IsLawful b Holds Reaches) where
-  -- own memory that holds, put in at a place
+  -- putting in a register's own memory that satisfies `Holds` leaves all other parts as they were
   pub put_in_leaves : (at : Place) (m inner : Memory) → LiesIn at b.size m → Holds inner → LeavesOthers at b.size m (with_part at inner m)
   put_in_leaves at m inner lies holds beside other there apart = part-with_part_beside at b.size beside other inner m (lawful.size_holds inner holds) lies there apart
 

@@ -1,4 +1,4 @@
--- What follows of flat stacks: they tell what is pending, and are equal only to themselves.
+-- Laws of flat stacks: they determine what is pending, and are equal only to themselves.
 use Rattle.std.proofs.Common.{◌≡◌, ℕ, zero, suc, ◌+◌, Bool, nat_eq, List, [], ◌∷◌, length, set, take, replicate, Option, Some, None, option_map, refl, sym, ap, ◌∙◌, arith}
 use Rattle.std.specs.Bool.{Decides}
 use mathlib.Core.Bool.{◌&&◌, beq}
@@ -15,9 +15,9 @@ use Rattle.frames.specs.declared.running.Running.{Running}
 use Rattle.frames.specs.declared.config.Parked.{Parked}
 use Rattle.frames.specs.Behaviour.{Behaviour}
 use Rattle.frames.specs.Equality.{op_eq, op_decides}
-use Rattle.frames.specs.Flat.{outermost, FramesTell, IsReached, running_of, running_from, stack_of}
+use Rattle.frames.specs.Flat.{outermost, FramesGivePoint, IsReached, running_of, running_from, stack_of}
 
--- layers, numbered in the order in which they are declared
+-- layers, numbered in the order of their declaration
 abbrev pub layer_number : FrameLayer → ℕ
 layer_number layer.Safe = 0
 layer_number layer.Copies = 1
@@ -51,7 +51,7 @@ layer_eq a b = nat_eq (layer_number a) (layer_number b)
 layer_decides : (a b : FrameLayer) → Decides (layer_eq a b) (a ≡ b)
 layer_decides a b = Decides-like (layer_eq a b) (λ p. sym (numbered a) ∙ ap layer_of p ∙ numbered b) (λ p. ap layer_number p) (Decides-eqb (layer_number a) (layer_number b))
 
--- the test of two frames, field by field
+-- compares two frames, field by field
 abbrev pub frame_eq : Frame → Frame → Bool
 frame_eq a b = layer_eq a.layer b.layer && (op_eq a.op b.op && (nat_eq a.i b.i && nat_eq a.x b.x))
 
@@ -61,7 +61,7 @@ frame_decides a b =
     (λ p. (ap (λ f. f.layer) p, (ap (λ f. f.op) p, (ap (λ f. f.i) p, ap (λ f. f.x) p))))
     (Decides-and _ _ (layer_decides a.layer b.layer) (Decides-and _ _ (op_decides a.op b.op) (Decides-and _ _ (Decides-eqb a.i b.i) (Decides-eqb a.x b.x))))
 
--- the test of two stacks
+-- compares two stacks
 abbrev pub stack_eq : List Frame → List Frame → Bool
 stack_eq = pointwise frame_eq
 
@@ -71,7 +71,7 @@ stack_decides xs ys = slice_eq-Decides frame_decides xs ys _ refl
 pub stack_per : IsPartialEquivalence stack_eq
 stack_per = per_from_decides stack_eq stack_decides
 
--- the test of two processes
+-- compares two processes: their stacks, and then their stop marks
 abbrev pub parked_eq : Parked → Parked → Bool
 parked_eq a b = stack_eq a.stack b.stack && beq a.stopped b.stopped
 
@@ -83,7 +83,7 @@ parked_decides a b =
 pub parked_per : IsPartialEquivalence parked_eq
 parked_per = per_from_decides parked_eq parked_decides
 
--- a test that agrees with that of frames, field by field
+-- a test of stacks made of tests that agree with `layer_eq` and `op_eq` agrees with `stack_eq`
 pub agrees : (L : FrameLayer → FrameLayer → Bool) (O : Op → Op → Bool) → ((a b : FrameLayer) → L a b ≡ layer_eq a b) → ((a b : Op) → O a b ≡ op_eq a b)
     → (xs ys : List Frame) → pointwise (λ a b. L a.layer b.layer && (O a.op b.op && (nat_eq a.i b.i && nat_eq a.x b.x))) xs ys ≡ stack_eq xs ys
 agrees L O layers ops xs ys = λ i. pointwise (λ a b. layers a.layer b.layer i && (ops a.op b.op i && (nat_eq a.i b.i && nat_eq a.x b.x))) xs ys
@@ -110,19 +110,19 @@ pub none_running : {P : Type 0} (point : ℕ → List Frame → Option P) (k n :
 none_running point k zero = refl
 none_running point k (suc n) = ap (λ l. None ∷ l) (none_running point (k + 1) n)
 
-module _ {P : Type 0} (b : Behaviour P) (Reaches : ℕ → Op → P → Type 0) (point : ℕ → List Frame → Option P) (tell : FramesTell b Reaches point) where
-  -- a stack whose outermost frame is of operation o, and which tells the point p
+module _ {P : Type 0} (b : Behaviour P) (Reaches : ℕ → Op → P → Type 0) (point : ℕ → List Frame → Option P) (tell : FramesGivePoint b Reaches point) where
+  -- a stack describes operation o at point p if its outermost frame has o and `point` gives p
   told : (who : ℕ) (stack : List Frame) (o : Op) (p : P) → outermost stack ≡ Some o → point who stack ≡ Some p → running_of (point who) stack ≡ Some (record { op = o; point = p })
   told who [] o p first found = cc
   told who (frame ∷ rest) o p first found =
       let e : frame.op ≡ o = cc in ap (λ q. option_map (λ x. record { op = frame.op; point = x }) q) found ∙ ap (λ q. Some (record { op = q; point = p })) e
 
-  -- the frames of what a process can reach tell it
+  -- the frames of a pending operation determine the operation and its point
   pub tells_slot : (who : ℕ) (slot : Option (Running P)) → IsReached Reaches who slot → running_of (point who) (stack_of b slot) ≡ slot
   tells_slot who None h = refl
   tells_slot who (Some r) h = told who (b.frames r.point) r.op r.point (tell.op who r.op r.point h) (tell.point who r.op r.point h)
 
-  -- what is pending has frames, and what has none is idle
+  -- the outermost frame has the pending operation, and an idle process has no frame
   pub slot_op : (who : ℕ) (slot : Option (Running P)) → IsReached Reaches who slot → outermost (stack_of b slot) ≡ option_map (λ r. r.op) slot
   slot_op who None h = refl
   slot_op who (Some r) h = tell.op who r.op r.point h

@@ -23,7 +23,7 @@ use Rattle.frames.specs.declared.types.Next.TheVariants.{Pending, Done}
 use Rattle.frames.specs.declared.types.Frame.{Frame}
 use Rattle.frames.specs.declared.types.FrameLayer.TheVariants as layer
 use Rattle.frames.specs.Behaviour.{IsLawful, GoesOn}
-use Rattle.frames.specs.Flat.{ended, left_frames, outermost, Lands, StandsOn, FramesTell}
+use Rattle.frames.specs.Flat.{ended, left_frames, outermost, Lands, HasFramesFrom, FramesGivePoint}
 use Rattle.frames.specs.SafeBit.{safe_behaviour, SafeReaches, safe_suits, safe_begins, safe_goes, safe_acts, safe_frame, point_at, safe_point, bit_of, value_of}
 
 value_below : (b : Bool) → value_of b < 2
@@ -36,8 +36,8 @@ suits_few who op.Read h = grind (arith, nat_tests)
 
 begins : (who : ℕ) (o : Op) (m : Memory) → HasSize safe_behaviour.size m → safe_suits who o ≡ true
     → GoesOn safe_behaviour (HasSize safe_behaviour.size) SafeReaches who o (safe_begins who o m).next (safe_begins who o m).memory
-begins who (op.Write v) m z fits = let zero : who ≡ 0 = grind (arith, nat_tests) in let low : v < 2 = grind (arith, nat_tests) in record { holds = z; stands = (zero, low, refl) }
-begins who op.Read m z fits = let one : who ≡ 1 = grind (arith, nat_tests) in record { holds = z; stands = one }
+begins who (op.Write v) m z fits = let zero : who ≡ 0 = grind (arith, nat_tests) in let low : v < 2 = grind (arith, nat_tests) in record { holds = z; may_be_at = (zero, low, refl) }
+begins who op.Read m z fits = let one : who ≡ 1 = grind (arith, nat_tests) in record { holds = z; may_be_at = one }
 
 hit_bit : (hit v : Bool) → MatchOption {T = ℕ × Bool} (if hit then Some (0, v) else None) ⊤ (λ bit. bit.0 < 1)
 hit_bit false v = tt
@@ -45,12 +45,12 @@ hit_bit true v = omega arith
 
 goes : (who : ℕ) (o : Op) (p : SafePoint) (choice : Bool) (m : Memory) → HasSize safe_behaviour.size m → SafeReaches who o p
     → GoesOn safe_behaviour (HasSize safe_behaviour.size) SafeReaches who o (safe_goes p choice m).next (safe_goes p choice m).memory
-goes who (op.Write v) (at.WriteStart b) choice m z r = record { holds = HasSize-on_cell _ 0 (start_write b) m z; stands = r }
-goes who (op.Write v) (at.WriteEnd b) choice m z r = record { holds = HasSize-on_cell _ 0 end_write m z; stands = tt }
-goes who op.Read at.ReadStart choice m z r = record { holds = HasSize-on_cell _ 0 start_read m z; stands = r }
+goes who (op.Write v) (at.WriteStart b) choice m z r = record { holds = HasSize-on_cell _ 0 (start_write b) m z; may_be_at = r }
+goes who (op.Write v) (at.WriteEnd b) choice m z r = record { holds = HasSize-on_cell _ 0 end_write m z; may_be_at = tt }
+goes who op.Read at.ReadStart choice m z r = record { holds = HasSize-on_cell _ 0 start_read m z; may_be_at = r }
 goes who op.Read at.ReadEnd choice m z r = record {
   holds = HasSize-on_cell _ 0 end_read m z;
-  stands = value_below (read_gives choice (cell_at 0 m));
+  may_be_at = value_below (read_gives choice (cell_at 0 m));
 }
 goes who (op.Write v) at.ReadStart choice m z r = absurd r
 goes who (op.Write v) at.ReadEnd choice m z r = absurd r
@@ -84,7 +84,7 @@ set_single x [] e = absurd (omega arith)
 set_single x (y ∷ []) e = refl
 set_single x (y ∷ (z ∷ zs)) e = absurd (omega arith)
 
--- its cell, as the first of its own memory
+-- the size of a safe bit: one cell
 abbrev pub safe_size : Place
 safe_size = record { cell = 1; word = 0 }
 
@@ -106,7 +106,7 @@ point_eq at.ReadStart at.ReadStart = true
 point_eq at.ReadEnd at.ReadEnd = true
 point_eq _ _ = false
 
--- a test that tells two points apart decides their equality
+-- a test that agrees with `point_eq` decides whether two points are equal
 pub point_decides : (E : SafePoint → SafePoint → Bool) → ((x y : SafePoint) → E x y ≡ point_eq x y) → (x y : SafePoint) → Decides (E x y) (x ≡ y)
 point_decides E e x y = Decides-at _ _ (e x y) (decided x y)
   where
@@ -148,12 +148,12 @@ safe_lawful = record {
   acts_own = λ who o p r. acts p;
 }
 
--- a bit as a number
+-- the byte of a bit is the bit's value
 pub byte_value : (b : Bool) → bool_byte b ≡ value_of b
 byte_value false = refl
 byte_value true = refl
 
--- a frame tells its point
+-- a frame determines its point
 told_bit : (b : Bool) → bit_of (value_of b) ≡ b
 told_bit false = refl
 told_bit true = refl
@@ -164,7 +164,7 @@ point_told (at.WriteEnd b) = ap at.WriteEnd (told_bit b)
 point_told at.ReadStart = refl
 point_told at.ReadEnd = refl
 
--- and the operation
+-- a frame determines its operation
 told_value : (v : ℕ) → v < 2 → value_of (bit_of v) ≡ v
 told_value zero lt = refl
 told_value (suc zero) lt = refl
@@ -180,10 +180,15 @@ op_told who (op.Write v) at.ReadEnd r = absurd r
 op_told who op.Read (at.WriteStart b) r = absurd r
 op_told who op.Read (at.WriteEnd b) r = absurd r
 
-pub safe_tells : FramesTell safe_behaviour SafeReaches safe_point
+pub safe_tells : FramesGivePoint safe_behaviour SafeReaches safe_point
 safe_tells = record { point = λ who o p r. ap Some (point_told p); op = op_told; none = λ who. refl }
 
--- what is invoked stands behind the frames that were there
+-- an invocation leaves the memory as it was
+pub begin_leaves : (at : Place) (m : Memory) (who : ℕ) (o : Op) → LiesIn at safe_size m → m ≡ with_part at (safe_begins who o (part at safe_size m)).memory m
+begin_leaves at m who (op.Write v) lies = sym (with_part-own at safe_size m lies)
+begin_leaves at m who op.Read lies = sym (with_part-own at safe_size m lies)
+
+-- the frame of an invoked operation follows the frames already on the stack
 pub begin_lands : (at : Place) (m : Memory) (who : ℕ) (o : Op) (stack : List Frame) → LiesIn at safe_size m → safe_suits who o ≡ true
     → Lands safe_behaviour.frames at (safe_begins who o (part at safe_size m)).next (safe_begins who o (part at safe_size m)).memory stack m None
     (stack ++ record { layer = layer.Safe; op = o; i = 0; x = 0 } ∷ []) m
@@ -196,7 +201,7 @@ begin_lands at m who (op.Write v) stack lies fits =
     }
 begin_lands at m who op.Read stack lies fits = record { answer = refl; stack = refl; memory = sym (with_part-own at safe_size m lies) }
 
--- the one frame of an operation that stands at an index of a stack
+-- if just one frame is on a stack from index `first` on, it is the last one
 one_left : {A : Type 0} (first : ℕ) (xs : List A) (x : A) → drop first xs ≡ x ∷ [] → length xs ≡ first + 1
 one_left first xs x e = let l = ap length e in omega (arith, l, length-drop first xs)
 
@@ -207,16 +212,16 @@ set_last first xs x y e =
 
 module _ (at : Place) (m : Memory) (who first : ℕ) (stack : List Frame) (choice : Bool) (frame : Frame) (q : SafePoint)
     (found : drop first stack ≡ frame ∷ drop (first + 1) stack) (is : q ≡ point_at frame.op frame.i) where
-  -- whoever stands there stands at the point that the frame tells
-  same_point : (o : Op) (p : SafePoint) → StandsOn safe_behaviour.frames SafeReaches who first stack o p → q ≡ p
+  -- a process with these frames is at the point that its frame describes
+  same_point : (o : Op) (p : SafePoint) → HasFramesFrom safe_behaviour.frames SafeReaches who first stack o p → q ≡ p
   same_point o p on =
       let e : frame ∷ drop (first + 1) stack ≡ safe_frame p ∷ [] = sym found ∙ on.there in
       let f : frame ≡ safe_frame p = cc in
       is ∙ ap (λ x. point_at x.op x.i) f ∙ point_told p
 
-  -- an operation that goes on has its frame changed, and one that ends has it cut
+  -- the frame of an operation is replaced if the operation goes on, and dropped if it ends
   pub stands_on : (q' : SafePoint) (m' : Memory) → (safe_goes q choice (part at safe_size m)).next ≡ Pending q' → m' ≡ with_part at (safe_goes q choice (part at safe_size m)).memory m
-      → (o : Op) (p : SafePoint) → StandsOn safe_behaviour.frames SafeReaches who first stack o p
+      → (o : Op) (p : SafePoint) → HasFramesFrom safe_behaviour.frames SafeReaches who first stack o p
       → Lands safe_behaviour.frames at (safe_goes p choice (part at safe_size m)).next (safe_goes p choice (part at safe_size m)).memory (take first stack) m None (set stack first (safe_frame q')) m'
   stands_on q' m' next memory o p on =
       subst (λ x. Lands safe_behaviour.frames at (safe_goes x choice (part at safe_size m)).next (safe_goes x choice (part at safe_size m)).memory (take first stack) m None (set stack first (safe_frame q')) m')
@@ -228,7 +233,7 @@ module _ (at : Place) (m : Memory) (who first : ℕ) (stack : List Frame) (choic
       })
 
   pub ends_there : (outcome : Outcome) (m' : Memory) → (safe_goes q choice (part at safe_size m)).next ≡ Done outcome → m' ≡ with_part at (safe_goes q choice (part at safe_size m)).memory m
-      → (o : Op) (p : SafePoint) → StandsOn safe_behaviour.frames SafeReaches who first stack o p
+      → (o : Op) (p : SafePoint) → HasFramesFrom safe_behaviour.frames SafeReaches who first stack o p
       → Lands safe_behaviour.frames at (safe_goes p choice (part at safe_size m)).next (safe_goes p choice (part at safe_size m)).memory (take first stack) m (Some outcome) (take first stack) m'
   ends_there outcome m' next memory o p on =
       subst (λ x. Lands safe_behaviour.frames at (safe_goes x choice (part at safe_size m)).next (safe_goes x choice (part at safe_size m)).memory (take first stack) m (Some outcome) (take first stack) m')

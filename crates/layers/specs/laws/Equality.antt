@@ -1,4 +1,5 @@
--- Pending operations of a layer are equal only to themselves, and equal layers over equal registers are one register.
+-- Pending operations of a layer are equal only if they are the same; equal layers over equal
+-- registers are the same register.
 use Rattle.std.proofs.Common.{◌≡◌, Bool, true, false, ap}
 use mathlib.Core.Bool.{◌&&◌}
 use Rattle.std.specs.Bool.{Decides}
@@ -13,7 +14,7 @@ nested_decides E F d e a b =
     Decides-like (E a.task b.task && F a.below b.below) (λ p. λ i. record { task = p.0 i; below = p.1 i }) (λ p. (ap (λ n. n.task) p, ap (λ n. n.below) p))
     (Decides-and (E a.task b.task) (F a.below b.below) (d a.task b.task) (e a.below b.below))
 
--- both parts of a test that holds
+-- if a joint test holds, both its halves hold
 pub both_true : (a b : Bool) → (a && b) ≡ true → (a ≡ true) × (b ≡ true)
 both_true true true h = (h, h)
 both_true true false h = (cc, h)
@@ -22,6 +23,6 @@ both_true false b h = (h, cc)
 pub layered_alike : {Task P : Type 0} (t u : Table Task) (a b : Behaviour P) → t ≡ u → a ≡ b → layered t a ≡ layered u b
 layered_alike t u a b p q = λ i. layered (p i) (q i)
 
--- a test that agrees with one which decides equality decides it too
+-- a test decides equality if it agrees with one that does
 pub decides_like : {A : Type 0} (E F : A → A → Bool) → ((x y : A) → E x y ≡ F x y) → ((x y : A) → Decides (F x y) (x ≡ y)) → (x y : A) → Decides (E x y) (x ≡ y)
 decides_like E F same d x y = Decides-at (E x y) (F x y) (same x y) (d x y)

@@ -1,32 +1,32 @@
--- A layer's frames tell its task and its part's point; what a part's step leaves on the stack.
+-- A layer's frames determine its task and its part's point; and the stack after a part's step.
 use Rattle.std.proofs.Common.{◌≡◌, ℕ, ◌+◌, ◌<◌, List, [], ◌∷◌, ◌++◌, length, take, drop, Option, Some, option_map, refl, sym, ap, ◌∙◌, arith, append_assoc, append-nil, length-drop}
 use Rattle.std.proofs.lemmas.List.{drop_more, take_more, take-append-le, take_all}
 use Rattle.frames.specs.declared.types.Outcome.{Outcome}
 use Rattle.frames.specs.declared.types.Next.{Next}
 use Rattle.frames.specs.declared.types.Next.TheVariants.{Pending, Done}
 use Rattle.frames.specs.declared.types.Frame.{Frame}
-use Rattle.frames.specs.Flat.{ended, left_frames, FramesTell}
+use Rattle.frames.specs.Flat.{ended, left_frames, FramesGivePoint}
 use Rattle.layers.specs.Nested.{Table, layered}
 use Rattle.layers.specs.Sound.{LayerReaches}
 use Rattle.layers.specs.Flat.{layered_point, cut_where_ended}
 use Rattle.layers.specs.laws.Over.{LayerOver}
 
-pub layered_tells : {Task P : Type 0} (l : LayerOver Task P) (find : ℕ → List Frame → Option P) → FramesTell l.below l.Reaches find
-    → FramesTell (layered l.table l.below) (LayerReaches l.table l.Stands l.Reaches) (layered_point l.table find)
+pub layered_tells : {Task P : Type 0} (l : LayerOver Task P) (find : ℕ → List Frame → Option P) → FramesGivePoint l.below l.Reaches find
+    → FramesGivePoint (layered l.table l.below) (LayerReaches l.table l.MayBeAt l.Reaches) (layered_point l.table find)
 layered_tells l find tell = record {
   point = λ who o n there.
-      let own = (l.sound.frame_tells who o n.task there.stands).0 in
+      let own = (l.sound.frame_gives who o n.task there.may_be_at).0 in
       (λ i. option_map (λ p. record { task = own i; below = p }) (find (l.table.asks (own i)).who (l.below.frames n.below)))
       ∙ ap (option_map (λ p. record { task = n.task; below = p })) (tell.point (l.table.asks n.task).who (l.table.asks n.task).op n.below there.below);
-  op = λ who o n there. ap Some (l.sound.frame_tells who o n.task there.stands).1;
+  op = λ who o n there. ap Some (l.sound.frame_gives who o n.task there.may_be_at).1;
   none = λ who. refl;
 }
 
--- equal layers over registers whose frames tell alike tell alike
+-- equal layers read the same point from frames, if the registers below do
 pub points_alike : {Task P : Type 0} (t u : Table Task) (f g : ℕ → List Frame → Option P) → t ≡ u → f ≡ g → layered_point t f ≡ layered_point u g
 points_alike t u f g p q = λ i. layered_point (p i) (q i)
 
--- a frame that stands at an index, and what lies behind it
+-- an index at which there is a frame is below the number of frames
 pub index_there : {A : Type 0} (first : ℕ) (xs ys : List A) (x : A) → drop first xs ≡ x ∷ ys → first < length xs
 index_there first xs ys x e = let l : length (drop first xs) ≡ length (x ∷ ys) = ap length e in omega (arith, l, length-drop first xs)
 
@@ -44,7 +44,8 @@ front_there first xs ys x e =
     let f = drop_more xs first x lt in
     take_more xs first x lt ∙ ap (λ y. take first xs ++ y ∷ []) (parts_there first xs ys x _ e f).0
 
--- the frames of a part that goes on stand behind the layer's, and those of one that has ended go with it
+-- the frames of a part that goes on follow the layer's own frame; if the part has ended, they are
+-- dropped, and the layer's own frame too
 pub part_leaves : {P : Type 0} (frames : P → List Frame) (frame : Frame) (front : List Frame) (next : Next P) (given : Option Outcome) (left : List Frame) (first : ℕ)
     → length front ≡ first → given ≡ ended next → left ≡ (front ++ frame ∷ []) ++ left_frames frames next
     → cut_where_ended first given left ≡ front ++ left_frames (λ p. frame ∷ frames p) next

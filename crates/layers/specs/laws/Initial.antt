@@ -1,14 +1,14 @@
--- Setting a layer's memory at first: part after part, and then the own words.
+-- Setting a layer's memory to its initial value: part after part, and then its own words.
 use Rattle.std.proofs.Common.{◌≡◌, ℕ, suc, ◌+◌, ◌*◌, ◌<◌, ◌≤◌, List, [], ◌∷◌, length, set, refl, sym, ◌∙◌, arith, mul-one, mul-le-mul_right}
 use Rattle.safe_bit.specs.declared.Place.{Place}
 use Rattle.safe_bit.specs.Memory.{Memory}
 use Rattle.safe_bit.specs.Windows.{splice}
-use Rattle.safe_bit.specs.Parts.{HasSize, LiesIn, behind, with_part}
-use Rattle.safe_bit.specs.laws.Parts.{same_memory, LiesIn-with_part, LiesIn-behind}
+use Rattle.safe_bit.specs.Parts.{HasSize, LiesIn, place_after, with_part}
+use Rattle.safe_bit.specs.laws.Parts.{same_memory, LiesIn-with_part, LiesIn-place_after}
 use Rattle.layers.specs.Nested.{layer_size, own_words, part_place, first_parts, layer_initial, gathered}
 use Rattle.layers.specs.laws.Nested.{part_within}
 use Rattle.layers.specs.laws.Gathered.{length-gathered}
-use Rattle.safe_bit.specs.laws.Windows.{set-behind, splice-behind, splice-nothing}
+use Rattle.safe_bit.specs.laws.Windows.{set-after, splice-after, splice-nothing}
 use Rattle.layers.specs.laws.Over.{LayerOver}
 
 module _ {Task P : Type 0} (l : LayerOver Task P)
@@ -29,42 +29,42 @@ module _ {Task P : Type 0} (l : LayerOver Task P)
   rows_fit : (n : ℕ) → n ≤ l.table.parts → (n * l.below.size.cell ≤ l.table.parts * l.below.size.cell) × (n * l.below.size.word ≤ l.table.parts * l.below.size.word)
   rows_fit n few = (mul-le-mul_right l.below.size.cell few, mul-le-mul_right l.below.size.word few)
 
-  -- the first n parts lie inside
+  -- the first n parts lie inside the store
   pub rows_inside : (n : ℕ) (at : Place) (m : Memory) → n ≤ l.table.parts → LiesIn at (layer_size l.table l.below.size) m → LiesIn at (part_place l.below.size n) m
   rows_inside n at m few lies = let f = rows_fit n few in record { cells = let c = lies.cells in omega (arith, f.0); words = let w = lies.words in omega (arith, f.1) }
 
-  -- where the next part is set, the layer still lies inside
-  pub next_inside : (j : ℕ) (at : Place) (m : Memory) → j < l.table.parts → LiesIn at (layer_size l.table l.below.size) m → LiesIn (behind at (part_place l.below.size j)) l.below.size (with_part at (first_parts l.table l.below v j) m)
+  -- part j lies inside the store after the parts before it are set
+  pub next_inside : (j : ℕ) (at : Place) (m : Memory) → j < l.table.parts → LiesIn at (layer_size l.table l.below.size) m → LiesIn (place_after at (part_place l.below.size j)) l.below.size (with_part at (first_parts l.table l.below v j) m)
   next_inside j at m lt lies =
-      LiesIn-with_part at (part_place l.below.size j) (behind at (part_place l.below.size j)) l.below.size (first_parts l.table l.below v j) m
+      LiesIn-with_part at (part_place l.below.size j) (place_after at (part_place l.below.size j)) l.below.size (first_parts l.table l.below v j) m
       (first_parts_size j (omega arith)) (rows_inside j at m (omega arith) lies)
-      (LiesIn-behind at (layer_size l.table l.below.size) (part_place l.below.size j) l.below.size m lies (part_within l.table l.below.size j lt))
+      (LiesIn-place_after at (layer_size l.table l.below.size) (part_place l.below.size j) l.below.size m lies (part_within l.table l.below.size j lt))
 
-  -- one part more
+  -- setting part j after the parts before it sets the first j + 1 parts
   pub next_part : (j : ℕ) (at : Place) (m : Memory) → j < l.table.parts → LiesIn at (layer_size l.table l.below.size) m
-      → with_part (behind at (part_place l.below.size j)) (l.below.initial (l.table.first v j)) (with_part at (first_parts l.table l.below v j) m) ≡ with_part at (first_parts l.table l.below v (suc j)) m
+      → with_part (place_after at (part_place l.below.size j)) (l.below.initial (l.table.first v j)) (with_part at (first_parts l.table l.below v j) m) ≡ with_part at (first_parts l.table l.below v (suc j)) m
   next_part j at m lt lies =
       let z = first_parts_size j (omega arith) in
       let i = rows_inside j at m (omega arith) lies in
       same_memory _ _
-      (splice-behind at.cell (j * l.below.size.cell) (first_parts l.table l.below v j).cells (l.below.initial (l.table.first v j)).cells m.cells z.cells (let c = i.cells in let l = z.cells in omega arith))
-      (splice-behind at.word (j * l.below.size.word) (first_parts l.table l.below v j).words (l.below.initial (l.table.first v j)).words m.words z.words (let c = i.words in let l = z.words in omega arith))
+      (splice-after at.cell (j * l.below.size.cell) (first_parts l.table l.below v j).cells (l.below.initial (l.table.first v j)).cells m.cells z.cells (let c = i.cells in let l = z.cells in omega arith))
+      (splice-after at.word (j * l.below.size.word) (first_parts l.table l.below v j).words (l.below.initial (l.table.first v j)).words m.words z.words (let c = i.words in let l = z.words in omega arith))
 
-  -- no part yet
+  -- setting no part changes nothing
   pub no_part : (at : Place) (m : Memory) → m ≡ with_part at (first_parts l.table l.below v 0) m
   no_part at m = same_memory _ _ (sym (splice-nothing at.cell m.cells)) (sym (splice-nothing at.word m.words))
 
-  -- all parts, and then the own words behind them
+  -- setting all parts, and then the layer's own words after them, sets the layer's initial memory
   pub words_behind : (at : Place) (m : Memory) → LiesIn at (layer_size l.table l.below.size) m
       → record (with_part at (first_parts l.table l.below v l.table.parts) m) { words = splice (at.word + own_words l.table l.below.size) (gathered (λ k. l.table.first_word v k ∷ []) l.table.words) (with_part at (first_parts l.table l.below v l.table.parts) m).words }
       ≡ with_part at (layer_initial l.table l.below v) m
   words_behind at m lies =
       let z = first_parts_size l.table.parts (omega arith) in
       same_memory _ _ refl
-      (splice-behind at.word (own_words l.table l.below.size) (first_parts l.table l.below v l.table.parts).words (gathered (λ k. l.table.first_word v k ∷ []) l.table.words) m.words z.words
+      (splice-after at.word (own_words l.table l.below.size) (first_parts l.table l.below v l.table.parts).words (gathered (λ k. l.table.first_word v k ∷ []) l.table.words) m.words z.words
       (let w = lies.words in let l = z.words in omega arith))
 
--- own words set one after the other
+-- setting word k after the own words before it sets the first k + 1 own words
 pub next_word : (w : ℕ → ℕ) (base k : ℕ) (xs : List ℕ) → base + k < length xs
     → set (splice base (gathered (λ q. w q ∷ []) k) xs) (base + k) (w k) ≡ splice base (gathered (λ q. w q ∷ []) (suc k)) xs
-next_word w base k xs lt = set-behind base k (w k) (gathered (λ q. w q ∷ []) k) xs (length-gathered (λ q. w q ∷ []) 1 k (λ j few. refl) ∙ mul-one k) lt
+next_word w base k xs lt = set-after base k (w k) (gathered (λ q. w q ∷ []) k) xs (length-gathered (λ q. w q ∷ []) 1 k (λ j few. refl) ∙ mul-one k) lt

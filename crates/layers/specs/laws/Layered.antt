@@ -12,7 +12,7 @@ use Rattle.safe_bit.specs.laws.Windows.{window-append}
 use Rattle.layers.specs.laws.Over.{LayerOver}
 
 module _ {Task P : Type 0} (l : LayerOver Task P) where
-  -- what each part holds at first
+  -- the initial memory of each part satisfies `Holds`
   first_holds : (v j : ℕ) → v < l.table.values → j < l.table.parts → l.Holds (l.below.initial (l.table.first v j))
   first_holds v j lt few = l.lawful.initial_holds (l.table.first v j) (rw l.fit.same_values (l.sound.first_fits v j lt few))
 
@@ -42,7 +42,7 @@ module _ {Task P : Type 0} (l : LayerOver Task P) where
             (l.sound.first_words v k lt few);
       }
 
-  pub layer_lawful : IsLawful (layered l.table l.below) (LayerHolds l.table l.below l.Holds) (LayerReaches l.table l.Stands l.Reaches)
+  pub layer_lawful : IsLawful (layered l.table l.below) (LayerHolds l.table l.below l.Holds) (LayerReaches l.table l.MayBeAt l.Reaches)
   layer_lawful = record {
     few_cells = l.fit.few_cells;
     few_words = l.fit.few_words;
@@ -57,10 +57,10 @@ module _ {Task P : Type 0} (l : LayerOver Task P) where
     begins_well = λ who o m h fits. advance_well l who o (l.table.program who o) m (l.sound.begins_sound who o fits) h;
     goes_well = λ who o n choice m h there. resume_well l who o n choice m there h;
     chooses_own = λ who o n choice m h there. resume_chooses l who o n choice m there h;
-    reached_suits = λ who o n there. l.sound.stands_suits who o n.task there.stands;
+    reached_suits = λ who o n there. l.sound.may_be_at_suits who o n.task there.may_be_at;
     frames_fit = λ who o n there. let f = l.lawful.frames_fit (l.table.asks n.task).who (l.table.asks n.task).op n.below there.below in omega arith;
     acts_own = λ who o n there.
-        let fit = asks_fit l who o n.task there.stands in
+        let fit = asks_fit l who o n.task there.may_be_at in
         let own = l.lawful.acts_own (l.table.asks n.task).who (l.table.asks n.task).op n.below there.below in
         let r = row_fits (l.table.asks n.task).part l.table.parts l.below.size.cell fit.0 in omega arith;
   }

@@ -1,4 +1,5 @@
--- Registers of one writer: which operations fit, by laws of `frames`, and what is left to show of a table of one.
+-- Tables of registers of one writer. Laws of `frames` show which operations fit; here is what else
+-- has to be shown of such a table.
 use Rattle.std.specs.Prelude.{◌≡◌, ℕ, ◌<◌, true}
 use Rattle.std.proofs.Common.{◌∙◌, sym}
 use Rattle.frames.specs.declared.types.Op.{Op}
@@ -11,21 +12,21 @@ use Rattle.layers.specs.Nested.{Table}
 use Rattle.layers.specs.Sound.{IsSound, IsSoundTable, IsNotSpent, Falls, FitsPart}
 pub use Rattle.frames.specs.laws.OneWriter.{zero_writes, others_read, nobody_else, writer_zero, no_other_value, reader_some, reader_few, writer_suits}
 
-module _ {Task : Type 0} (t : Table Task) (Stands : ℕ → Op → Task → Type 0) (left : Task → ℕ) where
-  -- a part's outcome behind which the program of a task goes on
+module _ {Task : Type 0} (t : Table Task) (MayBeAt : ℕ → Op → Task → Type 0) (left : Task → ℕ) where
+  -- an outcome of a part after which the task's program goes on
   abbrev GoesOn : ℕ → Op → Task → Outcome → (Type 0) → Type 0
-  GoesOn who o task outcome Then = Stands who o task → Answers t.inner_values (t.asks task).op outcome → IsNotSpent outcome → Then
+  GoesOn who o task outcome Then = MayBeAt who o task → Answers t.inner_values (t.asks task).op outcome → IsNotSpent outcome → Then
 
   pub one_writer_sound : ((who : ℕ) (o : Op) → t.suits who o ≡ one_writer t.values t.processes who o) → 0 < t.processes
       → ((v j : ℕ) → v < t.values → j < t.parts → t.first v j < t.inner_values)
       → ((v k : ℕ) → v < t.values → k < t.words → t.first_word v k < t.bound k)
-      → ((who : ℕ) (o : Op) (task : Task) → Stands who o task → ((t.asks task).part < t.parts) × FitsPart t.inner_values t.inner_processes (t.asks task).who (t.asks task).op)
-      → ((who : ℕ) (o : Op) (task : Task) → Stands who o task → t.suits who o ≡ true)
-      → ((who : ℕ) (o : Op) (task : Task) → Stands who o task → (t.find who (t.frame task) ≡ task) × ((t.frame task).op ≡ o))
-      → ((who : ℕ) (o : Op) → t.suits who o ≡ true → IsSound t (Stands who o) (Answers t.values o) (t.program who o))
-      → ((who : ℕ) (o : Op) (task : Task) (outcome : Outcome) → GoesOn who o task outcome (IsSound t (Stands who o) (Answers t.values o) (t.rest task outcome)))
+      → ((who : ℕ) (o : Op) (task : Task) → MayBeAt who o task → ((t.asks task).part < t.parts) × FitsPart t.inner_values t.inner_processes (t.asks task).who (t.asks task).op)
+      → ((who : ℕ) (o : Op) (task : Task) → MayBeAt who o task → t.suits who o ≡ true)
+      → ((who : ℕ) (o : Op) (task : Task) → MayBeAt who o task → (t.find who (t.frame task) ≡ task) × ((t.frame task).op ≡ o))
+      → ((who : ℕ) (o : Op) → t.suits who o ≡ true → IsSound t (MayBeAt who o) (Answers t.values o) (t.program who o))
+      → ((who : ℕ) (o : Op) (task : Task) (outcome : Outcome) → GoesOn who o task outcome (IsSound t (MayBeAt who o) (Answers t.values o) (t.rest task outcome)))
       → ((who : ℕ) (o : Op) (task : Task) (outcome : Outcome) → GoesOn who o task outcome (Falls left (left task) (t.rest task outcome)))
-      → IsSoundTable t Stands left
+      → IsSoundTable t MayBeAt left
   one_writer_sound suits some first_fits first_words asks_fit stands_suits frame_tells begins_sound rest_sound rest_falls = record {
     zero_writes = λ v lt. suits 0 (op.Write v) ∙ writer.zero_writes t.values t.processes v some lt;
     others_read = λ who above below. suits who op.Read ∙ writer.others_read t.values t.processes who above below;
@@ -34,8 +35,8 @@ module _ {Task : Type 0} (t : Table Task) (Stands : ℕ → Op → Task → Type
     first_fits = first_fits;
     first_words = first_words;
     asks_fit = asks_fit;
-    stands_suits = stands_suits;
-    frame_tells = frame_tells;
+    may_be_at_suits = stands_suits;
+    frame_gives = frame_tells;
     begins_sound = begins_sound;
     rest_sound = rest_sound;
     rest_falls = rest_falls;

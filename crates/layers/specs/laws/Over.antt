@@ -1,4 +1,4 @@
--- What every law of layers speaks of: a sound table over a lawful register on which it can stand.
+-- The subject of every law of layers: a sound table over a lawful register that it can be built on.
 use Rattle.std.specs.Prelude.{ℕ}
 use Rattle.safe_bit.specs.Memory.{Memory}
 use Rattle.frames.specs.declared.types.Op.{Op}
@@ -11,13 +11,13 @@ pub record LayerOver (Task P : Type 0) : Type 1 where
   pub below : Behaviour P
   pub Holds : Memory → Type 0
   pub Reaches : ℕ → Op → P → Type 0
-  pub Stands : ℕ → Op → Task → Type 0
+  pub MayBeAt : ℕ → Op → Task → Type 0
   pub left : Task → ℕ
   pub lawful : IsLawful below Holds Reaches
-  pub sound : IsSoundTable table Stands left
+  pub sound : IsSoundTable table MayBeAt left
   pub fit : FitsBelow table below
 
-abbrev pub over : {Task P : Type 0} {t : Table Task} {b : Behaviour P} {Holds : Memory → Type 0} {Reaches : ℕ → Op → P → Type 0} {Stands : ℕ → Op → Task → Type 0} {left : Task → ℕ}
-    → IsLawful b Holds Reaches → IsSoundTable t Stands left → FitsBelow t b → LayerOver Task P
-over {Task} {P} {t} {b} {Holds} {Reaches} {Stands} {left} lawful sound fit =
-    record { table = t; below = b; Holds = Holds; Reaches = Reaches; Stands = Stands; left = left; lawful = lawful; sound = sound; fit = fit }
+abbrev pub over : {Task P : Type 0} {t : Table Task} {b : Behaviour P} {Holds : Memory → Type 0} {Reaches : ℕ → Op → P → Type 0} {MayBeAt : ℕ → Op → Task → Type 0} {left : Task → ℕ}
+    → IsLawful b Holds Reaches → IsSoundTable t MayBeAt left → FitsBelow t b → LayerOver Task P
+over {Task} {P} {t} {b} {Holds} {Reaches} {MayBeAt} {left} lawful sound fit =
+    record { table = t; below = b; Holds = Holds; Reaches = Reaches; MayBeAt = MayBeAt; left = left; lawful = lawful; sound = sound; fit = fit }

@@ -1,4 +1,4 @@
--- A layer that goes on from a continuation, or behind a step of a part, in its own memory.
+-- A layer that runs on from a continuation, or after a part's step, in its own memory.
 use Rattle.std.proofs.Common.{◌≡◌, ℕ, ◌≤◌, Bool, sym, subst}
 use Rattle.safe_bit.specs.declared.Place.{Place}
 use Rattle.safe_bit.specs.Memory.{Memory}
@@ -9,70 +9,70 @@ use Rattle.frames.specs.declared.types.Outcome.{Outcome}
 use Rattle.frames.specs.declared.types.Next.{Next}
 use Rattle.layers.specs.declared.nested.Continuation.{Continuation}
 use Rattle.layers.specs.declared.nested.Continuation.TheVariants as continuation
-use Rattle.frames.specs.Behaviour.{Answers, StandsWell}
+use Rattle.frames.specs.Behaviour.{Answers, ReachedOrAnswered}
 use Rattle.layers.specs.Nested.{layer_size, own_words, asked, pushed, advance}
 use Rattle.layers.specs.Sound.{IsNotSpent, LayerHolds}
 use Rattle.layers.specs.laws.Nested.{Good, asks_fit, rest_sound, behind_well, advance_well, holds_with_part}
-use Rattle.layers.specs.Settled.{settled, ContinuationStands, tasks_left, run_on, follow_on}
+use Rattle.layers.specs.Settled.{settled, ContinuationIsSound, tasks_left, run_on, follow_on}
 use Rattle.layers.specs.laws.Settled.{settled_falls}
 use Rattle.layers.specs.InPlace.{LayerLies}
 use Rattle.layers.specs.laws.InPlace.{lies_with}
 use Rattle.layers.specs.laws.Over.{LayerOver}
 
 module _ {Task P : Type 0} (l : LayerOver Task P) where
-  -- a part's step leads on well
-  pub follow_well : (who : ℕ) (o : Op) (task : Task) (next : Next P) (m : Memory) → LayerHolds l.table l.below l.Holds m → l.Stands who o task
-      → StandsWell (l.Reaches (l.table.asks task).who (l.table.asks task).op) (Answers l.below.values (l.table.asks task).op) next
+  -- the layer keeps its laws after a part's step
+  pub follow_well : (who : ℕ) (o : Op) (task : Task) (next : Next P) (m : Memory) → LayerHolds l.table l.below l.Holds m → l.MayBeAt who o task
+      → ReachedOrAnswered (l.Reaches (l.table.asks task).who (l.table.asks task).op) (Answers l.below.values (l.table.asks task).op) next
       → Good l who o (follow_on l.table l.below task next m)
   follow_well who o task next m h stands below =
       behind_well l who o (λ outcome n. advance l.table l.below (l.table.rest task outcome) n) task next m h stands below
       (λ outcome answers goes_on. advance_well l who o (l.table.rest task outcome) m
       (rest_sound l who o task outcome stands answers goes_on) h)
 
-  -- what a task's part gives when it is asked
-  pub ask_stands : (who : ℕ) (o : Op) (task : Task) (m : Memory) → LayerHolds l.table l.below l.Holds m → l.Stands who o task
-      → StandsWell (l.Reaches (l.table.asks task).who (l.table.asks task).op) (Answers l.below.values (l.table.asks task).op) (asked l.below (l.table.asks task) m).next
+  -- a task's part that is asked is at a point that it can reach, or at an end that suits
+  pub ask_stands : (who : ℕ) (o : Op) (task : Task) (m : Memory) → LayerHolds l.table l.below l.Holds m → l.MayBeAt who o task
+      → ReachedOrAnswered (l.Reaches (l.table.asks task).who (l.table.asks task).op) (Answers l.below.values (l.table.asks task).op) (asked l.below (l.table.asks task) m).next
   ask_stands who o task m h stands =
       let fit = asks_fit l who o task stands in
-      (l.lawful.begins_well (l.table.asks task).who (l.table.asks task).op _ (h.parts (l.table.asks task).part fit.0) fit.1).stands
+      (l.lawful.begins_well (l.table.asks task).who (l.table.asks task).op _ (h.parts (l.table.asks task).part fit.0) fit.1).may_be_at
 
-  pub ask_holds : (who : ℕ) (o : Op) (task : Task) (m : Memory) → LayerHolds l.table l.below l.Holds m → l.Stands who o task → LayerHolds l.table l.below l.Holds (asked l.below (l.table.asks task) m).memory
+  pub ask_holds : (who : ℕ) (o : Op) (task : Task) (m : Memory) → LayerHolds l.table l.below l.Holds m → l.MayBeAt who o task → LayerHolds l.table l.below l.Holds (asked l.below (l.table.asks task) m).memory
   ask_holds who o task m h stands =
       let fit = asks_fit l who o task stands in
       holds_with_part l (l.table.asks task).part _ m fit.0 (l.lawful.begins_well (l.table.asks task).who (l.table.asks task).op _ (h.parts (l.table.asks task).part fit.0) fit.1).holds h
 
-  pub push_stands : (who : ℕ) (o : Op) (task : Task) (p : P) (choice : Bool) (m : Memory) → LayerHolds l.table l.below l.Holds m → l.Stands who o task → l.Reaches (l.table.asks task).who (l.table.asks task).op p
-      → StandsWell (l.Reaches (l.table.asks task).who (l.table.asks task).op) (Answers l.below.values (l.table.asks task).op) (pushed l.below (l.table.asks task).part p choice m).next
+  pub push_stands : (who : ℕ) (o : Op) (task : Task) (p : P) (choice : Bool) (m : Memory) → LayerHolds l.table l.below l.Holds m → l.MayBeAt who o task → l.Reaches (l.table.asks task).who (l.table.asks task).op p
+      → ReachedOrAnswered (l.Reaches (l.table.asks task).who (l.table.asks task).op) (Answers l.below.values (l.table.asks task).op) (pushed l.below (l.table.asks task).part p choice m).next
   push_stands who o task p choice m h stands there =
       let fit = asks_fit l who o task stands in
-      (l.lawful.goes_well (l.table.asks task).who (l.table.asks task).op p choice _ (h.parts (l.table.asks task).part fit.0) there).stands
+      (l.lawful.goes_well (l.table.asks task).who (l.table.asks task).op p choice _ (h.parts (l.table.asks task).part fit.0) there).may_be_at
 
-  pub push_holds : (who : ℕ) (o : Op) (task : Task) (p : P) (choice : Bool) (m : Memory) → LayerHolds l.table l.below l.Holds m → l.Stands who o task → l.Reaches (l.table.asks task).who (l.table.asks task).op p
+  pub push_holds : (who : ℕ) (o : Op) (task : Task) (p : P) (choice : Bool) (m : Memory) → LayerHolds l.table l.below l.Holds m → l.MayBeAt who o task → l.Reaches (l.table.asks task).who (l.table.asks task).op p
       → LayerHolds l.table l.below l.Holds (pushed l.below (l.table.asks task).part p choice m).memory
   push_holds who o task p choice m h stands there =
       let fit = asks_fit l who o task stands in
       holds_with_part l (l.table.asks task).part _ m fit.0 (l.lawful.goes_well (l.table.asks task).who (l.table.asks task).op p choice _ (h.parts (l.table.asks task).part fit.0) there).holds h
 
-  -- the layer from a continuation on keeps its laws
-  pub run_well : (who : ℕ) (o : Op) (at_turn : Continuation Task) (m : Memory) → ContinuationStands (l.Stands who o) (Answers l.table.values o) at_turn → LayerHolds l.table l.below l.Holds m
+  -- the layer keeps its laws when it runs on from a continuation
+  pub run_well : (who : ℕ) (o : Op) (at_turn : Continuation Task) (m : Memory) → ContinuationIsSound (l.MayBeAt who o) (Answers l.table.values o) at_turn → LayerHolds l.table l.below l.Holds m
       → Good l who o (run_on l.table l.below at_turn m)
-  run_well who o (continuation.Ends outcome) m stands h = record { holds = h; stands = stands }
+  run_well who o (continuation.Ends outcome) m stands h = record { holds = h; may_be_at = stands }
   run_well who o (continuation.Asks task) m stands h =
       follow_well who o task (asked l.below (l.table.asks task) m).next (asked l.below (l.table.asks task) m).memory (ask_holds who o task m h stands) stands (ask_stands who o task m h stands)
 
-  -- fewer tasks follow behind a task that ended
-  pub rest_left : (who : ℕ) (o : Op) (task : Task) (outcome : Outcome) (m : Memory) → l.Stands who o task
+  -- after a task has ended, no more tasks are left than `left` says of it
+  pub rest_left : (who : ℕ) (o : Op) (task : Task) (outcome : Outcome) (m : Memory) → l.MayBeAt who o task
       → Answers l.below.values (l.table.asks task).op outcome → IsNotSpent outcome
       → tasks_left l.left (settled (own_words l.table l.below.size) (l.table.rest task outcome) m).continuation ≤ l.left task
   rest_left who o task outcome m stands answers goes_on =
-      settled_falls l.table (l.Stands who o) (Answers l.table.values o) l.left (own_words l.table l.below.size) (l.left task) (l.table.rest task outcome) m
+      settled_falls l.table (l.MayBeAt who o) (Answers l.table.values o) l.left (own_words l.table l.below.size) (l.left task) (l.table.rest task outcome) m
       (l.sound.rest_falls who o task outcome stands (subst (λ n. Answers n (l.table.asks task).op outcome) l.fit.same_values answers) goes_on)
 
-  -- own memory put in, and what comes of it put in again
+  -- replacing the layer's memory twice is the same as replacing it by the second
   pub put_again : (at : Place) (m : Memory) → LayerLies l.table l.below l.Holds at m → (mid late : Memory) → LayerHolds l.table l.below l.Holds mid → LayerHolds l.table l.below l.Holds late
       → with_part at late (with_part at mid m) ≡ with_part at late m
   put_again at m lies mid late h h' = with_part-with_part at (layer_size l.table l.below.size) late mid m h'.size h.size lies.inside
 
-  -- the layer lies there after a stretch of work
+  -- the layer still lies at its place after a change of its memory that keeps `LayerHolds`
   pub lies_after : (at : Place) (m : Memory) → LayerLies l.table l.below l.Holds at m → (mid first : Memory) → first ≡ with_part at mid m → LayerHolds l.table l.below l.Holds mid → LayerLies l.table l.below l.Holds at first
   lies_after at m lies mid first e h = subst (LayerLies l.table l.below l.Holds at) (sym e) (lies_with l at m lies mid h)

@@ -1,4 +1,4 @@
--- Programs run up to their next task, in a store and in the own memory that lies there.
+-- Programs run to their next task or end, in a store and in the layer's memory inside the store.
 use Rattle.std.proofs.Common.{◌≡◌, ℕ, ◌+◌, ◌<◌, ◌≤◌, length, get_or, set, refl, sym, ap, subst, ◌∙◌, inl, inr, arith, length-set, add_assoc}
 use Rattle.std.proofs.lemmas.Bool.{cases_eq}
 use Rattle.std.proofs.lemmas.List.{get_or-set_same, get_or-set_other}
@@ -8,13 +8,13 @@ use Rattle.safe_bit.specs.Parts.{HasSize, LiesIn, part, with_part}
 use Rattle.safe_bit.specs.laws.Parts.{HasSize-part, HasSize-with_word, LiesIn-with_part, part-with_part, with_part-with_part, with_part-own, word_at-part, with_word-part}
 use Rattle.frames.specs.declared.types.Outcome.{Outcome}
 use Rattle.frames.specs.Behaviour.{Behaviour}
-use Rattle.layers.specs.Nested.{Program, Ends, Asks, Reads, Sets, Table, own_words, asked, behind_part, advance}
+use Rattle.layers.specs.Nested.{Program, Ends, Asks, Reads, Sets, Table, own_words, asked, after_part, advance}
 use Rattle.layers.specs.Sound.{IsSound, Falls, WordsHold, LayerHolds}
 use Rattle.layers.specs.laws.Nested.{holds_with_word}
-use Rattle.layers.specs.Settled.{ContinuationStands, run_on, settled, tasks_left}
+use Rattle.layers.specs.Settled.{ContinuationIsSound, run_on, settled, tasks_left}
 use Rattle.layers.specs.laws.Over.{LayerOver}
 
--- an own word set in range keeps the own words in range
+-- setting one word to a value in range keeps all own words in range
 pub words_hold_set : {Task : Type 0} (t : Table Task) (base i x : ℕ) (m : Memory) → base + t.words ≤ length m.words → i < t.words → x < t.bound i
     → WordsHold t base m → WordsHold t base (with_word (base + i) x m)
 words_hold_set t base i x m fit lt low h k few = elim (cases_eq k i) as (λ _. get_or (set m.words (base + i) x) (base + k) 0 < t.bound k) [
@@ -22,10 +22,10 @@ words_hold_set t base i x m fit lt low h k few = elim (cases_eq k i) as (λ _. g
   | inr other ↦ rw (get_or-set_other m.words (base + i) (base + k) x 0 (λ e. other (omega arith))) (h k few)
 ]
 
-module _ {Task : Type 0} (t : Table Task) (Stands : Task → Type 0) (Answer : Outcome → Type 0) where
-  -- a sound program settles on a continuation that stands
-  pub settled_stands : (base : ℕ) (p : Program Task) (m : Memory) → IsSound t Stands Answer p → base + t.words ≤ length m.words → WordsHold t base m
-      → ContinuationStands Stands Answer (settled base p m).continuation
+module _ {Task : Type 0} (t : Table Task) (MayBeAt : Task → Type 0) (Answer : Outcome → Type 0) where
+  -- a sound program stops at a task or an end that suits the operation
+  pub settled_stands : (base : ℕ) (p : Program Task) (m : Memory) → IsSound t MayBeAt Answer p → base + t.words ≤ length m.words → WordsHold t base m
+      → ContinuationIsSound MayBeAt Answer (settled base p m).continuation
   settled_stands base (Ends o) m sound fit h = sound
   settled_stands base (Asks task k) m sound fit h = sound.0
   settled_stands base (Reads i k) m sound fit h = settled_stands base (k (word_at (base + i) m)) m (sound.1 _ (h i sound.0)) fit h
@@ -38,20 +38,20 @@ module _ {Task : Type 0} (t : Table Task) (Stands : Task → Type 0) (Answer : O
   settled_falls left base n (Reads i k) m f = settled_falls left base n (k (word_at (base + i) m)) m (f _)
   settled_falls left base n (Sets i x k) m f = settled_falls left base n k (with_word (base + i) x m) f
 
-  -- advancing is settling, and then going on from the continuation
-  pub advance_settled : {P : Type 0} (b : Behaviour P) (p : Program Task) (m : Memory) → IsSound t Stands Answer p
+  -- running a program is the same as settling it and then running on from the continuation
+  pub advance_settled : {P : Type 0} (b : Behaviour P) (p : Program Task) (m : Memory) → IsSound t MayBeAt Answer p
       → own_words t b.size + t.words ≤ length m.words → WordsHold t (own_words t b.size) m
       → advance t b p m ≡ run_on t b (settled (own_words t b.size) p m).continuation (settled (own_words t b.size) p m).memory
   advance_settled b (Ends o) m sound fit h = refl
   advance_settled b (Asks task k) m sound fit h =
-      λ i. behind_part (λ o n. advance t b (sound.1 o i) n) task (asked b (t.asks task) m).next (asked b (t.asks task) m).memory
+      λ i. after_part (λ o n. advance t b (sound.1 o i) n) task (asked b (t.asks task) m).next (asked b (t.asks task) m).memory
   advance_settled b (Reads i k) m sound fit h = advance_settled b (k (word_at (own_words t b.size + i) m)) m (sound.1 _ (h i sound.0)) fit h
   advance_settled b (Sets i x k) m sound fit h =
       advance_settled b k (with_word (own_words t b.size + i) x m) sound.1.1 (omega (arith, length-set m.words (own_words t b.size + i) x))
       (words_hold_set t (own_words t b.size) i x m fit sound.0 sound.1.0 h)
 
-  -- settling in a store is settling in the own memory that lies there
-  pub settled_in_place : (at size : Place) (own : ℕ) (p : Program Task) (m : Memory) → IsSound t Stands Answer p → LiesIn at size m → own + t.words ≤ size.word
+  -- settling in a store is the same as settling in the layer's memory that lies there
+  pub settled_in_place : (at size : Place) (own : ℕ) (p : Program Task) (m : Memory) → IsSound t MayBeAt Answer p → LiesIn at size m → own + t.words ≤ size.word
       → WordsHold t own (part at size m)
       → ((settled (at.word + own) p m).continuation ≡ (settled own p (part at size m)).continuation)
       × ((settled (at.word + own) p m).memory ≡ with_part at (settled own p (part at size m)).memory m)
@@ -79,13 +79,13 @@ module _ {Task : Type 0} (t : Table Task) (Stands : Task → Type 0) (Answer : O
       × (HasSize size (settled own k inner).memory)) (sym e)
       (there'.0, there'.1 ∙ with_part-with_part at size (settled own k inner).memory inner m there'.2 z lies, there'.2)
 
--- settling keeps what a layer's own memory keeps
+-- the layer's memory still satisfies `LayerHolds` after settling
 pub settled_holds : {Task P : Type 0} (l : LayerOver Task P)
-    (Stands : Task → Type 0) (Answer : Outcome → Type 0) (p : Program Task) (m : Memory) → IsSound l.table Stands Answer p → LayerHolds l.table l.below l.Holds m
+    (MayBeAt : Task → Type 0) (Answer : Outcome → Type 0) (p : Program Task) (m : Memory) → IsSound l.table MayBeAt Answer p → LayerHolds l.table l.below l.Holds m
     → LayerHolds l.table l.below l.Holds (settled (own_words l.table l.below.size) p m).memory
-settled_holds l Stands Answer (Ends o) m sound h = h
-settled_holds l Stands Answer (Asks task k) m sound h = h
-settled_holds l Stands Answer (Reads i k) m sound h =
-    settled_holds l Stands Answer (k (word_at (own_words l.table l.below.size + i) m)) m (sound.1 _ (h.words i sound.0)) h
-settled_holds l Stands Answer (Sets i x k) m sound h =
-    settled_holds l Stands Answer k (with_word (own_words l.table l.below.size + i) x m) sound.1.1 (holds_with_word l i x m sound.0 sound.1.0 h)
+settled_holds l MayBeAt Answer (Ends o) m sound h = h
+settled_holds l MayBeAt Answer (Asks task k) m sound h = h
+settled_holds l MayBeAt Answer (Reads i k) m sound h =
+    settled_holds l MayBeAt Answer (k (word_at (own_words l.table l.below.size + i) m)) m (sound.1 _ (h.words i sound.0)) h
+settled_holds l MayBeAt Answer (Sets i x k) m sound h =
+    settled_holds l MayBeAt Answer k (with_word (own_words l.table l.below.size + i) x m) sound.1.1 (holds_with_word l i x m sound.0 sound.1.0 h)

@@ -3,7 +3,7 @@
 ghost use Rattle.std.specs.Prelude.{◌≡◌, ◌≢◌, ◌<◌, ◌+◌, ◌-◌, ◌^◌, ℕ, length, map, Some, None, IsSome, IfOk, OnOk, OnErr};
 ghost use Rattle.slab.specs.Slab.{get, slab_len, HasRoomFor, ContainsKey};
 ghost use Rattle.lineage.specs.Family.{IsAdded, item_at, divided_keys};
-ghost use Rattle.lineage.specs.Held.{over, under};
+ghost use Rattle.lineage.specs.Held.{node_over, node_under};
 
 use super::push::reserve_node;
 use super::{Key, Lineage};
@@ -12,11 +12,12 @@ use slab::Slab;
 use std::alloc::AllocError;
 
 impl<X: Drop> Lineage<X> {
-    /// Puts a new item right above a key, in each path that has it. Its key. It looks at no path.
+    /// Puts a new item right above a key, in each path that has the key. Returns the new item's
+    /// key. Visits no path.
     ///
     /// # Errors
     ///
-    /// Where there is no memory for it. Then nothing is changed, and the item is dropped.
+    /// If there is no memory for the item. Then nothing changes, and the item is dropped.
     pub fn divide(&mut self, key: Key, item: X) -> Result<Key, AllocError>
         requires { IsSome (item_at self.old key) }
         ensures item { IfOk result (λ fresh. IsAdded self.old self.new fresh item) }
@@ -29,18 +30,18 @@ impl<X: Drop> Lineage<X> {
     }
 }
 
-/// Puts a new item right above a key. Its key.
+/// Puts a new item right above a key, and returns the new item's key.
 pub(super) fn put_above<X>(nodes: &mut Slab<Node<X>>, key: Key, item: X) -> Key
     requires room { HasRoomFor nodes.old 1 }
     requires there { ContainsKey nodes.old key }
     ensures vacant { get nodes.old result ≡ None }
-    ensures fresh { get nodes.new result ≡ over item (get nodes.old key) }
-    ensures below { get nodes.new key ≡ under result (get nodes.old key) }
+    ensures fresh { get nodes.new result ≡ node_over item (get nodes.old key) }
+    ensures below { get nodes.new key ≡ node_under result (get nodes.old key) }
     ensures others { (k : ℕ) → k ≢ key → k ≢ result → get nodes.new k ≡ get nodes.old k }
     ensures len { slab_len nodes.new ≡ slab_len nodes.old + 1 }
     ensures few { result < 2 ^ 64 - 1 }
 {
-    // It tells the proof that there are fewer than 2^64 slots, so that no key is the word of none.
+    // for the proof: there are fewer than 2^64 slots, so no key has the word that means `None`
     let _most = nodes.capacity();
     let above = nodes[key].above;
     let fresh = nodes.insert_reserved(Node {

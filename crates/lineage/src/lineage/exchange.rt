@@ -1,23 +1,23 @@
-//! A path of new items in the place of another.
+//! Replacing a path by a path of new items.
 
 ghost use Rattle.std.specs.Prelude.{◌≡◌, ◌<◌, ◌≤◌, ◌+◌, ◌^◌, length, OnOk, OnErr, vec_capacity};
 ghost use Rattle.slab.specs.Slab.{slab_len, HasRoomFor};
 ghost use Rattle.lineage.specs.Family.{IsExchanged};
-ghost use Rattle.lineage.specs.Held.{IsSound, IsPutLast};
+ghost use Rattle.lineage.specs.Held.{IsSoundFamily, IsPutLast};
 
 use super::Lineage;
 use super::push::push_node;
-use super::release::let_go_up;
+use super::release::free_up;
 use crate::node::{Above, Node};
 use slab::Slab;
 use std::alloc::AllocError;
 
 impl<X: Drop> Lineage<X> {
-    /// Gives the path at an index new items instead of those that it has, which go where no other path has them.
+    /// Replaces the items of the path at an index. Drops the old items that no other path has.
     ///
     /// # Errors
     ///
-    /// Where there is no memory for them. Then nothing is changed, and the new items are dropped.
+    /// If there is no memory for the items. Then nothing changes, and the items are dropped.
     pub fn replace_path(&mut self, path: usize, items: Vec<X>) -> Result<(), AllocError>
         requires { path < length self.old.paths }
         ensures ok { OnOk result (IsExchanged self.old self.new path items.items) }
@@ -26,12 +26,12 @@ impl<X: Drop> Lineage<X> {
         reserve_path(&mut self.nodes, &mut self.tips, items.len())?;
         put_last(&mut self.nodes, &mut self.tips, items);
         let tip = self.tips.swap_remove(path);
-        let_go_up(&mut self.nodes, tip);
+        free_up(&mut self.nodes, tip);
         Ok(())
     }
 }
 
-/// Makes room for one more path of so many new nodes.
+/// Reserves memory for one more path of `count` new nodes.
 pub(super) fn reserve_path<X>(
     nodes: &mut Slab<Node<X>>,
     tips: &mut Vec<Above>,
@@ -44,7 +44,7 @@ pub(super) fn reserve_path<X>(
     ensures few { OnOk result
         (length tips.old.items + 1 + (slab_len nodes.old + count) < 2 ^ 64) }
 {
-    // What stands on a key has to be countable. More tips than that are refused, since no memory holds them.
+    // the number of holders must fit in a word; if it might not, this reserve is sure to fail
     if count >= (usize::MAX - nodes.len()).saturating_sub(tips.len()) {
         tips.reserve(usize::MAX)?;
         unreachable!();
@@ -53,9 +53,9 @@ pub(super) fn reserve_path<X>(
     tips.reserve(1)
 }
 
-/// Puts a path of new items last.
+/// Adds a last path, which has these new items.
 fn put_last<X: Drop>(nodes: &mut Slab<Node<X>>, tips: &mut Vec<Above>, items: Vec<X>)
-    requires sound { IsSound nodes.old.slots tips.old.items }
+    requires sound { IsSoundFamily nodes.old.slots tips.old.items }
     requires room { HasRoomFor nodes.old (length items.items) }
     requires space { length tips.old.items < vec_capacity tips.old }
     requires few { length tips.old.items + 1 + (slab_len nodes.old + length items.items) < 2 ^ 64 }

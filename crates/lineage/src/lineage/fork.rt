@@ -13,12 +13,12 @@ use slab::Slab;
 use std::alloc::AllocError;
 
 impl<X: Drop> Lineage<X> {
-    /// Puts a new path last, which ends with a key that is there, and has all that comes before it in other paths; or one with
-    /// no item.
+    /// Adds a last path. It ends with `key`, and has all keys above `key`. If `key` is `None`, the
+    /// path has no item.
     ///
     /// # Errors
     ///
-    /// Where there is no memory for it. Then nothing is changed.
+    /// If there is no memory for the path. Then nothing changes.
     pub fn fork(&mut self, key: Option<Key>) -> Result<(), AllocError>
         requires { IfSome key (λ k. IsSome (item_at self.old k)) }
         ensures ok { OnOk result (IsForked self.old self.new key) }
@@ -30,12 +30,13 @@ impl<X: Drop> Lineage<X> {
         Ok(())
     }
 
-    /// Puts a new item right above a key, in each path that has it, and a new path last that ends with the new one. Its key. It
-    /// looks at no path.
+    /// Puts a new item right above a key, in each path that has the key. Adds a last path, which
+    /// ends with the new item. Returns the new item's key. Visits no path.
     ///
     /// # Errors
     ///
-    /// Where there is no memory for them. Then nothing is changed, and the item is dropped.
+    /// If there is no memory for the item and the path. Then nothing changes, and the item is
+    /// dropped.
     pub fn fork_above(&mut self, key: Key, item: X) -> Result<Key, AllocError>
         requires { IsSome (item_at self.old key) }
         ensures ok { IfOk result (λ fresh. IsForkedAbove self.old self.new key fresh item) }
@@ -49,13 +50,13 @@ impl<X: Drop> Lineage<X> {
     }
 }
 
-/// Makes room for one more path.
+/// Reserves memory for one more path.
 fn reserve_tip(tips: &mut Vec<Above>, nodes: usize) -> Result<(), AllocError>
     ensures items { tips.new.items ≡ tips.old.items }
     ensures room { OnOk result (length tips.new.items < vec_capacity tips.new) }
     ensures few { OnOk result (length tips.old.items + nodes + 1 < 2 ^ 64) }
 {
-    // What stands on a key has to be countable. More tips than that are refused, since no memory holds them.
+    // the number of holders must fit in a word; if it might not, this reserve is sure to fail
     if tips.len() >= usize::MAX - nodes {
         tips.reserve(usize::MAX)?;
         unreachable!();
@@ -63,12 +64,12 @@ fn reserve_tip(tips: &mut Vec<Above>, nodes: usize) -> Result<(), AllocError>
     tips.reserve(1)
 }
 
-/// A key that is there, or none, in one word.
+/// The key of an existing item, or no key, in one word.
 fn end_at<X>(nodes: &Slab<Node<X>>, key: Option<Key>) -> Above
     requires { IfSome key (λ k. ContainsKey nodes.now k) }
     ensures { result ≡ key }
 {
-    // It tells the proof that there are fewer than 2^64 slots, so that no key is the word of none.
+    // for the proof: there are fewer than 2^64 slots, so no key has the word that means `None`
     let _most = nodes.capacity();
     match key {
         Some(key) => Above::of(key),
@@ -76,7 +77,7 @@ fn end_at<X>(nodes: &Slab<Node<X>>, key: Option<Key>) -> Above
     }
 }
 
-/// Counts one more that stands on a key.
+/// Counts one more holder of the node at `key`. If `key` is `None`, nothing changes.
 fn hold<X>(nodes: &mut Slab<Node<X>>, key: Option<Key>)
     requires there { IfSome key (λ k. ContainsKey nodes.old k) }
     requires few { (k : ℕ) (n : Node X) → key ≡ Some k → get nodes.old k ≡ Some n

@@ -1,4 +1,4 @@
-//! A new item behind a path.
+//! A new item at the end of a path.
 
 ghost use Rattle.std.specs.Prelude.{◌≡◌, ◌≢◌, ◌<◌, ◌+◌, ◌^◌, ◌++◌, ◌∷◌, [], ℕ, length, slice_set, Some, None, IfOk, OnOk, OnErr};
 ghost use Rattle.slab.specs.Slab.{get, slab_len, HasRoomFor};
@@ -11,11 +11,11 @@ use slab::Slab;
 use std::alloc::AllocError;
 
 impl<X: Drop> Lineage<X> {
-    /// Puts a new item last in the path at an index, and in that path alone. Its key.
+    /// Puts a new item at the end of the path at an index, in that path alone. Returns its key.
     ///
     /// # Errors
     ///
-    /// Where there is no memory for it. Then nothing is changed, and the item is dropped.
+    /// If there is no memory for the item. Then nothing changes, and the item is dropped.
     pub fn push(&mut self, path: usize, item: X) -> Result<Key, AllocError>
         requires { path < length self.old.paths }
         ensures item { IfOk result (λ key. IsAdded self.old self.new key item) }
@@ -28,14 +28,14 @@ impl<X: Drop> Lineage<X> {
     }
 }
 
-/// Makes room for one more node.
+/// Reserves memory for one more node.
 pub(super) fn reserve_node<X>(nodes: &mut Slab<Node<X>>, tips: usize) -> Result<(), AllocError>
     requires { tips < 2 ^ 63 }
     ensures slots { nodes.new.slots ≡ nodes.old.slots }
     ensures room { OnOk result (HasRoomFor nodes.new 1) }
     ensures few { OnOk result (tips + slab_len nodes.old + 1 < 2 ^ 64) }
 {
-    // What stands on a key has to be countable. More nodes than that are refused, since no memory holds them.
+    // the number of holders must fit in a word; if it might not, this reserve is sure to fail
     if nodes.len() >= usize::MAX - tips {
         nodes.reserve(usize::MAX)?;
         let _most = nodes.capacity();
@@ -44,7 +44,7 @@ pub(super) fn reserve_node<X>(nodes: &mut Slab<Node<X>>, tips: usize) -> Result<
     nodes.reserve(1)
 }
 
-/// Puts a new item last in a path. Its key.
+/// Puts a new item at the end of a path, and returns the item's key.
 pub(super) fn push_node<X>(
     nodes: &mut Slab<Node<X>>,
     tips: &mut Vec<Above>,
@@ -60,7 +60,7 @@ pub(super) fn push_node<X>(
     ensures capacity { nodes.new.capacity ≡ nodes.old.capacity }
     ensures tips { tips.new.items ≡ slice_set tips.old.items path (Some result) }
 {
-    // It tells the proof that there are fewer than 2^64 slots, so that no key is the word of none.
+    // for the proof: there are fewer than 2^64 slots, so no key has the word that means `None`
     let _most = nodes.capacity();
     let above = tips[path];
     let key = nodes.insert_reserved(Node {

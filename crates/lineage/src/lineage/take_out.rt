@@ -1,4 +1,4 @@
-//! An item that goes from each path.
+//! Taking an item out of all paths.
 
 ghost use Rattle.std.specs.Prelude.{◌≡◌, ◌≢◌, ◌<◌, ◌≤◌, ◌+◌, ◌-◌, ◌^◌, ℕ, length, map, Some, None, IfSome, IsSome};
 ghost use Rattle.slab.specs.Slab.{get, ContainsKey};
@@ -10,8 +10,9 @@ use crate::node::{Above, Node};
 use slab::Slab;
 
 impl<X: Drop> Lineage<X> {
-    /// Takes the item at a key out of each path that has it: what stood on it stands on what it stood on. The item. It takes no
-    /// memory, and looks at each item and path.
+    /// Takes the item at a key out of each path that has it, and returns the item. Each item and
+    /// path that linked to it then links to the item above it. Never allocates; visits each item
+    /// and path.
     pub fn take_out(&mut self, key: Key) -> X
         requires { IsSome (item_at self.old key) }
         ensures was { item_at self.old key ≡ Some result }
@@ -27,7 +28,7 @@ impl<X: Drop> Lineage<X> {
     }
 }
 
-/// What is stood on where a key is skipped.
+/// The link that replaces `at` when `key` is skipped: `above` if `at` links to `key`, else `at`.
 fn past(at: Above, key: Key, above: Above) -> Above
     ensures { result ≡ past key above at }
 {
@@ -37,7 +38,8 @@ fn past(at: Above, key: Key, above: Above) -> Above
     }
 }
 
-/// Counts at what a node stood on those that stood on the node, instead of the node.
+/// Changes the holders of the node above a skipped one: adds the skipped node's `holders`, and
+/// takes away one, the skipped node itself.
 fn pass_on<X>(nodes: &mut Slab<Node<X>>, above: Above, holders: usize)
     requires there { IfSome above (λ k. ContainsKey nodes.old k) }
     requires few { (k : ℕ) (n : Node X) → above ≡ Some k → get nodes.old k ≡ Some n
@@ -49,7 +51,7 @@ fn pass_on<X>(nodes: &mut Slab<Node<X>>, above: Above, holders: usize)
     }
 }
 
-/// Lets each node that stands on a key stand on what is above it.
+/// Replaces the link of each node that links to `key` by `above`.
 fn skip_in_nodes<X>(nodes: &mut Slab<Node<X>>, key: Key, above: Above)
     ensures { (k : ℕ) → get nodes.new k ≡ past_node key above (get nodes.old k) }
 {
@@ -58,7 +60,7 @@ fn skip_in_nodes<X>(nodes: &mut Slab<Node<X>>, key: Key, above: Above)
     }
 }
 
-/// Lets a node that stands on a key stand on what is above it.
+/// Replaces the link of the node at `place` by `above`, if that node links to `key`.
 fn skip_at<X>(nodes: &mut Slab<Node<X>>, place: Key, key: Key, above: Above)
     ensures here { get nodes.new place ≡ past_node key above (get nodes.old place) }
     ensures others { (k : ℕ) → k ≢ place → get nodes.new k ≡ get nodes.old k }
@@ -70,7 +72,7 @@ fn skip_at<X>(nodes: &mut Slab<Node<X>>, place: Key, key: Key, above: Above)
     nodes[place].above = skipped;
 }
 
-/// Lets each path that ends with a key end with what is above it.
+/// Replaces the last key of each path that ends with `key` by `above`.
 fn skip_in_tips(tips: &mut Vec<Above>, key: Key, above: Above)
     ensures { tips.new.items ≡ map (past key above) tips.old.items }
 {

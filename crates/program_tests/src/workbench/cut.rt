@@ -1,7 +1,7 @@
-//! Streams that fail after each byte of a script or of its answers, and what then has gone out.
+//! Tests of streams that fail after some byte of a script or of its answers, and of what was
+//! written by then. Each byte is tried.
 
 use super::options;
-use conversation::fault::StreamFault;
 use std::alloc::{AllocError, Global};
 use std::io;
 use std::io::{ErrorKind, Read, Write};
@@ -9,12 +9,11 @@ use std::process::Abort;
 use std::sync::Wait;
 use std::test::Fail;
 use std::thread::Threads;
-use towerbench::fault::Fault;
-use towerbench::run::run;
+use towerbench::{Fault, run};
 
 const TOWER: &[u8] = b"tower 1\nsafe 0\nr 1\ng 1 0\ng 1 0\n";
 
-/// The lines of row `shared-insert`, and what each is answered over that tower.
+/// The lines of row `shared-insert`, and their answers on the tower above.
 const TALK: [(&str, &str); 7] = [
     ("0 fork main 3 a\n", "0: edit 1\n"),
     ("1 join\n", "1: joined\n"),
@@ -31,22 +30,24 @@ const TALK: [(&str, &str); 7] = [
     ),
 ];
 
-/// More than the script's bytes, and than those of its answers.
+/// More bytes than the script has, and more than its answers have.
 pub(super) const ALL: usize = 1 << 10;
 
-/// What a reader does after its bytes, at each read.
+/// What a reader does at each read after its bytes.
 #[derive(Clone, Copy)]
 enum After {
     Ends,
     Fails,
-    /// It gives bytes without a line's end.
+    /// It is only interrupted.
+    Interrupted,
+    /// It gives bytes without a line end.
     NeverEnds,
 }
 
-/// The bytes that it gives then, over and over.
+/// The bytes that a reader that never ends gives over and over.
 const MORE: &[u8] = &[b'#'; 1 << 12];
 
-/// Gives bytes, at most `piece` a read.
+/// A reader that gives at most `piece` bytes at each read.
 #[derive(Drop)]
 struct Cut<'a> {
     bytes: &'a [u8],
@@ -60,6 +61,7 @@ impl Read for Cut<'_> {
             match self.after {
                 After::Ends => return Ok(0),
                 After::Fails => return Err(io::Error::from(ErrorKind::Other)),
+                After::Interrupted => return Err(io::Error::from(ErrorKind::Interrupted)),
                 After::NeverEnds => self.bytes = MORE,
             }
         }
@@ -70,7 +72,7 @@ impl Read for Cut<'_> {
     }
 }
 
-/// Takes at most `piece` bytes a write, and fails when it has no room left.
+/// A writer that takes at most `piece` bytes at each write, and fails after `room` more bytes.
 #[derive(Drop)]
 pub(super) struct Narrow {
     piece: usize,
@@ -79,7 +81,7 @@ pub(super) struct Narrow {
 }
 
 impl Narrow {
-    /// One that takes at most `room` bytes in all.
+    /// A writer that takes at most `room` bytes in all.
     pub(super) fn new(alloc: Global, room: usize) -> Narrow {
         Narrow {
             piece: ALL,
@@ -105,8 +107,8 @@ impl Write for Narrow {
     }
 }
 
-/// How a reader and a writer go: bytes at most a read, what follows them, bytes at most a
-/// write, and bytes that are taken in all.
+/// How a reader and a writer behave: the most bytes of a read, what the reader does after its
+/// bytes, the most bytes of a write, and the most bytes that the writer takes in all.
 #[derive(Clone, Copy)]
 struct Way {
     read: usize,
@@ -115,7 +117,7 @@ struct Way {
     room: usize,
 }
 
-/// The fault of a run over a script, and what it has written.
+/// Runs the program over a script. Returns the fault, if there was one, and the bytes written.
 fn ended<H: Threads + Wait + Sync>(
     rt: &H,
     alloc: Global,
@@ -136,7 +138,7 @@ fn ended<H: Threads + Wait + Sync>(
     (ran.err(), writer.taken)
 }
 
-/// The script.
+/// The script: the lines of `TALK`.
 fn script(alloc: Global) -> Result<Vec<u8>, AllocError> {
     let mut script = Vec::new(alloc);
     for (line, _) in TALK {
@@ -145,7 +147,7 @@ fn script(alloc: Global) -> Result<Vec<u8>, AllocError> {
     Ok(script)
 }
 
-/// The answers to the lines that end within the script's first bytes.
+/// The answers to the lines that end within the first `count` bytes of the script.
 fn answers_within(alloc: Global, count: usize) -> Result<Vec<u8>, AllocError> {
     let mut answers = Vec::new(alloc);
     let mut left = count;
@@ -159,8 +161,8 @@ fn answers_within(alloc: Global, count: usize) -> Result<Vec<u8>, AllocError> {
     Ok(answers)
 }
 
-/// A read that fails after each byte of the script, which came by bytes, by pieces, or at once:
-/// the whole lines are answered, and the line that is cut isn't.
+/// A read fails after any byte of the script, which is read byte by byte, in pieces, or at once.
+/// The whole lines before that are answered, and the line that is cut isn't.
 #[test]
 fn a_read_fails_after_each_byte(rt: HostRuntime) -> Result<(), Fail> {
     let script = script(rt.alloc())?;
@@ -174,15 +176,15 @@ fn a_read_fails_after_each_byte(rt: HostRuntime) -> Result<(), Fail> {
         for count in 0..=script.len() {
             let (found, taken) = ended(&rt, rt.alloc(), &script[..count], way);
             let answers = answers_within(rt.alloc(), count)?;
-            assert_eq!(rt; found, Some(Fault::Stream(StreamFault::Read)), "{count}");
+            assert_eq!(rt; found, Some(Fault::Read), "{count}");
             assert!(rt; taken == answers, "{count}");
         }
     }
     Ok(())
 }
 
-/// A reader that never ends after each byte of the script: the script is too long, its whole lines
-/// are answered, and the line that is cut isn't.
+/// After any byte of the script, the reader goes on without end. Then the script is too long; its
+/// whole lines are answered, and the line that is cut isn't.
 #[test]
 fn a_reader_never_ends_after_each_byte(rt: HostRuntime) -> Result<(), Fail> {
     let script = script(rt.alloc())?;
@@ -195,14 +197,56 @@ fn a_reader_never_ends_after_each_byte(rt: HostRuntime) -> Result<(), Fail> {
     for count in 0..=script.len() {
         let (found, taken) = ended(&rt, rt.alloc(), &script[..count], way);
         let answers = answers_within(rt.alloc(), count)?;
-        assert_eq!(rt; found, Some(Fault::Stream(StreamFault::TooLong)), "{count}");
+        assert_eq!(rt; found, Some(Fault::TooLong), "{count}");
         assert!(rt; taken == answers, "{count}");
     }
     Ok(())
 }
 
-/// A writer that takes one byte a write, or all, and one that fails after each byte of the answers:
-/// a front of them was taken.
+/// Asserts that the script is too long if its reader is only interrupted after `count` bytes of it.
+/// The whole lines before that are answered, and the line that is cut isn't.
+fn check_interrupted<H: Abort + AllocGlobal + Threads + Wait + Sync>(
+    rt: &H,
+    count: usize,
+) -> Result<(), Fail> {
+    let script = script(rt.alloc())?;
+    let way = Way {
+        read: ALL,
+        after: After::Interrupted,
+        write: ALL,
+        room: ALL,
+    };
+    let front = &script[..count.min(script.len())];
+    let (found, taken) = ended(rt, rt.alloc(), front, way);
+    let answers = answers_within(rt.alloc(), count)?;
+    assert_eq!(rt; found, Some(Fault::TooLong), "{count}");
+    assert!(rt; taken == answers, "{count}");
+    Ok(())
+}
+
+#[test]
+fn a_reader_is_only_interrupted_after_each_line(rt: HostRuntime) -> Result<(), Fail> {
+    let mut count = 0_usize;
+    check_interrupted(&rt, count)?;
+    for (line, _) in TALK {
+        count = count.wrapping_add(line.len());
+        check_interrupted(&rt, count)?;
+    }
+    Ok(())
+}
+
+#[test]
+fn a_reader_is_only_interrupted_within_each_line(rt: HostRuntime) -> Result<(), Fail> {
+    let mut count = 0_usize;
+    for (line, _) in TALK {
+        check_interrupted(&rt, count.wrapping_add(line.len() / 2))?;
+        count = count.wrapping_add(line.len());
+    }
+    Ok(())
+}
+
+/// A writer fails after any byte of the answers, of which each write takes one byte or all. The
+/// answers up to that byte were taken.
 #[test]
 fn a_write_fails_after_each_byte(rt: HostRuntime) -> Result<(), Fail> {
     let script = script(rt.alloc())?;
@@ -217,7 +261,7 @@ fn a_write_fails_after_each_byte(rt: HostRuntime) -> Result<(), Fail> {
             };
             let (found, taken) = ended(&rt, rt.alloc(), &script, way);
             let fault = if room < answers.len() {
-                Some(Fault::Stream(StreamFault::Write))
+                Some(Fault::Write)
             } else {
                 None
             };

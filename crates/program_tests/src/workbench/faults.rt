@@ -1,13 +1,12 @@
-//! The texts of faults.
+//! Tests of the texts of faults.
 
-use conversation::fault::StreamFault;
 use schedule_trie::refusal::Refusal;
 use std::test::Fail;
 use tower_file::{FaultKind, FileFault};
-use towerbench::fault::{Fault, ProgramFault};
-use towerbench::tower_source::SourceFault;
+use towerbench::{Fault, ProgramFault, SourceFault};
 
-/// Want of memory, by where it came, and what can't be saved or written.
+/// The texts of the faults for each way to run out of memory, for a save that failed, and for help
+/// that can't be written.
 #[test]
 fn memory_told(rt: HostRuntime) -> Result<(), Fail> {
     let file = FileFault {
@@ -22,10 +21,6 @@ fn memory_told(rt: HostRuntime) -> Result<(), Fail> {
         (
             ProgramFault::Run(Fault::Refused(Refusal::Memory)),
             "open refused 40 Memory",
-        ),
-        (
-            ProgramFault::Run(Fault::Stream(StreamFault::Memory)),
-            "memory",
         ),
         (ProgramFault::Run(Fault::Memory), "memory"),
         (ProgramFault::Run(Fault::Save), "save failed"),

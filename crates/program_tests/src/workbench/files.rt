@@ -1,4 +1,4 @@
-//! Files by readers that end, fail or give their bytes slowly.
+//! Tests of files, by readers that end, fail or give their bytes slowly.
 
 use super::Slow;
 use std::alloc::Global;
@@ -6,9 +6,10 @@ use std::io;
 use std::io::{ErrorKind, Read};
 use std::process::Abort;
 use std::test::Fail;
-use towerbench::tower_source::{SourceFault, read_all};
+use towerbench::{SourceFault, read_all};
 
-/// Asserts what readers of so many bytes come to under a limit.
+/// Reads `count` bytes under a limit, byte by byte and at once. Asserts that all are read if
+/// `fits`, and that the file is too long if not.
 fn check(
     rt: &impl Abort,
     alloc: Global,
@@ -34,7 +35,7 @@ fn check(
     Ok(())
 }
 
-/// Counts of bytes, and limits under which so many are read.
+/// Counts of bytes, each with a limit under which this number of bytes is read.
 const WITHIN: [(usize, usize); 7] = [
     (0, 0),
     (1, 1),
@@ -56,7 +57,7 @@ fn limits(rt: HostRuntime) -> Result<(), Fail> {
     Ok(())
 }
 
-/// Gives so many bytes, all of them spaces.
+/// A reader that gives `left` bytes, all of them spaces.
 #[derive(Drop)]
 struct Blank {
     left: usize,
@@ -71,7 +72,8 @@ impl Read for Blank {
     }
 }
 
-/// A limit of 2^26 bytes: a reader of so many is read to its end, one of a byte more is not.
+/// Under a limit of 2^26 bytes, a reader that holds exactly 2^26 bytes is read to its end. If it
+/// holds one byte more, the file is too long.
 #[test]
 fn sixty_four_mebibytes(rt: HostRuntime) {
     let limit = 1 << 26;
@@ -85,7 +87,7 @@ fn sixty_four_mebibytes(rt: HostRuntime) {
     assert!(rt; matches!(&read, Err(SourceFault::TooLong)));
 }
 
-/// Any read that fails makes a file unreadable, and no read is tried again.
+/// Any read that fails makes a file unreadable, and no read is retried.
 #[test]
 fn failed_reads(rt: HostRuntime) {
     for kind in [
@@ -103,7 +105,8 @@ fn failed_reads(rt: HostRuntime) {
     }
 }
 
-/// A file that is too long is told as such, before a read behind its limit fails.
+/// A file that is too long is reported as too long, although the read after its last byte would
+/// fail.
 #[test]
 fn long_before_failed(rt: HostRuntime) {
     let mut slow = Slow::new(b"tower 1\n".as_slice(), 0, Some(ErrorKind::Other));

@@ -1,17 +1,15 @@
-//! Row `bench-file` by `run_saving`: what its saver takes, also if that fails after each byte.
+//! Row `bench-file` by `run_saving`: what its saver takes, even if the saver fails after any byte.
 
-ghost use Rattle.command_line.specs.Ranges.{AreLimits};
+ghost use Rattle.command_line.specs.Ranges.{AreOptionsInRange};
 
 use super::cut::{ALL, Narrow};
 use super::{Sink, Way, options};
-use command_line::options::Options;
-use conversation::fault::StreamFault;
+use command_line::Options;
 use schedule_trie::refusal::Refusal;
 use std::process::Abort;
 use std::sync::Wait;
 use std::thread::Threads;
-use towerbench::fault::Fault;
-use towerbench::save::run_saving;
+use towerbench::{Fault, run_saving};
 
 const FILE: &[u8] = b"bench 1\nsafe 0\nbranch main 0 0\nr 1\nw 0 1\n\
     branch a 0 1\ng 1 0\nbranch b 1 2\ng 1 1\n";
@@ -23,21 +21,23 @@ const ANSWERS: &[u8] = b"0: edit 1\n0: branches 3 edits 1 made 5\n  main 2\n  a 
 const SAVED: &[u8] = b"bench 1\nsafe 0\nbranch main 0 0\nr 1\nw 0 1\n\
     branch a 0 1\nw 0 0\ng 1 0\nbranch b 1 3\ng 1 1\n";
 
-/// The fault of a run over the file with these limits, if its writer and its saver take at most these bytes, and
-/// what they then have.
+/// Runs the program over the file with these options. The writer takes at most `answers` bytes, and
+/// the saver at most `saved`. Returns the fault, if there was one, and what the writer and the
+/// saver took.
 fn ended<H: AllocGlobal + Threads + Wait + Sync>(
     rt: &H,
     options: Options,
     answers: usize,
     saved: usize,
 ) -> (Option<Fault>, Vec<u8>, Vec<u8>)
-    requires { AreLimits options }
+    requires { AreOptionsInRange options }
 {
     let mut reader = SCRIPT;
     let mut writer = Narrow::new(rt.alloc(), answers);
     let mut saver = Narrow::new(rt.alloc(), saved);
     let ran = run_saving(
         rt,
+        rt.alloc(),
         Some(FILE),
         options,
         &mut reader,
@@ -47,7 +47,8 @@ fn ended<H: AllocGlobal + Threads + Wait + Sync>(
     (ran.err(), writer.taken, saver.taken)
 }
 
-/// A saver that fails after each byte: a front of the file was saved, and the answers are whole.
+/// If the saver fails after any byte, the file was saved up to that byte, and the answers are
+/// whole.
 #[test]
 fn a_saver_fails_after_each_byte(rt: HostRuntime) {
     for room in 0..=SAVED.len() {
@@ -63,7 +64,7 @@ fn a_saver_fails_after_each_byte(rt: HostRuntime) {
     }
 }
 
-/// A saver that takes no byte has failed: nothing is saved, and the answers are whole.
+/// If the saver takes no byte, the save has failed: nothing is saved, and the answers are whole.
 #[test]
 fn a_saver_takes_no_byte(rt: HostRuntime) {
     let mut reader = SCRIPT;
@@ -74,6 +75,7 @@ fn a_saver_takes_no_byte(rt: HostRuntime) {
     };
     let ran = run_saving(
         &rt,
+        rt.alloc(),
         Some(FILE),
         options(),
         &mut reader,
@@ -85,24 +87,25 @@ fn a_saver_takes_no_byte(rt: HostRuntime) {
     assert!(rt; saver.taken.is_empty());
 }
 
-/// After a script that ended by a fault nothing is saved.
+/// If the script ends with a fault, nothing is saved.
 #[test]
 fn a_write_fails_before_the_save(rt: HostRuntime) {
     for room in 0..ANSWERS.len() {
         let (found, answers, saved) = ended(&rt, options(), room, ALL);
-        assert_eq!(rt; found, Some(Fault::Stream(StreamFault::Write)), "{room}");
+        assert_eq!(rt; found, Some(Fault::Write), "{room}");
         assert!(rt; answers.as_slice() == &ANSWERS[..room], "{room}");
         assert!(rt; saved.is_empty(), "{room}");
     }
 }
 
-/// Asserts that branches are refused: nothing is answered, and nothing saved.
+/// Asserts that the file's branches are refused with these options, and that nothing is answered or
+/// saved then.
 fn check_refused<H: Abort + AllocGlobal + Threads + Wait + Sync>(
     rt: &H,
     options: Options,
     refusal: Refusal,
 )
-    requires { AreLimits options }
+    requires { AreOptionsInRange options }
 {
     let (found, answers, saved) = ended(rt, options, ALL, ALL);
     assert_eq!(rt; found, Some(Fault::Refused(refusal)));

@@ -1,4 +1,5 @@
-//! Streams that end early, fail or give their bytes slowly, and the program's status, answers and fault lines.
+//! Tests of the program's status, answers and fault lines, if its streams end early, fail or give
+//! their bytes slowly.
 
 use super::{Sink, Slow, Way};
 use std::alloc::{AllocError, Global};
@@ -9,17 +10,18 @@ use std::rt::Files;
 use std::sync::Wait;
 use std::test::Fail;
 use std::thread::Threads;
-use towerbench::tool::tool;
+use towerbench::tool;
 
-/// What the program came to: its status, what it answered and what it told.
+/// How the program ended: its status, its answers and its fault lines.
 #[derive(Drop)]
 struct Ended {
     status: u8,
     answers: Vec<u8>,
-    told: Vec<u8>,
+    reported: Vec<u8>,
 }
 
-/// What the program comes to with these words and a reader, by writers of answers and of faults that do this with bytes.
+/// Runs the program with these words and this reader. `out` is what the writer of answers does with
+/// bytes, and `err` what the writer of fault lines does.
 fn end<F: Files + AllocGlobal + Threads + Wait + Sync>(
     files: &F,
     words: io::Result<Vec<String>>,
@@ -39,29 +41,29 @@ fn end<F: Files + AllocGlobal + Threads + Wait + Sync>(
     Ended {
         status,
         answers: writer.taken,
-        told: errors.taken,
+        reported: errors.taken,
     }
 }
 
-/// Asserts what the program comes to with no words, by a writer that does this with bytes.
+/// Asserts how the program ends without words. `way` is what the writer of answers does with bytes.
 fn check<F: Abort + Files + AllocGlobal + Threads + Wait + Sync>(
     rt: &F,
     reader: &mut Slow<'_>,
     way: Way,
     status: u8,
     answers: &str,
-    told: &str,
+    reported: &str,
 ) {
     let words = Ok(Vec::new(rt.alloc()));
     let ended = end(rt, words, reader, way, Way::Takes);
     assert_eq!(rt; ended.answers.as_slice(), answers.as_bytes());
-    assert_eq!(rt; ended.told.as_slice(), told.as_bytes());
+    assert_eq!(rt; ended.reported.as_slice(), reported.as_bytes());
     assert_eq!(rt; ended.status, status);
 }
 
 const SCRIPT: &[u8] = b"0 insert main 0 r 1\n0 history main 1";
 
-/// Interrupted reads are tried again.
+/// Interrupted reads are retried.
 #[test]
 fn slow_script(rt: HostRuntime) {
     let mut reader = Slow::new(SCRIPT, 1, None);
@@ -72,8 +74,8 @@ fn slow_script(rt: HostRuntime) {
 #[test]
 fn failed_read(rt: HostRuntime) {
     let mut reader = Slow::new(SCRIPT, 1, Some(ErrorKind::Other));
-    let told = "towerbench: read failed\n";
-    check(&rt, &mut reader, Way::Takes, 1, "0: edit 1\n", told);
+    let reported = "towerbench: read failed\n";
+    check(&rt, &mut reader, Way::Takes, 1, "0: edit 1\n", reported);
 }
 
 #[test]
@@ -89,11 +91,11 @@ fn failed_write(rt: HostRuntime) {
 fn failed_flush(rt: HostRuntime) {
     let mut reader = Slow::new(b"0 state zed 0\n".as_slice(), 0, None);
     let answers = "0: refused 20 NoBranch\n";
-    let told = "towerbench: write failed\n";
-    check(&rt, &mut reader, Way::Sticks, 1, answers, told);
+    let reported = "towerbench: write failed\n";
+    check(&rt, &mut reader, Way::Sticks, 1, answers, reported);
 }
 
-/// The status stays where the fault line can't be written.
+/// The status is the same if the fault line can't be written.
 #[test]
 fn fault_line_lost(rt: HostRuntime) {
     let mut reader = Slow::new(b"0 state main 0\n".as_slice(), 0, None);
@@ -102,16 +104,16 @@ fn fault_line_lost(rt: HostRuntime) {
     assert_eq!(rt; ended.status, 1);
 }
 
-/// A script whose reads are interrupted for ever is too long after 2^25 reads, and not before.
+/// A script whose reads are interrupted forever is too long after 2^25 reads, and not before.
 #[test]
 fn endless_interruptions(rt: HostRuntime) {
     let mut reader = Slow::new(SCRIPT, u32::MAX, None);
-    let told = "towerbench: script too long\n";
-    check(&rt, &mut reader, Way::Takes, 1, "", told);
+    let reported = "towerbench: script too long\n";
+    check(&rt, &mut reader, Way::Takes, 1, "", reported);
     assert_eq!(rt; reader.reads, 1 << 25);
 }
 
-/// A writer that fails is no fault where there is nothing to write.
+/// A writer that fails is no fault if there is nothing to write.
 #[test]
 fn nothing_to_write(rt: HostRuntime) {
     for way in [Way::Fails, Way::Sticks] {
@@ -130,7 +132,7 @@ fn words_of(alloc: Global, texts: &[&str]) -> Result<Vec<String>, AllocError> {
     Ok(words)
 }
 
-/// The help that can't be written is a fault.
+/// Help that can't be written is a fault.
 #[test]
 fn help_not_written(rt: HostRuntime) -> Result<(), Fail> {
     for way in [Way::TakesNone, Way::Fails, Way::Sticks] {
@@ -139,14 +141,14 @@ fn help_not_written(rt: HostRuntime) -> Result<(), Fail> {
         let ended = end(&rt, words, &mut reader, way, Way::Takes);
         assert_eq!(rt; ended.status, 1);
         assert_eq!(rt;
-            ended.told.as_slice(),
+            ended.reported.as_slice(),
             b"towerbench: write failed\n".as_slice()
         );
     }
     Ok(())
 }
 
-/// Words are refused, and the help is given, before the reader is asked.
+/// Words are refused, or the help is given, before anything of the script is read.
 #[test]
 fn words_before_the_script(rt: HostRuntime) -> Result<(), Fail> {
     for (texts, status) in [(["--cells", "0"].as_slice(), 2), (["--help"].as_slice(), 0)] {
@@ -155,16 +157,16 @@ fn words_before_the_script(rt: HostRuntime) -> Result<(), Fail> {
         let ended = end(&rt, words, &mut reader, Way::Takes, Way::Takes);
         assert_eq!(rt; ended.status, status);
         assert_eq!(rt; ended.answers.is_empty(), status == 2);
-        assert_eq!(rt; ended.told.is_empty(), status == 0);
+        assert_eq!(rt; ended.reported.is_empty(), status == 0);
         assert_eq!(rt; reader.reads, 0);
     }
     Ok(())
 }
 
-/// Words that there is no memory for are a fault of memory, and words that are no text are refused.
+/// If there is no memory for the words, that is a fault; words that aren't text are refused.
 #[test]
 fn words_not_had(rt: HostRuntime) {
-    for (kind, status, told) in [
+    for (kind, status, reported) in [
         (ErrorKind::OutOfMemory, 1, "towerbench: memory\n"),
         (
             ErrorKind::InvalidData,
@@ -177,7 +179,7 @@ fn words_not_had(rt: HostRuntime) {
         let ended = end(&rt, words, &mut reader, Way::Takes, Way::Takes);
         assert_eq!(rt; ended.status, status);
         assert!(rt; ended.answers.is_empty());
-        assert_eq!(rt; ended.told.as_slice(), told.as_bytes());
+        assert_eq!(rt; ended.reported.as_slice(), reported.as_bytes());
         assert_eq!(rt; reader.reads, 0);
     }
 }

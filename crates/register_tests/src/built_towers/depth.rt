@@ -1,22 +1,40 @@
-//! How deep layers can stand on each other.
+//! How deep layers can be nested.
 
 use frames::register::Register;
+use frames::safe::Safe;
 use layers::fit::LayerError;
-use reader_copies::{Copies, CopiesRules};
+use reader_copies::{Copies, NewCopies};
 use std::test::Fail;
-use towers::unary;
 
-/// Copies for one reader, and copies of those.
+/// Copies for one reader, each of copies for one reader.
 fn copied_twice<S: Register>(below: S) -> Result<Copies<Copies<S>>, LayerError> {
-    let once = CopiesRules::new(below, 1)?;
-    CopiesRules::new(once, 1)
+    let once = Copies::new(below, 1)?;
+    Copies::new(once, 1)
+}
+
+/// Whether a register has the greatest depth, and a layer over it is refused.
+fn is_deepest<S: Register>(below: S) -> bool {
+    below.depth() == 8 && Copies::new(below, 1).err() == Some(LayerError::BadSize)
+}
+
+/// Whether a register is the deepest once two more layers are over it. Each such function names
+/// only two levels, since what the prover states of a type doubles with each level.
+fn is_deepest_after_2<S: Register>(below: S) -> Result<bool, LayerError> {
+    Ok(is_deepest(copied_twice(below)?))
+}
+
+/// Whether a register is the deepest once four more layers are over it.
+fn is_deepest_after_4<S: Register>(below: S) -> Result<bool, LayerError> {
+    is_deepest_after_2(copied_twice(below)?)
+}
+
+/// Whether a register is the deepest once six more layers are over it.
+fn is_deepest_after_6<S: Register>(below: S) -> Result<bool, LayerError> {
+    is_deepest_after_4(copied_twice(below)?)
 }
 
 #[test]
 fn depth_8_is_reached_and_9_refused(rt: HostRuntime) -> Result<(), Fail> {
-    let six = copied_twice(unary(2, 1))?;
-    let eight = copied_twice(six)?;
-    assert_eq!(rt; eight.depth(), 8);
-    assert_eq!(rt; CopiesRules::new(eight, 1).err(), Some(LayerError::BadSize));
+    assert!(rt; is_deepest_after_6(Copies::new(Safe, 1)?)?);
     Ok(())
 }

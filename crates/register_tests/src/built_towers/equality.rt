@@ -1,23 +1,26 @@
-//! Registers are equal where they have the same numbers, and a configuration tells its register.
+//! Registers of one kind are equal if they have the same numbers, and a configuration gives back
+//! its register.
 
 use crate::steps::{GO_0, GO_1, GO_2, READ_1, READ_2, WRITE};
-use checkpoints::replay::replay;
+use checkpoints::replay;
 use frames::config::Config;
 use frames::register::Register;
 use frames::safe::Safe;
 use frames::types::Step;
-use reader_copies::CopiesRules;
+use reader_copies::{Copies, NewCopies};
 use std::alloc::{AllocError, Global};
 use std::process::Abort;
 use std::test::Fail;
 use towers::regular;
 
-/// A write of 1 to two copies, a read between them, and one beside the second.
+/// A write of 1 to two copies, a read between the writes of the two copies, and a read during the
+/// write of the second copy.
 const STEPS: [Step; 11] = [
     WRITE, GO_0, GO_0, READ_1, GO_1, GO_1, GO_0, READ_2, GO_2, GO_0, GO_2,
 ];
 
-/// Compares registers of one kind for two and four readers, and what a replay tells of the first.
+/// Asserts that registers of one kind for two and for four readers differ, and that the
+/// configuration after a replay gives the register that was replayed.
 fn compared<R: Register>(
     rt: &impl Abort,
     alloc: Global,
@@ -40,8 +43,8 @@ fn equal_by_their_numbers(rt: HostRuntime) -> Result<(), Fail> {
     compared(
         &rt,
         rt.alloc(),
-        CopiesRules::new(Safe, 2)?,
-        CopiesRules::new(Safe, 4)?,
+        Copies::new(Safe, 2)?,
+        Copies::new(Safe, 4)?,
         &STEPS,
     )?;
     compared(&rt, rt.alloc(), regular(2), regular(4), &STEPS)?;

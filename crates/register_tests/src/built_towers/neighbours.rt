@@ -1,8 +1,8 @@
-//! Two unary numbers side by side in one store: work on one leaves the other as it was.
+//! Two unary numbers next to each other in one store: operations on one leave the other as it was.
 
 ghost use Rattle.std.specs.Prelude.{◌≡◌, ◌⊎◌, [], true};
 ghost use Rattle.safe_bit.specs.Parts.{LiesIn, part, origin};
-ghost use Rattle.register_tests.specs.Neighbours.{Stands, StandsUnlessEnded};
+ghost use Rattle.register_tests.specs.Neighbours.{IsAtPoint, IsAtPointUnlessEnded};
 
 use frames::flat::FlatStack;
 use frames::register::Register;
@@ -14,7 +14,7 @@ use std::process::Abort;
 use std::test::Fail;
 use towers::unary;
 
-/// Two registers of one kind in one store, the second right behind the first.
+/// Two registers of one kind in one store, the second right after the first.
 #[derive(Drop)]
 struct Neighbours<R: Register> {
     register: R,
@@ -28,7 +28,7 @@ impl<R: Register> Model for Neighbours<R> {
 
     ghost view = { λ n. record { register = n.register; memory = n.store } };
 
-    ghost invariant = { λ n. AreNeighbours (R.is n.register) (R.Holds n.register) n.store };
+    ghost invariant = { λ n. AreNeighbours (R.behaviour n.register) (R.Holds n.register) n.store };
 }
 
 /// One of two neighbours.
@@ -39,7 +39,7 @@ enum Side {
 }
 
 impl<R: Register> Neighbours<R> {
-    /// Both at a value that the register has to have.
+    /// Two neighbours in a new store, both set to a value.
     fn new(
         rt: &impl Abort,
         alloc: Global,
@@ -54,12 +54,12 @@ impl<R: Register> Neighbours<R> {
         Ok(Neighbours { register, store })
     }
 
-    /// Where one of them lies.
+    /// The place of one neighbour.
     fn place(&self, side: Side) -> Place
-        ensures inside { LiesIn result (R.is self.now.register).size self.now.memory }
+        ensures inside { LiesIn result (R.behaviour self.now.register).size self.now.memory }
         ensures holds { R.Holds self.now.register (part result
-            (R.is self.now.register).size self.now.memory) }
-        ensures side { (result ≡ origin) ⊎ (result ≡ (R.is self.now.register).size) }
+            (R.behaviour self.now.register).size self.now.memory) }
+        ensures side { (result ≡ origin) ⊎ (result ≡ (R.behaviour self.now.register).size) }
     {
         match side {
             Side::First => Place::default(),
@@ -67,23 +67,26 @@ impl<R: Register> Neighbours<R> {
         }
     }
 
-    /// A process invokes an operation of one of them, on a stack of no frame.
+    /// A process invokes an operation on one neighbour, with an empty stack. Returns the outcome if
+    /// the operation ends at once.
     fn begin(&mut self, side: Side, who: u32, op: Op, stack: &mut FlatStack) -> Option<Outcome>
-        requires fits { (R.is self.old.register).suits who op ≡ true }
+        requires fits { (R.behaviour self.old.register).suits who op ≡ true }
         requires idle { stack.old ≡ [] }
         ensures register { self.new.register ≡ self.old.register }
-        ensures stands { StandsUnlessEnded (R.is self.old.register)
+        ensures may_be_at { IsAtPointUnlessEnded (R.behaviour self.old.register)
             (R.Reaches self.old.register) who stack.new result }
     {
         let at = self.place(side);
         self.register.begin_on(&mut self.store, at, who, op, stack)
     }
 
-    /// A pending operation of one of them makes its next bit action.
+    /// A pending operation on one neighbour makes its next bit action. Returns the outcome if the
+    /// operation ends.
     fn go(&mut self, side: Side, who: u32, stack: &mut FlatStack) -> Option<Outcome>
-        requires { Stands (R.is self.old.register) (R.Reaches self.old.register) who stack.old }
+        requires { IsAtPoint (R.behaviour self.old.register) (R.Reaches self.old.register) who
+            stack.old }
         ensures register { self.new.register ≡ self.old.register }
-        ensures stands { StandsUnlessEnded (R.is self.old.register)
+        ensures may_be_at { IsAtPointUnlessEnded (R.behaviour self.old.register)
             (R.Reaches self.old.register) who stack.new result }
     {
         let at = self.place(side);
@@ -93,7 +96,7 @@ impl<R: Register> Neighbours<R> {
         progress.end
     }
 
-    /// The cells and the words of one of them.
+    /// The cells and the words of one neighbour.
     fn content(&self, alloc: Global, side: Side) -> Result<(Vec<Cell>, Vec<u32>), AllocError> {
         let at = self.place(side);
         let size = self.register.size();
@@ -108,7 +111,7 @@ impl<R: Register> Neighbours<R> {
         Ok((cells, words))
     }
 
-    /// An operation of one of them that stays pending behind its first bit action.
+    /// Invokes an operation on one neighbour, and leaves it pending after its first bit action.
     fn leave_pending(&mut self, rt: &impl Abort, side: Side, who: u32, op: Op) {
         assert!(rt; self.register.fits(who, op));
         let mut stack = FlatStack::new();
@@ -117,7 +120,8 @@ impl<R: Register> Neighbours<R> {
         }
     }
 
-    /// A whole operation of one of them, if it ends within 100 bit actions.
+    /// Makes a whole operation on one neighbour. Returns the outcome; `None` if the operation takes
+    /// more than 100 bit actions.
     fn whole(&mut self, rt: &impl Abort, side: Side, who: u32, op: Op) -> Option<Outcome> {
         assert!(rt; self.register.fits(who, op));
         let mut stack = FlatStack::new();

@@ -1,17 +1,17 @@
-//! A register of 8 values that has to be read before it can be written: any other write is spent.
-//! In a matrix each process reads the part on the diagonal, and only the others read its other
-//! parts.
+//! A register of 8 values that has to be read before it can be written: a write before the first
+//! read is spent. In a matrix of such registers, each process itself reads the part of its row on
+//! the diagonal; the other parts of the row are read only by other processes.
 
 use frames::types::{Frame, FrameLayer, Layer, Op, Outcome};
 use layers::construction::{Construction, Rules, Shape, one_writer};
 use layers::nested::{Ask, Continuation};
 use safe_bit::Store;
 
-/// The rules of such a register: its word is 1 once it was read.
+/// The rules of such a register: its word is 1 once it has been read.
 #[derive(Clone, Copy, Debug, PartialEq, Eq)]
 pub struct ReadFirst;
 
-/// One part and one word; its values and processes are those of the part.
+/// One part and one word. The values and processes are those of the part.
 const SHAPE: Shape = Shape {
     parts: 1,
     words: 1,
@@ -31,12 +31,12 @@ impl Rules for ReadFirst {
 
 impl Construction for ReadFirst {
     ghost use Rattle.std.specs.Prelude.{refl};
-    ghost use Rattle.register_tests.specs.ReadFirst.{ReadFirstStands, read_first_sound};
+    ghost use Rattle.register_tests.specs.ReadFirst.{ReadFirstMayBeAt, read_first_sound};
     ghost use Rattle.frames.specs.declared.types.Op.TheVariants.{Write, Read};
     ghost use Rattle.frames.specs.Equality.{op_eq, op_decides};
     ghost use Rattle.layers.specs.laws.Equality.{decides_like};
 
-    ghost Stands = { λ _. ReadFirstStands };
+    ghost MayBeAt = { λ _. ReadFirstMayBeAt };
 
     ghost left = { λ _ _. 0 };
 
@@ -100,7 +100,7 @@ impl Construction for ReadFirst {
         }
     }
 
-    fn stands(&self, who: u32, op: Op, task: Op) -> bool {
+    fn may_be_at(&self, who: u32, op: Op, task: Op) -> bool {
         match (op, task) {
             (Op::Write(w), Op::Write(v)) => who == 0 && w == v && v < 8,
             (Op::Read, Op::Read) => who == 1,

@@ -1,32 +1,33 @@
-//! What the constructors of layers are refused for, and else the size, values, processes and depth
-//! of what they built.
+//! Tests of the constructors of layers: what they refuse, and the size, values, processes and depth
+//! of what they build.
 
 use frames::register::Register;
 use frames::safe::Safe;
 use layers::fit::LayerError;
-use matrix::MatrixRules;
-use reader_copies::CopiesRules;
-use regular_bit::RegularBitRules;
+use matrix::{Matrix, NewMatrix};
+use reader_copies::{Copies, NewCopies};
+use regular_bit::{NewRegularBit, RegularBit};
 use safe_bit::Place;
-use stamped::StampedRules;
+use stamped::{NewStamped, Stamped};
 use std::process::Abort;
 use std::test::Fail;
 use towers::{regular, stamped, unary};
-use unary_number::UnaryRules;
+use unary_number::{NewUnary, Unary};
 
-/// What a constructor comes to.
+/// The result of a constructor: the size, values, processes and depth of the register, or a
+/// refusal.
 type Built = Result<(Place, u32, u32, u32), LayerError>;
 
 const BAD_SIZE: Built = Err(LayerError::BadSize);
 
 const TOO_MANY_BITS: Built = Err(LayerError::TooManyBits);
 
-/// So many cells and words.
+/// A size in cells and words.
 fn size(cell: u32, word: u32) -> Place {
     Place { cell, word }
 }
 
-/// What a constructor came to.
+/// The result of a constructor, with the register replaced by its numbers.
 fn shape_of<R: Register>(built: Result<R, LayerError>) -> Built {
     match built {
         Ok(register) => Ok((
@@ -39,53 +40,42 @@ fn shape_of<R: Register>(built: Result<R, LayerError>) -> Built {
     }
 }
 
-/// How many readers copies of a safe bit can have.
+/// Asserts for how many readers a safe bit can be copied.
 fn copies_of<S: Register>(rt: &impl Abort, bit: S) {
     for readers in [0, 5, u32::MAX] {
-        assert_eq!(rt;
-            shape_of(CopiesRules::new(bit, readers)),
-            BAD_SIZE,
-            "{readers}"
-        );
+        assert_eq!(rt; shape_of(Copies::new(bit, readers)), BAD_SIZE, "{readers}");
     }
     for (readers, cells, processes) in [(1, 1, 2), (2, 2, 3), (3, 3, 4), (4, 4, 5)] {
         let wanted = Ok((size(cells, 0), 2, processes, 2));
-        assert_eq!(rt;
-            shape_of(CopiesRules::new(bit, readers)),
-            wanted,
-            "{readers}"
-        );
+        assert_eq!(rt; shape_of(Copies::new(bit, readers)), wanted, "{readers}");
     }
 }
 
 #[test]
 fn over_safe_bits(rt: HostRuntime) -> Result<(), Fail> {
     copies_of(&rt, Safe);
-    let of_two_readers = CopiesRules::new(Safe, 2)?;
+    let of_two_readers = Copies::new(Safe, 2)?;
     assert_eq!(rt;
-        CopiesRules::new(of_two_readers, 1).err(),
+        Copies::new(of_two_readers, 1).err(),
         Some(LayerError::BadSize)
     );
-    let of_three_values = UnaryRules::new(Safe, 3)?;
+    let of_three_values = Unary::new(Safe, 3)?;
     assert_eq!(rt;
-        RegularBitRules::new(of_three_values).err(),
+        RegularBit::new(of_three_values).err(),
         Some(LayerError::BadSize)
     );
     Ok(())
 }
 
-/// Which unary numbers there can be over bits for four readers, of four cells and a word each.
+/// Asserts which unary numbers can be built over bits for four readers. Each bit has four cells and
+/// a word.
 fn numbers_of<S: Register>(rt: &impl Abort, bits: S) {
     for values in [0, 1, 513, u32::MAX] {
-        assert_eq!(rt;
-            shape_of(UnaryRules::new(bits, values)),
-            BAD_SIZE,
-            "{values}"
-        );
+        assert_eq!(rt; shape_of(Unary::new(bits, values)), BAD_SIZE, "{values}");
     }
     for (values, cells, words) in [(2, 8, 2), (3, 12, 3), (512, 2048, 512)] {
         let wanted = Ok((size(cells, words), values, 5, 4));
-        assert_eq!(rt; shape_of(UnaryRules::new(bits, values)), wanted, "{values}");
+        assert_eq!(rt; shape_of(Unary::new(bits, values)), wanted, "{values}");
     }
 }
 
@@ -94,35 +84,36 @@ fn over_regular_bits(rt: HostRuntime) {
     numbers_of(&rt, regular(4));
 }
 
-/// How many bits of 16 cells a unary number can have.
+/// Asserts how many bits of 16 cells each a unary number can have.
 fn most_bits<S: Register>(rt: &impl Abort, of_16_cells: S) {
-    match UnaryRules::new(of_16_cells, 256) {
+    match Unary::new(of_16_cells, 256) {
         Ok(most) => assert_eq!(rt; most.size().cell, 4096),
         Err(error) => assert!(rt; false, "{error}"),
     }
-    assert_eq!(rt; shape_of(UnaryRules::new(of_16_cells, 257)), TOO_MANY_BITS);
+    assert_eq!(rt; shape_of(Unary::new(of_16_cells, 257)), TOO_MANY_BITS);
 }
 
-/// How many copies there can be of registers of 1,024 and of 1,028 cells.
+/// Asserts for how many readers registers of 1,024 and of 1,028 cells can be copied.
 fn most_copies<S: Register>(rt: &impl Abort, of_1024_cells: S, of_1028_cells: S) {
-    assert!(rt; CopiesRules::new(of_1024_cells, 4).is_ok());
-    assert!(rt; CopiesRules::new(of_1028_cells, 3).is_ok());
-    assert_eq!(rt; shape_of(CopiesRules::new(of_1028_cells, 4)), TOO_MANY_BITS);
+    assert!(rt; Copies::new(of_1024_cells, 4).is_ok());
+    assert!(rt; Copies::new(of_1028_cells, 3).is_ok());
+    assert_eq!(rt; shape_of(Copies::new(of_1028_cells, 4)), TOO_MANY_BITS);
 }
 
 #[test]
 fn at_most_4096_cells(rt: HostRuntime) -> Result<(), Fail> {
-    most_bits(&rt, UnaryRules::new(unary(2, 4), 2)?);
-    let of_4_cells = UnaryRules::new(unary(2, 1), 2)?;
+    most_bits(&rt, Unary::new(unary(2, 4), 2)?);
+    let of_4_cells = Unary::new(unary(2, 1), 2)?;
     most_copies(
         &rt,
-        UnaryRules::new(of_4_cells, 256)?,
-        UnaryRules::new(of_4_cells, 257)?,
+        Unary::new(of_4_cells, 256)?,
+        Unary::new(of_4_cells, 257)?,
     );
     Ok(())
 }
 
-/// Which stamped registers there can be over 4 and 512 codes of one reader, and over 4 of two.
+/// Asserts which stamped registers can be built over registers of 4 and of 512 codes for one
+/// reader, and over one of 4 codes for two readers.
 fn stamped_of<S: Register>(rt: &impl Abort, of_4: S, of_512: S, of_two_readers: S) {
     for (values, last, wanted) in [
         (0, 0, BAD_SIZE),
@@ -135,33 +126,35 @@ fn stamped_of<S: Register>(rt: &impl Abort, of_4: S, of_512: S, of_two_readers: 
         (2, 255, Ok((size(512, 514), 2, 2, 5))),
         (512, 0, Ok((size(512, 514), 512, 2, 5))),
     ] {
-        let built = shape_of(StampedRules::new(of_512, values, last));
+        let built = shape_of(Stamped::new(of_512, values, last));
         assert_eq!(rt; built, wanted, "{values} {last}");
     }
     let small = Ok((size(4, 6), 2, 2, 5));
-    assert_eq!(rt; shape_of(StampedRules::new(of_4, 2, 1)), small);
-    assert_eq!(rt; shape_of(StampedRules::new(of_two_readers, 2, 1)), BAD_SIZE);
+    assert_eq!(rt; shape_of(Stamped::new(of_4, 2, 1)), small);
+    assert_eq!(rt; shape_of(Stamped::new(of_two_readers, 2, 1)), BAD_SIZE);
 }
 
 #[test]
 fn over_unary_numbers(rt: HostRuntime) {
     stamped_of(&rt, unary(4, 1), unary(512, 1), unary(4, 2));
-    let bits_of_three_values = UnaryRules::new(unary(3, 4), 4);
+    let bits_of_three_values = Unary::new(unary(3, 4), 4);
     assert_eq!(rt; bits_of_three_values.err(), Some(LayerError::BadSize));
-    let parts_of_two_readers = MatrixRules::new(unary(8, 2), 2, 2, 1);
+    let parts_of_two_readers = Matrix::new(unary(8, 2), 2, 2, 1);
     assert_eq!(rt; parts_of_two_readers.err(), Some(LayerError::BadSize));
 }
 
-/// Asserts what matrices of processes, values and a last tag are over parts.
+/// Asserts the results of building matrices over parts. A row has the numbers of processes and
+/// values, the last tag, and the result.
 fn matrices_of<S: Register>(rt: &impl Abort, parts: S, rows: &[([u32; 3], Built)]) {
     for (numbers, wanted) in rows {
         let [processes, values, last_tag] = *numbers;
-        let built = shape_of(MatrixRules::new(parts, processes, values, last_tag));
+        let built = shape_of(Matrix::new(parts, processes, values, last_tag));
         assert_eq!(rt; built, *wanted, "{numbers:?}");
     }
 }
 
-/// Registers of one kind: of a last stamp of 0 and so many values, and of three other last stamps.
+/// Registers of one kind, named by their number of values. The last three names also have the last
+/// stamp; the others have a last stamp of 0.
 #[derive(Drop)]
 struct Parts<S: Register> {
     of_4: S,
@@ -173,7 +166,7 @@ struct Parts<S: Register> {
     of_16_and_16: S,
 }
 
-/// Which matrices there can be over stamped registers.
+/// Asserts which matrices can be built over stamped registers.
 fn matrices<S: Register>(rt: &impl Abort, parts: Parts<S>) {
     let small = Ok((size(32, 40), 2, 2, 6));
     let larger = Ok((size(128, 136), 2, 2, 6));

@@ -1,20 +1,20 @@
-//! A matrix whose parts have to be read before they can be written.
+//! A write to a matrix whose parts have to be read before they can be written.
 
 use super::read_first::ReadFirst;
-use checkpoints::replay::{Replayed, replay};
+use checkpoints::{Replayed, replay};
 use frames::config::Config;
 use frames::register::Register;
 use frames::safe::Safe;
 use frames::types::{Event, Layer, Op, Step};
 use layers::layered::Layered;
-use matrix::MatrixRules;
+use matrix::{Matrix, NewMatrix};
 use safe_bit::Store;
 use std::alloc::{AllocError, Global};
 use std::process::Abort;
 use std::test::Fail;
-use unary_number::UnaryRules;
+use unary_number::{NewUnary, Unary};
 
-/// The cells and words behind a write of 1 by process 0 to the first part of its row.
+/// The cells and words after process 0 has written 1 to the first part of its row.
 fn first_part_written(alloc: Global) -> Result<Store, AllocError> {
     let mut store = Store::new(alloc, 32, 4)?;
     store.set_value(5, true);
@@ -26,8 +26,8 @@ fn first_part_written(alloc: Global) -> Result<Store, AllocError> {
     Ok(store)
 }
 
-/// Replays steps that have to fit from value 0.
-fn replayed<R: Register>(
+/// Replays steps from the initial value 0. Asserts that each step fits.
+pub(super) fn replayed<R: Register>(
     rt: &impl Abort,
     alloc: Global,
     register: R,
@@ -39,7 +39,8 @@ fn replayed<R: Register>(
     replay(alloc, register, 0, steps)
 }
 
-/// A write whose second part is spent: what it wrote to the first stays.
+/// Asserts that a write to a matrix that is spent at the second part of its row has left the first
+/// part written.
 fn spent_part_of_a_row<R: Register>(
     rt: &impl Abort,
     alloc: Global,
@@ -68,7 +69,7 @@ fn spent_part_of_a_row<R: Register>(
 
 #[test]
 fn row_of_parts_to_be_read_first(rt: HostRuntime) -> Result<(), Fail> {
-    let parts = Layered::new(UnaryRules::new(Safe, 8)?, ReadFirst)?;
-    spent_part_of_a_row(&rt, rt.alloc(), MatrixRules::new(parts, 2, 2, 1)?)?;
+    let parts = Layered::over(Unary::new(Safe, 8)?, ReadFirst)?;
+    spent_part_of_a_row(&rt, rt.alloc(), Matrix::new(parts, 2, 2, 1)?)?;
     Ok(())
 }

@@ -1,4 +1,4 @@
--- Two stores are equal where their cells and their words are.
+-- Two stores are equal if their cells and their words are equal.
 use Rattle.std.proofs.Common.{◌≡◌, Bool, ◌&&◌, nat_eq, refl, sym, ap, ◌∙◌, Option, Some, None}
 use Rattle.std.specs.Bool.{Decides}
 use Rattle.std.specs.Cmp.{IsPartialEquivalence, booleans_Decides}
@@ -27,7 +27,7 @@ option_decides {X} {E} d (Some a) (Some b) = Decides-like (E a b) (λ p. ap Some
     some_same : (u v : X) → ◌≡◌ {A = Option X} (Some u) (Some v) → u ≡ v
     some_same u v p = cc
 
--- the test of two cells, field by field
+-- compares two cells, field by field
 abbrev pub cell_eq : Cell → Cell → Bool
 cell_eq a b = beq a.value b.value && (option_eq beq a.writing b.writing && (beq a.reading b.reading && beq a.hit b.hit))
 
@@ -40,7 +40,7 @@ cell_decides a b =
     (Decides-and (option_eq beq a.writing b.writing) _ (option_decides booleans_Decides a.writing b.writing)
     (Decides-and (beq a.reading b.reading) (beq a.hit b.hit) (booleans_Decides a.reading b.reading) (booleans_Decides a.hit b.hit))))
 
--- the test of two memories
+-- compares two memories: their cells, and then their words
 abbrev pub memory_eq : Memory → Memory → Bool
 memory_eq a b = pointwise cell_eq a.cells b.cells && pointwise nat_eq a.words b.words
 

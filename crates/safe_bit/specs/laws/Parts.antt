@@ -1,11 +1,11 @@
--- Parts of memories.
+-- Laws of parts of memories: how they are read and replaced.
 use Rattle.std.proofs.Common.{◌≡◌, ℕ, ◌+◌, ◌<◌, ◌≤◌, length, set, sym, ap, ◌∙◌, arith, length-set}
 use Rattle.safe_bit.specs.declared.Cell.{Cell}
 use Rattle.safe_bit.specs.declared.Place.{Place}
 use Rattle.safe_bit.specs.Memory.{Memory, cell_at, word_at, on_cell, with_word, no_cell, IsNumbered}
 use Rattle.safe_bit.specs.Windows.{window, splice}
 use Rattle.safe_bit.specs.laws.Windows.{length-window, length-splice, window-window, window-splice, window-splice_beside, splice-splice, splice-window, set-window, splice-own, window-whole, splice-whole, get_or-window}
-use Rattle.safe_bit.specs.Parts.{Apart, HasSize, IsPlaced, LiesIn, Within, behind, origin, part, with_part}
+use Rattle.safe_bit.specs.Parts.{Apart, HasSize, IsPlaced, LiesIn, Within, place_after, origin, part, with_part}
 
 pub same_memory : (m n : Memory) → m.cells ≡ n.cells → m.words ≡ n.words → m ≡ n
 same_memory m n c w = λ i. record { cells = c i; words = w i }
@@ -19,7 +19,7 @@ fits_cells at s inner m z h = omega (arith, z.cells, h.cells)
 fits_words : (at s : Place) (inner m : Memory) → HasSize s inner → LiesIn at s m → at.word + length inner.words ≤ length m.words
 fits_words at s inner m z h = omega (arith, z.words, h.words)
 
--- putting in a part keeps the size of the memory
+-- replacing a part keeps the size of the memory
 pub HasSize-with_part : (at s t : Place) (inner m : Memory) → HasSize s inner → LiesIn at s m → HasSize t m → HasSize t (with_part at inner m)
 HasSize-with_part at s t inner m z h k = record {
   cells = length-splice at.cell inner.cells m.cells (fits_cells at s inner m z h) ∙ k.cells;
@@ -38,8 +38,8 @@ LiesIn-part at size q s m h w = record {
   words = omega (arith, length-window at.word size.word m.words h.words, w.words);
 }
 
-pub LiesIn-behind : (at size q s : Place) (m : Memory) → LiesIn at size m → Within q s size → LiesIn (behind at q) s m
-LiesIn-behind at size q s m h w = record { cells = omega (arith, h.cells, w.cells); words = omega (arith, h.words, w.words) }
+pub LiesIn-place_after : (at size q s : Place) (m : Memory) → LiesIn at size m → Within q s size → LiesIn (place_after at q) s m
+LiesIn-place_after at size q s m h w = record { cells = omega (arith, h.cells, w.cells); words = omega (arith, h.words, w.words) }
 
 pub LiesIn-whole : (size : Place) (m : Memory) → HasSize size m → LiesIn origin size m
 LiesIn-whole size m z = record { cells = omega (arith, z.cells); words = omega (arith, z.words) }
@@ -47,51 +47,51 @@ LiesIn-whole size m z = record { cells = omega (arith, z.cells); words = omega (
 pub LiesIn-of_size : (size q s : Place) (m : Memory) → HasSize size m → Within q s size → LiesIn q s m
 LiesIn-of_size size q s m z w = record { cells = omega (arith, z.cells, w.cells); words = omega (arith, z.words, w.words) }
 
--- what lies in a memory of numbered cells and words can be numbered
+-- a part of a memory ends below 2^32, if the memory has fewer than 2^32 cells and words
 pub IsPlaced-inside : (at size : Place) (m : Memory) → IsNumbered m → LiesIn at size m → IsPlaced at size
 IsPlaced-inside at size m n h = record { cells = omega (arith, n.cells, h.cells); words = omega (arith, n.words, h.words) }
 
-pub IsPlaced-behind : (at size q s : Place) → IsPlaced at size → Within q s size → IsPlaced (behind at q) s
-IsPlaced-behind at size q s h w = record { cells = omega (arith, h.cells, w.cells); words = omega (arith, h.words, w.words) }
+pub IsPlaced-place_after : (at size q s : Place) → IsPlaced at size → Within q s size → IsPlaced (place_after at q) s
+IsPlaced-place_after at size q s h w = record { cells = omega (arith, h.cells, w.cells); words = omega (arith, h.words, w.words) }
 
--- a part of a part
-pub part-part : (at size q s : Place) (m : Memory) → Within q s size → part q s (part at size m) ≡ part (behind at q) s m
+-- a part of a part is a part of the whole memory
+pub part-part : (at size q s : Place) (m : Memory) → Within q s size → part q s (part at size m) ≡ part (place_after at q) s m
 part-part at size q s m w = same_memory _ _
     (window-window at.cell size.cell q.cell s.cell m.cells w.cells)
     (window-window at.word size.word q.word s.word m.words w.words)
 
--- the part that was put in
+-- reading a part that was put in gives that part back
 pub part-with_part : (at s : Place) (inner m : Memory) → HasSize s inner → LiesIn at s m → part at s (with_part at inner m) ≡ inner
 part-with_part at s inner m z h = same_memory _ _
     (ap (λ n. window at.cell n (splice at.cell inner.cells m.cells)) (sym z.cells) ∙ window-splice at.cell inner.cells m.cells (fits_cells at s inner m z h))
     (ap (λ n. window at.word n (splice at.word inner.words m.words)) (sym z.words) ∙ window-splice at.word inner.words m.words (fits_words at s inner m z h))
 
--- put in again at the same place
+-- the second of two parts put in at the same place replaces the first
 pub with_part-with_part : (at s : Place) (later inner m : Memory) → HasSize s later → HasSize s inner → LiesIn at s m
     → with_part at later (with_part at inner m) ≡ with_part at later m
 with_part-with_part at s later inner m y z h = same_memory _ _
     (splice-splice at.cell later.cells inner.cells m.cells (fits_cells at s inner m z h) (y.cells ∙ sym z.cells))
     (splice-splice at.word later.words inner.words m.words (fits_words at s inner m z h) (y.words ∙ sym z.words))
 
--- put into a part of the memory, and that part put back
+-- replacing a part of a part is the same as replacing that part of the whole memory
 pub with_part-part : (at size q s : Place) (inner m : Memory) → HasSize s inner → LiesIn at size m → Within q s size
-    → with_part at (with_part q inner (part at size m)) m ≡ with_part (behind at q) inner m
+    → with_part at (with_part q inner (part at size m)) m ≡ with_part (place_after at q) inner m
 with_part-part at size q s inner m z h w = same_memory _ _
     (splice-window at.cell size.cell q.cell inner.cells m.cells h.cells (omega (arith, z.cells, w.cells)))
     (splice-window at.word size.word q.word inner.words m.words h.words (omega (arith, z.words, w.words)))
 
--- what is put in where it was taken out
+-- putting a part back unchanged changes nothing
 pub with_part-own : (at size : Place) (m : Memory) → LiesIn at size m → with_part at (part at size m) m ≡ m
 with_part-own at size m h = same_memory _ _ (splice-own at.cell size.cell m.cells h.cells) (splice-own at.word size.word m.words h.words)
 
--- a part beside the one that was put in stays
+-- a part that doesn't overlap the replaced one stays as it was
 pub part-with_part_beside : (a s b t : Place) (inner m : Memory) → HasSize s inner → LiesIn a s m → LiesIn b t m → Apart a s b t
     → part b t (with_part a inner m) ≡ part b t m
 part-with_part_beside a s b t inner m z h k apart = same_memory _ _
     (window-splice_beside a.cell b.cell t.cell inner.cells m.cells (fits_cells a s inner m z h) k.cells (rw z.cells apart.cells))
     (window-splice_beside a.word b.word t.word inner.words m.words (fits_words a s inner m z h) k.words (rw z.words apart.words))
 
--- the whole memory as a part of itself
+-- the whole memory is the part of itself at the origin
 pub part-whole : (size : Place) (m : Memory) → HasSize size m → part origin size m ≡ m
 part-whole size m z = same_memory _ _ (window-whole size.cell m.cells z.cells) (window-whole size.word m.words z.words)
 
@@ -100,14 +100,14 @@ with_part-whole size inner m y z = same_memory _ _
     (splice-whole inner.cells m.cells (y.cells ∙ sym z.cells))
     (splice-whole inner.words m.words (y.words ∙ sym z.words))
 
--- a cell and a word of a part
+-- cell i and word i of a part are a cell and a word of the whole memory
 pub cell_at-part : (at size : Place) (i : ℕ) (m : Memory) → i < size.cell → cell_at i (part at size m) ≡ cell_at (at.cell + i) m
 cell_at-part at size i m lt = get_or-window at.cell size.cell m.cells i no_cell lt
 
 pub word_at-part : (at size : Place) (i : ℕ) (m : Memory) → i < size.word → word_at i (part at size m) ≡ word_at (at.word + i) m
 word_at-part at size i m lt = get_or-window at.word size.word m.words i 0 lt
 
--- a cell changed, and a word set, in a part
+-- changing a cell or a word of the memory inside a part is the same as changing it in the part
 pub on_cell-part : (at size : Place) (i : ℕ) (f : Cell → Cell) (m : Memory) → LiesIn at size m → i < size.cell
     → on_cell (at.cell + i) f m ≡ with_part at (on_cell i f (part at size m)) m
 on_cell-part at size i f m h lt = same_memory _ _

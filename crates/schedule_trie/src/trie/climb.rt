@@ -4,8 +4,8 @@ ghost use Rattle.std.specs.Prelude.{ℕ, List, ◌≡◌, ◌≤◌, ◌<◌, �
 ghost use Rattle.std.specs.List.{position};
 ghost use Rattle.lineage.specs.Family.{last_of};
 ghost use Rattle.schedule_trie.specs.Forest.{is_cell, slots_in};
-ghost use Rattle.schedule_trie.specs.Cut.{forest, piece_at, slots_of, keys_in, line, StandsAt, LiesIn, IsWhole};
-ghost use Rattle.schedule_trie.specs.Climbs.{keys_to, IsReached};
+ghost use Rattle.schedule_trie.specs.Cut.{forest, piece_at, slots_of, keys_in, line, IsSpotInPath, LiesInPath, IsWhole};
+ghost use Rattle.schedule_trie.specs.Climbs.{keys_to, HasClimbedTo};
 
 use super::Trie;
 use super::lengths::kept_length;
@@ -14,7 +14,7 @@ use crate::slot::Slot;
 use lineage::lineage::Above;
 
 impl<T: Drop> Trie<T> {
-    /// How many cells the branch at an index has.
+    /// The number of cells of the branch at an index; 0 if there is no such branch.
     pub fn len_at(&self, index: usize) -> u32
         ensures len { result ≡ length (slots_in (forest self.now).branches index) }
         ensures whole { IsWhole self.now }
@@ -25,9 +25,10 @@ impl<T: Drop> Trie<T> {
         }
     }
 
-    /// How many cells the branch at an index has down to the end of one of its segments, if one is named.
+    /// The number of cells of the branch at `index` down to the end of its segment `last`; 0 if
+    /// `last` is `None`.
     fn len_to(&self, index: usize, last: Above) -> u32
-        requires { IsReached (keys_in self.now.strands index) last }
+        requires { HasClimbedTo (keys_in self.now.strands index) last }
         ensures { result ≡ length (line (piece_at self.now.pieces)
             (keys_to (keys_in self.now.strands index) last)) }
     {
@@ -42,12 +43,12 @@ impl<T: Drop> Trie<T> {
         len
     }
 
-    /// The segment with the cell at a place of a branch, and where in it the cell lies; none where the branch has no cell
-    /// there.
+    /// The key of the segment that has the cell at a place of a branch, and the cell's offset in
+    /// that segment; `None` if the branch has no cell there.
     pub fn find_cell(&self, index: usize, place: u32) -> Option<(SegKey, usize)>
-        ensures found { IfSome result (StandsAt (piece_at self.now.pieces)
+        ensures found { IfSome result (IsSpotInPath (piece_at self.now.pieces)
             (keys_in self.now.strands index) place) }
-        ensures lies { IfSome result (LiesIn (piece_at self.now.pieces)
+        ensures lies { IfSome result (LiesInPath (piece_at self.now.pieces)
             (keys_in self.now.strands index) place) }
         ensures none { IfNone result (length (slots_in (forest self.now).branches index) ≤ place) }
     {
@@ -55,23 +56,23 @@ impl<T: Drop> Trie<T> {
         if len <= place {
             return None;
         }
-        // how many cells come behind the wanted one
-        let mut behind = (len - place - 1) as usize;
+        // the number of cells after the wanted one, without those of the segments already passed
+        let mut following = (len - place - 1) as usize;
         let mut at = self.segments.tip(index);
         while let Some(up) = self.slots_up(at) {
             let (key, slots, above) = up;
-            let (left, is_here) = behind.overflowing_sub(slots.len());
+            let (left, is_here) = following.overflowing_sub(slots.len());
             if is_here {
-                // it went below zero by one more than comes before the wanted cell
+                // `left` is 2^64 - n, and the wanted cell is the n-th of this segment
                 return Some((key, usize::MAX - left));
             }
-            behind = left;
+            following = left;
             at = above;
         }
         None
     }
 
-    /// The place of a cell on the branch at an index; none where the branch hasn't the cell.
+    /// The place of a cell on the branch at an index; `None` if the branch doesn't have the cell.
     pub(super) fn place_at(&self, index: usize, cell: u32) -> Option<u32>
         ensures { result ≡ position (is_cell cell) (slots_in (forest self.now).branches index) }
     {
@@ -86,7 +87,8 @@ impl<T: Drop> Trie<T> {
         None
     }
 
-    /// What a climb comes to: a segment's key, its cells, and what the climb comes to behind it; none at its end.
+    /// One step of a climb: a segment's key, the segment's cells, and the rest of the climb; `None`
+    /// if the climb has ended.
     #[inline(always)]
     fn slots_up(&self, at: Above) -> Option<(SegKey, &[Slot], Above)>
         ensures key { IfSome result (λ s. at ≡ Some s.0) }
@@ -95,7 +97,7 @@ impl<T: Drop> Trie<T> {
         ensures each { IfSome result (λ s. (i : ℕ) (front back : List ℕ)
             → keys_in self.now.strands i ≡ front ++ s.0 ∷ back → s.2 ≡ last_of front) }
         ensures end { IfNone result
-            ((i : ℕ) → IsReached (keys_in self.now.strands i) at → at ≡ None) }
+            ((i : ℕ) → HasClimbedTo (keys_in self.now.strands i) at → at ≡ None) }
     {
         match self.segments.climb(at) {
             Some((key, segment, above)) => Some((key, segment.slots.as_slice(), above)),
@@ -104,7 +106,7 @@ impl<T: Drop> Trie<T> {
     }
 }
 
-/// Where a cell lies among others.
+/// The index in a list of the cell with this number; `None` if it isn't there.
 fn offset_of(slots: &[Slot], cell: u32) -> Option<usize>
     ensures { result ≡ position (is_cell cell) slots.now }
 {

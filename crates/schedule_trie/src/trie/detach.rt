@@ -1,4 +1,4 @@
-//! Branches that are given cells of their own.
+//! Giving a branch its own cells.
 
 ghost use Rattle.std.specs.Prelude.{◌≡◌, ◌<◌, ◌≤◌, ◌+◌, length, Ok, OnOk, IfOk, IfErr, OnErr};
 ghost use Rattle.schedule_trie.specs.Edits.{Detach, IsEdited, IsUnedited};
@@ -13,11 +13,12 @@ use crate::segment::Segment;
 use std::alloc::{AllocError, Global};
 
 impl<T: Drop> Trie<T> {
-    /// Gives a branch cells of its own: as many new cells, with the same steps.
+    /// Replaces each cell of a branch by a new cell with the same step, in that branch alone.
     ///
     /// # Errors
     ///
-    /// NoBranch; Full where so many more cells may not be made; Memory. Then nothing is changed.
+    /// NoBranch; Full if the number of cells made would exceed its limit; Memory. Then nothing
+    /// changes.
     pub fn detach(&mut self, alloc: Global, branch: &Name) -> Result<(), Refusal>
         ensures ok { OnOk result (IsEdited self.old self.new (Detach branch.now)) }
         ensures err { IfErr result (IsUnedited self.old self.new (Detach branch.now)) }
@@ -32,7 +33,7 @@ impl<T: Drop> Trie<T> {
         Ok(())
     }
 
-    /// Gives the branch at an index cells of its own, which fit.
+    /// Replaces the cells of the branch at an index by new ones. The limit allows the new ones.
     fn detach_at(&mut self, alloc: Global, index: usize) -> Result<(), AllocError>
         requires index { index < length self.old.strands }
         requires room { self.old.made + length (slots_in (forest self.old).branches index)
@@ -48,7 +49,7 @@ impl<T: Drop> Trie<T> {
         Ok(())
     }
 
-    /// The segments of the branch at an index again, with new cells.
+    /// Copies of the segments of the branch at an index, with new cells.
     fn copies(&self, alloc: Global, index: usize) -> Result<Vec<Segment<T>>, AllocError>
         requires { self.now.made + length (slots_in (forest self.now).branches index)
             ≤ self.now.limits.cells }

@@ -1,4 +1,4 @@
-//! Branches that are dropped.
+//! Dropping branches.
 
 ghost use Rattle.std.specs.Prelude.{◌<◌, length, Ok, Err, OnOk, IfErr};
 ghost use Rattle.schedule_trie.specs.Edits.{Drop, IsEdited, IsUnedited};
@@ -9,11 +9,11 @@ use crate::name::Name;
 use crate::refusal::Refusal;
 
 impl<T: Drop> Trie<T> {
-    /// Drops a branch; segments that no other branch has go with it. It takes no memory.
+    /// Drops a branch, and the segments that no other branch has. Never allocates.
     ///
     /// # Errors
     ///
-    /// NoBranch; LastBranch where it is the only one. Then nothing is changed.
+    /// NoBranch; LastBranch if the branch is the only one. Then nothing changes.
     pub fn drop_branch(&mut self, branch: &Name) -> Result<(), Refusal>
         ensures ok { OnOk result (IsEdited self.old self.new (Drop branch.now)) }
         ensures err { IfErr result (IsUnedited self.old self.new (Drop branch.now)) }
@@ -28,7 +28,7 @@ impl<T: Drop> Trie<T> {
         Ok(())
     }
 
-    /// Drops the branch at an index, which is not the only one.
+    /// Drops the branch at an index, which isn't the only one.
     fn drop_at(&mut self, index: usize)
         requires index { index < length self.old.strands }
         requires several { 1 < length self.old.strands }

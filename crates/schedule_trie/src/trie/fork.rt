@@ -7,8 +7,8 @@ ghost use Rattle.schedule_trie.specs.Edits.{Fork, IsEdited, IsUnedited};
 ghost use Rattle.schedule_trie.specs.Forest.{index_of, slots_in};
 ghost use Rattle.schedule_trie.specs.Limbs.{is_name};
 ghost use Rattle.schedule_trie.specs.Cut.{forest, has, keys_in, line, piece_at, slots_of};
-ghost use Rattle.schedule_trie.specs.Climbs.{keys_to, IsReached};
-ghost use Rattle.schedule_trie.specs.Forks.{IsForked, IsForkedWhole, CutsNoneAtEnd};
+ghost use Rattle.schedule_trie.specs.Climbs.{keys_to, HasClimbedTo};
+ghost use Rattle.schedule_trie.specs.Forks.{IsBranchForked, IsForkedWhole, CutsNoneAtEnd};
 
 use super::Trie;
 use crate::name::Name;
@@ -19,13 +19,14 @@ use indexmap::IndexMap;
 use std::alloc::{AllocError, Global};
 
 impl<T: Drop> Trie<T> {
-    /// Makes a new last branch of the first cells of a branch, which it shares with it. The place is how many cells they are.
-    /// Where they are all, no segment is cut.
+    /// Adds a last branch, `name`, which shares the first `place` cells of `branch`. If these are
+    /// all cells of `branch`, no segment is cut.
     ///
     /// # Errors
     ///
-    /// NoBranch; NameTaken; BadName where the name isn't a lower-case letter and then lower-case letters or digits; NoPlace
-    /// where the place is behind the branch's length; TooManyBranches; Memory. Then nothing is changed.
+    /// NoBranch; NameTaken; BadName if the name isn't a lower-case letter, followed by lower-case
+    /// letters or digits; NoPlace if the branch is shorter than the place; TooManyBranches; Memory.
+    /// Then nothing changes.
     pub fn fork(
         &mut self,
         alloc: Global,
@@ -59,7 +60,8 @@ impl<T: Drop> Trie<T> {
         Ok(())
     }
 
-    /// Makes a new last branch of the first cells of the branch at an index, with a name that no branch has.
+    /// Adds a last branch, `name`, which shares the first `place` cells of the branch at an index.
+    /// No branch has this name yet.
     pub(super) fn fork_at(
         &mut self,
         alloc: Global,
@@ -71,39 +73,39 @@ impl<T: Drop> Trie<T> {
         requires name { index_of (forest self.old).branches name ≡ None }
         requires form { is_name name ≡ true }
         requires room { length self.old.strands < self.old.limits.branches }
-        ensures ok { OnOk result (IsForked self.old self.new index place name) }
+        ensures ok { OnOk result (IsBranchForked self.old self.new index place name) }
         ensures end { OnOk result (place ≡ length (slots_in (forest self.old).branches index)
             → IsForkedWhole self.old self.new index name) }
         ensures err { OnErr result (self.new ≡ self.old) }
     {
         self.held();
         if place == 0 {
-            return self.fork_behind(index, None, name);
+            return self.fork_after(index, None, name);
         }
         let Some((key, offset)) = self.find_cell(index, place - 1) else {
             unreachable!();
         };
         let count = offset + 1;
         if count == self.slots_at(key).len() {
-            self.fork_behind(index, Some(key), name)
+            self.fork_after(index, Some(key), name)
         } else {
             self.fork_within(alloc, index, key, count, name)
         }
     }
 
-    /// Makes a new last branch of the first segments of the branch at an index, down to one of them or with none, with a name
-    /// that no branch has.
-    fn fork_behind(
+    /// Adds a last branch, `name`, which shares the segments of the branch at an index down to
+    /// `last`, or no segment if `last` is `None`. No branch has this name yet.
+    fn fork_after(
         &mut self,
         index: usize,
         last: Option<SegKey>,
         name: Name,
     ) -> Result<(), AllocError>
-        requires last { IsReached (keys_in self.old.strands index) last }
+        requires last { HasClimbedTo (keys_in self.old.strands index) last }
         requires name { index_of (forest self.old).branches name ≡ None }
         requires form { is_name name ≡ true }
         requires room { length self.old.strands < self.old.limits.branches }
-        ensures ok { OnOk result (IsForked self.old self.new index
+        ensures ok { OnOk result (IsBranchForked self.old self.new index
             (length (line (piece_at self.old.pieces)
             (keys_to (keys_in self.old.strands index) last))) name) }
         ensures end { OnOk result
@@ -117,8 +119,9 @@ impl<T: Drop> Trie<T> {
         Ok(())
     }
 
-    /// Makes a new last branch of the first segments of the branch at an index and the first cells of the next one, which is
-    /// cut there, with a name that no branch has.
+    /// Adds a last branch, `name`, which shares the cells of the branch at an index down to the
+    /// `count`-th cell of the segment `key`. The segment is cut after that cell. No branch has this
+    /// name yet.
     fn fork_within(
         &mut self,
         alloc: Global,
@@ -134,7 +137,7 @@ impl<T: Drop> Trie<T> {
         requires form { is_name name ≡ true }
         requires room { length self.old.strands < self.old.limits.branches }
         ensures ok { (front back : List ℕ) → keys_in self.old.strands index ≡ front ++ key ∷ back
-            → OnOk result (IsForked self.old self.new index
+            → OnOk result (IsBranchForked self.old self.new index
             (length (line (piece_at self.old.pieces) front) + count) name) }
         ensures err { OnErr result (self.new ≡ self.old) }
     {
@@ -151,7 +154,7 @@ impl<T: Drop> Trie<T> {
     }
 }
 
-/// Cells in two parts, cut after the first of them.
+/// The cells in two parts: the first `count` cells, and the rest.
 fn parts_at(
     alloc: Global,
     slots: &[Slot],
@@ -166,7 +169,7 @@ fn parts_at(
     Ok((above, below))
 }
 
-/// Puts a branch into a map that has room for it.
+/// Adds a branch, with no cached length, to a map that has memory reserved for one more.
 fn insert_reserved(branches: &mut IndexMap<Name, Option<u32>>, name: Name)
     requires { 0 < spare branches.old }
     ensures { branches.new.entries ≡ insert_entry (pointwise nat_eq) branches.old.entries name

@@ -15,17 +15,17 @@ use crate::slot::Slot;
 use frames::types::Step;
 use std::alloc::{AllocError, Global};
 
-/// How many cells of a full segment stay above a cut.
+/// The number of a full segment's cells that are above the cut, without the new cell.
 const UPPER_SLOTS: usize = 64;
 
 impl<T: Drop> Trie<T> {
-    /// Puts a new cell before the one at a place of a branch, in each branch that holds that one; at the branch's length,
-    /// last in that branch alone.
+    /// Inserts a new cell before the cell at a place of a branch, in each branch that has that
+    /// cell. If the place is the branch's length, adds the cell at the end of this branch alone.
     ///
     /// # Errors
     ///
-    /// NoBranch; NoPlace where the place is behind the branch's length; Full where no more cells may be made; Memory. Then
-    /// nothing is changed.
+    /// NoBranch; NoPlace if the branch is shorter than the place; Full if the number of cells made
+    /// is at its limit; Memory. Then nothing changes.
     pub fn insert(
         &mut self,
         alloc: Global,
@@ -72,7 +72,7 @@ impl<T: Drop> Trie<T> {
         }
     }
 
-    /// Puts a new cell before one of a segment.
+    /// Inserts a new cell before the cell at an offset of a segment.
     fn put_before(
         &mut self,
         alloc: Global,
@@ -91,7 +91,7 @@ impl<T: Drop> Trie<T> {
         self.put_divided(alloc, key, offset, step)
     }
 
-    /// Puts a new cell before one of a segment that has room for it.
+    /// Inserts a new cell before the cell at an offset of a segment that isn't full.
     fn put_in(&mut self, key: SegKey, offset: usize, step: Step) -> Result<(), AllocError>
         requires offset { offset < length (slots_of (piece_at self.old.pieces key)) }
         requires few { length (slots_of (piece_at self.old.pieces key)) < 128 }
@@ -109,7 +109,7 @@ impl<T: Drop> Trie<T> {
         Ok(())
     }
 
-    /// Puts a new cell before one of a full segment, which is cut in two.
+    /// Cuts a full segment in two, and inserts a new cell before the one at an offset.
     fn put_divided(
         &mut self,
         alloc: Global,
@@ -140,7 +140,8 @@ impl<T: Drop> Trie<T> {
     }
 }
 
-/// The cells of a full segment in two parts, cut after its first 64, with a new cell at an offset.
+/// The cells of a full segment in two parts, with a new cell at `offset`. The first part has the
+/// segment's first 64 cells, and also the new cell if `offset` is below 64.
 fn parts_with(
     alloc: Global,
     slots: &[Slot],

@@ -1,4 +1,4 @@
-//! Lengths that are kept with branches, so that they aren't counted again.
+//! The lengths of branches, cached so that cells aren't counted again.
 
 ghost use Rattle.std.specs.Prelude.{ℕ, ◌≡◌, ◌<◌, None, length, slice_get};
 ghost use Rattle.std.specs.Map.{keys_of};
@@ -12,7 +12,7 @@ use crate::name::Name;
 use indexmap::IndexMap;
 
 impl<T: Drop> Trie<T> {
-    /// How many cells the branch at an index has. From now on it is kept.
+    /// The number of cells of the branch at an index. Caches this number.
     pub(super) fn learn_len(&mut self, index: usize) -> u32
         requires { index < length self.old.strands }
         ensures len { result ≡ length (slots_in (forest self.old).branches index) }
@@ -24,7 +24,7 @@ impl<T: Drop> Trie<T> {
         len
     }
 
-    /// Keeps how many cells the branch at an index has.
+    /// Caches `len`, which is the number of cells of the branch at an index.
     pub(super) fn keep_len(&mut self, index: usize, len: u32)
         requires index { index < length self.old.strands }
         requires len { len ≡ length (slots_in (forest self.old).branches index) }
@@ -34,7 +34,7 @@ impl<T: Drop> Trie<T> {
     }
 }
 
-/// The length that is kept with the branch at an index, if one is.
+/// The cached length of the branch at an index; `None` if no length is cached for it.
 pub(super) fn kept_length(branches: &IndexMap<Name, Option<u32>>, index: usize) -> Option<u32>
     ensures { result ≡ kept_in (slice_get branches.now.entries index) }
 {
@@ -42,7 +42,7 @@ pub(super) fn kept_length(branches: &IndexMap<Name, Option<u32>>, index: usize) 
     *len
 }
 
-/// Keeps a length with the branch at an index, or none.
+/// Sets the cached length of the branch at an index, or clears it if `len` is `None`.
 pub(super) fn set_length(branches: &mut IndexMap<Name, Option<u32>>, index: usize, len: Option<u32>)
     requires { index < index_map_len branches.old }
     ensures { branches.new.entries ≡ set_value_at branches.old.entries index len }
@@ -50,7 +50,7 @@ pub(super) fn set_length(branches: &mut IndexMap<Name, Option<u32>>, index: usiz
     branches[index] = len;
 }
 
-/// Keeps no length with any branch.
+/// Clears the cached lengths of all branches.
 pub(super) fn forget_lengths(branches: &mut IndexMap<Name, Option<u32>>)
     ensures names { keys_of branches.new.entries ≡ keys_of branches.old.entries }
     ensures none { (i : ℕ) → kept_in (slice_get branches.new.entries i) ≡ None }

@@ -3,7 +3,7 @@
 ghost use Rattle.std.specs.Prelude.{◌≡◌, ◌<◌, ◌≤◌, ◌+◌, ◌^◌, ℕ, length, map, take, Some, true, IsSome, IfOk, OnOk, slice_get};
 ghost use Rattle.schedule_trie.specs.Forest.{name_in, step_of};
 ghost use Rattle.schedule_trie.specs.Cut.{forest, has, keys_in, line, piece_at, IsWhole, Once};
-ghost use Rattle.schedule_trie.specs.Limbs.{FitLimits, IsLawful, forest_of, limb_of, limbs};
+ghost use Rattle.schedule_trie.specs.Limbs.{FitLimits, AreLawfulLimbs, forest_of, limb_of, limbs};
 ghost use Rattle.schedule_trie.specs.Renumbering.{IsRenumbered};
 ghost use Rattle.schedule_trie.specs.Marks.{HasPlaces, IsOwnPart, AreMarked, MarksFirst};
 
@@ -15,16 +15,17 @@ use crate::segment::SegKey;
 use std::alloc::{AllocError, Global};
 
 impl<T: Drop> Trie<T> {
-    /// The limbs of its forest, in order of making. The forest that grows from them is this one, but for the numbers of its
-    /// cells: it has the same names and steps, and one cell at the same places.
+    /// The limbs of the trie's branches, in the order they were made. The forest that these limbs
+    /// describe equals this trie's, except for the numbers of cells: it has the same names and
+    /// steps, and its branches share cells at the same places.
     ///
     /// # Errors
     ///
-    /// Where there is no memory for them.
+    /// If there is no memory for the limbs.
     pub fn limbs(&self, alloc: Global) -> Result<Vec<Limb>, AllocError>
         ensures limbs { IfOk result (λ r. r.items ≡ limbs (forest self.now)) }
         ensures kept { IfOk result (λ r. IsRenumbered (forest self.now) (forest_of r.items)) }
-        ensures lawful { IfOk result (λ r. IsLawful r.items) }
+        ensures lawful { IfOk result (λ r. AreLawfulLimbs r.items) }
         ensures some { IfOk result (λ r. 0 < length r.items) }
         ensures near { IfOk result (λ r. FitLimits self.now.limits r.items) }
     {
@@ -40,7 +41,7 @@ impl<T: Drop> Trie<T> {
         Ok(limbs)
     }
 
-    /// No segment is marked.
+    /// A list with a place for each segment's mark. No segment is marked yet.
     fn no_marks(&self, alloc: Global) -> Result<Vec<Option<Mark>>, AllocError>
         ensures { IfOk result (λ marks. MarksFirst self.now 0 marks.items) }
     {
@@ -51,7 +52,8 @@ impl<T: Drop> Trie<T> {
         Ok(marks)
     }
 
-    /// The limb of the branch at an index, which has this name. Its segments are marked, as those of all before it are.
+    /// The limb of the branch at `index`, whose name is `name`. Also marks this branch's segments;
+    /// the segments of all earlier branches are already marked.
     fn limb_at(
         &self,
         alloc: Global,
@@ -75,7 +77,8 @@ impl<T: Drop> Trie<T> {
         })
     }
 
-    /// The keys of a branch that aren't marked, and the mark of the one above them; that of no cells where there is none.
+    /// The keys of a branch's segments below its last marked one, and the mark of that one. If none
+    /// is marked, these are all the keys, and the mark has branch 0 and 0 cells.
     fn own_keys(
         &self,
         alloc: Global,
@@ -105,7 +108,7 @@ impl<T: Drop> Trie<T> {
         Ok((none, own))
     }
 
-    /// Marks segments of a branch, which come one after the other behind so many of its cells.
+    /// Marks consecutive segments of a branch. The branch has `above` cells above these segments.
     fn mark_all(&self, marks: &mut Vec<Option<Mark>>, keys: &[SegKey], branch: u32, above: u32)
         requires places { (k : ℕ) → has k keys.now ≡ true → k < length marks.old.items }
         requires once { Once keys.now }

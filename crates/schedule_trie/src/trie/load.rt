@@ -1,10 +1,10 @@
-//! Tries made of limbs.
+//! Tries made from limbs.
 
 ghost use Rattle.std.specs.Prelude.{◌≡◌, ◌<◌, ◌≤◌, length, Ok, OnOk, IfOk, IfErr};
 ghost use Rattle.schedule_trie.specs.Forest.{IsRefused};
 ghost use Rattle.schedule_trie.specs.Cut.{AreLimits, forest, IsBlank, IsCut};
 ghost use Rattle.schedule_trie.specs.Limbs as spec;
-ghost use Rattle.schedule_trie.specs.Limbs.{IsLawful, cells_of, forest_of, loaded};
+ghost use Rattle.schedule_trie.specs.Limbs.{AreLawfulLimbs, cells_of, forest_of, loaded};
 ghost use Rattle.schedule_trie.specs.Loads.{CanGrow, IsGrown};
 
 use super::Trie;
@@ -14,14 +14,15 @@ use crate::refusal::Refusal;
 use std::alloc::{AllocError, Global};
 
 impl<T: Drop> Trie<T> {
-    /// A trie of the forest that grows from limbs, of which there is one: its limbs are these again.
+    /// A trie of the forest that the limbs describe. There has to be at least one limb. The limbs
+    /// of the trie are these limbs again.
     ///
     /// # Errors
     ///
-    /// Full where they bring more cells than may be made; TooManyBranches; Memory.
+    /// Full if the limbs have more than `limits.cells` own cells in total; TooManyBranches; Memory.
     pub fn load(alloc: Global, limits: Limits, limbs: &[Limb]) -> Result<Trie<T>, Refusal>
         requires limits { AreLimits limits }
-        requires lawful { IsLawful limbs.now }
+        requires lawful { AreLawfulLimbs limbs.now }
         requires some { 0 < length limbs.now }
         ensures ok { IfOk result (λ t. loaded limits limbs.now ≡ Ok (forest t)) }
         ensures again { IfOk result (λ t. spec.limbs (forest t) ≡ limbs.now) }
@@ -41,10 +42,10 @@ impl<T: Drop> Trie<T> {
         Ok(Trie::with_limbs(alloc, limits, limbs)?)
     }
 
-    /// A trie of the forest that grows from limbs that fit.
+    /// A trie of the forest that the limbs describe. The limbs are within the trie's limits.
     fn with_limbs(alloc: Global, limits: Limits, limbs: &[Limb]) -> Result<Trie<T>, AllocError>
         requires limits { AreLimits limits }
-        requires lawful { IsLawful limbs.now }
+        requires lawful { AreLawfulLimbs limbs.now }
         requires some { 0 < length limbs.now }
         requires cells { cells_of limbs.now ≤ limits.cells }
         requires count { length limbs.now ≤ limits.branches }
@@ -63,7 +64,8 @@ impl<T: Drop> Trie<T> {
         Ok(trie)
     }
 
-    /// Makes a new last branch of a limb. Where memory is refused it may be there with some of its steps.
+    /// Adds a last branch, which the limb describes. If memory runs out, the branch may have been
+    /// added with only some of its steps.
     fn grow(&mut self, alloc: Global, limb: &Limb) -> Result<(), AllocError>
         requires { CanGrow self.old limb.now }
         ensures { OnOk result (IsGrown self.old self.new limb.now) }

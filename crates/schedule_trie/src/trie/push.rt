@@ -1,4 +1,4 @@
-//! A new cell behind a branch.
+//! A new cell at the end of a branch.
 
 ghost use Rattle.std.specs.Prelude.{◌≡◌, ◌<◌, ◌≤◌, ◌+◌, length, IfSome, OnOk, OnErr};
 ghost use Rattle.schedule_trie.specs.Cut.{IsOwnEnd, IsPushed, ArePushed};
@@ -11,7 +11,7 @@ use frames::types::Step;
 use std::alloc::{AllocError, Global};
 
 impl<T: Drop> Trie<T> {
-    /// Puts a new cell last in the branch at an index, and in that branch alone.
+    /// Adds a new cell at the end of the branch at an index, in that branch alone.
     pub(super) fn push_last(
         &mut self,
         alloc: Global,
@@ -29,8 +29,8 @@ impl<T: Drop> Trie<T> {
         }
     }
 
-    /// Puts new cells of these steps last in the branch at an index, and in that branch alone. Where memory is refused some of
-    /// them are there.
+    /// Adds new cells with these steps at the end of the branch at an index, in that branch alone.
+    /// If memory runs out, some of the cells may have been added.
     pub(super) fn push_all(
         &mut self,
         alloc: Global,
@@ -47,7 +47,7 @@ impl<T: Drop> Trie<T> {
         Ok(())
     }
 
-    /// Puts a new cell last in the last segment of a branch, which no other branch has.
+    /// Adds a new cell to the last segment of a branch. No other branch has that segment.
     fn push_in(&mut self, index: usize, key: SegKey, step: Step) -> Result<(), AllocError>
         requires index { index < length self.old.strands }
         requires end { IsOwnEnd self.old index key }
@@ -65,7 +65,7 @@ impl<T: Drop> Trie<T> {
         Ok(())
     }
 
-    /// Puts a new cell last in a branch, as a segment of its own.
+    /// Adds a new cell at the end of a branch, in a new segment.
     fn push_segment(&mut self, alloc: Global, index: usize, step: Step) -> Result<(), AllocError>
         requires index { index < length self.old.strands }
         requires room { self.old.made < self.old.limits.cells }
@@ -83,7 +83,7 @@ impl<T: Drop> Trie<T> {
         Ok(())
     }
 
-    /// The last segment of a branch, where no other branch has it and it has room for another cell.
+    /// The key of a branch's last segment, if that segment isn't full and no other branch has it.
     fn own_end(&self, index: usize) -> Option<SegKey>
         ensures { IfSome result (IsOwnEnd self.now index) }
     {

@@ -1,4 +1,4 @@
-//! Cells that go.
+//! Removing cells.
 
 ghost use Rattle.std.specs.Prelude.{◌≡◌, ◌<◌, length, Ok, Err, OnOk, IfErr};
 ghost use Rattle.schedule_trie.specs.Edits.{Remove, IsEdited, IsUnedited};
@@ -11,11 +11,11 @@ use crate::trie::Trie;
 use crate::trie::lengths::forget_lengths;
 
 impl<T: Drop> Trie<T> {
-    /// Takes the cell at a place of a branch out of each branch that holds it. It takes no memory.
+    /// Removes the cell at a place of a branch from each branch that has the cell. Never allocates.
     ///
     /// # Errors
     ///
-    /// NoBranch; NoPlace where the branch has no cell there. Then nothing is changed.
+    /// NoBranch; NoPlace if the branch has no cell there. Then nothing changes.
     pub fn remove(&mut self, branch: &Name, place: u32) -> Result<(), Refusal>
         ensures ok { OnOk result (IsEdited self.old self.new (Remove branch.now place)) }
         ensures err { IfErr result (IsUnedited self.old self.new (Remove branch.now place)) }
@@ -32,7 +32,8 @@ impl<T: Drop> Trie<T> {
         Ok(())
     }
 
-    /// Takes a cell out of a segment, and the segment out of each branch where that was its last cell.
+    /// Removes a cell from a segment. If the segment has no other cell, removes the segment from
+    /// each branch.
     fn remove_slot(&mut self, key: SegKey, offset: usize)
         requires { offset < length (slots_of (piece_at self.old.pieces key)) }
         ensures { IsRemoved self.old self.new key offset }
@@ -44,7 +45,7 @@ impl<T: Drop> Trie<T> {
         }
     }
 
-    /// Takes a cell out of a segment that has another one, and clears the segment's note.
+    /// Removes a cell from a segment that has other cells, and clears the segment's note.
     fn remove_within(&mut self, key: SegKey, offset: usize)
         requires offset { offset < length (slots_of (piece_at self.old.pieces key)) }
         requires more { 1 < length (slots_of (piece_at self.old.pieces key)) }
@@ -54,7 +55,7 @@ impl<T: Drop> Trie<T> {
         forget_lengths(&mut self.branches);
     }
 
-    /// Takes a segment of one cell out of each branch.
+    /// Removes a segment of one cell from each branch.
     fn remove_segment(&mut self, key: SegKey)
         requires { length (slots_of (piece_at self.old.pieces key)) ≡ 1 }
         ensures { IsRemoved self.old self.new key 0 }

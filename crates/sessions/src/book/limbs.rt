@@ -1,9 +1,9 @@
-//! Books made of limbs, and the limbs of a book.
+//! Books loaded from limbs, and the limbs of a book.
 
 ghost use Rattle.std.specs.Prelude.{◌≡◌, ◌<◌, Ok, OnOk, IfOk, IfErr, [], length};
 ghost use Rattle.schedule_trie.specs.Forest.{IsRefused};
 ghost use Rattle.schedule_trie.specs.Cut.{AreLimits};
-ghost use Rattle.schedule_trie.specs.Limbs.{IsLawful, forest_of, loaded};
+ghost use Rattle.schedule_trie.specs.Limbs.{AreLawfulLimbs, forest_of, loaded};
 ghost use Rattle.cutoff.specs.Held.{LimbsFit};
 ghost use Rattle.sessions.specs.World.{opening};
 ghost use Rattle.sessions.specs.Held.{opening_of, world_of};
@@ -18,12 +18,12 @@ use schedule_trie::refusal::Refusal;
 use std::alloc::{AllocError, Global};
 
 impl<R: Register> Book<R> {
-    /// The book before the first command: a register at a value, the limits, and the forest that grows from limbs, of which there
-    /// is one.
+    /// A book before its first command, with the branches of these limbs, at least one. `value` is
+    /// the register's initial value.
     ///
     /// # Errors
     ///
-    /// Full where they bring more cells than may be made; TooManyBranches; Memory.
+    /// Full if the limbs have more cells than the limits allow; TooManyBranches; Memory.
     pub fn load(
         alloc: Global,
         register: R,
@@ -31,15 +31,17 @@ impl<R: Register> Book<R> {
         limits: Limits,
         limbs: &[Limb],
     ) -> Result<Book<R>, Refusal>
-        requires value { value < (R.is register).values }
+        requires value { value < (R.behaviour register).values }
         requires limits { AreLimits limits }
-        requires lawful { IsLawful limbs.now }
+        requires lawful { AreLawfulLimbs limbs.now }
         requires some { 0 < length limbs.now }
-        requires fits { LimbsFit (R.is register) limbs.now }
-        ensures world { let first = opening (R.is register) value limits (forest_of limbs.now)
-            in IfOk result (λ book. world_of R.is book.now ≡ first) }
-        ensures opening { let first = opening (R.is register) value limits (forest_of limbs.now)
-            in IfOk result (λ book. opening_of R.is book ≡ first) }
+        requires fits { LimbsFit (R.behaviour register) limbs.now }
+        ensures world { let first = opening (R.behaviour register) value limits
+            (forest_of limbs.now)
+            in IfOk result (λ book. world_of R.behaviour book.now ≡ first) }
+        ensures opening { let first = opening (R.behaviour register) value limits
+            (forest_of limbs.now)
+            in IfOk result (λ book. opening_of R.behaviour book ≡ first) }
         ensures log { IfOk result (λ book. book.log ≡ []) }
         ensures ok { OnOk result (loaded limits limbs.now ≡ Ok (forest_of limbs.now)) }
         ensures err { IfErr result (IsRefused (loaded limits limbs.now)) }
@@ -48,13 +50,14 @@ impl<R: Register> Book<R> {
         Ok(Book::over(alloc, chart, limits)?)
     }
 
-    /// The limbs of its branches, in order of making. A book can be loaded from them.
+    /// The limbs of the book's branches, in the order the branches were made. A book can be loaded
+    /// from these limbs.
     ///
     /// # Errors
     ///
-    /// Where there is no memory for them.
+    /// If there is no memory for the limbs.
     pub fn limbs(&self, alloc: Global) -> Result<Vec<Limb>, AllocError>
-        ensures { IfOk result (λ limbs. IsSaved (world_of R.is self.now.now) limbs.items) }
+        ensures { IfOk result (λ limbs. IsSaved (world_of R.behaviour self.now.now) limbs.items) }
     {
         self.stage.limbs(alloc)
     }

@@ -3,14 +3,14 @@
 ghost use Rattle.std.specs.Prelude.{◌≡◌, ◌<◌, IfOk, IfSome, length};
 ghost use Rattle.schedule_trie.specs.Cut.{forest};
 ghost use Rattle.sessions.specs.Cursors as spec;
-ghost use Rattle.sessions.specs.Cursors.{StandsIn};
-ghost use Rattle.sessions.specs.Held.{Does, Done, command_of, world_of};
+ghost use Rattle.sessions.specs.Cursors.{IsAtPlace};
+ghost use Rattle.sessions.specs.Held.{Does, IsCarriedOut, seek_command, world_of};
 ghost use Rattle.sessions.specs.Bounds.{CanLog};
 ghost use Rattle.std.specs.Option.{option_map};
 ghost use Rattle.sessions.specs.Acts.{hit_of, hit_reply};
 ghost use Rattle.sessions.specs.BreakLists.{breaks_at};
-ghost use Rattle.sessions.specs.Seeks.{hits, next_of};
-ghost use Rattle.views.specs.Looks.{IsKept, steps_in};
+ghost use Rattle.sessions.specs.Seeks.{hits, next_place};
+ghost use Rattle.views.specs.Looks.{IsChartKept, steps_in};
 
 use super::Stage;
 use crate::breaks::Breaks;
@@ -27,11 +27,11 @@ use std::alloc::{AllocError, Global};
 use views::breakpoint::Break;
 
 impl<R: Register> Stage<R> {
-    /// Begins a session, whether it was there or not.
+    /// Begins a session, or begins it again.
     pub(super) fn join(&mut self, alloc: Global, who: u32) -> Reply
         requires room { CanLog self.old }
         requires session { who < 16 }
-        ensures { Done R.is who Command.Join self.old self.new result }
+        ensures { IsCarriedOut R.behaviour who Command.Join self.old self.new result }
     {
         self.chart.held();
         self.cursors[who as usize] = first_cursor(&self.chart);
@@ -44,7 +44,7 @@ impl<R: Register> Stage<R> {
     pub(super) fn leave(&mut self, alloc: Global, who: u32) -> Reply
         requires room { CanLog self.old }
         requires session { who < 16 }
-        ensures { Done R.is who Command.Leave self.old self.new result }
+        ensures { IsCarriedOut R.behaviour who Command.Leave self.old self.new result }
     {
         self.cursors[who as usize] = None;
         self.breaks[who as usize] = Breaks::new(alloc);
@@ -52,15 +52,15 @@ impl<R: Register> Stage<R> {
         Reply::Left
     }
 
-    /// Moves a cursor to a place of a branch.
+    /// Moves the session's cursor to a place of a branch.
     ///
     /// # Errors
     ///
-    /// NoBranch; NoPlace where the branch is shorter.
+    /// NoBranch; NoPlace if the branch is shorter.
     pub(super) fn go(&mut self, who: u32, branch: &Name, place: u32) -> Result<Reply, Refusal>
         requires room { CanLog self.old }
         requires session { who < 16 }
-        ensures { Does R.is who (Command.Go branch.now place) self.old self.new result }
+        ensures { Does R.behaviour who (Command.Go branch.now place) self.old self.new result }
     {
         let Some(len) = self.chart.len(branch) else {
             return Err(Refusal::NoBranch);
@@ -76,7 +76,8 @@ impl<R: Register> Stage<R> {
         Ok(Reply::Moved(*branch, place))
     }
 
-    /// Moves a cursor to the next place at which a break of its session is met, if there is one on the way.
+    /// Moves the session's cursor to the next place in this direction at which a break of the
+    /// session is met, if any.
     ///
     /// # Errors
     ///
@@ -84,7 +85,7 @@ impl<R: Register> Stage<R> {
     pub(super) fn seek(&mut self, alloc: Global, who: u32, way: Way) -> Result<Reply, Refusal>
         requires room { CanLog self.old }
         requires session { who < 16 }
-        ensures { Does R.is who (command_of way) self.old self.new result }
+        ensures { Does R.behaviour who (seek_command way) self.old self.new result }
     {
         let hit = self.hit_of(alloc, who, way)?;
         let reply = hit_reply(&hit);
@@ -95,12 +96,13 @@ impl<R: Register> Stage<R> {
         Ok(reply)
     }
 
-    /// Where a seek takes a session's cursor, if there is a hit on its way.
+    /// The next hit of a session's seek, if any.
     fn hit_of(&mut self, alloc: Global, who: u32, way: Way) -> Result<Option<Cursor>, AllocError>
         requires { who < 16 }
-        ensures hit { IfOk result (λ hit. hit ≡ hit_of way (world_of R.is self.old) who) }
-        ensures stands { IfOk result (λ hit. IfSome hit (StandsIn (forest self.new.chart.cut))) }
-        ensures world { world_of R.is self.new ≡ world_of R.is self.old }
+        ensures hit { IfOk result (λ hit. hit ≡ hit_of way (world_of R.behaviour self.old) who) }
+        ensures may_be_at { IfOk result
+            (λ hit. IfSome hit (IsAtPlace (forest self.new.chart.cut))) }
+        ensures world { world_of R.behaviour self.new ≡ world_of R.behaviour self.old }
         ensures limits { self.new.limits ≡ self.old.limits }
     {
         let cursor = cursor_of(&self.cursors, who);
@@ -111,7 +113,7 @@ impl<R: Register> Stage<R> {
         }
     }
 
-    /// Adds a break to a session's, where it isn't there.
+    /// Sets a break of a session, unless it is already set.
     ///
     /// # Errors
     ///
@@ -119,22 +121,22 @@ impl<R: Register> Stage<R> {
     pub(super) fn set_break(&mut self, who: u32, added: Break) -> Result<Reply, Refusal>
         requires room { CanLog self.old }
         requires session { who < 16 }
-        ensures { Does R.is who (Command.Break added) self.old self.new result }
+        ensures { Does R.behaviour who (Command.Break added) self.old self.new result }
     {
         self.breaks[who as usize].add(added)?;
         self.logged += 1;
         Ok(Reply::BreakSet)
     }
 
-    /// Takes a break away.
+    /// Removes a break of a session.
     ///
     /// # Errors
     ///
-    /// NoBreak where it isn't there.
+    /// NoBreak if the session hasn't set this break.
     pub(super) fn clear_break(&mut self, who: u32, gone: Break) -> Result<Reply, Refusal>
         requires room { CanLog self.old }
         requires session { who < 16 }
-        ensures { Does R.is who (Command.Clear gone) self.old self.new result }
+        ensures { Does R.behaviour who (Command.Clear gone) self.old self.new result }
     {
         if !self.breaks[who as usize].has(gone) {
             return Err(Refusal::NoBreak);
@@ -152,7 +154,7 @@ fn first_cursor<R: Register>(chart: &Chart<R>) -> Option<Cursor>
     chart.name_at(0).map(|branch| Cursor { branch, place: 0 })
 }
 
-/// Where a seek takes a cursor, if there is a hit on its way.
+/// The next hit of a seek from a cursor, if any.
 fn hit_from<R: Register>(
     alloc: Global,
     chart: &mut Chart<R>,
@@ -160,13 +162,13 @@ fn hit_from<R: Register>(
     breaks: &[Break],
     way: Way,
 ) -> Result<Option<Cursor>, AllocError>
-    requires { StandsIn (forest chart.old.cut) cursor.now }
-    ensures hit { let all = hits (R.is chart.old.start.register) chart.old.value
+    requires { IsAtPlace (forest chart.old.cut) cursor.now }
+    ensures hit { let all = hits (R.behaviour chart.old.start.register) chart.old.value
         (steps_in (forest chart.old.cut) cursor.now.branch) breaks.now in
         IfOk result (λ hit. hit ≡ option_map (spec.cursor cursor.now.branch)
-        (next_of way cursor.now.place all)) }
-    ensures stands { IfOk result (λ hit. IfSome hit (StandsIn (forest chart.old.cut))) }
-    ensures kept { IsKept chart.old chart.new }
+        (next_place way cursor.now.place all)) }
+    ensures may_be_at { IfOk result (λ hit. IfSome hit (IsAtPlace (forest chart.old.cut))) }
+    ensures kept { IsChartKept chart.old chart.new }
 {
     let search = Search {
         breaks,
@@ -192,7 +194,7 @@ fn hit_reply(hit: &Option<Cursor>) -> Reply
     }
 }
 
-/// The cursor of a session, if it is joined.
+/// The cursor of a session, if it has joined.
 fn cursor_of(cursors: &[Option<Cursor>], who: u32) -> Option<Cursor>
     requires { who < length cursors.now }
     ensures { result ≡ spec.cursor_at cursors.now who }

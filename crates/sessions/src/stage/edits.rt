@@ -1,4 +1,4 @@
-//! Edits of a world's branches, each of which is counted.
+//! Edits of a world's branches. Each accepted edit is counted.
 
 ghost use Rattle.std.specs.Prelude.{◌≡◌, ℕ, true, IsSome, OnOk, OnErr};
 ghost use Rattle.sessions.specs.Acts.{fits_command};
@@ -18,16 +18,17 @@ use schedule_trie::refusal::Refusal;
 use std::alloc::Global;
 
 impl<R: Register> Stage<R> {
-    /// Makes an edit; the cursors behind it go with it.
+    /// Makes an edit, and moves the cursors that are after its place.
     ///
     /// # Errors
     ///
-    /// Those of the edit; Occupied for a drop of a branch on which a cursor stands; Memory.
+    /// Those of the edit; Occupied if it drops a branch that has a cursor on it; Memory.
     pub(super) fn edit(&mut self, alloc: Global, command: &Command) -> Result<Reply, Refusal>
         requires room { CanLog self.old }
         requires edits { IsSome (edit_of command.now) }
-        requires fits { fits_command (R.is self.old.chart.start.register) command.now ≡ true }
-        ensures { (who : ℕ) → Does R.is who command.now self.old self.new result }
+        requires fits { fits_command (R.behaviour self.old.chart.start.register) command.now
+            ≡ true }
+        ensures { (who : ℕ) → Does R.behaviour who command.now self.old self.new result }
     {
         if self.is_held_up(command) {
             return Err(Refusal::Occupied);
@@ -40,12 +41,13 @@ impl<R: Register> Stage<R> {
         Ok(Reply::Edited(self.edits))
     }
 
-    /// Whether a cursor holds up a drop that nothing else refuses: NoBranch and LastBranch come first.
+    /// Whether a command is a drop that only a cursor prevents. NoBranch and LastBranch take
+    /// precedence.
     fn is_held_up(&self, command: &Command) -> bool
         ensures { result
             ≡ is_held_up (edit_of command.now) (forest self.now.chart.cut) self.now.cursors }
     {
-        let Command::Drop { branch } = command else {
+        let Command::Drop { b: branch } = command else {
             return false;
         };
         let may_go = self.chart.len(branch).is_some() && self.chart.branches() > 1;
@@ -53,18 +55,19 @@ impl<R: Register> Stage<R> {
     }
 }
 
-/// Makes the edit of a command in a chart, and puts the cursors behind it where they then stand; another command changes nothing.
+/// Makes the edit of a command in a chart, and moves the cursors that are after the edit's place. A
+/// command that isn't an edit changes nothing.
 ///
 /// # Errors
 ///
-/// Those of the edit. Then nothing is changed.
+/// Those of the edit; then nothing is changed.
 fn change_and_move<R: Register>(
     alloc: Global,
     chart: &mut Chart<R>,
     cursors: &mut [Option<Cursor>; SESSIONS],
     command: &Command,
 ) -> Result<(), Refusal>
-    requires fits { fits_command (R.is chart.old.start.register) command.now ≡ true }
+    requires fits { fits_command (R.behaviour chart.old.start.register) command.now ≡ true }
     requires within { AreWithin cursors.old }
     ensures chart { Changes (edit_of command.now) chart.old chart.new result }
     ensures moved { OnOk result (cursors.new
@@ -77,7 +80,8 @@ fn change_and_move<R: Register>(
     change_and_shift(alloc, chart, cursors, command)
 }
 
-/// Whether a command's edit can't move any cursor: there is none behind its place, or it moves none.
+/// Whether a command's edit surely moves no cursor: none is after its place, or such edits move
+/// none.
 fn moves_none(cursors: &[Option<Cursor>], command: &Command) -> bool
     ensures { result ≡ true → (f : Forest)
         → cursors.now ≡ moved_if (edit_of command.now) f cursors.now }
@@ -88,11 +92,12 @@ fn moves_none(cursors: &[Option<Cursor>], command: &Command) -> bool
     }
 }
 
-/// The same for an edit that may move cursors. It stands apart for the room that all cursors take, which is made ready at each call.
+/// Makes, in a chart, an edit that may move cursors, and moves them. Not inlined, since each call
+/// sets up an array of cursors.
 ///
 /// # Errors
 ///
-/// Those of the edit. Then nothing is changed.
+/// Those of the edit; then nothing is changed.
 #[inline(never)]
 fn change_and_shift<R: Register>(
     alloc: Global,
@@ -100,7 +105,7 @@ fn change_and_shift<R: Register>(
     cursors: &mut [Option<Cursor>; SESSIONS],
     command: &Command,
 ) -> Result<(), Refusal>
-    requires fits { fits_command (R.is chart.old.start.register) command.now ≡ true }
+    requires fits { fits_command (R.behaviour chart.old.start.register) command.now ≡ true }
     requires within { AreWithin cursors.old }
     ensures chart { Changes (edit_of command.now) chart.old chart.new result }
     ensures moved { OnOk result (cursors.new
@@ -116,38 +121,26 @@ fn change_and_shift<R: Register>(
     Ok(())
 }
 
-/// Makes the edit of a command in a chart; another command changes nothing.
+/// Makes the edit of a command in a chart. A command that isn't an edit changes nothing.
 ///
 /// # Errors
 ///
-/// Those of the edit. Then nothing is changed.
+/// Those of the edit; then nothing is changed.
 fn change<R: Register>(
     alloc: Global,
     chart: &mut Chart<R>,
     command: &Command,
 ) -> Result<(), Refusal>
-    requires { fits_command (R.is chart.old.start.register) command.now ≡ true }
+    requires { fits_command (R.behaviour chart.old.start.register) command.now ≡ true }
     ensures { Changes (edit_of command.now) chart.old chart.new result }
 {
     match command {
-        Command::Insert {
-            branch,
-            place,
-            step,
-        } => chart.insert(alloc, branch, *place, *step),
-        Command::Remove { branch, place } => chart.remove(branch, *place),
-        Command::Replace {
-            branch,
-            place,
-            step,
-        } => chart.replace(branch, *place, *step),
-        Command::Fork {
-            branch,
-            place,
-            name,
-        } => chart.fork(alloc, branch, *place, *name),
-        Command::Detach { branch } => chart.detach(alloc, branch),
-        Command::Drop { branch } => chart.drop_branch(branch),
+        Command::Insert { b, k, step } => chart.insert(alloc, b, *k, *step),
+        Command::Remove { b, k } => chart.remove(b, *k),
+        Command::Replace { b, k, step } => chart.replace(b, *k, *step),
+        Command::Fork { b, k, name } => chart.fork(alloc, b, *k, *name),
+        Command::Detach { b } => chart.detach(alloc, b),
+        Command::Drop { b } => chart.drop_branch(b),
         _ => Ok(()),
     }
 }

@@ -10,9 +10,9 @@ use schedule_trie::limb::Limb;
 use std::alloc::{AllocError, Global};
 
 impl<R: Register> Stage<R> {
-    /// The limbs of the branches, in order of making.
+    /// The limbs of the branches, in the order the branches were made.
     pub(crate) fn limbs(&self, alloc: Global) -> Result<Vec<Limb>, AllocError>
-        ensures { IfOk result (λ limbs. IsSaved (world_of R.is self.now) limbs.items) }
+        ensures { IfOk result (λ limbs. IsSaved (world_of R.behaviour self.now) limbs.items) }
     {
         self.chart.limbs(alloc)
     }

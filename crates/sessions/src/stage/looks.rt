@@ -29,16 +29,18 @@ impl<R: Register> Stage<R> {
     ///
     /// # Errors
     ///
-    /// NoSession for the cursor of a session that hasn't joined; NoBranch; NoPlace where the branch is shorter; Memory. What commands
-    /// see is as before in any case.
+    /// NoSession if the query is for the cursor of a session that hasn't joined; NoBranch; NoPlace
+    /// if the branch is shorter; Memory. Nothing that commands see is changed, with or without an
+    /// error.
     pub(crate) fn look(&mut self, alloc: Global, query: Query) -> Result<Slip<R>, Refusal>
         ensures page { IfOk result
-            (λ slip. Some slip.page ≡ spec.shown_in (world_of R.is self.old) query) }
-        ensures found { let w = world_of R.is self.old in
-            OnOk result (spec.looked w query ≡ Ok w.forest) }
-        ensures err { IfErr result (IsRefused (spec.looked (world_of R.is self.old) query)) }
-        ensures world { world_of R.is self.new ≡ world_of R.is self.old }
-        ensures never_stray { IsRegularOrAtomic (R.is self.old.chart.start.register)
+            (λ slip. Some slip.page ≡ spec.shown_in (world_of R.behaviour self.old) query) }
+        ensures found { let w = world_of R.behaviour self.old in
+            OnOk result (spec.looked_in w query ≡ Ok w.forest) }
+        ensures err { IfErr result
+            (IsRefused (spec.looked_in (world_of R.behaviour self.old) query)) }
+        ensures world { world_of R.behaviour self.new ≡ world_of R.behaviour self.old }
+        ensures never_stray { IsRegularOrAtomic (R.behaviour self.old.chart.start.register)
             → IfOk result (λ slip. ShowsNoStray slip.page) }
     {
         match query {
@@ -58,12 +60,13 @@ impl<R: Register> Stage<R> {
     fn look_at_branch(&mut self, alloc: Global, query: Query) -> Result<Slip<R>, Refusal>
         requires { is_at_branch query ≡ true }
         ensures page { IfOk result
-            (λ slip. Some slip.page ≡ spec.shown_in (world_of R.is self.old) query) }
-        ensures found { let w = world_of R.is self.old in
-            OnOk result (spec.looked w query ≡ Ok w.forest) }
-        ensures err { IfErr result (IsRefused (spec.looked (world_of R.is self.old) query)) }
-        ensures world { world_of R.is self.new ≡ world_of R.is self.old }
-        ensures never_stray { IsRegularOrAtomic (R.is self.old.chart.start.register)
+            (λ slip. Some slip.page ≡ spec.shown_in (world_of R.behaviour self.old) query) }
+        ensures found { let w = world_of R.behaviour self.old in
+            OnOk result (spec.looked_in w query ≡ Ok w.forest) }
+        ensures err { IfErr result
+            (IsRefused (spec.looked_in (world_of R.behaviour self.old) query)) }
+        ensures world { world_of R.behaviour self.new ≡ world_of R.behaviour self.old }
+        ensures never_stray { IsRegularOrAtomic (R.behaviour self.old.chart.start.register)
             → IfOk result (λ slip. ShowsNoStray slip.page) }
     {
         Slip::at(alloc, &mut self.chart, query)
@@ -81,16 +84,16 @@ impl<R: Register> Stage<R> {
         Ok(Slip::of(Page::Branches(page)))
     }
 
-    /// Looks at where a session stands, and at its breaks.
+    /// Looks at a session's cursor, and at its breaks.
     fn look_at_cursor(&self, alloc: Global, who: u32) -> Result<Slip<R>, Refusal>
         ensures page { IfOk result
             (λ slip. Some slip.page ≡ spec.cursor_page (cursor_at self.now.cursors who)
             (breaks_at self.now.breaks who)) }
         ensures no_stray { IfOk result (λ slip. ShowsNoStray slip.page) }
-        ensures found { let w = world_of R.is self.now in
-            OnOk result (spec.looked w (Query.Cursor who) ≡ Ok w.forest) }
+        ensures found { let w = world_of R.behaviour self.now in
+            OnOk result (spec.looked_in w (Query.Cursor who) ≡ Ok w.forest) }
         ensures err { IfErr result
-            (IsRefused (spec.looked (world_of R.is self.now) (Query.Cursor who))) }
+            (IsRefused (spec.looked_in (world_of R.behaviour self.now) (Query.Cursor who))) }
     {
         let index = who as usize;
         if index >= SESSIONS {

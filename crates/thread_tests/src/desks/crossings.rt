@@ -1,10 +1,10 @@
-//! An edit by another chair while a fill is about to run its first job.
+//! Tests of an edit that another chair makes just before a fill runs its first job.
 
 ghost use Rattle.std.specs.Prelude.{◌≡◌, IfOk};
 ghost use Rattle.frames.specs.SafeBit.{safe_behaviour};
 ghost use Rattle.turn.specs.Shares.{every_share};
 ghost use Rattle.turn.specs.Chairs.{view};
-ghost use Rattle.desk.specs.Chairs.{IsAt};
+ghost use Rattle.desk.specs.Chairs.{IsChairOf};
 
 use super::openings::{limits, thousand};
 use super::{READ, Room, halves, name};
@@ -24,7 +24,7 @@ use turn::Counted;
 use views::query::Query;
 use workers::gate::Gate;
 
-/// A chair, the desk that it is one of, and whether it has made its edit, which contracts see.
+/// A chair, its desk, and whether the chair has made its edit. Contracts see only the last part.
 #[derive(Drop)]
 struct Crossing<'a, R: Register>
 where
@@ -40,19 +40,19 @@ where
     Journal<R>: Counted<Entry = Item<R>>,
 {
     ghost use Rattle.std.specs.Prelude.{Bool};
-    ghost use Rattle.desk.specs.Chairs.{IsAt};
+    ghost use Rattle.desk.specs.Chairs.{IsChairOf};
 
     ghost Value = { Bool };
 
     ghost view = { λ c. c.has_edited };
 
-    ghost invariant = { λ c. IsAt R.is c.desk.now c.chair };
+    ghost invariant = { λ c. IsChairOf R.behaviour c.desk.now c.chair };
 }
 
 impl<'a, R: Register> Crossing<'a, R> {
-    /// A chair that hasn't edited yet.
+    /// A chair that hasn't made its edit yet.
     fn new(desk: &'a Desk<R>, chair: Chair<R>) -> Crossing<'a, R>
-        requires { IsAt R.is desk.now chair }
+        requires { IsChairOf R.behaviour desk.now chair }
     {
         Crossing {
             desk,
@@ -61,7 +61,7 @@ impl<'a, R: Register> Crossing<'a, R> {
         }
     }
 
-    /// Makes an edit, the first time.
+    /// Makes the edit, unless the chair has made it before.
     fn edit<W: Wait>(&mut self, rt: &W, alloc: Global, edit: &Command) {
         if self.has_edited {
             return;
@@ -90,13 +90,13 @@ impl<R: Register, W: Wait> Gate<W> for EditsOnce<'_, R> {
 
 /// A desk of one read, and its chair.
 fn of_one_read(alloc: Global) -> Result<(Desk<Safe>, Chair<Safe>), Refusal>
-    ensures { IfOk result (λ r. IsAt (λ _. safe_behaviour) r.0 r.1
+    ensures { IfOk result (λ r. IsChairOf (λ _. safe_behaviour) r.0 r.1
         × ((view r.1).shares ≡ every_share)) }
 {
     Desk::open(alloc, Safe, 0, limits(16), &[READ])
 }
 
-/// Fills `main` by a chair, while the other inserts a write before the read at the first offer.
+/// Fills `main` by one chair. At the first offer the other chair inserts a write at the beginning.
 fn filled_beside<R: Abort + Threads + Wait + Sync>(
     rt: &R,
     alloc: Global,
@@ -104,14 +104,14 @@ fn filled_beside<R: Abort + Threads + Wait + Sync>(
     chair: &mut Chair<Safe>,
     other: Chair<Safe>,
 ) -> Result<Report, Refusal>
-    requires { IsAt (λ _. safe_behaviour) desk.now chair.old
-        × IsAt (λ _. safe_behaviour) desk.now other }
-    ensures { IsAt (λ _. safe_behaviour) desk.now chair.new }
+    requires { IsChairOf (λ _. safe_behaviour) desk.now chair.old
+        × IsChairOf (λ _. safe_behaviour) desk.now other }
+    ensures { IsChairOf (λ _. safe_behaviour) desk.now chair.new }
 {
     let branch = name(rt, b"main");
     let edit = Command::Insert {
-        branch,
-        place: 0,
+        b: branch,
+        k: 0,
         step: Step::Write { p: 0, v: 0 },
     };
     let gate = EditsOnce {
@@ -122,12 +122,12 @@ fn filled_beside<R: Abort + Threads + Wait + Sync>(
     desk.fill_with(rt, alloc, chair, &branch, 0, &gate)
 }
 
-/// Whether one run came late, those that fit are installed, and none was refused memory.
+/// Whether one run came too late, the one or two others were installed, and none ran out of memory.
 fn is_crossed(report: Report) -> bool {
     is_crossed_once(report, 1) && report.installed <= 2
 }
 
-/// The state behind the write and the read.
+/// The text of the page of the state after the write and the read.
 const STATE: &[u8] =
     b"0: state main 2 of 2\n  p0 write 0 next ws 0\n  p1 read next rs 0\n  bits 0\n  words -\n";
 
@@ -138,8 +138,8 @@ fn crossing_install(rt: HostRuntime) -> Result<(), Fail> {
     let report = filled_beside(&rt, rt.alloc(), &desk, &mut first, second)?;
     assert!(rt; is_crossed(report));
     let query = Query::State {
-        branch: name(&rt, b"main"),
-        place: 2,
+        b: name(&rt, b"main"),
+        k: 2,
     };
     let room = Room::new(&rt, rt.alloc(), &desk);
     let (at, text) = room.text_at(&mut first, &query)?;
@@ -148,7 +148,8 @@ fn crossing_install(rt: HostRuntime) -> Result<(), Fail> {
     Ok(())
 }
 
-/// Whether one run came late, and all others, so many at least, are installed.
+/// Whether one run came too late, all others were installed, at least `least` of them, and none ran
+/// out of memory.
 fn is_crossed_once(report: Report, least: u64) -> bool {
     let late = report.stale.wrapping_add(report.gone);
     late == 1
@@ -157,7 +158,8 @@ fn is_crossed_once(report: Report, least: u64) -> bool {
         && report.memory == 0
 }
 
-/// A run that comes late is planned again: the runs of the later rounds are all installed.
+/// A segment whose run comes too late is planned again, and the runs of the later rounds are all
+/// installed.
 #[test]
 fn crossing_a_long_branch(rt: HostRuntime) -> Result<(), Fail> {
     let (desk, first) = thousand(rt.alloc(), 1024)?;
@@ -167,7 +169,8 @@ fn crossing_a_long_branch(rt: HostRuntime) -> Result<(), Fail> {
     Ok(())
 }
 
-/// Where memory is refused the other chair may make no edit, and a run may be left out: then too the desk goes on.
+/// If memory runs out, the other chair's edit may be refused, and a run may be missing. The desk
+/// still works after that.
 #[test]
 fn crossing_wanting_memory(rt: HostRuntime) {
     let alloc = rt.alloc();
@@ -180,8 +183,8 @@ fn crossing_wanting_memory(rt: HostRuntime) {
         Err(refusal) => assert!(rt; refusal == Refusal::Memory),
     }
     let query = Query::State {
-        branch: name(&rt, b"main"),
-        place: 0,
+        b: name(&rt, b"main"),
+        k: 0,
     };
     let room = Room::new(&rt, alloc, &desk);
     let (at, _) = room.text_again(&mut first, &query);

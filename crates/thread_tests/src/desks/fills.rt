@@ -1,9 +1,10 @@
-//! Fills: the row of a thousand steps by any number of thieves, a branch that isn't there, and a fill beside an editor.
+//! Tests of fills: of a thousand steps by up to 4 thieves, of a branch that isn't there, of more
+//! segments than a fill has rounds, and while another chair edits.
 
 ghost use Rattle.std.specs.Prelude.{◌≤◌};
 ghost use Rattle.frames.specs.SafeBit.{safe_behaviour};
 ghost use Rattle.schedule_trie.specs.Cut.{AreLimits};
-ghost use Rattle.desk.specs.Chairs.{IsAt};
+ghost use Rattle.desk.specs.Chairs.{IsChairOf};
 
 use super::openings::{thousand, writes, written};
 use super::side_by_side::{Work, log_and_text};
@@ -27,22 +28,22 @@ use views::page::page_text;
 use views::query::Query;
 
 impl<R: Threads + Wait + Sync> Room<'_, R> {
-    /// Fills a branch; what the call promises of histories is forgotten.
+    /// Fills a branch. Unlike the desk's, this contract promises nothing about histories.
     pub(super) fn filled(
         &self,
         chair: &mut Chair<Safe>,
         branch: &Name,
         thieves: u32,
     ) -> Result<Report, Refusal>
-        requires at { IsAt (λ _. safe_behaviour) self.now.desk.now chair.old }
+        requires at { IsChairOf (λ _. safe_behaviour) self.now.desk.now chair.old }
         requires thieves { thieves ≤ 4 }
-        ensures { IsAt (λ _. safe_behaviour) self.now.desk.now chair.new }
+        ensures { IsChairOf (λ _. safe_behaviour) self.now.desk.now chair.new }
     {
         self.desk.fill(self.rt, self.alloc, chair, branch, thieves)
     }
 }
 
-/// A report of this many runs, all of which were installed.
+/// The report of a fill that planned `count` jobs and installed all their runs.
 pub(super) fn all_installed(count: u64) -> Report {
     Report {
         planned: count,
@@ -53,7 +54,8 @@ pub(super) fn all_installed(count: u64) -> Report {
     }
 }
 
-/// A segment has 128 cells at most, and each round fills one of the only branch.
+/// A segment has at most 128 cells, so the thousand steps have 8 segments. Each round installs the
+/// run of one, since there is only one branch.
 #[test]
 fn thousand_steps(rt: HostRuntime) -> Result<(), Fail> {
     let (main, zed) = (name(&rt, b"main"), name(&rt, b"zed"));
@@ -70,7 +72,7 @@ fn thousand_steps(rt: HostRuntime) -> Result<(), Fail> {
     Ok(())
 }
 
-/// Limits for steps that make 66 segments.
+/// Limits that allow 66 full segments.
 fn long() -> Limits
     ensures { AreLimits result }
 {
@@ -81,7 +83,7 @@ fn long() -> Limits
     }
 }
 
-/// A fill is done after 64 rounds, though segments are left.
+/// A fill ends after 64 rounds, though some segments have no run yet.
 #[test]
 fn sixty_four_rounds(rt: HostRuntime) -> Result<(), Fail> {
     let main = name(&rt, b"main");
@@ -94,17 +96,19 @@ fn sixty_four_rounds(rt: HostRuntime) -> Result<(), Fail> {
     Ok(())
 }
 
-/// How often a filler fills, beside an editor that makes so many inserts and then drops the branch.
+/// How often a filler fills. Meanwhile an editor makes `INSERTS` inserts, and then drops the
+/// branch.
 const FILLS: u32 = 8;
 
 const INSERTS: u32 = 20;
 
-/// How often such a pair works side by side.
+/// How many pairs of a filler and an editor there are, one after the other.
 const PAIRS: u32 = 100;
 
-/// Whether a fill gave a report whose parts are the jobs that were planned, or was refused because the branch is gone.
-fn is_sum_or_gone(told: Result<Report, Refusal>) -> bool {
-    match told {
+/// Whether a fill reported numbers that add up to the planned jobs, or was refused because the
+/// branch is gone.
+fn is_sum_or_gone(reported: Result<Report, Refusal>) -> bool {
+    match reported {
         Ok(report) => {
             let unfit = report.stale.wrapping_add(report.gone);
             let runs = report.installed.wrapping_add(report.memory);
@@ -115,35 +119,36 @@ fn is_sum_or_gone(told: Result<Report, Refusal>) -> bool {
 }
 
 impl<R: Abort + Threads + Wait + Sync> Room<'_, R> {
-    /// Fills the branch `a` over and over. The answer is whether each fill gave a report, or was refused
-    /// because the branch is gone.
+    /// Fills branch `a` over and over. Returns whether the result of each fill is one that
+    /// `is_sum_or_gone` accepts.
     pub(super) fn fill_all(&self, chair: &mut Chair<Safe>) -> bool
-        requires { IsAt (λ _. safe_behaviour) self.now.desk.now chair.old }
-        ensures { IsAt (λ _. safe_behaviour) self.now.desk.now chair.new }
+        requires { IsChairOf (λ _. safe_behaviour) self.now.desk.now chair.old }
+        ensures { IsChairOf (λ _. safe_behaviour) self.now.desk.now chair.new }
     {
         let branch = name(self.rt, b"a");
         let mut fine = true;
         for _ in 0..FILLS {
-            let told = self.filled(chair, &branch, 1);
-            fine &= is_sum_or_gone(told);
+            let reported = self.filled(chair, &branch, 1);
+            fine &= is_sum_or_gone(reported);
         }
         fine
     }
 
-    /// Inserts reads into cells that `a` shares, and then drops `a`. The answer is whether each edit
-    /// was accepted.
+    /// Inserts `count` reads among cells that `a` shares with `main`, and then drops `a`. Returns
+    /// whether each edit was accepted.
     pub(super) fn insert_and_drop(&self, chair: &mut Chair<Safe>, count: u32) -> bool
-        requires { IsAt (λ _. safe_behaviour) self.now.desk.now chair.old }
-        ensures { IsAt (λ _. safe_behaviour) self.now.desk.now chair.new }
+        requires { IsChairOf (λ _. safe_behaviour) self.now.desk.now chair.old }
+        ensures { IsChairOf (λ _. safe_behaviour) self.now.desk.now chair.new }
     {
         let all = self.insert_all(chair, count);
         let branch = name(self.rt, b"a");
-        let receipt = self.bring(chair, (0, None, &Command::Drop { branch }));
+        let receipt = self.bring(chair, (0, None, &Command::Drop { b: branch }));
         all && matches!(receipt.reply, Reply::Edited(_))
     }
 }
 
-/// The text of a look's page on a new book of 1,000 steps after the calls of a log; none where a reply isn't the log's.
+/// The text of a look's page, on a new book of 1,000 steps after the calls of a log; `None` if a
+/// reply isn't the logged one.
 fn replayed_text(alloc: Global, log: &Log, query: &Query) -> Result<Option<Vec<u8>>, Refusal> {
     let Ok(steps) = writes(alloc, 1000) else {
         return Err(Refusal::Memory);
@@ -170,11 +175,11 @@ pub(super) fn text_on(
     page_text(alloc, 0, &page).or(Err(Refusal::Memory))
 }
 
-/// Forks `a` from the first 500 cells of `main`.
+/// The command that forks `a` from the first 500 cells of `main`.
 fn fork_in_the_middle(rt: &impl Abort) -> Command {
     Command::Fork {
-        branch: name(rt, b"main"),
-        place: 500,
+        b: name(rt, b"main"),
+        k: 500,
         name: name(rt, b"a"),
     }
 }
@@ -182,8 +187,8 @@ fn fork_in_the_middle(rt: &impl Abort) -> Command {
 #[test]
 fn fills_beside_an_editor(rt: HostRuntime) -> Result<(), Fail> {
     let query = Query::History {
-        branch: name(&rt, b"main"),
-        place: 1000 + INSERTS,
+        b: name(&rt, b"main"),
+        k: 1000 + INSERTS,
     };
     for _ in 0..PAIRS {
         let (desk, chair) = thousand(rt.alloc(), 1024)?;
@@ -192,8 +197,8 @@ fn fills_beside_an_editor(rt: HostRuntime) -> Result<(), Fail> {
         Room::new(&rt, rt.alloc(), &desk).bring(&mut editor, (0, None, &fork));
         let editor = (editor, Work::InsertsAndDrop(INSERTS));
         let filler = (filler, Work::Fills);
-        let told = log_and_text(&rt, rt.alloc(), desk, editor, filler, &query)?;
-        let Some((log, text)) = told else {
+        let reported = log_and_text(&rt, rt.alloc(), desk, editor, filler, &query)?;
+        let Some((log, text)) = reported else {
             panic!(rt; "reports, accepted edits and a log")
         };
         assert_eq!(rt; log.entries().len(), 2 + INSERTS as usize);

@@ -1,9 +1,11 @@
-//! Fills of branches that share segments, round by round against a model: a plan has the first segment without a run of each branch,
-//! each segment once, and every run is installed before the next plan.
+//! Fills of branches that share segments are compared with a model, round by round. In the model a
+//! plan has, for each branch, the first segment without a run; no segment is in a plan twice, and
+//! every run is installed before the next plan.
 
+ghost use Rattle.std.specs.Prelude.{◌≤◌};
 ghost use Rattle.frames.specs.SafeBit.{safe_behaviour};
 ghost use Rattle.schedule_trie.specs.Cut.{AreLimits};
-ghost use Rattle.desk.specs.Chairs.{IsAt};
+ghost use Rattle.desk.specs.Chairs.{IsChairOf};
 
 use super::fills::all_installed;
 use super::openings::written;
@@ -25,22 +27,22 @@ use std::test::Fail;
 use std::thread::Threads;
 use workers::gate::Gate;
 
-/// How many forests there are.
+/// How many forests are filled.
 const FORESTS: u32 = 50;
 
-/// How often a forest grows by a run of inserts and another edit.
+/// How often a forest grows by a series of inserts and one other edit.
 const GROWTHS: u32 = 8;
 
-/// One more than the most inserts of a run: three segments.
+/// One more than the most inserts in a series. 384 inserts make three full segments.
 const INSERTS: u32 = 385;
 
 /// The most rounds of a fill.
 const ROUNDS: usize = 64;
 
-/// The names of new branches.
+/// The names of new branches, one letter each.
 const NAMES: &[u8] = b"abcdefgh";
 
-/// Limits for any of these forests.
+/// Limits for each of these forests.
 fn wide() -> Limits
     ensures { AreLimits result }
 {
@@ -51,14 +53,14 @@ fn wide() -> Limits
     }
 }
 
-/// Numbers by a linear congruence (Knuth, volume 2, section 3.3.4).
+/// Pseudorandom numbers by a linear congruence (Knuth, volume 2, section 3.3.4).
 #[derive(Drop)]
 struct Sequence {
     state: u32,
 }
 
 impl Sequence {
-    /// The next number, which is below the count, or 0.
+    /// The next number, below `count`; 0 if `count` is 0.
     fn below(&mut self, count: u32) -> u32 {
         self.state = self
             .state
@@ -71,7 +73,7 @@ impl Sequence {
     }
 }
 
-/// A forest, and the commands that make it from no steps.
+/// A forest, and the commands that make it from one branch without steps.
 #[derive(Drop)]
 struct Forest {
     alloc: Global,
@@ -88,22 +90,25 @@ impl Forest {
         })
     }
 
-    /// Whether the trie accepts an edit.
+    /// Makes an edit of the trie, and returns whether it was accepted.
     fn accepts(&mut self, command: &Command) -> bool {
         let edited = match command {
             Command::Insert {
-                branch,
-                place,
+                b: branch,
+                k: place,
                 step,
             } => self.trie.insert(self.alloc, branch, *place, *step),
             Command::Fork {
-                branch,
-                place,
+                b: branch,
+                k: place,
                 name,
             } => self.trie.fork(self.alloc, branch, *place, *name),
-            Command::Remove { branch, place } => self.trie.remove(branch, *place),
-            Command::Detach { branch } => self.trie.detach(self.alloc, branch),
-            Command::Drop { branch } => self.trie.drop_branch(branch),
+            Command::Remove {
+                b: branch,
+                k: place,
+            } => self.trie.remove(branch, *place),
+            Command::Detach { b: branch } => self.trie.detach(self.alloc, branch),
+            Command::Drop { b: branch } => self.trie.drop_branch(branch),
             _ => Err(Refusal::BadLine),
         };
         edited.is_ok()
@@ -117,7 +122,7 @@ impl Forest {
         Ok(())
     }
 
-    /// One of the branches, and a place of it.
+    /// One of the branches and a place of it, chosen by the next two numbers.
     fn chosen(&self, sequence: &mut Sequence) -> Option<(Name, u32)> {
         let index = sequence.below(self.trie.branches());
         let branch = self.trie.name_at(index)?;
@@ -125,20 +130,21 @@ impl Forest {
         Some((branch, sequence.below(len.saturating_add(1))))
     }
 
-    /// Inserts a run of reads at a place.
+    /// Inserts `count` reads at a place.
     fn insert_run(&mut self, branch: Name, place: u32, count: u32) -> Result<(), AllocError> {
         let step = READ;
         for _ in 0..count {
             self.edit(Command::Insert {
-                branch,
-                place,
+                b: branch,
+                k: place,
                 step,
             })?;
         }
         Ok(())
     }
 
-    /// Grows by a run of inserts and another edit; `main` is never dropped.
+    /// Makes a series of inserts and one other edit. A fork is named `fresh`; `main` is never
+    /// dropped.
     fn grow(
         &mut self,
         sequence: &mut Sequence,
@@ -153,19 +159,22 @@ impl Forest {
         };
         let name = fresh;
         let command = match sequence.below(8) {
-            0 => Command::Detach { branch },
-            1 => Command::Remove { branch, place },
-            2 if branch != *main => Command::Drop { branch },
+            0 => Command::Detach { b: branch },
+            1 => Command::Remove {
+                b: branch,
+                k: place,
+            },
+            2 if branch != *main => Command::Drop { b: branch },
             _ => Command::Fork {
-                branch,
-                place,
+                b: branch,
+                k: place,
                 name,
             },
         };
         self.edit(command)
     }
 
-    /// The first segment of a branch without a run.
+    /// The key of a branch's first segment that has no run; `None` if each has one.
     fn first_missing(&self, branch: &Name) -> Result<Option<SegKey>, Refusal> {
         for key in self.trie.segments(self.alloc, branch)?.as_slice() {
             if self.trie.note(*key).is_none() {
@@ -175,7 +184,7 @@ impl Forest {
         Ok(None)
     }
 
-    /// The jobs of a plan.
+    /// The keys of the jobs of a plan, by the model.
     fn plan(&self) -> Result<Vec<SegKey>, Refusal> {
         let mut jobs = Vec::new(self.alloc);
         for index in 0..self.trie.branches() {
@@ -191,7 +200,7 @@ impl Forest {
         Ok(jobs)
     }
 
-    /// How many jobs each round of a fill has.
+    /// How many jobs each round of a fill has, by the model.
     fn rounds(&mut self) -> Result<Vec<u64>, Refusal> {
         let mut counts = Vec::new(self.alloc);
         for _ in 0..ROUNDS {
@@ -210,7 +219,7 @@ impl Forest {
     }
 }
 
-/// A forest from the part of the sequence that begins with a number.
+/// The forest that grows by the numbers from a seed.
 fn forest_from(rt: &impl Abort, alloc: Global, seed: u32) -> Result<Forest, Refusal> {
     let mut sequence = Sequence { state: seed };
     let mut forest = Forest::new(alloc)?;
@@ -223,7 +232,7 @@ fn forest_from(rt: &impl Abort, alloc: Global, seed: u32) -> Result<Forest, Refu
     Ok(forest)
 }
 
-/// A gate that counts the offers of each round, which begins with its first job.
+/// A gate that counts the offers of each round. A round begins with the offer of job 0.
 #[derive(Drop)]
 struct OffersByRound {
     rounds: AtomicU64,
@@ -241,19 +250,6 @@ impl OffersByRound {
             counts,
         })
     }
-
-    /// Whether there were these rounds, with so many offers each, and no other.
-    fn are(&self, counts: &[u64]) -> bool {
-        let begun = self.rounds.load(Ordering::SeqCst);
-        let Some(seen) = self.counts.get(1..) else {
-            return false;
-        };
-        begun == counts.len() as u64
-            && counts
-                .iter()
-                .zip(seen)
-                .all(|(count, offers)| offers.load(Ordering::SeqCst) == *count)
-    }
 }
 
 impl<W: Wait> Gate<W> for OffersByRound {
@@ -269,10 +265,10 @@ impl<W: Wait> Gate<W> for OffersByRound {
 }
 
 impl<R: Abort + Threads + Wait + Sync> Room<'_, R> {
-    /// Brings commands. The answer is whether each was accepted.
+    /// Gives the desk edits, and returns whether each was accepted.
     fn bring_all(&self, chair: &mut Chair<Safe>, commands: &[Command]) -> bool
-        requires { IsAt (λ _. safe_behaviour) self.now.desk.now chair.old }
-        ensures { IsAt (λ _. safe_behaviour) self.now.desk.now chair.new }
+        requires { IsChairOf (λ _. safe_behaviour) self.now.desk.now chair.old }
+        ensures { IsChairOf (λ _. safe_behaviour) self.now.desk.now chair.new }
     {
         let mut all = true;
         for command in commands {
@@ -292,39 +288,52 @@ fn sum_of(counts: &[u64]) -> u64 {
     sum
 }
 
-/// Whether the caller alone fills a forest by the model's rounds.
-fn is_filled_by_rounds<R: Abort + Threads + Wait + Sync>(
+/// A gate whose offers are compared with the model's rounds.
+trait Tally {
+    /// Whether the offers agree with `counts`, the number of jobs in each round.
+    fn agrees(&self, counts: &[u64]) -> bool;
+}
+
+impl Tally for OffersByRound {
+    fn agrees(&self, counts: &[u64]) -> bool {
+        let begun = self.rounds.load(Ordering::SeqCst);
+        let Some(seen) = self.counts.get(1..) else {
+            return false;
+        };
+        begun == counts.len() as u64
+            && counts
+                .iter()
+                .zip(seen)
+                .all(|(count, offers)| offers.load(Ordering::SeqCst) == *count)
+    }
+}
+
+impl Tally for Offers {
+    fn agrees(&self, counts: &[u64]) -> bool {
+        self.counted() == (sum_of(counts), counts.len() as u64)
+    }
+}
+
+/// Makes a forest by its commands, and fills it by the caller and `thieves` thieves. Returns
+/// whether the report and the gate agree with the model's counts of jobs.
+fn is_filled_by<R: Abort + Threads + Wait + Sync, G: Gate<R> + Tally + Sync>(
     rt: &R,
     alloc: Global,
     commands: &[Command],
     counts: &[u64],
-) -> Result<bool, Refusal> {
+    thieves: u32,
+    offers: &G,
+) -> Result<bool, Refusal>
+    requires { thieves ≤ 4 }
+{
     let (desk, mut chair) = written(alloc, 0, wide())?;
     let room = Room::new(rt, alloc, &desk);
     let brought = room.bring_all(&mut chair, commands);
-    let offers = OffersByRound::new(alloc)?;
-    let report = room.filled_with(&mut chair, 0, &offers)?;
-    Ok(brought && report == all_installed(sum_of(counts)) && offers.are(counts))
+    let report = room.filled_with(&mut chair, thieves, offers)?;
+    Ok(brought && report == all_installed(sum_of(counts)) && offers.agrees(counts))
 }
 
-/// Whether two thieves and the caller fill it by as many jobs, in as many rounds.
-fn is_filled_by_three<R: Abort + Threads + Wait + Sync>(
-    rt: &R,
-    alloc: Global,
-    commands: &[Command],
-    counts: &[u64],
-) -> Result<bool, Refusal> {
-    let (desk, mut chair) = written(alloc, 0, wide())?;
-    let room = Room::new(rt, alloc, &desk);
-    let brought = room.bring_all(&mut chair, commands);
-    let offers = Offers::new();
-    let report = room.filled_with(&mut chair, 2, &offers)?;
-    let all = sum_of(counts);
-    let counted = offers.counted() == (all, counts.len() as u64);
-    Ok(brought && report == all_installed(all) && counted)
-}
-
-/// Whether a forest is filled as the model says.
+/// Whether the forest from a seed is filled as in the model, without thieves and with two.
 fn is_filled<R: Abort + Threads + Wait + Sync>(
     rt: &R,
     alloc: Global,
@@ -333,9 +342,10 @@ fn is_filled<R: Abort + Threads + Wait + Sync>(
     let mut forest = forest_from(rt, alloc, seed)?;
     let counts = forest.rounds()?;
     let commands = forest.commands.as_slice();
+    let alone = OffersByRound::new(alloc)?;
     Ok(
-        is_filled_by_rounds(rt, alloc, commands, &counts)?
-            && is_filled_by_three(rt, alloc, commands, &counts)?,
+        is_filled_by(rt, alloc, commands, &counts, 0, &alone)?
+            && is_filled_by(rt, alloc, commands, &counts, 2, &Offers::new())?,
     )
 }
 

@@ -1,10 +1,11 @@
-//! Rows where memory may be refused. Two chairs: each call answers as it does with ample memory, or Memory; the calls behind it then answer
-//! as without it, and one that is made again as if it hadn't been made. A thousand steps: a fill is refused, or tells of the jobs that it
-//! had to leave; fills that follow install what is left.
+//! Rows that may run out of memory. With two chairs, each call is answered as with ample memory, or
+//! refused as Memory. Later calls, also the same call made again, are answered as if the refused
+//! call hadn't been made. With a thousand steps, a fill is refused, or reports the jobs that ran
+//! out of memory; later fills install the missing runs.
 
 ghost use Rattle.std.specs.Prelude.{◌≤◌};
 ghost use Rattle.frames.specs.SafeBit.{safe_behaviour};
-ghost use Rattle.desk.specs.Chairs.{IsAt};
+ghost use Rattle.desk.specs.Chairs.{IsChairOf};
 
 use super::openings::{opened, thousand};
 use super::rows::{STATE, state_after_one};
@@ -20,7 +21,8 @@ use std::sync::Wait;
 use std::thread::Threads;
 use views::query::Query;
 
-/// Whether these are the receipts of two inserts, both guarded by no edit, of which one at most was refused memory.
+/// Whether two inserts, both guarded by edit count 0, have allowed receipts. At most one of them
+/// may have run out of memory.
 fn are_allowed(first: Receipt, second: Receipt) -> bool {
     match (first.at, first.reply, second.at, second.reply) {
         (1, Reply::Edited(1), 2, Reply::No(Refusal::Newer(1))) => true,
@@ -31,10 +33,10 @@ fn are_allowed(first: Receipt, second: Receipt) -> bool {
 }
 
 impl<R: Abort + Wait> Room<'_, R> {
-    /// The text of the state after the first step of `main`; none where memory was refused.
+    /// The text of the page of the state after the first step of `main`; `None` if memory ran out.
     fn shown(&self, chair: &mut Chair<Safe>) -> Option<Vec<u8>>
-        requires { IsAt (λ _. safe_behaviour) self.now.desk.now chair.old }
-        ensures { IsAt (λ _. safe_behaviour) self.now.desk.now chair.new }
+        requires { IsChairOf (λ _. safe_behaviour) self.now.desk.now chair.old }
+        ensures { IsChairOf (λ _. safe_behaviour) self.now.desk.now chair.new }
     {
         match self.text_at(chair, &state_after_one(self.rt)) {
             Ok((_, text)) => Some(text),
@@ -68,14 +70,15 @@ fn two_chairs_wanting_memory(rt: HostRuntime) {
     }
 }
 
-/// How often a call is made at most: more often than growths are refused in a row.
+/// How often a call is tried at most: more often than growths are refused in a row.
 const TRIES: u32 = 10;
 
 impl<R: Abort + Wait> Room<'_, R> {
-    /// Brings a command guarded by no edit, until it isn't refused memory.
+    /// Gives the desk a command guarded by edit count 0, again and again until it isn't refused as
+    /// Memory.
     fn bring_again(&self, chair: &mut Chair<Safe>, who: u32, command: &Command) -> Receipt
-        requires { IsAt (λ _. safe_behaviour) self.now.desk.now chair.old }
-        ensures { IsAt (λ _. safe_behaviour) self.now.desk.now chair.new }
+        requires { IsChairOf (λ _. safe_behaviour) self.now.desk.now chair.old }
+        ensures { IsChairOf (λ _. safe_behaviour) self.now.desk.now chair.new }
     {
         for _ in 0..TRIES {
             let receipt = self.bring(chair, (who, Some(0), command));
@@ -86,15 +89,15 @@ impl<R: Abort + Wait> Room<'_, R> {
         panic!(self.rt; "a command that isn't refused memory")
     }
 
-    /// The text of a look's page, which is asked for until memory isn't refused, and how long the
-    /// history is.
+    /// The length of the history at a look, and the text of its page. The look is repeated until
+    /// there is memory.
     pub(super) fn text_again(&self, chair: &mut Chair<Safe>, query: &Query) -> (u64, Vec<u8>)
-        requires { IsAt (λ _. safe_behaviour) self.now.desk.now chair.old }
-        ensures { IsAt (λ _. safe_behaviour) self.now.desk.now chair.new }
+        requires { IsChairOf (λ _. safe_behaviour) self.now.desk.now chair.old }
+        ensures { IsChairOf (λ _. safe_behaviour) self.now.desk.now chair.new }
     {
         for _ in 0..TRIES {
             match self.text_at(chair, query) {
-                Ok(told) => return told,
+                Ok(reported) => return reported,
                 Err(refusal) => assert!(self.rt; refusal == Refusal::Memory),
             }
         }
@@ -120,12 +123,12 @@ fn two_chairs_asking_again(rt: HostRuntime) {
 }
 
 impl<R: Abort + Threads + Wait + Sync> Room<'_, R> {
-    /// Fills `main`, of which each run fits, until there is no job. The answer is how many runs were
-    /// installed, and whether no fill was refused.
+    /// Fills `main` until no job is left; every run fits. Returns how many runs were installed, and
+    /// whether no fill was refused.
     fn fill_again(&self, chair: &mut Chair<Safe>, thieves: u32) -> (u64, bool)
-        requires at { IsAt (λ _. safe_behaviour) self.now.desk.now chair.old }
+        requires at { IsChairOf (λ _. safe_behaviour) self.now.desk.now chair.old }
         requires thieves { thieves ≤ 4 }
-        ensures { IsAt (λ _. safe_behaviour) self.now.desk.now chair.new }
+        ensures { IsChairOf (λ _. safe_behaviour) self.now.desk.now chair.new }
     {
         let branch = name(self.rt, b"main");
         let mut installed = 0u64;
@@ -149,11 +152,11 @@ impl<R: Abort + Threads + Wait + Sync> Room<'_, R> {
     }
 }
 
-/// The page of the state after the thousand steps.
+/// The text of the page of the state after the thousand steps.
 const FILLED: &[u8] =
     b"0: state main 1000 of 1000\n  p0 write 0 next ws 0\n  p1 idle\n  bits 1\n  words -\n";
 
-/// Fills a thousand steps with so many thieves, and looks at their end.
+/// Fills a thousand steps with `thieves` thieves, and looks at the state at their end.
 fn thousand_with<R: Abort + Threads + Wait + Sync>(rt: &R, alloc: Global, thieves: u32)
     requires { thieves ≤ 4 }
 {
@@ -164,8 +167,8 @@ fn thousand_with<R: Abort + Threads + Wait + Sync>(rt: &R, alloc: Global, thieve
     let (installed, all) = room.fill_again(&mut chair, thieves);
     assert!(rt; installed == 8 || (installed < 8 && !all));
     let state = Query::State {
-        branch: name(rt, b"main"),
-        place: 1000,
+        b: name(rt, b"main"),
+        k: 1000,
     };
     let (at, text) = room.text_again(&mut chair, &state);
     assert!(rt; at == 0 && text.as_slice() == FILLED);

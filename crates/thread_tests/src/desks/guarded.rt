@@ -1,8 +1,8 @@
-//! Two chairs at guarded edits of one branch, each of which asks again with the count that a refusal
-//! tells.
+//! Two chairs make guarded edits of one branch. After a refusal, a chair tries again with the edit
+//! count that the refusal reports.
 
 ghost use Rattle.frames.specs.SafeBit.{safe_behaviour};
-ghost use Rattle.desk.specs.Chairs.{IsAt};
+ghost use Rattle.desk.specs.Chairs.{IsChairOf};
 
 use super::fills::text_on;
 use super::openings::opened;
@@ -24,18 +24,19 @@ use views::query::Query;
 /// How many edits each chair makes.
 const EDITS: u32 = 50;
 
-/// The insert that a session makes over and over, of a step of its own.
+/// The insert that a session makes over and over. Session 0 inserts reads, and session 1 inserts
+/// writes.
 fn insert_of(rt: &impl Abort, who: u32) -> Command {
     let write = Step::Write { p: 0, v: 1 };
     Command::Insert {
-        branch: name(rt, b"main"),
-        place: 0,
+        b: name(rt, b"main"),
+        k: 0,
         step: if who == 0 { READ } else { write },
     }
 }
 
-/// The count of edits that a receipt tells, and whether the edit was made; none where it tells
-/// something else.
+/// The edit count that a receipt reports, and whether the edit was made; `None` if the receipt
+/// reports no edit count.
 fn count_told(receipt: Receipt) -> Option<(u64, bool)> {
     match receipt.reply {
         Reply::Edited(count) => Some((count, true)),
@@ -45,11 +46,12 @@ fn count_told(receipt: Receipt) -> Option<(u64, bool)> {
 }
 
 impl<R: Abort + Wait> Room<'_, R> {
-    /// A session's inserts, each guarded by the count that the reply before it tells. The answer is
-    /// whether so many were made, one of the other chair's edits behind each that was refused.
+    /// Makes `EDITS` inserts of a session, each guarded by the edit count that the reply before
+    /// reports. Returns whether all were made within `2 * EDITS` calls: each refusal is due to an
+    /// edit of the other chair, which also makes `EDITS`.
     pub(super) fn insert_guarded(&self, chair: &mut Chair<Safe>, who: u32) -> bool
-        requires { IsAt (λ _. safe_behaviour) self.now.desk.now chair.old }
-        ensures { IsAt (λ _. safe_behaviour) self.now.desk.now chair.new }
+        requires { IsChairOf (λ _. safe_behaviour) self.now.desk.now chair.old }
+        ensures { IsChairOf (λ _. safe_behaviour) self.now.desk.now chair.new }
     {
         let insert = insert_of(self.rt, who);
         let mut guard = 0u64;
@@ -69,12 +71,12 @@ impl<R: Abort + Wait> Room<'_, R> {
     }
 }
 
-/// Whether an entry is an edit of a chair that was made.
+/// Whether an entry is an edit that this chair made.
 fn is_edit_of(entry: &Entry, chair: u32) -> bool {
     entry.chair == chair && matches!(entry.reply, Reply::Edited(_))
 }
 
-/// How many edits of a chair were made.
+/// How many edits a chair made.
 fn edits_of(log: &Log, chair: u32) -> usize {
     let edits = log
         .entries()
@@ -83,7 +85,8 @@ fn edits_of(log: &Log, chair: u32) -> usize {
     edits.count()
 }
 
-/// The text of a page on a new book after the calls of a log; none where a reply isn't the log's.
+/// The text of a look's page, on a new book after the calls of a log; `None` if a reply isn't the
+/// logged one.
 fn replayed_text(alloc: Global, log: &Log, query: &Query) -> Result<Option<Vec<u8>>, Refusal> {
     match replayed(alloc, log, &[])? {
         Some(book) => Ok(Some(text_on(alloc, book, query)?)),
@@ -94,15 +97,15 @@ fn replayed_text(alloc: Global, log: &Log, query: &Query) -> Result<Option<Vec<u
 #[test]
 fn fifty_guarded_edits_each(rt: HostRuntime) -> Result<(), Fail> {
     let query = Query::Steps {
-        branch: name(&rt, b"main"),
+        b: name(&rt, b"main"),
     };
     for _ in 0..10 {
         let (desk, chair) = opened(rt.alloc(), 1024)?;
         let (first, second) = halves(&desk, chair);
         let first = (first, Work::GuardedInserts(0));
         let second = (second, Work::GuardedInserts(1));
-        let told = log_and_text(&rt, rt.alloc(), desk, first, second, &query)?;
-        let Some((log, text)) = told else {
+        let reported = log_and_text(&rt, rt.alloc(), desk, first, second, &query)?;
+        let Some((log, text)) = reported else {
             panic!(rt; "guarded edits that are made or newer, and a log")
         };
         assert!(rt; edits_of(&log, 0) == 50 && edits_of(&log, 1) == 50);

@@ -1,9 +1,10 @@
-//! Row `bench-file` by calls: a chart, a book and a desk that are loaded from limbs tell these again.
+//! Row `bench-file` by calls: a chart, a book and a desk that are loaded from limbs have the same
+//! limbs.
 
 ghost use Rattle.std.specs.Prelude.{◌≡◌, ◌<◌, Some, IfOk, length};
 ghost use Rattle.frames.specs.SafeBit.{safe_behaviour};
-ghost use Rattle.schedule_trie.specs.Names.{name};
-ghost use Rattle.schedule_trie.specs.Limbs.{IsLawful};
+ghost use Rattle.schedule_trie.specs.Names.{name_of_bytes};
+ghost use Rattle.schedule_trie.specs.Limbs.{AreLawfulLimbs};
 ghost use Rattle.cutoff.specs.Held.{LimbsFit};
 
 use super::READ;
@@ -23,12 +24,13 @@ use std::sync::Wait;
 /// A write of 1 by process 0.
 const WRITE: Step = Step::Write { p: 0, v: 1 };
 
-/// The next bit action of process 1, with choice 0, and with choice 1.
+/// The next bit action of process 1, with choice 0; that of `GO_ON` has choice 1.
 const GO: Step = Step::Go { p: 1, c: 0 };
 
 const GO_ON: Step = Step::Go { p: 1, c: 1 };
 
-/// A limb of the branch with a name.
+/// The limb of the branch that is named `text`, shares the first `shared` cells of the branch with
+/// index `from`, and has these steps of its own.
 fn limb(
     rt: &impl Abort,
     alloc: Global,
@@ -37,7 +39,7 @@ fn limb(
     shared: u32,
     steps: &[Step],
 ) -> Result<Limb, AllocError>
-    ensures name { IfOk result (λ l. name text.now ≡ Some l.name) }
+    ensures name_of_bytes { IfOk result (λ l. name_of_bytes text.now ≡ Some l.name) }
     ensures shares { IfOk result (λ l. (l.from ≡ from) × (l.shared ≡ shared)) }
     ensures steps { IfOk result (λ l. l.steps ≡ steps.now) }
 {
@@ -49,9 +51,10 @@ fn limb(
     })
 }
 
-/// A read and a write on `main`; `a` shares the first of their cells, and `b` both of `a`.
+/// The limbs of three branches. `main` has a read and a write; `a` shares the first cell of `main`,
+/// and `b` both cells of `a`.
 fn three_branches(rt: &impl Abort, alloc: Global) -> Result<Vec<Limb>, AllocError>
-    ensures lawful { IfOk result (λ r. IsLawful r.items) }
+    ensures lawful { IfOk result (λ r. AreLawfulLimbs r.items) }
     ensures some { IfOk result (λ r. 0 < length r.items) }
     ensures fit { IfOk result (λ r. LimbsFit safe_behaviour r.items) }
 {
@@ -62,7 +65,7 @@ fn three_branches(rt: &impl Abort, alloc: Global) -> Result<Vec<Limb>, AllocErro
     Ok(limbs)
 }
 
-/// Whether two limbs are the same.
+/// Whether two limbs are equal.
 fn is_same(a: &Limb, b: &Limb) -> bool {
     a.name == b.name
         && (a.from, a.shared) == (b.from, b.shared)
@@ -73,36 +76,39 @@ fn are_same(some: &[Limb], others: &[Limb]) -> bool {
     some.len() == others.len() && some.iter().zip(others).all(|(a, b)| is_same(a, b))
 }
 
-/// Whether a chart that is loaded from limbs tells these.
+/// Whether a chart that is loaded from limbs has the same limbs.
 fn chart_keeps(alloc: Global, limbs: &[Limb]) -> Result<bool, Refusal>
-    requires { IsLawful limbs.now × (0 < length limbs.now) × LimbsFit safe_behaviour limbs.now }
+    requires { AreLawfulLimbs limbs.now × (0 < length limbs.now)
+        × LimbsFit safe_behaviour limbs.now }
 {
     let chart = Chart::load(alloc, Safe, 0, limits(1), limbs)?;
     Ok(are_same(&chart.limbs(alloc)?, limbs))
 }
 
-/// Whether a book does.
+/// The same for a book.
 fn book_keeps(alloc: Global, limbs: &[Limb]) -> Result<bool, Refusal>
-    requires { IsLawful limbs.now × (0 < length limbs.now) × LimbsFit safe_behaviour limbs.now }
+    requires { AreLawfulLimbs limbs.now × (0 < length limbs.now)
+        × LimbsFit safe_behaviour limbs.now }
 {
     let book = Book::load(alloc, Safe, 0, limits(1), limbs)?;
     Ok(are_same(&book.limbs(alloc)?, limbs))
 }
 
-/// Whether a desk does, behind no call.
+/// The same for a desk, before its first call.
 fn desk_keeps<R: Wait>(rt: &R, alloc: Global, limbs: &[Limb]) -> Result<bool, Refusal>
-    requires { IsLawful limbs.now × (0 < length limbs.now) × LimbsFit safe_behaviour limbs.now }
+    requires { AreLawfulLimbs limbs.now × (0 < length limbs.now)
+        × LimbsFit safe_behaviour limbs.now }
 {
     let (desk, mut chair) = Desk::open_limbs(alloc, Safe, 0, limits(1), limbs)?;
     let saved = desk.limbs(rt, alloc, &mut chair)?;
-    Ok(saved.at == 0 && are_same(&saved.limbs, limbs))
+    Ok(saved.at == 0 && are_same(saved.limbs.as_slice(), limbs))
 }
 
-/// Whether each of the three does.
+/// Whether a chart, a book and a desk that are loaded from three branches have the same limbs.
 fn all_keep<R: Abort + Wait>(rt: &R, alloc: Global) -> Result<bool, Refusal> {
     let limbs = three_branches(rt, alloc)?;
-    let told = chart_keeps(alloc, &limbs)? && book_keeps(alloc, &limbs)?;
-    Ok(told && desk_keeps(rt, alloc, &limbs)?)
+    let reported = chart_keeps(alloc, &limbs)? && book_keeps(alloc, &limbs)?;
+    Ok(reported && desk_keeps(rt, alloc, &limbs)?)
 }
 
 #[test]
@@ -110,9 +116,9 @@ fn limbs_are_told_again(rt: HostRuntime) {
     assert_eq!(rt; all_keep(&rt, rt.alloc()), Ok(true));
 }
 
-/// Where a growth of memory is refused the answer is Memory, and nothing else is told.
+/// If memory runs out, the refusal is Memory, and no other.
 #[test]
 fn limbs_wanting_memory(rt: HostRuntime) {
-    let told = all_keep(&rt, rt.alloc());
-    assert!(rt; told == Ok(true) || told == Err(Refusal::Memory));
+    let reported = all_keep(&rt, rt.alloc());
+    assert!(rt; reported == Ok(true) || reported == Err(Refusal::Memory));
 }

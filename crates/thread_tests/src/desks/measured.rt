@@ -1,10 +1,11 @@
-//! Tens of thousands of edits, whose cost `tests/cost` measures: on a book and at a desk, by one thread and by two.
+//! Tests of tens of thousands of edits: on a book, and at a desk by one thread and by two. Their
+//! cost is measured by `tests/cost`.
 
 ghost use Rattle.frames.specs.SafeBit.{safe_behaviour};
 ghost use Rattle.turn.specs.Shares.{every_share};
 ghost use Rattle.turn.specs.Chairs.{view};
 ghost use Rattle.std.specs.Prelude.{◌≡◌, IfOk};
-ghost use Rattle.desk.specs.Chairs.{IsAt};
+ghost use Rattle.desk.specs.Chairs.{IsChairOf};
 ghost use Rattle.schedule_trie.specs.Cut.{AreLimits};
 
 use super::threads::inserted_by_two;
@@ -23,7 +24,7 @@ use std::test::Fail;
 /// How many edits a thread makes.
 const EDITS: u32 = 20_000;
 
-/// Limits for twice as many.
+/// Limits that allow twice as many edits.
 fn wide() -> Limits
     ensures { AreLimits result }
 {
@@ -36,13 +37,14 @@ fn wide() -> Limits
 
 /// A desk with no steps, and its first chair.
 fn opened_wide(alloc: Global) -> Result<(Desk<Safe>, Chair<Safe>), Refusal>
-    ensures { IfOk result (λ r. IsAt (λ _. safe_behaviour) r.0 r.1
+    ensures { IfOk result (λ r. IsChairOf (λ _. safe_behaviour) r.0 r.1
         × ((view r.1).shares ≡ every_share)) }
 {
     Desk::open(alloc, Safe, 0, wide(), &[])
 }
 
-/// Inserts a read at place 0, then at place 1, and so on; the answer is whether each was accepted.
+/// Inserts `EDITS` reads, at place 0, at place 1, and so on. Returns whether each insert was
+/// accepted.
 fn insert_all_on(rt: &impl Abort, alloc: Global, book: &mut Book<Safe>) -> bool {
     let mut all = true;
     for place in 0..EDITS {
@@ -59,7 +61,7 @@ fn on_a_book(rt: HostRuntime) -> Result<(), Fail> {
     Ok(())
 }
 
-/// Makes so many inserts at a desk.
+/// Makes `count` inserts at a new desk.
 fn insert_at_a_desk<R: Abort + Wait>(rt: &R, alloc: Global, count: u32) -> Result<(), Fail> {
     let (desk, mut chair) = opened_wide(alloc)?;
     let room = Room::new(rt, alloc, &desk);

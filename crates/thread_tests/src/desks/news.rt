@@ -1,7 +1,7 @@
-//! News beside a chair that has the turn nearly all of the time.
+//! Tests of news while another chair holds the turn nearly all the time.
 
 ghost use Rattle.frames.specs.SafeBit.{safe_behaviour};
-ghost use Rattle.desk.specs.Chairs.{IsAt};
+ghost use Rattle.desk.specs.Chairs.{IsChairOf};
 
 use super::openings::thousand;
 use super::{Room, asked, halves, take_in};
@@ -16,27 +16,29 @@ use std::thread;
 use std::thread::Threads;
 use views::breakpoint::Break;
 
-/// How often a chair asks, and how often another one seeks beside it at most. A seek through 1,000 steps holds the turn much longer than
-/// it is free until the next one, so that as many news as this would outlast the seeks, if news waited for the turn.
+/// How often a chair asks for news, while another chair seeks. A seek through 1,000 steps holds the
+/// turn much longer than the turn is free between two seeks. If news waited for the turn, the seeks
+/// would end first.
 const NEWS: u32 = 1_000_000;
 
 const SEEKS: u32 = 20_000;
 
 impl<R: Wait> Room<'_, R> {
-    /// Session 0 joins, and has a break that no step meets.
+    /// Session 0 joins, and sets a breakpoint that no step meets.
     fn set_break(&self, chair: &mut Chair<Safe>)
-        requires { IsAt (λ _. safe_behaviour) self.now.desk.now chair.old }
-        ensures { IsAt (λ _. safe_behaviour) self.now.desk.now chair.new }
+        requires { IsChairOf (λ _. safe_behaviour) self.now.desk.now chair.old }
+        ensures { IsChairOf (λ _. safe_behaviour) self.now.desk.now chair.new }
     {
         let unmet = Command::Break(Break::Refused);
         self.bring(chair, (0, None, &Command::Join));
         self.bring(chair, (0, None, &unmet));
     }
 
-    /// Seeks in vain until it is told that the news came. The answer is whether it was told.
+    /// Seeks, at most `SEEKS` times, until the other chair signals that it has all its news.
+    /// Returns whether it did, and the last seek had no hit.
     fn seek_until_told(&self, chair: &mut Chair<Safe>, flags: &Flags) -> bool
-        requires { IsAt (λ _. safe_behaviour) self.now.desk.now chair.old }
-        ensures { IsAt (λ _. safe_behaviour) self.now.desk.now chair.new }
+        requires { IsChairOf (λ _. safe_behaviour) self.now.desk.now chair.old }
+        ensures { IsChairOf (λ _. safe_behaviour) self.now.desk.now chair.new }
     {
         for _ in 0..SEEKS {
             let receipt = self.bring(chair, (0, None, &Command::Seek));
@@ -49,11 +51,11 @@ impl<R: Wait> Room<'_, R> {
     }
 }
 
-/// Asks for news again and again once the seeks have begun, and then tells. The answer is the last
-/// news; none where no seek came.
+/// Asks for news `NEWS` times once the seeks have begun, and then signals. Returns the last news;
+/// `None` if no seek was made.
 fn ask_often(desk: &Desk<Safe>, chair: &mut Chair<Safe>, flags: &Flags) -> Option<u64>
-    requires { IsAt (λ _. safe_behaviour) desk.now chair.old }
-    ensures { IsAt (λ _. safe_behaviour) desk.now chair.new }
+    requires { IsChairOf (λ _. safe_behaviour) desk.now chair.old }
+    ensures { IsChairOf (λ _. safe_behaviour) desk.now chair.new }
 {
     if !flags.is_held() {
         return None;
@@ -66,38 +68,38 @@ fn ask_often(desk: &Desk<Safe>, chair: &mut Chair<Safe>, flags: &Flags) -> Optio
     Some(news)
 }
 
-/// One thread seeks and another one asks. The answer is whether the seeks were told of the news, and
-/// the last of these.
+/// One thread seeks while another asks for news; then the chairs join. Returns the chair, whether
+/// the seeks ended by the signal, and the last news.
 fn news_beside_seeks<R: Threads + Wait + Sync>(
     room: &Room<'_, R>,
     mut first: Chair<Safe>,
     mut second: Chair<Safe>,
     flags: &Flags,
 ) -> (Chair<Safe>, bool, Option<u64>)
-    requires { IsAt (λ _. safe_behaviour) room.now.desk.now first
-        × IsAt (λ _. safe_behaviour) room.now.desk.now second }
-    ensures { IsAt (λ _. safe_behaviour) room.now.desk.now result.0 }
+    requires { IsChairOf (λ _. safe_behaviour) room.now.desk.now first
+        × IsChairOf (λ _. safe_behaviour) room.now.desk.now second }
+    ensures { IsChairOf (λ _. safe_behaviour) room.now.desk.now result.0 }
 {
     let (rt, alloc, desk) = (room.rt, room.alloc, room.desk);
-    let ((mut first, told), (second, news)) = thread::join(
+    let ((mut first, reported), (second, news)) = thread::join(
         rt,
         move || -> (Chair<Safe>, bool)
-            requires { IsAt (λ _. safe_behaviour) desk.now first }
-            ensures { IsAt (λ _. safe_behaviour) desk.entry.now result.0 }
+            requires { IsChairOf (λ _. safe_behaviour) desk.now first }
+            ensures { IsChairOf (λ _. safe_behaviour) desk.entry.now result.0 }
         {
-            let told = Room::new(rt, alloc, desk).seek_until_told(&mut first, flags);
-            (first, told)
+            let reported = Room::new(rt, alloc, desk).seek_until_told(&mut first, flags);
+            (first, reported)
         },
         move || -> (Chair<Safe>, Option<u64>)
-            requires { IsAt (λ _. safe_behaviour) desk.now second }
-            ensures { IsAt (λ _. safe_behaviour) desk.entry.now result.0 }
+            requires { IsChairOf (λ _. safe_behaviour) desk.now second }
+            ensures { IsChairOf (λ _. safe_behaviour) desk.entry.now result.0 }
         {
             let news = ask_often(desk, &mut second, flags);
             (second, news)
         },
     );
     take_in(desk, &mut first, second);
-    (first, told, news)
+    (first, reported, news)
 }
 
 #[test]
@@ -107,10 +109,10 @@ fn news_while_held(rt: HostRuntime) -> Result<(), Fail> {
     let (mut first, second) = halves(&desk, chair);
     let room = Room::new(&rt, rt.alloc(), &desk);
     room.set_break(&mut first);
-    let (mut chair, told, news) = news_beside_seeks(&room, first, second, &flags);
+    let (mut chair, reported, news) = news_beside_seeks(&room, first, second, &flags);
     let Some(news) = news else {
         panic!(rt; "a seek")
     };
-    assert!(rt; told && 2 < news && news <= asked(&desk, &mut chair));
+    assert!(rt; reported && 2 < news && news <= asked(&desk, &mut chair));
     Ok(())
 }

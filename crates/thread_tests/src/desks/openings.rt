@@ -1,4 +1,4 @@
-//! Desks as they open: with no steps, and with whole writes.
+//! Desks as they are opened: with no steps, and with whole writes.
 
 ghost use Rattle.std.specs.Prelude.{◌≡◌, ◌<◌, ◌≤◌, ◌*◌, true, IfOk};
 ghost use Rattle.frames.specs.Configuration.{fits_step};
@@ -7,7 +7,7 @@ ghost use Rattle.frames.specs.Recorded.{AllFit};
 ghost use Rattle.schedule_trie.specs.Cut.{AreLimits};
 ghost use Rattle.turn.specs.Shares.{every_share};
 ghost use Rattle.turn.specs.Chairs.{view};
-ghost use Rattle.desk.specs.Chairs.{IsAt};
+ghost use Rattle.desk.specs.Chairs.{IsChairOf};
 
 use desk::{Chair, Desk};
 use frames::safe::Safe;
@@ -16,7 +16,7 @@ use schedule_trie::limits::Limits;
 use schedule_trie::refusal::Refusal;
 use std::alloc::{AllocError, Global};
 
-/// Limits with so many calls in the log.
+/// Limits with at most `log` calls in the log.
 pub(super) fn limits(log: u32) -> Limits
     requires { (0 < log) × (log ≤ 1048576) }
     ensures { AreLimits result }
@@ -31,13 +31,13 @@ pub(super) fn limits(log: u32) -> Limits
 /// A desk with no steps, and its first chair.
 pub(super) fn opened(alloc: Global, log: u32) -> Result<(Desk<Safe>, Chair<Safe>), Refusal>
     requires { (0 < log) × (log ≤ 1048576) }
-    ensures { IfOk result (λ r. IsAt (λ _. safe_behaviour) r.0 r.1
+    ensures { IfOk result (λ r. IsChairOf (λ _. safe_behaviour) r.0 r.1
         × ((view r.1).shares ≡ every_share)) }
 {
     Desk::open(alloc, Safe, 0, limits(log), &[])
 }
 
-/// Whole writes of 1 and of 0 by turns, so many steps.
+/// The first `count` steps of whole writes of 1 and 0 in turn.
 pub(super) fn writes(alloc: Global, count: u32) -> Result<Vec<Step>, AllocError>
     ensures { IfOk result (λ steps. AllFit safe_behaviour steps.items) }
 {
@@ -48,7 +48,7 @@ pub(super) fn writes(alloc: Global, count: u32) -> Result<Vec<Step>, AllocError>
     Ok(steps)
 }
 
-/// The step at a place of whole writes of 1 and of 0 by turns.
+/// The step at an index of `writes`.
 fn write_at(index: u32) -> Step
     ensures { fits_step safe_behaviour result ≡ true }
 {
@@ -59,23 +59,23 @@ fn write_at(index: u32) -> Step
     }
 }
 
-/// A desk of 1,000 steps, and its first chair.
+/// A desk with the first 1,000 steps of `writes`, and its first chair.
 pub(super) fn thousand(alloc: Global, log: u32) -> Result<(Desk<Safe>, Chair<Safe>), Refusal>
     requires { (0 < log) × (log ≤ 1048576) }
-    ensures { IfOk result (λ r. IsAt (λ _. safe_behaviour) r.0 r.1
+    ensures { IfOk result (λ r. IsChairOf (λ _. safe_behaviour) r.0 r.1
         × ((view r.1).shares ≡ every_share)) }
 {
     written(alloc, 1000, limits(log))
 }
 
-/// A desk of so many steps, and its first chair.
+/// A desk with the first `count` steps of `writes`, and its first chair.
 pub(super) fn written(
     alloc: Global,
     count: u32,
     limits: Limits,
 ) -> Result<(Desk<Safe>, Chair<Safe>), Refusal>
     requires { AreLimits limits }
-    ensures { IfOk result (λ r. IsAt (λ _. safe_behaviour) r.0 r.1
+    ensures { IfOk result (λ r. IsChairOf (λ _. safe_behaviour) r.0 r.1
         × ((view r.1).shares ≡ every_share)) }
 {
     let Ok(steps) = writes(alloc, count) else {

@@ -1,9 +1,10 @@
-//! Rounds of a fill of two branches that share a segment, and what its gate is offered.
+//! Tests of the rounds of a fill of two branches that share a segment, and of what the fill's gate
+//! is offered.
 
 ghost use Rattle.std.specs.Prelude.{◌≤◌};
 ghost use Rattle.frames.specs.SafeBit.{safe_behaviour};
 ghost use Rattle.schedule_trie.specs.Cut.{AreLimits};
-ghost use Rattle.desk.specs.Chairs.{IsAt};
+ghost use Rattle.desk.specs.Chairs.{IsChairOf};
 
 use super::fills::all_installed;
 use super::openings::written;
@@ -22,7 +23,8 @@ use std::test::Fail;
 use std::thread::Threads;
 use workers::gate::Gate;
 
-/// A gate that counts the offers, and those of the first job of a plan.
+/// A gate that counts all offers, and also the rounds: each has one offer of the first job of its
+/// plan.
 #[derive(Drop)]
 pub(super) struct Offers {
     all: AtomicU64,
@@ -30,6 +32,7 @@ pub(super) struct Offers {
 }
 
 impl Offers {
+    /// A gate that has counted nothing.
     pub(super) fn new() -> Offers {
         Offers {
             all: AtomicU64::new(0),
@@ -53,10 +56,11 @@ impl<W: Wait> Gate<W> for Offers {
     }
 }
 
-/// The cells of a full segment.
+/// The number of cells in a full segment.
 const FULL: u32 = 128;
 
-/// Limits for two branches of 41 full segments, of which they share one, and a call for each step of the second.
+/// Limits that allow two branches of 41 full segments each, which share one, and a logged call for
+/// each step of the second branch.
 fn two_long() -> Limits
     ensures { AreLimits result }
 {
@@ -68,22 +72,23 @@ fn two_long() -> Limits
 }
 
 impl<R: Abort + Threads + Wait + Sync> Room<'_, R> {
-    /// Forks `a` behind the first segment of `main`, and gives it 40 segments of its own. The answer is whether each edit was accepted.
+    /// Forks `a` after the first segment of `main`, and gives it 40 segments of its own. Returns
+    /// whether each edit was accepted.
     fn grow_a(&self, chair: &mut Chair<Safe>) -> bool
-        requires { IsAt (λ _. safe_behaviour) self.now.desk.now chair.old }
-        ensures { IsAt (λ _. safe_behaviour) self.now.desk.now chair.new }
+        requires { IsChairOf (λ _. safe_behaviour) self.now.desk.now chair.old }
+        ensures { IsChairOf (λ _. safe_behaviour) self.now.desk.now chair.new }
     {
         let branch = name(self.rt, b"a");
         let fork = Command::Fork {
-            branch: name(self.rt, b"main"),
-            place: FULL,
+            b: name(self.rt, b"main"),
+            k: FULL,
             name: branch,
         };
         let mut all = matches!(self.bring(chair, (0, None, &fork)).reply, Reply::Edited(_));
         for place in FULL..41 * FULL {
             let insert = Command::Insert {
-                branch,
-                place,
+                b: branch,
+                k: place,
                 step: READ,
             };
             all &= matches!(
@@ -94,16 +99,16 @@ impl<R: Abort + Threads + Wait + Sync> Room<'_, R> {
         all
     }
 
-    /// Fills `main` with a gate; what the call promises of histories is forgotten.
+    /// Fills `main` with a gate. Unlike the desk's, this contract promises nothing about histories.
     pub(super) fn filled_with<G: Gate<R> + Sync>(
         &self,
         chair: &mut Chair<Safe>,
         thieves: u32,
         offers: &G,
     ) -> Result<Report, Refusal>
-        requires at { IsAt (λ _. safe_behaviour) self.now.desk.now chair.old }
+        requires at { IsChairOf (λ _. safe_behaviour) self.now.desk.now chair.old }
         requires thieves { thieves ≤ 4 }
-        ensures { IsAt (λ _. safe_behaviour) self.now.desk.now chair.new }
+        ensures { IsChairOf (λ _. safe_behaviour) self.now.desk.now chair.new }
     {
         let branch = name(self.rt, b"main");
         self.desk
@@ -111,8 +116,9 @@ impl<R: Abort + Threads + Wait + Sync> Room<'_, R> {
     }
 }
 
-/// A desk whose branches `main` and `a` share one segment of 41, filled by this many thieves: whether all 81 runs were installed, and what the
-/// gate was offered.
+/// Fills a desk with `thieves` thieves. Its branches `main` and `a` have 41 segments each, and
+/// share the first. Returns whether all 81 runs were installed, how many offers there were, and in
+/// how many rounds.
 fn filled_by<R: Abort + Threads + Wait + Sync>(
     rt: &R,
     alloc: Global,
@@ -128,7 +134,8 @@ fn filled_by<R: Abort + Threads + Wait + Sync>(
     Ok((grown && report == all_installed(81), offers.counted()))
 }
 
-/// The two branches share a segment, and each has 40 of its own: the first round has one job, and each later one has two.
+/// The two branches share one segment, and have 40 each of their own. So the first round has one
+/// job, and each later round has two.
 #[test]
 fn forty_one_rounds(rt: HostRuntime) -> Result<(), Fail> {
     for thieves in [0, 1, 4] {

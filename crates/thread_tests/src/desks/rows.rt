@@ -2,7 +2,7 @@
 
 ghost use Rattle.std.specs.Prelude.{IfOk};
 ghost use Rattle.frames.specs.SafeBit.{safe_behaviour};
-ghost use Rattle.desk.specs.Chairs.{IsAt};
+ghost use Rattle.desk.specs.Chairs.{IsChairOf};
 
 use super::openings::opened;
 use super::{Room, asked, closed, halves, insert_at, name, take_in};
@@ -18,17 +18,18 @@ use std::sync::Wait;
 use std::test::Fail;
 use views::query::Query;
 
-/// The page of the state after an insert of a read.
+/// The text of the page of the state after an insert of a read.
 pub(super) const STATE: &[u8] =
     b"0: state main 1 of 1\n  p0 idle\n  p1 read next rs 0\n  bits 0\n  words -\n";
 
-/// Each of two chairs inserts a read at the beginning, both guarded by no edit; the second is refused.
+/// Two chairs each insert a read at the beginning. Both inserts are guarded by edit count 0, so the
+/// second is refused.
 fn two_inserts<R: Abort + Wait>(
     rt: &R,
     alloc: Global,
 ) -> Result<(Desk<Safe>, Chair<Safe>, Chair<Safe>), Refusal>
-    ensures { IfOk result (λ r. IsAt (λ _. safe_behaviour) r.0 r.1
-        × IsAt (λ _. safe_behaviour) r.0 r.2) }
+    ensures { IfOk result (λ r. IsChairOf (λ _. safe_behaviour) r.0 r.1
+        × IsChairOf (λ _. safe_behaviour) r.0 r.2) }
 {
     let (desk, first) = opened(alloc, 16)?;
     let (mut first, mut second) = halves(&desk, first);
@@ -51,11 +52,11 @@ fn two_inserts<R: Abort + Wait>(
     Ok((desk, first, second))
 }
 
-/// The state after the first step of `main`.
+/// The query for the state after the first step of `main`.
 pub(super) fn state_after_one(rt: &impl Abort) -> Query {
     Query::State {
-        branch: name(rt, b"main"),
-        place: 1,
+        b: name(rt, b"main"),
+        k: 1,
     }
 }
 
@@ -71,14 +72,16 @@ fn two_chairs(rt: HostRuntime) -> Result<(), Fail> {
     Ok(())
 }
 
-/// The log, by two chairs that have all shares together. Closing by one of them is refused first.
+/// Closes a desk by two chairs that together have all shares, and returns the log. Before that, a
+/// close by only one of them is refused.
 fn closed_by_both(
     rt: &impl Abort,
     desk: Desk<Safe>,
     first: Chair<Safe>,
     second: Chair<Safe>,
 ) -> Option<Log>
-    requires { IsAt (λ _. safe_behaviour) desk first × IsAt (λ _. safe_behaviour) desk second }
+    requires { IsChairOf (λ _. safe_behaviour) desk first
+        × IsChairOf (λ _. safe_behaviour) desk second }
 {
     let Err((out, desk, mut first)) = desk.close(first) else {
         return None;

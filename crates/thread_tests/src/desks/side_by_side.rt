@@ -1,8 +1,8 @@
-//! Two chairs of a desk, each at a work of its own on a thread of its own.
+//! Two chairs of a desk, each doing its own work on its own thread.
 
 ghost use denote.Param.Send.{IsSync};
 ghost use Rattle.frames.specs.SafeBit.{safe_behaviour};
-ghost use Rattle.desk.specs.Chairs.{IsAt};
+ghost use Rattle.desk.specs.Chairs.{IsChairOf};
 
 use super::{Room, closed, take_in};
 use desk::{Chair, Desk};
@@ -19,23 +19,23 @@ use views::query::Query;
 /// What a thread does with its chair.
 #[derive(Clone, Copy)]
 pub(super) enum Work {
-    /// So many inserts.
+    /// It makes this number of inserts.
     Inserts(u32),
-    /// A session's guarded inserts.
+    /// It makes the guarded inserts of this session.
     GuardedInserts(u32),
-    /// A session's rounds.
+    /// It makes the rounds of this session.
     Rounds(u32),
-    /// Fills of the branch `a`.
+    /// It fills branch `a`, over and over.
     Fills,
-    /// So many inserts, and then `a` is dropped.
+    /// It makes this number of inserts, and then drops `a`.
     InsertsAndDrop(u32),
 }
 
 impl<R: Abort + Threads + Wait + Sync> Room<'_, R> {
-    /// Does a work with a chair. The answer is whether all went as it has to.
+    /// Does a thread's work with its chair. Returns the chair, and whether everything went well.
     fn done(&self, task: (Chair<Safe>, Work)) -> (Chair<Safe>, bool)
-        requires { IsAt (λ _. safe_behaviour) self.now.desk.now task.0 }
-        ensures { IsAt (λ _. safe_behaviour) self.now.desk.now result.0 }
+        requires { IsChairOf (λ _. safe_behaviour) self.now.desk.now task.0 }
+        ensures { IsChairOf (λ _. safe_behaviour) self.now.desk.now result.0 }
     {
         let (mut chair, work) = task;
         let fine = match work {
@@ -48,29 +48,29 @@ impl<R: Abort + Threads + Wait + Sync> Room<'_, R> {
         (chair, fine)
     }
 
-    /// Two threads do their works; then the first chair takes the second in. The answer is whether
-    /// all went as it has to.
+    /// Two threads do their work at the same time; then the second chair is joined to the first.
+    /// Returns the first chair, and whether everything went well.
     pub(super) fn side_by_side(
         &self,
         first: (Chair<Safe>, Work),
         second: (Chair<Safe>, Work),
     ) -> (Chair<Safe>, bool)
-        requires { IsAt (λ _. safe_behaviour) self.now.desk.now first.0
-            × IsAt (λ _. safe_behaviour) self.now.desk.now second.0 }
-        ensures { IsAt (λ _. safe_behaviour) self.now.desk.now result.0 }
+        requires { IsChairOf (λ _. safe_behaviour) self.now.desk.now first.0
+            × IsChairOf (λ _. safe_behaviour) self.now.desk.now second.0 }
+        ensures { IsChairOf (λ _. safe_behaviour) self.now.desk.now result.0 }
     {
         let (rt, alloc, desk) = (self.rt, self.alloc, self.desk);
         let ((mut first, one), (second, other)) = thread::join(
             rt,
             move || -> (Chair<Safe>, bool)
                 requires sync { IsSync R.row }
-                requires chair { IsAt (λ _. safe_behaviour) desk.now first.0 }
-                ensures { IsAt (λ _. safe_behaviour) desk.entry.now result.0 }
+                requires chair { IsChairOf (λ _. safe_behaviour) desk.now first.0 }
+                ensures { IsChairOf (λ _. safe_behaviour) desk.entry.now result.0 }
             { Room::new(rt, alloc, desk).done(first) },
             move || -> (Chair<Safe>, bool)
                 requires sync { IsSync R.row }
-                requires chair { IsAt (λ _. safe_behaviour) desk.now second.0 }
-                ensures { IsAt (λ _. safe_behaviour) desk.entry.now result.0 }
+                requires chair { IsChairOf (λ _. safe_behaviour) desk.now second.0 }
+                ensures { IsChairOf (λ _. safe_behaviour) desk.entry.now result.0 }
             { Room::new(rt, alloc, desk).done(second) },
         );
         take_in(desk, &mut first, second);
@@ -78,8 +78,8 @@ impl<R: Abort + Threads + Wait + Sync> Room<'_, R> {
     }
 }
 
-/// The log of two chairs of a desk that did their works side by side, and the text of a page behind
-/// them; none where something went wrong.
+/// Two chairs do their work at the same time; then a look is made, and the desk is closed. Returns
+/// the log and the text of the look's page; `None` if something went wrong.
 pub(super) fn log_and_text<R: Abort + Threads + Wait + Sync>(
     rt: &R,
     alloc: Global,
@@ -88,8 +88,8 @@ pub(super) fn log_and_text<R: Abort + Threads + Wait + Sync>(
     second: (Chair<Safe>, Work),
     query: &Query,
 ) -> Result<Option<(Log, Vec<u8>)>, Refusal>
-    requires { IsAt (λ _. safe_behaviour) desk first.0
-        × IsAt (λ _. safe_behaviour) desk second.0 }
+    requires { IsChairOf (λ _. safe_behaviour) desk first.0
+        × IsChairOf (λ _. safe_behaviour) desk second.0 }
 {
     let room = Room::new(rt, alloc, &desk);
     let (mut chair, fine) = room.side_by_side(first, second);

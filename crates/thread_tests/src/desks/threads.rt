@@ -1,11 +1,11 @@
-//! Chairs on threads of their own.
+//! Tests of chairs on threads of their own.
 
 ghost use Rattle.std.specs.Prelude.{◌≡◌, IfSome};
 ghost use denote.Param.Send.{IsSync};
 ghost use Rattle.frames.specs.SafeBit.{safe_behaviour};
 ghost use Rattle.turn.specs.Shares.{every_share};
 ghost use Rattle.turn.specs.Chairs.{view};
-ghost use Rattle.desk.specs.Chairs.{IsAt};
+ghost use Rattle.desk.specs.Chairs.{IsChairOf};
 
 use super::openings::opened;
 use super::side_by_side::Work;
@@ -26,10 +26,11 @@ use views::lens::Lens;
 use views::query::Query;
 
 impl<R: Abort + Wait> Room<'_, R> {
-    /// Inserts a read at place 0, then at place 1, and so on; the answer is whether each was accepted.
+    /// Inserts `count` reads, at place 0, at place 1, and so on. Returns whether each insert was
+    /// accepted.
     pub(super) fn insert_all(&self, chair: &mut Chair<Safe>, count: u32) -> bool
-        requires { IsAt (λ _. safe_behaviour) self.now.desk.now chair.old }
-        ensures { IsAt (λ _. safe_behaviour) self.now.desk.now chair.new }
+        requires { IsChairOf (λ _. safe_behaviour) self.now.desk.now chair.old }
+        ensures { IsChairOf (λ _. safe_behaviour) self.now.desk.now chair.new }
     {
         let mut all = true;
         for place in 0..count {
@@ -40,7 +41,8 @@ impl<R: Abort + Wait> Room<'_, R> {
     }
 }
 
-/// Two threads make so many inserts each; then the chairs join and the desk is closed.
+/// Two threads make `count` inserts each; then the chairs join and the desk is closed. Returns the
+/// log; `None` if something went wrong.
 pub(super) fn inserted_by_two<R: Abort + Threads + Wait + Sync>(
     rt: &R,
     alloc: Global,
@@ -48,7 +50,7 @@ pub(super) fn inserted_by_two<R: Abort + Threads + Wait + Sync>(
     chair: Chair<Safe>,
     count: u32,
 ) -> Option<Log>
-    requires chair { IsAt (λ _. safe_behaviour) desk chair }
+    requires chair { IsChairOf (λ _. safe_behaviour) desk chair }
     requires every { (view chair).shares ≡ every_share }
 {
     let (first, second) = halves(&desk, chair);
@@ -61,15 +63,15 @@ pub(super) fn inserted_by_two<R: Abort + Threads + Wait + Sync>(
     closed(desk, chair)
 }
 
-/// The place of an insert.
+/// The place of a logged insert; `None` if the entry is another command.
 fn place_of(entry: &Entry) -> Option<u32> {
     match entry.command {
-        Command::Insert { place, .. } => Some(place),
+        Command::Insert { k: place, .. } => Some(place),
         _ => None,
     }
 }
 
-/// Whether a chair's calls are so many inserts, in order of their places.
+/// Whether a chair's calls are `count` inserts, at place 0, at place 1, and so on.
 fn has_inserts(log: &Log, chair: u32, count: u32) -> bool {
     let made = log.entries().iter().filter(|entry| entry.chair == chair);
     made.map(place_of).eq((0..count).map(Some))
@@ -89,14 +91,14 @@ fn two_threads(rt: HostRuntime) -> Result<(), Fail> {
     Ok(())
 }
 
-/// How many rounds each of four threads makes, of seven calls each.
+/// How many rounds each of four threads makes. A round has seven calls.
 const ROUNDS: u32 = 40;
 
-/// So many shares of a chair, if it has more.
+/// Splits `shares` shares off a chair; `None` if `shares` is 0, or the chair has no more than that.
 fn part(desk: &Desk<Safe>, chair: &mut Chair<Safe>, shares: u32) -> Option<Chair<Safe>>
-    requires { IsAt (λ _. safe_behaviour) desk.now chair.old }
-    ensures chair { IsAt (λ _. safe_behaviour) desk.now chair.new }
-    ensures part { IfSome result (λ r. IsAt (λ _. safe_behaviour) desk.now r) }
+    requires { IsChairOf (λ _. safe_behaviour) desk.now chair.old }
+    ensures chair { IsChairOf (λ _. safe_behaviour) desk.now chair.new }
+    ensures part { IfSome result (λ r. IsChairOf (λ _. safe_behaviour) desk.now r) }
 {
     if shares == 0 || chair.shares() <= shares {
         return None;
@@ -105,21 +107,22 @@ fn part(desk: &Desk<Safe>, chair: &mut Chair<Safe>, shares: u32) -> Option<Chair
 }
 
 impl<R: Abort + Wait> Room<'_, R> {
-    /// Looks at the steps of `main`, and answers how long the history was.
+    /// Looks at the steps of `main`, and returns the length of the history.
     fn looked(&self, chair: &mut Chair<Safe>, lens: &mut Lens<Safe>) -> u64
-        requires { IsAt (λ _. safe_behaviour) self.now.desk.now chair.old }
-        ensures { IsAt (λ _. safe_behaviour) self.now.desk.now chair.new }
+        requires { IsChairOf (λ _. safe_behaviour) self.now.desk.now chair.old }
+        ensures { IsChairOf (λ _. safe_behaviour) self.now.desk.now chair.new }
     {
         let branch = name(self.rt, b"main");
-        let query = Query::Steps { branch };
+        let query = Query::Steps { b: branch };
         self.desk.look(self.rt, self.alloc, chair, lens, query).at
     }
 
-    /// One round: a chair splits, its other half edits, both ask for news, it looks and edits under a
-    /// guard, and they join. The answer is whether no length that was told is less than one before.
+    /// One round. A second chair is split off; it makes an edit and asks for news. The first chair
+    /// looks, asks for news and makes a guarded edit; then the two join. Returns whether no chair
+    /// got a length of the history that is less than one it got before.
     fn round(&self, chair: &mut Chair<Safe>, lens: &mut Lens<Safe>, who: u32) -> bool
-        requires { IsAt (λ _. safe_behaviour) self.now.desk.now chair.old }
-        ensures { IsAt (λ _. safe_behaviour) self.now.desk.now chair.new }
+        requires { IsChairOf (λ _. safe_behaviour) self.now.desk.now chair.old }
+        ensures { IsChairOf (λ _. safe_behaviour) self.now.desk.now chair.new }
     {
         let Some(mut other) = part(self.desk, chair, 2) else {
             return false;
@@ -135,10 +138,10 @@ impl<R: Abort + Wait> Room<'_, R> {
         edited <= news && seen <= later && later <= guarded
     }
 
-    /// So many rounds of a thread.
+    /// Makes the rounds of a thread. Returns whether everything went well.
     pub(super) fn rounds(&self, chair: &mut Chair<Safe>, who: u32) -> bool
-        requires { IsAt (λ _. safe_behaviour) self.now.desk.now chair.old }
-        ensures { IsAt (λ _. safe_behaviour) self.now.desk.now chair.new }
+        requires { IsChairOf (λ _. safe_behaviour) self.now.desk.now chair.old }
+        ensures { IsChairOf (λ _. safe_behaviour) self.now.desk.now chair.new }
     {
         let Ok(mut lens) = Lens::new(self.alloc) else {
             return false;
@@ -151,15 +154,16 @@ impl<R: Abort + Wait> Room<'_, R> {
     }
 }
 
-/// Two chairs at the rounds of two sessions, and the chair that they leave.
+/// Two chairs make the rounds of two sessions, each on a thread. Returns the chair joined from
+/// them, and whether everything went well.
 fn rounds_of_two<R: Abort + Threads + Wait + Sync>(
     room: &Room<'_, R>,
     chairs: (Chair<Safe>, Chair<Safe>),
     sessions: (u32, u32),
 ) -> (Chair<Safe>, bool)
-    requires { IsAt (λ _. safe_behaviour) room.now.desk.now chairs.0
-        × IsAt (λ _. safe_behaviour) room.now.desk.now chairs.1 }
-    ensures { IsAt (λ _. safe_behaviour) room.now.desk.now result.0 }
+    requires { IsChairOf (λ _. safe_behaviour) room.now.desk.now chairs.0
+        × IsChairOf (λ _. safe_behaviour) room.now.desk.now chairs.1 }
+    ensures { IsChairOf (λ _. safe_behaviour) room.now.desk.now result.0 }
 {
     room.side_by_side(
         (chairs.0, Work::Rounds(sessions.0)),
@@ -167,7 +171,8 @@ fn rounds_of_two<R: Abort + Threads + Wait + Sync>(
     )
 }
 
-/// Four threads at their rounds; then the chairs join and the desk is closed.
+/// Four threads make their rounds; then the chairs join and the desk is closed. Returns the log;
+/// `None` if something went wrong.
 fn rounds_of_four<R: Abort + Threads + Wait + Sync>(
     rt: &R,
     alloc: Global,
@@ -175,24 +180,25 @@ fn rounds_of_four<R: Abort + Threads + Wait + Sync>(
     one: (Chair<Safe>, Chair<Safe>),
     other: (Chair<Safe>, Chair<Safe>),
 ) -> Option<Log>
-    requires one { IsAt (λ _. safe_behaviour) desk one.0 × IsAt (λ _. safe_behaviour) desk one.1 }
-    requires other { IsAt (λ _. safe_behaviour) desk other.0
-        × IsAt (λ _. safe_behaviour) desk other.1 }
+    requires one { IsChairOf (λ _. safe_behaviour) desk one.0
+        × IsChairOf (λ _. safe_behaviour) desk one.1 }
+    requires other { IsChairOf (λ _. safe_behaviour) desk other.0
+        × IsChairOf (λ _. safe_behaviour) desk other.1 }
 {
     let shared = &desk;
     let ((mut chair, fine), (last, well)) = thread::join(
         rt,
         move || -> (Chair<Safe>, bool)
             requires sync { IsSync R.row }
-            requires chairs { IsAt (λ _. safe_behaviour) shared.now one.0
-                × IsAt (λ _. safe_behaviour) shared.now one.1 }
-            ensures { IsAt (λ _. safe_behaviour) shared.entry.now result.0 }
+            requires chairs { IsChairOf (λ _. safe_behaviour) shared.now one.0
+                × IsChairOf (λ _. safe_behaviour) shared.now one.1 }
+            ensures { IsChairOf (λ _. safe_behaviour) shared.entry.now result.0 }
         { rounds_of_two(&Room::new(rt, alloc, shared), one, (0, 1)) },
         move || -> (Chair<Safe>, bool)
             requires sync { IsSync R.row }
-            requires chairs { IsAt (λ _. safe_behaviour) shared.now other.0
-                × IsAt (λ _. safe_behaviour) shared.now other.1 }
-            ensures { IsAt (λ _. safe_behaviour) shared.entry.now result.0 }
+            requires chairs { IsChairOf (λ _. safe_behaviour) shared.now other.0
+                × IsChairOf (λ _. safe_behaviour) shared.now other.1 }
+            ensures { IsChairOf (λ _. safe_behaviour) shared.entry.now result.0 }
         { rounds_of_two(&Room::new(rt, alloc, shared), other, (2, 3)) },
     );
     take_in(&desk, &mut chair, last);
@@ -202,18 +208,19 @@ fn rounds_of_four<R: Abort + Threads + Wait + Sync>(
     closed(desk, chair)
 }
 
-/// A chair and half its shares, if it has more than one.
+/// Splits a chair into two, each with half its shares; `None` if the chair has only one share.
 fn halved(desk: &Desk<Safe>, mut chair: Chair<Safe>) -> Option<(Chair<Safe>, Chair<Safe>)>
-    requires { IsAt (λ _. safe_behaviour) desk.now chair }
-    ensures { IfSome result (λ r. IsAt (λ _. safe_behaviour) desk.now r.0
-        × IsAt (λ _. safe_behaviour) desk.now r.1) }
+    requires { IsChairOf (λ _. safe_behaviour) desk.now chair }
+    ensures { IfSome result (λ r. IsChairOf (λ _. safe_behaviour) desk.now r.0
+        × IsChairOf (λ _. safe_behaviour) desk.now r.1) }
 {
     let half = chair.shares() / 2;
     let other = part(desk, &mut chair, half)?;
     Some((chair, other))
 }
 
-/// The log of four threads' rounds, by a quarter of the shares each.
+/// The log after four threads, with a quarter of the shares each, have made their rounds; `None` if
+/// something went wrong.
 fn log_of_four<R: Abort + Threads + Wait + Sync>(
     rt: &R,
     alloc: Global,

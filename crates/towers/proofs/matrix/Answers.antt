@@ -4,14 +4,14 @@ use Rattle.frames.specs.Behaviour.{Behaviour}
 use Rattle.towers.specs.Towers.{StampedPoint}
 use Rattle.matrix.specs.Program.{matrix_table}
 use Rattle.matrix.specs.Limits.{matrix_refusal}
-use Rattle.towers.specs.Built.{matrix_stands, ok_unless_refused}
+use Rattle.towers.specs.Built.{matrix_fits, ok_unless_refused}
 use Rattle.towers.proofs.matrix.Goals as goal
 
 pub unwrap-requires : goal.unwrap-requires
 unwrap-requires c =
     let stands =
     ap (λ (b : Behaviour StampedPoint). matrix_refusal c.args.processes c.args.values c.args.tag b) c.stamped-part.ensures
-    ∙ matrix_stands c.args.processes c.args.values c.args.tag c.args.stamp c.requires.two c.requires.four c.requires.some c.requires.few c.requires.tags c.requires.most c.requires.cells in
+    ∙ matrix_fits c.args.processes c.args.values c.args.tag c.args.stamp c.requires.two c.requires.four c.requires.some c.requires.few c.requires.tags c.requires.most c.requires.cells in
     ok_unless_refused _ c.new.result _ stands c.new.ensures.refused
 
 pub returns : goal.returns

@@ -1,5 +1,5 @@
--- Places of runs are equal by value: as many steps made, of the same ones, from equal configurations.
-use Rattle.std.proofs.Common.{◌≡◌, ℕ, Bool, true, false, nat_eq, List, length, refl, ap, ◌++◌}
+-- Places of runs are equal by value: the same count and the same steps, from equal configurations.
+use Rattle.std.proofs.Common.{◌≡◌, ℕ, Bool, true, false, nat_eq, List, refl, ap, ◌++◌}
 use mathlib.Core.Bool.{◌&&◌}
 use Rattle.std.specs.Bool.{Decides}
 use Rattle.std.specs.Cmp.{IsPartialEquivalence, IsEquivalence, equiv, partial_equiv_from_equiv, on_per, and_per}
@@ -13,8 +13,10 @@ use Rattle.frames.specs.declared.types.Step.{Step}
 use Rattle.frames.specs.declared.types.Step.TheVariants as step
 use Rattle.frames.specs.Equality.{configuration_eq, configuration_per, configuration_decides, SameConfiguration}
 use Rattle.cutoff.specs.Fitting.{RunPart}
+use Rattle.views.specs.Digests.{digest}
+use Rattle.views.specs.Places.{last_made, last_steps}
 
--- the test of two steps
+-- whether two steps are equal
 abbrev pub step_eq : Step → Step → Bool
 step_eq (step.Write p v) (step.Write q w) = nat_eq p q && nat_eq v w
 step_eq (step.Read p) (step.Read q) = nat_eq p q
@@ -25,6 +27,7 @@ step_eq _ _ = false
 both_decide : (p q v w : ℕ) → Decides (nat_eq p q && nat_eq v w) ((p ≡ q) × (v ≡ w))
 both_decide p q v w = Decides-and (nat_eq p q) (nat_eq v w) (Decides-eqb p q) (Decides-eqb v w)
 
+-- `step_eq` decides whether two steps are equal
 pub step_decides : (a b : Step) → Decides (step_eq a b) (a ≡ b)
 step_decides (step.Write p v) (step.Write q w) = Decides-like (nat_eq p q && nat_eq v w) (λ e i. step.Write (e.0 i) (e.1 i)) (λ e. let first : p ≡ q = cc in let second : v ≡ w = cc in (first, second)) (both_decide p q v w)
 step_decides (step.Read p) (step.Read q) = Decides-like (nat_eq p q) (λ e. ap step.Read e) (λ e. cc) (Decides-eqb p q)
@@ -43,27 +46,30 @@ step_decides (step.Stop p) (step.Write q w) = (λ h. cc, λ h. cc)
 step_decides (step.Stop p) (step.Read q) = (λ h. cc, λ h. cc)
 step_decides (step.Stop p) (step.Go q d) = (λ h. cc, λ h. cc)
 
+-- `step_eq`, applied step by step, decides whether two lists of steps are equal
 pub steps_decide : (a b : List Step) → Decides (pointwise step_eq a b) (a ≡ b)
 steps_decide a b = slice_eq-Decides step_decides a b _ refl
 
--- two places of runs are the same: E compares registers
+-- two places of runs are the same; E is the test whether registers are equal
 pub record SamePlace {R P : Type 0} (E : R → R → Bool) (a b : RunPart R P) : Type 0 where
   pub count : a.count ≡ b.count
   pub steps : a.run.steps ≡ b.run.steps
   pub entry : SameConfiguration E a.run.entry b.run.entry
 
 module _ {R P : Type 0} (E : R → R → Bool) (F : P → P → Bool) where
-  -- the test of two places
+  -- whether two places are the same
   abbrev pub same_place : RunPart R P → RunPart R P → Bool
   same_place = eq_of_both (on (λ a. a.count) nat_eq) (eq_of_both (on (λ a. a.run.steps) (pointwise step_eq)) (on (λ a. a.run.entry) (configuration_eq E F)))
 
   module _ (d : (x y : P) → Decides (F x y) (x ≡ y)) where
+    -- `same_place` decides whether two places are the same
     pub place_decides : (a b : RunPart R P) → Decides (same_place a b) (SamePlace E a b)
     place_decides a b =
         Decides-like (same_place a b) (λ p. record { count = p.0; steps = p.1.0; entry = p.1.1 }) (λ p. (p.count, (p.steps, p.entry)))
         (Decides-and (nat_eq a.count b.count) _ (Decides-eqb a.count b.count)
         (Decides-and (pointwise step_eq a.run.steps b.run.steps) _ (steps_decide a.run.steps b.run.steps) (configuration_decides E F d a.run.entry b.run.entry)))
 
+    -- if E is a partial equivalence, so is `same_place`
     pub same_place_per : IsPartialEquivalence E → IsPartialEquivalence same_place
     same_place_per per =
         and_per (on_per (λ a. a.count) (per_from_decides nat_eq Decides-eqb))
@@ -76,12 +82,13 @@ module _ {R P : Type 0} (E : R → R → Bool) (F : P → P → Bool) where
       entry = record { register = e.refl a.run.entry.register; memory = refl; running = refl; stopped = refl };
     }
 
+    -- if E is an equivalence, so is `same_place`
     pub same_place_equivalence : IsEquivalence E → IsEquivalence same_place
     same_place_equivalence e = equiv (same_place_per (partial_equiv_from_equiv e)) (λ a. (place_decides a a).1 (same_itself e a))
 
-    -- the same places are hashed by the same
+    -- equal places are hashed alike
     pub places_hash_alike : (a b : RunPart R P) → same_place a b ≡ true
-        → fed.usize (length a.run.steps) ++ fed.u32 a.count ≡ fed.usize (length b.run.steps) ++ fed.u32 b.count
+        → fed.u64 (digest (last_made a)) ++ fed.u32 a.count ≡ fed.u64 (digest (last_made b)) ++ fed.u32 b.count
     places_hash_alike a b h =
         let same = (place_decides a b).0 h in
-        λ i. fed.usize (length (same.steps i)) ++ fed.u32 (same.count i)
+        λ i. fed.u64 (digest (last_steps (same.count i) (same.steps i))) ++ fed.u32 (same.count i)

@@ -9,5 +9,6 @@ use Rattle.views.specs.page.Memory.{bit_cell_lines, words_line}
 abbrev pub bits_page : {R P : Type 0} → Head → Configuration R P → BitsPage
 bits_page head c = record { head = head; cells = c.memory.cells; words = c.memory.words }
 
+-- the text of the page
 abbrev pub bits_text : ℕ → BitsPage → List ℕ
 bits_text session p = head_line session (codes "bits") p.head ++ bit_cell_lines p.cells ++ words_line p.words

@@ -7,20 +7,25 @@ use Rattle.views.specs.declared.page.branches.BranchLength.{BranchLength}
 use Rattle.views.specs.declared.page.branches.BranchesPage.{BranchesPage}
 use Rattle.views.specs.page.Head.{line_end}
 
--- how long a branch is
+-- the name and the length of a branch
 abbrev pub length_of : Branch → BranchLength
 length_of b = record { name = b.name; len = length b.slots }
 
--- a forest of which so many edits were accepted: its branches in order of making, and how many cells were ever made
+-- the page of a forest: how many edits were accepted, how many cells were ever made, and the
+-- branches in the order they were made
 abbrev pub branches_page : ℕ → Forest → BranchesPage
 branches_page edits f = record { edits = edits; made = f.made; branches = map length_of f.branches }
 
+-- the first line: how many branches there are, how many edits were accepted, and how many cells
+-- were ever made
 abbrev pub counts_line : ℕ → ℕ → ℕ → ℕ → List ℕ
 counts_line session count edits made =
     decimal session ++ codes ": branches " ++ decimal count ++ codes " edits " ++ decimal edits ++ codes " made " ++ decimal made ++ line_end
 
+-- the line of a branch: its name and its length
 abbrev pub branch_line : BranchLength → List ℕ
 branch_line b = codes "  " ++ b.name ++ codes " " ++ decimal b.len ++ line_end
 
+-- the text of the page
 abbrev pub branches_text : ℕ → BranchesPage → List ℕ
 branches_text session page = counts_line session (length page.branches) page.edits page.made ++ flat_map branch_line page.branches

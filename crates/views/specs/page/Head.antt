@@ -11,6 +11,6 @@ line_end = 10 ∷ []
 abbrev pub page_title : ℕ → List ℕ → List ℕ → List ℕ
 page_title session kind branch = decimal session ++ codes ": " ++ kind ++ codes " " ++ branch ++ codes " "
 
--- the first line of a page at a place, and how long the branch is
+-- the first line of a page at a place, with the length of the branch
 abbrev pub head_line : ℕ → List ℕ → Head → List ℕ
 head_line session kind head = page_title session kind head.branch ++ decimal head.place ++ codes " of " ++ decimal head.len ++ line_end

@@ -10,7 +10,7 @@ use Rattle.views.specs.page.Names.{layer_name, reason_name}
 use Rattle.views.specs.page.Memory.{bit_name}
 use Rattle.views.specs.page.Process.{op_text}
 
--- an event: its process and its name
+-- the process of an event
 abbrev pub event_process : Event → ℕ
 event_process (Invoke p o) = p
 event_process (Got p v) = p
@@ -20,6 +20,7 @@ event_process (Void p why) = p
 event_process (Stop p) = p
 event_process (Chosen p bit v) = p
 
+-- what an event did: its kind, with its operation, value or reason
 abbrev pub event_name : Event → List ℕ
 event_name (Invoke p o) = codes "invoke " ++ op_text o
 event_name (Got p v) = codes "return " ++ decimal v
@@ -33,10 +34,11 @@ event_name (Chosen p bit v) = codes "chosen bit " ++ decimal bit ++ codes " valu
 abbrev pub event_line : ℕ × Event → List ℕ
 event_line e = codes "  " ++ decimal e.0 ++ codes " p" ++ decimal (event_process e.1) ++ codes " " ++ event_name e.1 ++ line_end
 
--- events, each with the index of its step; `none` where there are none
+-- a line for each event, with the index of its step, or the line `none` if there are no events
 abbrev pub history_lines : List (ℕ × Event) → List ℕ
 history_lines [] = codes "  none" ++ line_end
 history_lines (e ∷ es) = flat_map event_line (e ∷ es)
 
+-- the text of the page
 abbrev pub history_text : ℕ → HistoryPage → List ℕ
 history_text session page = head_line session (codes "history") page.head ++ history_lines page.events

@@ -3,7 +3,7 @@ use Rattle.std.specs.Prelude.{ℕ, List, [], ◌∷◌, ◌++◌, Option, Some, 
 use Rattle.std.specs.List.{flat_map}
 use Rattle.std.specs.Fmt.{decimal}
 use Rattle.safe_bit.specs.declared.Cell.{Cell}
-use Rattle.views.specs.Numbered.{numbered}
+use Rattle.views.specs.Numbered.{numbered_lines}
 use Rattle.views.specs.page.Head.{line_end}
 
 -- a bit as a digit
@@ -11,14 +11,14 @@ abbrev pub bit_name : Bool → List ℕ
 bit_name v = if v then codes "1" else codes "0"
 
 -- the value of a cell
-abbrev pub value_of : Cell → Bool
-value_of c = c.value
+abbrev pub cell_value : Cell → Bool
+cell_value c = c.value
 
--- the values of all cells
+-- the line of the values of all cells
 abbrev pub bits_line : List Bool → List ℕ
 bits_line bits = codes "  bits " ++ flat_map bit_name bits ++ line_end
 
--- all words, each behind a space, or a dash where there are none
+-- the line of all words: each word after a space, or a dash if there are no words
 abbrev pub spaced : ℕ → List ℕ
 spaced w = codes " " ++ decimal w
 
@@ -29,8 +29,9 @@ words_text (w ∷ ws) = flat_map spaced (w ∷ ws)
 abbrev pub words_line : List ℕ → List ℕ
 words_line words = codes "  words" ++ words_text words ++ line_end
 
--- a cell: its number, its value, the value being written or a dash, and a dash where it isn't read,
--- `r` where it is, and `h` where that read is hit
+-- The line of a cell: its number, its value, the value being written or a dash, and last whether
+-- the cell is being read. That is a dash if no read is in progress; else `h` if the read is hit,
+-- and `r` if it isn't.
 abbrev pub writing_name : Option Bool → List ℕ
 writing_name None = codes "-"
 writing_name (Some v) = bit_name v
@@ -44,4 +45,4 @@ bit_cell_line j c =
 
 -- a line for each cell, numbered from 0
 abbrev pub bit_cell_lines : List Cell → List ℕ
-bit_cell_lines cells = numbered bit_cell_line 0 cells
+bit_cell_lines cells = numbered_lines bit_cell_line 0 cells

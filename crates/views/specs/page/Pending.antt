@@ -1,4 +1,4 @@
--- What a page tells of a pending operation: its frames, and their bytes.
+-- Pages of pending operations, as frames, and their text.
 use Rattle.std.specs.Prelude.{ℕ, Bool, List, [], ◌∷◌, ◌++◌, Option, Some, None, codes, map}
 use Rattle.std.specs.List.{flat_map, range_with_len}
 use Rattle.std.specs.Fmt.{decimal}
@@ -11,14 +11,15 @@ use Rattle.frames.specs.declared.running.Running.{Running}
 use Rattle.frames.specs.Behaviour.{Behaviour}
 use Rattle.frames.specs.Configuration.{Configuration, running_at, is_stopped}
 use Rattle.views.specs.declared.page.pending.PendingStatus.{PendingStatus}
-use Rattle.views.specs.Numbered.{numbered}
+use Rattle.views.specs.Numbered.{numbered_lines}
 use Rattle.views.specs.declared.page.head.Head.{Head}
 use Rattle.views.specs.declared.page.pending.PendingPage.{PendingPage}
 use Rattle.views.specs.page.Head.{line_end, head_line}
 use Rattle.views.specs.page.Names.{frame_name}
 use Rattle.views.specs.page.Process.{stopped_text, idle_line}
 
--- a process: whether it has stopped, and the frames of what it has pending, outermost first; no frames where that is nothing
+-- what a process has pending: its frames, outermost first, or `None` if nothing is pending; and
+-- whether the process has stopped
 abbrev pub frames_of : {P : Type 0} → Behaviour P → Option (Running P) → Option (List Frame)
 frames_of b None = None
 frames_of b (Some r) = Some (b.frames r.point)
@@ -26,41 +27,42 @@ frames_of b (Some r) = Some (b.frames r.point)
 abbrev pub pending_at : {R P : Type 0} → Behaviour P → Configuration R P → ℕ → PendingStatus
 pending_at b c p = record { frames = frames_of b (running_at p c); stopped = is_stopped p c }
 
--- all processes, in order
+-- what each process has pending, in the order of the processes
 abbrev pub pending : {R P : Type 0} → Behaviour P → Configuration R P → List PendingStatus
 pending b c = map (pending_at b c) (range_with_len 0 b.processes)
 
--- the operation of a frame, with the number that it writes
+-- the text of an operation; a write is shown with the number `written`
 abbrev pub short_op : Op → ℕ → List ℕ
 short_op (op.Write v) written = codes "w " ++ decimal written
 short_op op.Read written = codes "r"
 
--- a stamped register writes its code, every other layer its value
+-- the operation in a frame's text: a write is shown with its code x in a stamped register, and with
+-- its value in every other layer
 abbrev pub frame_op : FrameLayer → Op → ℕ → List ℕ
 frame_op Stamped (op.Write v) x = short_op (op.Write v) x
 frame_op Stamped op.Read x = short_op op.Read 0
 frame_op layer (op.Write v) x = short_op (op.Write v) v
 frame_op layer op.Read x = short_op op.Read 0
 
--- a number behind a space
-abbrev pub behind_space : ℕ → List ℕ
-behind_space n = codes " " ++ decimal n
+-- a number after a space
+abbrev pub after_space : ℕ → List ℕ
+after_space n = codes " " ++ decimal n
 
--- what stands behind the operation: a safe bit's steps made, the reader whose copy is in work, the bit in work, or the part in
--- work with the code
+-- what follows the operation in a frame's text: how many actions a safe bit has made, the reader
+-- whose copy is in use, the unary bit in use, or the part of a matrix in use with the code
 abbrev pub frame_rest : FrameLayer → ℕ → ℕ → List ℕ
-frame_rest Safe i x = behind_space i
-frame_rest Copies i x = behind_space i
+frame_rest Safe i x = after_space i
+frame_rest Copies i x = after_space i
 frame_rest Regular i x = []
-frame_rest Unary i x = behind_space i
+frame_rest Unary i x = after_space i
 frame_rest Stamped i x = []
-frame_rest MatrixRead i x = codes " read" ++ behind_space i ++ behind_space x
-frame_rest MatrixWrite i x = codes " write" ++ behind_space i ++ behind_space x
+frame_rest MatrixRead i x = codes " read" ++ after_space i ++ after_space x
+frame_rest MatrixWrite i x = codes " write" ++ after_space i ++ after_space x
 
 abbrev pub frame_text : Frame → List ℕ
 frame_text f = frame_name f.layer ++ codes " " ++ frame_op f.layer f.op f.x ++ frame_rest f.layer f.i f.x
 
--- frames, outermost first
+-- the text of frames, outermost first, with ` > ` between them
 abbrev pub inner_frame : Frame → List ℕ
 inner_frame f = codes " > " ++ frame_text f
 
@@ -68,7 +70,7 @@ abbrev pub frames_text : List Frame → List ℕ
 frames_text [] = []
 frames_text (f ∷ fs) = frame_text f ++ flat_map inner_frame fs
 
--- a process with its frames, and whether it has stopped
+-- the line of a process: its frames if it has an operation pending, and whether it has stopped
 abbrev pub frames_line : ℕ → List Frame → Bool → List ℕ
 frames_line p fs stopped = codes "  p" ++ decimal p ++ codes " " ++ frames_text fs ++ stopped_text stopped ++ line_end
 
@@ -81,8 +83,9 @@ pending_line p s = shown_frames p s.frames s.stopped
 
 -- a line for each process
 abbrev pub pending_lines : List PendingStatus → List ℕ
-pending_lines statuses = numbered pending_line 0 statuses
+pending_lines statuses = numbered_lines pending_line 0 statuses
 
+-- the page of all processes, and the text of the page
 abbrev pub pending_page : {R P : Type 0} → Behaviour P → Head → Configuration R P → PendingPage
 pending_page b head c = record { head = head; processes = pending b c }
 

@@ -1,4 +1,4 @@
--- What a page tells of a process, and its line.
+-- The page of one process, and the line of a process.
 use Rattle.std.specs.Prelude.{ℕ, List, [], ◌++◌, Option, Some, None, Bool, nat_lt, codes, map, if◌then◌else◌}
 use Rattle.std.specs.List.{range_with_len}
 use Rattle.std.specs.Fmt.{decimal}
@@ -15,7 +15,8 @@ use Rattle.views.specs.declared.page.process.ProcessPage.{ProcessPage}
 use Rattle.views.specs.page.Head.{line_end, head_line}
 use Rattle.views.specs.page.Names.{kind_name}
 
--- a process that has this pending, or nothing, and has stopped or not
+-- the status of a process, given what it has pending, if anything, and whether the process has
+-- stopped
 abbrev pub status : {P : Type 0} → Behaviour P → Option (Running P) → Bool → ProcessStatus
 status b None stopped = Idle stopped
 status b (Some r) stopped = if stopped then Stopped r.op else Busy r.op (b.acts r.point)
@@ -23,24 +24,25 @@ status b (Some r) stopped = if stopped then Stopped r.op else Busy r.op (b.acts 
 abbrev pub status_at : {R P : Type 0} → Behaviour P → Configuration R P → ℕ → ProcessStatus
 status_at b c p = status b (running_at p c) (is_stopped p c)
 
--- all processes, in order
+-- the status of each process, in the order of the processes
 abbrev pub statuses : {R P : Type 0} → Behaviour P → Configuration R P → List ProcessStatus
 statuses b c = map (status_at b c) (range_with_len 0 b.processes)
 
--- one process; none where the register has no process of this number
+-- the status of process p; `None` if the register has no such process
 abbrev pub status_of : {R P : Type 0} → Behaviour P → Configuration R P → ℕ → Option ProcessStatus
 status_of b c p = if nat_lt p b.processes then Some (status_at b c p) else None
 
--- an operation
+-- the text of an operation
 abbrev pub op_text : Op → List ℕ
 op_text (op.Write v) = codes "write " ++ decimal v
 op_text op.Read = codes "read"
 
--- what stands behind a process that has stopped
+-- the end of a process's line: ` stopped` if the process has stopped, else nothing
 abbrev pub stopped_text : Bool → List ℕ
 stopped_text stopped = if stopped then codes " stopped" else []
 
--- a process that is idle, and one with an operation pending: its next bit action with its cell, or that it has stopped
+-- the line of an idle process; of a process with an operation pending, with the next bit action and
+-- its cell; of a process that has stopped with an operation pending; and of any process
 abbrev pub idle_line : ℕ → Bool → List ℕ
 idle_line p stopped = codes "  p" ++ decimal p ++ codes " idle" ++ stopped_text stopped ++ line_end
 
@@ -56,11 +58,12 @@ status_line p (Idle stopped) = idle_line p stopped
 status_line p (Busy o a) = busy_line p o a
 status_line p (Stopped o) = stopped_line p o
 
--- the line of one process, which may not be there
+-- the line of process p, which ends in `none` if the register has no such process
 abbrev pub one_line : ℕ → Option ProcessStatus → List ℕ
 one_line p None = codes "  p" ++ decimal p ++ codes " none" ++ line_end
 one_line p (Some s) = status_line p s
 
+-- the page of one process, and the text of the page
 abbrev pub process_page : {R P : Type 0} → Behaviour P → Head → ℕ → Configuration R P → ProcessPage
 process_page b head p c = record { head = head; process = p; status = status_of b c p }
 

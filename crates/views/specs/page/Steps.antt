@@ -4,10 +4,10 @@ use Rattle.std.specs.Fmt.{decimal}
 use Rattle.frames.specs.declared.types.Step.{Step}
 use Rattle.views.specs.declared.page.steps.StepsPage.{StepsPage}
 use Rattle.words.specs.Steps.{step_text}
-use Rattle.views.specs.Numbered.{numbered}
+use Rattle.views.specs.Numbered.{numbered_lines}
 use Rattle.views.specs.page.Head.{line_end, page_title}
 
--- the page of a branch's steps: their number, and a line for each with its index
+-- the page of a branch's steps: how many steps there are, and a line for each step with its index
 abbrev pub steps_head : ℕ → List ℕ → ℕ → List ℕ
 steps_head session branch len = page_title session (codes "steps") branch ++ decimal len ++ line_end
 
@@ -15,7 +15,7 @@ abbrev pub step_line : ℕ → Step → List ℕ
 step_line i s = codes "  " ++ decimal i ++ codes " " ++ step_text s ++ line_end
 
 abbrev pub step_lines : List Step → List ℕ
-step_lines steps = numbered step_line 0 steps
+step_lines steps = numbered_lines step_line 0 steps
 
 abbrev pub steps_text : ℕ → StepsPage → List ℕ
 steps_text session page = steps_head session page.branch (length page.steps) ++ step_lines page.steps

@@ -13,7 +13,7 @@ use std::alloc::{AllocError, Global};
 use words::text::Pushed;
 
 /// Each bit cell and each word.
-#[derive(Drop)]
+#[derive(Clone, Drop)]
 pub struct BitsPage {
     pub head: Head,
     pub cells: Listed<Cell>,

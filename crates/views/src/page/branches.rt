@@ -22,7 +22,8 @@ pub struct BranchLength {
     pub len: u32,
 }
 
-/// How many edits were accepted, how many cells were ever made, and the branches in order of making.
+/// How many edits were accepted, how many cells were ever made, and the branches in the order they
+/// were made.
 #[derive(Clone, Drop)]
 pub struct BranchesPage {
     pub edits: u64,
@@ -31,7 +32,7 @@ pub struct BranchesPage {
 }
 
 impl BranchesPage {
-    /// The page of a chart's branches, of which so many edits were accepted.
+    /// The page of a chart's branches; `edits` is how many edits were accepted.
     pub fn new<R: Register>(
         alloc: Global,
         edits: u64,
@@ -49,7 +50,7 @@ impl BranchesPage {
     }
 }
 
-/// How long each branch is.
+/// The name and the length of each branch, in the order the branches were made.
 fn lengths<R: Register>(alloc: Global, chart: &Chart<R>) -> Result<Listed<BranchLength>, AllocError>
     ensures { IfOk result (λ all. all ≡ map spec.length_of (forest chart.now.cut).branches) }
 {
@@ -60,7 +61,8 @@ fn lengths<R: Register>(alloc: Global, chart: &Chart<R>) -> Result<Listed<Branch
     Ok(Listed::new(all))
 }
 
-/// How long the branch at an index is, in order of making.
+/// The name and the length of the branch at `index`, which counts branches in the order they were
+/// made.
 fn length_at<R: Register>(chart: &Chart<R>, index: u32) -> BranchLength
     requires apart { AreNamedApart (forest chart.now.cut).branches }
     requires within { index < length (forest chart.now.cut).branches }

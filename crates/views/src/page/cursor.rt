@@ -10,7 +10,7 @@ use schedule_trie::name::Name;
 use std::alloc::{AllocError, Global};
 use words::text::{Pushed, push_labelled, push_text};
 
-/// Where a session's cursor stands, and the session's breaks in order.
+/// The cursor of a session, and the session's breaks in order.
 #[derive(Clone, Drop)]
 pub struct CursorPage {
     pub branch: Name,
@@ -61,7 +61,7 @@ fn push_break(out: &mut Vec<u8>, at: Break) -> Pushed
     push_text(out, "\n")
 }
 
-/// Adds a break.
+/// Adds the text of a break, without the line around it.
 fn push_break_text(out: &mut Vec<u8>, at: Break) -> Pushed
     ensures { OnOk result (out.new.items ≡ out.old.items ++ spec.break_text at) }
 {
@@ -74,7 +74,7 @@ fn push_break_text(out: &mut Vec<u8>, at: Break) -> Pushed
     }
 }
 
-/// Adds a break on a bit.
+/// Adds the text of a break on bit `j` with value `v`.
 fn push_bit(out: &mut Vec<u8>, j: u32, v: u32) -> Pushed
     ensures { OnOk result (out.new.items ≡ out.old.items ++ spec.break_text (Break.Bit j v)) }
 {

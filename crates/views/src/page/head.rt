@@ -6,7 +6,7 @@ ghost use Rattle.views.specs.page.Head as spec;
 use schedule_trie::name::Name;
 use words::text::{Pushed, push_bytes, push_labelled, push_number, push_text};
 
-/// Where a page was made: at a place of a branch that is so long. A place is after so many steps.
+/// The place that a page shows: after the first `place` steps of a branch of `len` steps.
 #[derive(Clone, Copy, Debug, PartialEq, Eq)]
 pub struct Head {
     pub branch: Name,

@@ -12,7 +12,7 @@ use frames::types::Event;
 use words::text::{Pushed, push_labelled, push_text};
 
 /// The events up to a place, each with the index of its step.
-#[derive(Drop)]
+#[derive(Clone, Drop)]
 pub struct HistoryPage {
     pub head: Head,
     pub events: Listed<(usize, Event)>,
@@ -26,7 +26,8 @@ pub(crate) fn push_history(out: &mut Vec<u8>, session: u32, page: &HistoryPage) 
     push_events(out, page.events.as_slice())
 }
 
-/// Adds the lines of events, each with the index of its step; `none` where there are none.
+/// Adds a line for each event, with the index of its step, or the line `none` if there are no
+/// events.
 fn push_events(out: &mut Vec<u8>, events: &[(usize, Event)]) -> Pushed
     ensures { OnOk result (out.new.items ≡ out.old.items ++ spec.history_lines events.now) }
 {
@@ -39,7 +40,7 @@ fn push_events(out: &mut Vec<u8>, events: &[(usize, Event)]) -> Pushed
     Ok(())
 }
 
-/// Adds the line of an event of the step with this index.
+/// Adds the line of an event that the step with this index recorded.
 fn push_event(out: &mut Vec<u8>, index: usize, event: Event) -> Pushed
     ensures { OnOk result (out.new.items ≡ out.old.items ++ spec.event_line (index, event)) }
 {
@@ -65,7 +66,7 @@ fn event_process(event: Event) -> u32
     }
 }
 
-/// Adds what happened to the process of an event.
+/// Adds what an event did: its kind, with its operation, value or reason.
 fn push_event_name(out: &mut Vec<u8>, event: Event) -> Pushed
     ensures { OnOk result (out.new.items ≡ out.old.items ++ spec.event_name event) }
 {

@@ -11,7 +11,7 @@ use words::text::{Pushed, push_labelled, push_text, push_word};
 
 /// The values of bit cells.
 pub(crate) fn bits(alloc: Global, cells: &[Cell]) -> Result<Listed<bool>, AllocError>
-    ensures { IfOk result (λ all. all ≡ map spec.value_of cells.now) }
+    ensures { IfOk result (λ all. all ≡ map spec.cell_value cells.now) }
 {
     let mut all = Vec::new(alloc);
     for cell in cells {
@@ -73,7 +73,7 @@ fn push_bit_cell(out: &mut Vec<u8>, i: usize, cell: Cell) -> Pushed
     push_text(out, "\n")
 }
 
-/// The value being written, or a dash.
+/// The value being written to a bit, or a dash if no write is in progress.
 fn writing_name(writing: Option<bool>) -> &'static str
     ensures { result.now ≡ spec.writing_name writing }
 {
@@ -83,7 +83,7 @@ fn writing_name(writing: Option<bool>) -> &'static str
     }
 }
 
-/// A dash where a bit cell isn't read, `r` where it is, and `h` where that read is hit.
+/// A dash if no read of the bit is in progress; else `h` if the read is hit, and `r` if it isn't.
 fn reading_name(cell: Cell) -> &'static str
     ensures { result.now ≡ spec.reading_name cell }
 {

@@ -1,4 +1,4 @@
-//! The words that pages have for kinds of actions, layers, reasons and verdicts.
+//! The words for kinds of actions, layers, reasons and verdicts.
 
 ghost use Rattle.std.specs.Prelude.{◌≡◌};
 ghost use Rattle.views.specs.page.Names as spec;
@@ -18,7 +18,7 @@ pub(super) fn kind_name(kind: ActionKind) -> &'static str
     }
 }
 
-/// The name of a layer; that of a matrix is one in both of its phases.
+/// The name of a layer. Both phases of a matrix have the same name.
 pub(super) fn frame_name(layer: FrameLayer) -> &'static str
     ensures { result.now ≡ spec.frame_name layer }
 {
@@ -32,7 +32,7 @@ pub(super) fn frame_name(layer: FrameLayer) -> &'static str
     }
 }
 
-/// The name of a layer that is spent.
+/// The name of a layer whose stamps or tags are used up.
 pub(super) fn layer_name(layer: Layer) -> &'static str
     ensures { result.now ≡ spec.layer_name layer }
 {

@@ -1,4 +1,4 @@
-//! What a page tells of pending operations, in frames.
+//! Pages of pending operations, as frames.
 
 ghost use Rattle.std.specs.Prelude.{◌≡◌, ◌++◌, IfOk, OnOk, decimal};
 ghost use Rattle.views.specs.page.Pending as spec;
@@ -13,20 +13,44 @@ use frames::types::{Frame, FrameLayer, Op};
 use std::alloc::{AllocError, Global};
 use words::text::{Pushed, push_labelled, push_text};
 
-/// What a process has pending.
-#[derive(Drop)]
+/// What a process has pending, if anything, and whether the process has stopped.
+#[derive(Clone, Drop)]
 pub struct PendingStatus {
-    /// The frames of its operation, outermost first; none where it has nothing pending.
+    /// The frames of the process's operation, outermost first; `None` if nothing is pending.
     pub frames: Option<Listed<Frame>>,
-    /// Whether it has stopped.
+    /// Whether the process has stopped.
     pub stopped: bool,
 }
 
-/// The pending operations.
+/// The pending operations of all processes.
 #[derive(Drop)]
 pub struct PendingPage {
     pub head: Head,
     pub processes: Listed<PendingStatus>,
+}
+
+/// A clone is the same page, in newly allocated memory.
+impl Clone for PendingPage {
+    ghost use Rattle.std.specs.Prelude.{◌≡◌};
+
+    ghost is_clone = { λ page copy. copy ≡ page };
+
+    fn clone(&self) -> Result<PendingPage, AllocError> {
+        let head = self.head;
+        let processes = cloned(self.processes.allocator(), self.processes.as_slice())?;
+        Ok(PendingPage { head, processes })
+    }
+}
+
+/// A copy of `statuses`, in newly allocated memory.
+fn cloned(alloc: Global, statuses: &[PendingStatus]) -> Result<Listed<PendingStatus>, AllocError>
+    ensures { IfOk result (λ all. all ≡ statuses.now) }
+{
+    let mut all = Vec::with_capacity(alloc, statuses.len())?;
+    for status in statuses {
+        all.push(status.clone()?)?;
+    }
+    Ok(Listed::new(all))
 }
 
 /// Adds the page of pending operations.
@@ -37,12 +61,12 @@ pub(crate) fn push_pending(out: &mut Vec<u8>, session: u32, page: &PendingPage) 
     push_operations(out, page.processes.as_slice())
 }
 
-/// What each process has pending.
+/// The pending operation of each process.
 pub(crate) fn pending<R: Register>(
     alloc: Global,
     config: &Config<R>,
 ) -> Result<Listed<PendingStatus>, AllocError>
-    ensures { IfOk result (λ all. all ≡ spec.pending (R.is config.now.register) config.now) }
+    ensures { IfOk result (λ all. all ≡ spec.pending (R.behaviour config.now.register) config.now) }
 {
     let mut all = Vec::new(alloc);
     for p in 0..config.register().processes() {
@@ -51,13 +75,14 @@ pub(crate) fn pending<R: Register>(
     Ok(Listed::new(all))
 }
 
-/// What a process has pending.
+/// The pending operation of a process.
 fn pending_at<R: Register>(
     alloc: Global,
     config: &Config<R>,
     p: u32,
 ) -> Result<PendingStatus, AllocError>
-    ensures { IfOk result (λ s. s ≡ spec.pending_at (R.is config.now.register) config.now p) }
+    ensures { IfOk result
+        (λ s. s ≡ spec.pending_at (R.behaviour config.now.register) config.now p) }
 {
     let stopped = config.stopped(p);
     let frames = match config.stack(alloc, p) {
@@ -90,7 +115,7 @@ fn push_process(out: &mut Vec<u8>, p: usize, status: &PendingStatus) -> Pushed
     }
 }
 
-/// Adds the line of a process with frames.
+/// Adds the line of a process that has an operation pending, which is shown as frames.
 fn push_frames(out: &mut Vec<u8>, p: usize, frames: &[Frame], stopped: bool) -> Pushed
     ensures { OnOk result (out.new.items ≡ out.old.items ++ spec.frames_line p frames.now stopped) }
 {
@@ -125,7 +150,8 @@ fn push_frame(out: &mut Vec<u8>, frame: Frame) -> Pushed
     push_frame_rest(out, frame.layer, frame.i, frame.x)
 }
 
-/// Adds the operation of a frame: a stamped register writes its code, every other layer its value.
+/// Adds the operation of a frame. A write is shown with its code `x` in a stamped register, and
+/// with its value in every other layer.
 fn push_frame_op(out: &mut Vec<u8>, layer: FrameLayer, op: Op, x: u32) -> Pushed
     ensures { OnOk result (out.new.items ≡ out.old.items ++ spec.frame_op layer op x) }
 {
@@ -138,7 +164,7 @@ fn push_frame_op(out: &mut Vec<u8>, layer: FrameLayer, op: Op, x: u32) -> Pushed
     }
 }
 
-/// Adds what stands behind the operation of a frame.
+/// Adds what follows the operation in a frame's text.
 fn push_frame_rest(out: &mut Vec<u8>, layer: FrameLayer, i: u32, x: u32) -> Pushed
     ensures { OnOk result (out.new.items ≡ out.old.items ++ spec.frame_rest layer i x) }
 {
@@ -152,10 +178,10 @@ fn push_frame_rest(out: &mut Vec<u8>, layer: FrameLayer, i: u32, x: u32) -> Push
     }
 }
 
-/// Adds the phase of a matrix, the part in work and the code.
+/// Adds the phase of a matrix, the part in use and the code.
 fn push_part(out: &mut Vec<u8>, phase: &str, i: u32, x: u32) -> Pushed
     ensures { OnOk result (out.new.items ≡ out.old.items
-        ++ phase.now ++ decimal i ++ spec.behind_space x) }
+        ++ phase.now ++ decimal i ++ spec.after_space x) }
 {
     push_labelled(out, phase, u64::from(i))?;
     push_labelled(out, " ", u64::from(x))

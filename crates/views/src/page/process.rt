@@ -1,7 +1,7 @@
-//! What a page tells of a process.
+//! The page of one process, and the line of a process.
 
 ghost use Rattle.std.specs.Prelude.{◌≡◌, ◌++◌, IfOk, None, OnOk, codes, decimal};
-ghost use Rattle.views.specs.Numbered.{numbered};
+ghost use Rattle.views.specs.Numbered.{numbered_lines};
 ghost use Rattle.views.specs.page.Head.{line_end};
 ghost use Rattle.views.specs.page.Names as names;
 ghost use Rattle.views.specs.page.Process as spec;
@@ -15,18 +15,18 @@ use frames::types::{Action, Op};
 use std::alloc::{AllocError, Global};
 use words::text::{Pushed, push_labelled, push_text};
 
-/// What a process is at.
+/// What a process is doing.
 #[derive(Clone, Copy, Debug, PartialEq, Eq)]
 pub enum ProcessStatus {
     /// It has nothing pending.
     Idle { stopped: bool },
-    /// It has an operation pending, and this is its next bit action.
+    /// It has an operation pending, and `next` is that operation's next bit action.
     Busy { op: Op, next: Action },
     /// It has stopped with an operation pending.
     Stopped { op: Op },
 }
 
-/// One process; none where the register has no process of this number.
+/// One process; `status` is `None` if the register has no process with this number.
 #[derive(Clone, Copy, Debug, PartialEq, Eq)]
 pub struct ProcessPage {
     pub head: Head,
@@ -40,7 +40,8 @@ pub(crate) fn process_page<R: Register>(
     process: u32,
     config: &Config<R>,
 ) -> ProcessPage
-    ensures { result ≡ spec.process_page (R.is config.now.register) head.now process config.now }
+    ensures { result
+        ≡ spec.process_page (R.behaviour config.now.register) head.now process config.now }
 {
     ProcessPage {
         head: *head,
@@ -62,7 +63,8 @@ pub(crate) fn statuses<R: Register>(
     alloc: Global,
     config: &Config<R>,
 ) -> Result<Listed<ProcessStatus>, AllocError>
-    ensures { IfOk result (λ all. all ≡ spec.statuses (R.is config.now.register) config.now) }
+    ensures { IfOk result
+        (λ all. all ≡ spec.statuses (R.behaviour config.now.register) config.now) }
 {
     let mut all = Vec::new(alloc);
     for p in 0..config.register().processes() {
@@ -71,9 +73,9 @@ pub(crate) fn statuses<R: Register>(
     Ok(Listed::new(all))
 }
 
-/// The status of a process, which the register may not have.
+/// The status of process `p`, or `None` if the register has no such process.
 fn status_of<R: Register>(config: &Config<R>, p: u32) -> Option<ProcessStatus>
-    ensures { result ≡ spec.status_of (R.is config.now.register) config.now p }
+    ensures { result ≡ spec.status_of (R.behaviour config.now.register) config.now p }
 {
     if p < config.register().processes() {
         Some(status_at(config, p))
@@ -84,7 +86,7 @@ fn status_of<R: Register>(config: &Config<R>, p: u32) -> Option<ProcessStatus>
 
 /// The status of a process.
 fn status_at<R: Register>(config: &Config<R>, p: u32) -> ProcessStatus
-    ensures { result ≡ spec.status_at (R.is config.now.register) config.now p }
+    ensures { result ≡ spec.status_at (R.behaviour config.now.register) config.now p }
 {
     let stopped = config.stopped(p);
     let Some(op) = config.op(p) else {
@@ -102,7 +104,7 @@ fn status_at<R: Register>(config: &Config<R>, p: u32) -> ProcessStatus
 /// Adds a line for each process.
 pub(crate) fn push_statuses(out: &mut Vec<u8>, statuses: &[ProcessStatus]) -> Pushed
     ensures { OnOk result (out.new.items ≡ out.old.items
-        ++ numbered spec.status_line 0 statuses.now) }
+        ++ numbered_lines spec.status_line 0 statuses.now) }
 {
     for (p, status) in statuses.iter().enumerate() {
         push_status(out, p, *status)?;
@@ -110,7 +112,7 @@ pub(crate) fn push_statuses(out: &mut Vec<u8>, statuses: &[ProcessStatus]) -> Pu
     Ok(())
 }
 
-/// Adds the line of one process, which may not be there.
+/// Adds the line of process `p`, which ends in `none` if the register has no such process.
 fn push_one(out: &mut Vec<u8>, p: u32, status: Option<ProcessStatus>) -> Pushed
     ensures { OnOk result (out.new.items ≡ out.old.items ++ spec.one_line p status) }
 {
@@ -120,7 +122,7 @@ fn push_one(out: &mut Vec<u8>, p: u32, status: Option<ProcessStatus>) -> Pushed
     }
 }
 
-/// Adds the line of a process that isn't there.
+/// Adds the line of a process that the register doesn't have.
 fn push_none(out: &mut Vec<u8>, p: u32) -> Pushed
     ensures { OnOk result (out.new.items ≡ out.old.items ++ spec.one_line p None) }
 {
@@ -149,14 +151,14 @@ pub(crate) fn push_idle(out: &mut Vec<u8>, p: usize, stopped: bool) -> Pushed
     push_text(out, "\n")
 }
 
-/// What stands behind a process that has stopped.
+/// The end of a process's line: ` stopped` if the process has stopped, else nothing.
 pub(crate) fn stopped_text(stopped: bool) -> &'static str
     ensures { result.now ≡ spec.stopped_text stopped }
 {
     if stopped { " stopped" } else { "" }
 }
 
-/// Adds the line of a process with an operation pending.
+/// Adds the line of a process that has an operation pending and hasn't stopped.
 fn push_busy(out: &mut Vec<u8>, p: usize, op: Op, next: Action) -> Pushed
     ensures { OnOk result (out.new.items ≡ out.old.items ++ spec.busy_line p op next) }
 {
@@ -165,7 +167,7 @@ fn push_busy(out: &mut Vec<u8>, p: usize, op: Op, next: Action) -> Pushed
     push_next(out, next)
 }
 
-/// Adds a process, before its operation.
+/// Adds the beginning of a process's line: an indented name, and a space.
 pub(super) fn push_name(out: &mut Vec<u8>, p: usize) -> Pushed
     ensures { OnOk result
         (out.new.items ≡ out.old.items ++ codes "  p" ++ decimal p ++ codes " ") }

@@ -13,7 +13,7 @@ use std::alloc::{AllocError, Global};
 use words::text::Pushed;
 
 /// The processes, and the values of all bit cells and words.
-#[derive(Drop)]
+#[derive(Clone, Drop)]
 pub struct StatePage {
     pub head: Head,
     pub processes: Listed<ProcessStatus>,
@@ -28,7 +28,7 @@ pub(crate) fn state_page<R: Register>(
     config: &Config<R>,
 ) -> Result<StatePage, AllocError>
     ensures { IfOk result
-        (λ page. page ≡ spec.state_page (R.is config.now.register) head.now config.now) }
+        (λ page. page ≡ spec.state_page (R.behaviour config.now.register) head.now config.now) }
 {
     let store = config.store();
     Ok(StatePage {

@@ -37,7 +37,7 @@ fn push_steps_head(out: &mut Vec<u8>, session: u32, branch: &Name, len: usize) -
     push_text(out, "\n")
 }
 
-/// Adds a line for each step, with its index.
+/// Adds a line for each step, with the index of the step.
 fn push_step_lines(out: &mut Vec<u8>, steps: &[Step]) -> Pushed
     ensures { OnOk result (out.new.items ≡ out.old.items ++ spec.step_lines steps.now) }
 {

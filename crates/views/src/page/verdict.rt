@@ -12,15 +12,16 @@ use frames::verdict::ReadVerdict;
 use std::alloc::{AllocError, Global};
 use words::text::{Pushed, push_labelled, push_text, push_word};
 
-/// The returned reads up to a place, each with the verdict on it; none on a tower with several writers, for which no verdict is
-/// defined.
-#[derive(Drop)]
+/// The reads that returned up to a place, each with its verdict. `reads` is `None` on a tower with
+/// several writers, for which verdicts aren't defined.
+#[derive(Clone, Drop)]
 pub struct VerdictPage {
     pub head: Head,
     pub reads: Option<Listed<ReadVerdict>>,
 }
 
-/// The page of verdicts on the reads of a history, from an initial value.
+/// The page of the verdicts on the reads of a history, given the initial `value`. Without a value,
+/// the page has no verdicts.
 pub(crate) fn verdict_page(
     alloc: Global,
     head: &Head,
@@ -45,7 +46,7 @@ pub(crate) fn push_verdict(out: &mut Vec<u8>, session: u32, page: &VerdictPage) 
     push_reads(out, &page.reads)
 }
 
-/// Adds the lines of returned reads, where verdicts are defined.
+/// Adds the lines of returned reads, or `undefined for matrix` if `reads` is `None`.
 fn push_reads(out: &mut Vec<u8>, reads: &Option<Listed<ReadVerdict>>) -> Pushed
     ensures { OnOk result (out.new.items ≡ out.old.items ++ spec.reads_text reads.now) }
 {
@@ -55,7 +56,7 @@ fn push_reads(out: &mut Vec<u8>, reads: &Option<Listed<ReadVerdict>>) -> Pushed
     }
 }
 
-/// Adds the lines of returned reads, or of none.
+/// Adds a line for each returned read, or the line `none` if no read has returned.
 fn push_verdicts(out: &mut Vec<u8>, verdicts: &[ReadVerdict]) -> Pushed
     ensures { OnOk result (out.new.items ≡ out.old.items ++ spec.verdict_lines verdicts.now) }
 {

@@ -1,28 +1,26 @@
 //! What a slip holds.
 
-ghost use Rattle.std.specs.Prelude.{◌≡◌, IfOk, false, map};
+ghost use Rattle.std.specs.Prelude.{◌≡◌, IfOk, false};
 ghost use Rattle.cutoff.specs.Fitting.{part_of};
 ghost use Rattle.frames.specs.Recorded.{indexed};
 ghost use Rattle.views.specs.RunPages as spec;
-ghost use Rattle.views.specs.Spots.{events_of};
+ghost use Rattle.views.specs.Spots.{parts_events};
 ghost use Rattle.views.specs.declared.page.Page.TheVariants as spec_page;
 
 use crate::lens::Lens;
 use crate::listed::Listed;
 use crate::page::Page;
 use crate::page::bits::bits_page;
-use crate::page::branches::BranchesPage;
-use crate::page::cursor::CursorPage;
 use crate::page::head::Head;
 use crate::page::history::HistoryPage;
 use crate::page::pending::{PendingPage, pending};
 use crate::page::process::process_page;
 use crate::page::state::state_page;
-use crate::page::steps::StepsPage;
 use crate::page::verdict::verdict_page;
 use crate::query::PlaceKind;
 use crate::spot::{exit_at, history_of};
 use checkpoints::run::Run;
+use cutoff::runs::Runs;
 use frames::config::Config;
 use frames::register::Register;
 use frames::types::Event;
@@ -30,15 +28,14 @@ use std::alloc::{AllocError, Global};
 use std::marker::Model;
 use std::sync::Arc;
 
+/// What was found at a place, or a page that was already made.
 #[derive(Drop)]
 pub(super) enum Content<R: Register> {
     Place(PlaceSlip<R>),
-    Branches(BranchesPage),
-    Cursor(CursorPage),
-    Steps(StepsPage),
+    Ready(Page),
 }
 
-/// A place of a branch, as a page of a kind shows it.
+/// What was found at a place of a branch, for a page of the kind `kind`.
 #[derive(Drop)]
 pub(super) struct PlaceSlip<R: Register> {
     pub(super) kind: PlaceKind,
@@ -52,24 +49,26 @@ impl<R: Register> Model for PlaceSlip<R> {
 
     ghost Value = { Page };
 
-    ghost view = { λ s. found_page R.is s.kind s.head s.found };
+    ghost view = { λ s. found_page R.behaviour s.kind s.head s.found };
 
     ghost invariant = { λ s. IsFor s.kind s.found };
 }
 
-/// What was found at a place.
+/// What a look found at a place.
 #[derive(Drop)]
 pub(super) enum Found<R: Register> {
-    /// No step is made there: the configuration, for a page that shows no events.
+    /// For a page without events, if no step precedes the place: the configuration at the place.
     Initial(Config<R>),
-    /// The run that comes to it, as far as it counts, for a page that shows no events.
+    /// For a page without events: the run that reaches the place, and how many of the run's steps
+    /// precede the place.
     Last(Arc<Run<R>>, u32),
-    /// The runs that come to it, each as far as it counts, for a page of events.
-    Runs(Vec<(Arc<Run<R>>, u32)>),
+    /// For a page of events: the runs up to the place, each with how many of its steps precede the
+    /// place.
+    Runs(Runs<R>),
 }
 
 impl<R: Register> PlaceSlip<R> {
-    /// Its page.
+    /// The page, made from what was found.
     pub(super) fn page(&self, alloc: Global, lens: &mut Lens<R>) -> Result<Page, AllocError>
         ensures { IfOk result (λ page. page ≡ self.now) }
     {
@@ -81,7 +80,8 @@ impl<R: Register> PlaceSlip<R> {
     }
 }
 
-/// The page of what the first `count` steps of a run come to: of its end, which isn't copied, or of a place that the lens makes.
+/// The page of the configuration after `count` steps of `run`. If the run has no more steps, its
+/// exit is shown without a copy; else the lens gives the configuration.
 fn part_page<R: Register>(
     alloc: Global,
     lens: &mut Lens<R>,
@@ -92,7 +92,7 @@ fn part_page<R: Register>(
 ) -> Result<Page, AllocError>
     requires { spec.shows_events kind ≡ false }
     ensures { IfOk result
-        (λ page. page ≡ spec.part_page R.is kind head.now (part_of (run.now, count))) }
+        (λ page. page ≡ spec.part_page R.behaviour kind head.now (part_of (run.now, count))) }
 {
     if count as usize >= run.steps().len() {
         return config_page(alloc, kind, head, exit_at(run, count));
@@ -101,17 +101,18 @@ fn part_page<R: Register>(
     config_page(alloc, kind, head, &config)
 }
 
-/// The page of the events of runs one after the other, each run as far as it counts: their verdicts, or themselves.
+/// The page of the events of successive runs, or of the verdicts on these events. Of each run, only
+/// the steps that precede the place count.
 fn events_page<R: Register>(
     alloc: Global,
     kind: PlaceKind,
     head: &Head,
-    runs: &[(Arc<Run<R>>, u32)],
+    runs: &Runs<R>,
 ) -> Result<Page, AllocError>
     ensures { IfOk result (λ page. page
-        ≡ spec.events_page kind head.now (indexed 0 (events_of R.is (map part_of runs.now)))) }
+        ≡ spec.events_page kind head.now (indexed 0 (parts_events R.behaviour runs.now))) }
 {
-    let events = history_of(alloc, runs)?;
+    let events = history_of(alloc, runs.as_slice())?;
     match kind {
         PlaceKind::Verdict(value) => {
             Ok(Page::Verdict(verdict_page(alloc, head, value, &events)?))
@@ -142,7 +143,7 @@ fn config_page<R: Register>(
 ) -> Result<Page, AllocError>
     requires { spec.shows_events kind ≡ false }
     ensures { IfOk result (λ page. page
-        ≡ spec.config_page (R.is config.now.register) kind head.now config.now) }
+        ≡ spec.config_page (R.behaviour config.now.register) kind head.now config.now) }
 {
     match kind {
         PlaceKind::State => Ok(Page::State(state_page(alloc, head, config)?)),

@@ -5,7 +5,7 @@ use Rattle.checkpoints.proofs.run.run_segment.Goals as goal
 
 pub run_of-requires : goal.run_of-requires
 run_of-requires g c =
-    let is = g.R.Behaves.is in
+    let is = g.R.Behaves.behaviour in
     let steps = c.args.steps.now in
     let fit = subst (AllFit (is c.args.entry.now.register)) (sym (map-id steps)) c.requires in
     subst (λ r. AllFit (is r) (map (λ s. s) steps)) (sym (ap (λ d. d.register) (c.in_ok-entry.ensures.ok ∙ c.in_ok-copy.ensures))) fit

@@ -1,61 +1,107 @@
-use Rattle.std.proofs.Common.{◌+◌, ◌≤◌, ◌<◌, arith}
-use Rattle.conversation.proofs.Turns.{reached_start, breaks_long, finished, broken}
+use Rattle.std.proofs.Common.{◌+◌, ◌-◌, ◌≤◌, ◌<◌, ◌≡◌, ℕ, length, take, arith}
+use Rattle.std.specs.Prelude.{⊤, OnOk, Result, Ok, Err}
+use Rattle.std.specs.Result.{IsErrAnd}
+use Rattle.std.proofs.lemmas.List.{length-take-le}
+use Rattle.conversation.specs.declared.fault.StreamFault.{StreamFault}
+use Rattle.conversation.proofs.Turns.{reached_start, reached_kept, reached_at, breaks_read, breaks_long, finished, broken}
 use Rattle.conversation.proofs.converse.converse.Goals as goal
-use Rattle.conversation.specs.declared.limits.TheConstants.{MOST_BYTES}
+use Rattle.conversation.specs.declared.limits.TheConstants.{MOST_SCRIPT_BYTES}
 
 pub loop-init : goal.loop-init
 loop-init g c = record {
   some = omega arith;
   few = omega (arith, c.new-conversation.ensures.lines);
   sent = c.new-conversation.ensures.out;
-  reached = (0, omega arith, reached_start g.A.Answers.define _ _ _ _ _ c.new-conversation.ensures.lines c.new-conversation.ensures.line);
+  within = omega arith;
+  reached = λ alone. (alone, reached_start g.A.Answers.define _ _ _ _ _ c.new-conversation.ensures.lines c.new-conversation.ensures.line);
 }
 
 pub loop-preserved : goal.loop-preserved
 loop-preserved g c =
-    let so_far = c.loop.invariant.reached in
-    let few : so_far.0 + c.loop.room ≤ MOST_BYTES = omega (arith, so_far.1) in
-    let turned = rw (c.in_ok-taken.was, c.in-Some.is) at (c.turn.ensures.turned _ _ _ so_far.0 few so_far.2) in
-    let lines = rw c.in-Some.is at c.in_ok-taken.ensures.lines in
+    let count = c.in-Some.count in
+    let buffer = c.read_piece.new.buffer in
+    let bound = rw c.in-Some.is at c.in-Ok.ensures.bound in
+    let size : length (take count buffer) ≡ count = length-take-le count buffer (omega (arith, bound)) in
+    let so_far : MOST_SCRIPT_BYTES - c.loop.room + length (take count buffer) ≤ MOST_SCRIPT_BYTES = omega (arith, size, bound, c.loop.invariant.within) in
     record {
       some = omega (arith, c.if-room-eq0.false);
-      few = omega (arith, c.loop.invariant.few, lines, turned.1);
-      sent = c.in_ok-taken.ensures.out;
-      reached = (so_far.0 + c.in-Some.taken, omega (arith, so_far.1, turned.1), turned.0);
+      few = omega (arith, size, bound, c.loop.invariant.few, c.turn.ensures.lines);
+      sent = c.in_ok-turn.ensures.out;
+      within = omega (arith, c.loop.invariant.within);
+      reached = λ alone.
+          let r = c.loop.invariant.reached alone in
+          let on = c.in_ok-turn.ensures.turned r.0 _ _ _ _ _ (MOST_SCRIPT_BYTES - c.loop.room) (rw c.in-Some.is at c.in-Ok.ensures.bytes) so_far r.1 in (
+            c.in_ok-turn.ensures.alone r.0,
+            reached_at g.A.Answers.define _ _ _ _ _ _ _ _ _ on _ (omega (arith, size, bound, c.loop.invariant.within)),
+          );
     }
 
-pub overflow_sub-room : goal.overflow_sub-room
-overflow_sub-room g c =
-    let so_far = c.loop.invariant.reached in
-    let few : so_far.0 + c.loop.room ≤ MOST_BYTES = omega (arith, so_far.1) in
-    let turned = rw (c.in_ok-taken.was, c.in-Some.is) at (c.turn.ensures.turned _ _ _ so_far.0 few so_far.2) in
-    turned.1
-
 pub returns : goal.returns
-returns g c =
-    let so_far = c.loop.invariant.reached in
-    let few : so_far.0 ≤ MOST_BYTES = omega (arith, so_far.1) in
-    record { done = tt; fault = breaks_long g.A.Answers.define _ _ _ _ _ so_far.0 _ _ _ so_far.2 few }
+returns g c = record {
+  done = λ alone. tt;
+  alone = λ alone. tt;
+  fault = λ alone. breaks_long g.A.Answers.define _ _ _ _ _ _ _ _ _ (c.loop.invariant.reached alone).1 (omega arith);
+}
 
 pub returns-then-room-eq0 : goal.returns-then-room-eq0
 returns-then-room-eq0 g c =
-    let so_far = c.loop.invariant.reached in
-    let few : so_far.0 + c.loop.room ≤ MOST_BYTES = omega (arith, so_far.1) in
-    let turned = rw (c.in_ok-taken.was, c.in-Some.is) at (c.turn.ensures.turned _ _ _ so_far.0 few so_far.2) in
-    let all : so_far.0 + c.in-Some.taken ≤ MOST_BYTES = omega (arith, so_far.1, turned.1) in
-    record { done = tt; fault = breaks_long g.A.Answers.define _ _ _ _ _ _ _ _ _ turned.0 all }
+    let count = c.in-Some.count in
+    let buffer = c.read_piece.new.buffer in
+    let bound = rw c.in-Some.is at c.in-Ok.ensures.bound in
+    let size : length (take count buffer) ≡ count = length-take-le count buffer (omega (arith, bound)) in
+    let so_far : MOST_SCRIPT_BYTES - c.loop.room + length (take count buffer) ≤ MOST_SCRIPT_BYTES = omega (arith, size, bound, c.loop.invariant.within) in
+    record {
+      done = λ alone. tt;
+      alone = λ alone. tt;
+      fault = λ alone.
+          let r = c.loop.invariant.reached alone in
+          let on = c.in_ok-turn.ensures.turned r.0 _ _ _ _ _ (MOST_SCRIPT_BYTES - c.loop.room) (rw c.in-Some.is at c.in-Ok.ensures.bytes) so_far r.1 in
+          breaks_long g.A.Answers.define _ _ _ _ _ _ _ _ _ on so_far;
+    }
 
 pub returns-in_default : goal.returns-in_default
-returns-in_default g c =
-    let so_far = c.loop.invariant.reached in
-    let few : so_far.0 + c.loop.room ≤ MOST_BYTES = omega (arith, so_far.1) in
-    let short : so_far.0 < MOST_BYTES = omega (arith, so_far.1, c.loop.invariant.some) in
-    let turned = rw (c.in_ok-taken.was, c.in_default.is) at (c.turn.ensures.turned _ _ _ so_far.0 few so_far.2) in
-    finished g.A.Answers.define _ _ _ _ _ _ c.finish.result (c.finish.ensures _ _ _ _ so_far.0 short turned.1 turned.0)
+returns-in_default g c = record {
+  done = λ alone. tt;
+  alone = λ alone. tt;
+  fault = λ alone.
+      let r = c.loop.invariant.reached alone in
+      breaks_read g.A.Answers.define _ _ _ _ _ _ _ _ _ r.1 _ c.in_default.ensures.kept (omega arith);
+}
 
-pub returns-in_err-taken : goal.returns-in_err-taken
-returns-in_err-taken g c =
-    let so_far = c.loop.invariant.reached in
-    let few : so_far.0 + c.loop.room ≤ MOST_BYTES = omega (arith, so_far.1) in
-    let turned = rw c.in_err-taken.was at (c.turn.ensures.turned _ _ _ so_far.0 few so_far.2) in
-    broken g.A.Answers.define _ _ _ _ _ (g.A.Answers.world c.turn.new.answers) c.from_residual.result _ _ c.from_residual.ensures.0 c.from_residual.ensures.1 (λ x h. h) turned
+pub returns-in_default-taken : goal.returns-in_default-taken
+returns-in_default-taken g c = record {
+  done = λ alone.
+      let r = c.loop.invariant.reached alone in
+      let bytes = rw c.in_default-taken.is at c.in-Ok.ensures.bytes in
+      let kept = reached_kept g.A.Answers.define _ _ _ _ _ _ _ _ _ r.1 _ bytes.0 in
+      (finished g.A.Answers.define _ _ _ _ _ _ c.finish.result (c.finish.ensures.ended r.0 _ _ _ _ _ (omega (arith, c.loop.invariant.some, c.loop.invariant.within)) bytes.1 kept)).done;
+  alone = λ alone. c.finish.ensures.alone (c.loop.invariant.reached alone).0;
+  fault = λ alone.
+      let r = c.loop.invariant.reached alone in
+      let bytes = rw c.in_default-taken.is at c.in-Ok.ensures.bytes in
+      let kept = reached_kept g.A.Answers.define _ _ _ _ _ _ _ _ _ r.1 _ bytes.0 in
+      (finished g.A.Answers.define _ _ _ _ _ _ c.finish.result (c.finish.ensures.ended r.0 _ _ _ _ _ (omega (arith, c.loop.invariant.some, c.loop.invariant.within)) bytes.1 kept)).fault;
+}
+
+handed : (r : Result ⊤ StreamFault) (Is : StreamFault → Type 0) (P : Type 0) → IsErrAnd r Is → OnOk r P
+handed (Ok done) Is P h = absurd h
+handed (Err e) Is P h = tt
+
+pub returns-in_err-turn : goal.returns-in_err-turn
+returns-in_err-turn g c =
+    let count = c.in-Some.count in
+    let buffer = c.read_piece.new.buffer in
+    let bound = rw c.in-Some.is at c.in-Ok.ensures.bound in
+    let size : length (take count buffer) ≡ count = length-take-le count buffer (omega (arith, bound)) in
+    let so_far : MOST_SCRIPT_BYTES - c.loop.room + length (take count buffer) ≤ MOST_SCRIPT_BYTES = omega (arith, size, bound, c.loop.invariant.within) in
+    record {
+      done = λ alone.
+          let r = c.loop.invariant.reached alone in
+          (broken g.A.Answers.define _ _ _ _ _ (g.A.Answers.world c.turn.new.answers) c.from_residual.result _ _ c.from_residual.ensures.0 c.from_residual.ensures.1 (λ x h. h)
+          (c.in_err-turn.ensures.turned r.0 _ _ _ _ _ (MOST_SCRIPT_BYTES - c.loop.room) (rw c.in-Some.is at c.in-Ok.ensures.bytes) so_far r.1)).done;
+      alone = λ alone. handed c.from_residual.result _ _ c.from_residual.ensures.1;
+      fault = λ alone.
+          let r = c.loop.invariant.reached alone in
+          (broken g.A.Answers.define _ _ _ _ _ (g.A.Answers.world c.turn.new.answers) c.from_residual.result _ _ c.from_residual.ensures.0 c.from_residual.ensures.1 (λ x h. h)
+          (c.in_err-turn.ensures.turned r.0 _ _ _ _ _ (MOST_SCRIPT_BYTES - c.loop.room) (rw c.in-Some.is at c.in-Ok.ensures.bytes) so_far r.1)).fault;
+    }

@@ -2,7 +2,7 @@ use Rattle.std.proofs.Common.{◌≡◌, ℕ, ◌+◌, ◌-◌, ◌<◌, ◌≤�
 use Rattle.std.proofs.lemmas.Bool.{eqb-true, false_from_ne_true}
 use Rattle.std.proofs.lemmas.List.{get_or-take, get_or_default, length-take-le, take-append-drop, take_rest, drop_more}
 use Rattle.conversation.specs.Scripts.{is_line_end}
-use Rattle.conversation.specs.Told.{HasNoEnd}
+use Rattle.conversation.specs.Answering.{HasNoEnd}
 use Rattle.conversation.proofs.converse.first_line.Goals as goal
 
 none_in_front : (text : List ℕ) (end : ℕ) → end ≤ length text

@@ -1,11 +1,11 @@
 use Rattle.std.proofs.Common.{◌≡◌, ℕ, true, Some, None, slice_get, length, refl, sym, ap, subst, ◌∙◌, true≢false, arith}
 use Rattle.std.specs.Option.{option_copied}
 use Rattle.schedule_trie.specs.Cut.{keys_in, note_of, piece_at}
-use Rattle.schedule_trie.specs.Climbs.{keys_to, IsReached}
+use Rattle.schedule_trie.specs.Climbs.{keys_to, HasClimbedTo}
 use Rattle.schedule_trie.proofs.Climbs.{IsStepUp, step_up}
 use Rattle.cutoff.specs.Fitting.{steps_at}
-use Rattle.cutoff.specs.Links.{alone}
-use Rattle.cutoff.specs.Plans.{ComesDown}
+use Rattle.cutoff.specs.Links.{without_register}
+use Rattle.cutoff.specs.Plans.{FitsDownTo}
 use Rattle.cutoff.proofs.Climbs.{climb_noted, link_same, link_came, climb_ends, climb_down, path_once, past_all, shorter}
 use Rattle.cutoff.specs.Prefixes.{IsMarked, RunsDown}
 use Rattle.cutoff.proofs.Fits.{stored_at}
@@ -17,7 +17,7 @@ pub returns-in_default-note : goal.returns-in_default-note
 returns-in_default-note g c = λ i h. (
   (λ e. absurd (true≢false (sym e))),
   (λ d.
-      absurd (climb_noted g.R.PartialEq.eq (g.R.Behaves.is c.args.start.now.register) c.args.trie.now c.in-Some.key c.loop.entry.now c.args.start.now (keys_in c.args.trie.now.strands i) c.loop.at
+      absurd (climb_noted g.R.PartialEq.eq (g.R.Behaves.behaviour c.args.start.now.register) c.args.trie.now c.in-Some.key c.loop.entry.now c.args.start.now (keys_in c.args.trie.now.strands i) c.loop.at
       c.in-Some.is (c.loop.invariant.reached i h) (sym c.step_up-above.ensures.note ∙ ap option_copied c.in_default-note.is) (c.loop.invariant.down i h d))),
 )
 
@@ -27,8 +27,8 @@ ends-requires g c = record {
       let E = g.R.PartialEq.eq in
       let h = c.args.start.now.register in
       let told = c.requires.linked in
-      let came = c.loop.invariant.came told.0 told.1 a link in
-      link_same E g.met.R.PartialEq.laws (g.R.Behaves.is h) c.in-Some-note.stored.now c.loop.entry.now h told.1.exits (steps_at c.args.trie.now c.in-Some.key)
+      let came = c.loop.invariant.reached_exit told.0 told.1 a link in
+      link_same E g.met.R.PartialEq.laws (g.R.Behaves.behaviour h) c.in-Some-note.stored.now c.loop.entry.now h told.1.exits (steps_at c.args.trie.now c.in-Some.key)
       (stored_at E h told.1.exits c.args.trie.now c.in-Some.key c.in-Some-note.stored.now (told.1.each c.in-Some.key) (sym c.step_up-above.ensures.note ∙ ap option_copied c.in-Some-note.is)) a id came.0 came.1;
 }
 
@@ -37,11 +37,11 @@ returns-then-not-ends g c = λ i h. (
   (λ e. absurd (true≢false (sym e))),
   (λ d.
       let E = g.R.PartialEq.eq in
-      let b = g.R.Behaves.is c.args.start.now.register in
+      let b = g.R.Behaves.behaviour c.args.start.now.register in
       let keys = keys_in c.args.trie.now.strands i in
-      let here = subst (λ o. ComesDown E b c.args.trie.now c.args.start.now (keys_to keys o) c.loop.entry.now) c.in-Some.is (c.loop.invariant.down i h d) in
-      let there = subst (IsReached keys) c.in-Some.is (c.loop.invariant.reached i h) in
-      let same = climb_ends E g.met.R.PartialEq.laws g.R.Behaves.is g.met.R.Register.alike c.args.trie.now c.args.start.now c.loop.entry.now keys c.in-Some.key c.in-Some-note.stored.now
+      let here = subst (λ o. FitsDownTo E b c.args.trie.now c.args.start.now (keys_to keys o) c.loop.entry.now) c.in-Some.is (c.loop.invariant.down i h d) in
+      let there = subst (HasClimbedTo keys) c.in-Some.is (c.loop.invariant.reached i h) in
+      let same = climb_ends E g.met.R.PartialEq.laws g.R.Behaves.behaviour g.met.R.Register.alike c.args.trie.now c.args.start.now c.loop.entry.now keys c.in-Some.key c.in-Some-note.stored.now
       (sym c.step_up-above.ensures.note ∙ ap option_copied c.in-Some-note.is) c.entry-begun.ensures.kept there here in
       absurd (true≢false (sym (c.ends.ensures.1 same) ∙ c.if-not-ends.true))),
 )
@@ -49,16 +49,16 @@ returns-then-not-ends g c = λ i h. (
 pub loop-preserved : goal.loop-preserved
 loop-preserved g c =
     let E = g.R.PartialEq.eq in
-    let b = g.R.Behaves.is c.args.start.now.register in
+    let b = g.R.Behaves.behaviour c.args.start.now.register in
     let trie = c.args.trie.now in
     let start = c.args.start.now in
     let s = c.in-Some-note.stored.now in
     let noted : note_of (piece_at trie.pieces c.in-Some.key) ≡ Some s = sym c.step_up-above.ensures.note ∙ ap option_copied c.in-Some-note.is in
     let was = c.loop.invariant in
     let begun = c.entry-begun.ensures.entry in
-    let step : (i : ℕ) → IsReached (keys_in trie.strands i) c.args.last → IsStepUp (keys_in trie.strands i) c.in-Some.key c.step_up-above.result.1 =
+    let step : (i : ℕ) → HasClimbedTo (keys_in trie.strands i) c.args.last → IsStepUp (keys_in trie.strands i) c.in-Some.key c.step_up-above.result.1 =
     λ i h. step_up (keys_in trie.strands i) c.in-Some.key c.step_up-above.result.1 (path_once trie c.requires.cut i)
-    (subst (IsReached (keys_in trie.strands i)) c.in-Some.is (was.reached i h)) (λ front back e. c.step_up-above.ensures.each i front back e) in
+    (subst (HasClimbedTo (keys_in trie.strands i)) c.in-Some.is (was.reached i h)) (λ front back e. c.step_up-above.ensures.each i front back e) in
     record {
       reached = λ i h. (step i h).reached;
       short = λ i h.
@@ -69,31 +69,31 @@ loop-preserved g c =
           omega (arith, up, at, old);
       down = λ i h d.
           let keys = keys_in trie.strands i in
-          let here = subst (λ o. ComesDown E b trie start (keys_to keys o) c.loop.entry.now) c.in-Some.is (was.down i h d) in
-          subst (ComesDown E b trie start (keys_to keys c.step_up-above.result.1)) (sym begun)
-          (climb_down E g.met.R.PartialEq.laws g.R.Behaves.is g.met.R.Register.alike trie start c.loop.entry.now keys c.in-Some.key s noted c.entry-begun.ensures.kept
+          let here = subst (λ o. FitsDownTo E b trie start (keys_to keys o) c.loop.entry.now) c.in-Some.is (was.down i h d) in
+          subst (FitsDownTo E b trie start (keys_to keys c.step_up-above.result.1)) (sym begun)
+          (climb_down E g.met.R.PartialEq.laws g.R.Behaves.behaviour g.met.R.Register.alike trie start c.loop.entry.now keys c.in-Some.key s noted c.entry-begun.ensures.kept
           c.step_up-above.result.1 (step i h) here);
       runs = λ i h d.
           let keys = keys_in trie.strands i in
           let told = c.requires.linked.1 in
           let covers = (stored_at E start.register told.exits trie c.in-Some.key s (told.each c.in-Some.key) noted).covers in
-          let to = up_new E g.met.R.PartialEq.laws g.R.Behaves.is g.met.R.Register.alike trie c.in-Some.key s noted c.entry-begun.ensures.kept covers start keys
-          c.step_up-above.result.1 (step i h) (subst (RunsDown E g.R.Behaves.is trie b start (keys_to keys c.step_up-above.result.1)) begun d) in
-          was.runs i h (subst (λ o. RunsDown E g.R.Behaves.is trie b start (keys_to keys o) c.loop.entry.now) (sym c.in-Some.is)
-          (up_same E g.met.R.PartialEq.laws g.R.Behaves.is g.met.R.Register.alike trie c.in-Some.key s noted c.entry-begun.ensures.kept covers start keys
+          let to = up_new E g.met.R.PartialEq.laws g.R.Behaves.behaviour g.met.R.Register.alike trie c.in-Some.key s noted c.entry-begun.ensures.kept covers start keys
+          c.step_up-above.result.1 (step i h) (subst (RunsDown E g.R.Behaves.behaviour trie b start (keys_to keys c.step_up-above.result.1)) begun d) in
+          was.runs i h (subst (λ o. RunsDown E g.R.Behaves.behaviour trie b start (keys_to keys o) c.loop.entry.now) (sym c.in-Some.is)
+          (up_same E g.met.R.PartialEq.laws g.R.Behaves.behaviour g.met.R.Register.alike trie c.in-Some.key s noted c.entry-begun.ensures.kept covers start keys
           c.step_up-above.result.1 (step i h) c.loop.entry.now (c.ends.ensures.0 c.if-not-ends.false) to));
-      came = λ next told a link.
-          subst (λ e. (slice_get told.exits a ≡ Some (alone e)) × (E e.register start.register ≡ true)) (sym begun)
+      reached_exit = λ next told a link.
+          subst (λ e. (slice_get told.exits a ≡ Some (without_register e)) × (E e.register start.register ≡ true)) (sym begun)
           (link_came E start.register told.exits (steps_at trie c.in-Some.key) s
           (stored_at E start.register told.exits trie c.in-Some.key s (told.each c.in-Some.key) noted) a (sym c.link-link.ensures ∙ link));
     }
 
--- down to the mark they are known to fit
+-- down to the mark stored runs are known to fit
 pub returns-then-is_marked : goal.returns-then-is_marked
 returns-then-is_marked g c = λ i h. (
   (λ e.
       let E = g.R.PartialEq.eq in
-      let b = g.R.Behaves.is c.args.start.now.register in
+      let b = g.R.Behaves.behaviour c.args.start.now.register in
       let trie = c.args.trie.now in
       let start = c.args.start.now in
       let keys = keys_in trie.strands i in
@@ -101,11 +101,11 @@ returns-then-is_marked g c = λ i h. (
       let noted : note_of (piece_at trie.pieces c.in-Some.key) ≡ Some s = sym c.step_up-above.ensures.note ∙ ap option_copied c.in-Some-note.is in
       let told = c.requires.linked.1 in
       let covers = (stored_at E start.register told.exits trie c.in-Some.key s (told.each c.in-Some.key) noted).covers in
-      let there = subst (IsReached keys) c.in-Some.is (c.loop.invariant.reached i h) in
+      let there = subst (HasClimbedTo keys) c.in-Some.is (c.loop.invariant.reached i h) in
       let step = step_up keys c.in-Some.key c.step_up-above.result.1 (path_once trie c.requires.cut i) there (λ front back e. c.step_up-above.ensures.each i front back e) in
-      let marked = subst (IsMarked E g.R.Behaves.is trie start) (c.is_marked.ensures.0 c.if-is_marked.true) c.requires.marked in
-      c.loop.invariant.runs i h (subst (λ o. RunsDown E g.R.Behaves.is trie b start (keys_to keys o) c.loop.entry.now) (sym c.in-Some.is)
-      (up_same E g.met.R.PartialEq.laws g.R.Behaves.is g.met.R.Register.alike trie c.in-Some.key s noted c.entry-begun.ensures.kept covers start keys
+      let marked = subst (IsMarked E g.R.Behaves.behaviour trie start) (c.is_marked.ensures.0 c.if-is_marked.true) c.requires.marked in
+      c.loop.invariant.runs i h (subst (λ o. RunsDown E g.R.Behaves.behaviour trie b start (keys_to keys o) c.loop.entry.now) (sym c.in-Some.is)
+      (up_same E g.met.R.PartialEq.laws g.R.Behaves.behaviour g.met.R.Register.alike trie c.in-Some.key s noted c.entry-begun.ensures.kept covers start keys
       c.step_up-above.result.1 step c.loop.entry.now (c.ends.ensures.0 c.if-not-ends.false) (marked i there)))),
   (λ d. refl),
 )
@@ -113,7 +113,7 @@ returns-then-is_marked g c = λ i h. (
 pub returns : goal.returns
 returns g c = λ i h.
     let E = g.R.PartialEq.eq in
-    let b = g.R.Behaves.is c.args.start.now.register in
+    let b = g.R.Behaves.behaviour c.args.start.now.register in
     let trie = c.args.trie.now in
     let keys = keys_in trie.strands i in
     let was = c.loop.invariant in
@@ -125,6 +125,6 @@ returns g c = λ i h.
           (was.short first.0 first.1) w.loop-test.false
       | then-loop-test+in_default w ↦ w.in_default.is
     ] in (
-      (λ e. was.runs i h (subst (λ o. RunsDown E g.R.Behaves.is trie b c.args.start.now (keys_to keys o) c.loop.entry.now) (sym end) (c.eq.ensures.same.0 e))),
-      (λ d. c.eq.ensures.same.1 (subst (λ o. ComesDown E b trie c.args.start.now (keys_to keys o) c.loop.entry.now) end (was.down i h d))),
+      (λ e. was.runs i h (subst (λ o. RunsDown E g.R.Behaves.behaviour trie b c.args.start.now (keys_to keys o) c.loop.entry.now) (sym end) (c.eq.ensures.same.0 e))),
+      (λ d. c.eq.ensures.same.1 (subst (λ o. FitsDownTo E b trie c.args.start.now (keys_to keys o) c.loop.entry.now) end (was.down i h d))),
     )

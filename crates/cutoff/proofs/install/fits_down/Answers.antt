@@ -1,8 +1,8 @@
 use Rattle.std.proofs.Common.{refl, sym, subst, ◌∙◌, true≢false}
 use Rattle.schedule_trie.specs.Cut.{keys_in}
 use Rattle.schedule_trie.specs.Climbs.{keys_to}
-use Rattle.cutoff.specs.Links.{alone, IsLinked}
-use Rattle.cutoff.specs.Plans.{ComesDown}
+use Rattle.cutoff.specs.Links.{without_register, IsLinked}
+use Rattle.cutoff.specs.Plans.{FitsDownTo}
 use Rattle.cutoff.specs.Prefixes.{RunsDown}
 use Rattle.cutoff.proofs.Climbs.{above_step, fits_whole, fits_parts, down_steps, number_came}
 use Rattle.cutoff.proofs.Prefixes.{runs_come}
@@ -17,7 +17,7 @@ comes_down-requires g c =
       marked = c.requires.marked;
       reached = (
         live.0,
-        (above_step g.R.PartialEq.eq g.met.R.PartialEq.laws g.R.Behaves.is g.met.R.Register.alike c.args.trie.now c.requires.cut c.args.start.now c.args.key c.above-above.result
+        (above_step g.R.PartialEq.eq g.met.R.PartialEq.laws g.R.Behaves.behaviour g.met.R.Register.alike c.args.trie.now c.requires.cut c.args.start.now c.args.key c.above-above.result
             c.above-above.ensures.each live.0 live.1).reached,
       );
     }
@@ -26,7 +26,7 @@ pub returns-then-not-has_steps-clause-fits : goal.returns-then-not-has_steps-cla
 returns-then-not-has_steps-clause-fits g c = λ i h. (
   (λ e. absurd (true≢false (sym e))),
   (λ f.
-      let steps = down_steps g.R.PartialEq.eq (g.R.Behaves.is c.args.start.now.register) c.args.trie.now c.args.key c.args.run.now c.args.start.now (keys_in c.args.trie.now.strands i) f in
+      let steps = down_steps g.R.PartialEq.eq (g.R.Behaves.behaviour c.args.start.now.register) c.args.trie.now c.args.key c.args.run.now c.args.start.now (keys_in c.args.trie.now.strands i) f in
       absurd (true≢false (sym (c.has_steps.ensures.1 (c.steps.ensures.steps ∙ steps)) ∙ c.if-not-has_steps.true))),
 )
 
@@ -36,11 +36,11 @@ returns-then-not-comes_down-clause-fits g c = λ i h. (
   (λ f.
       let E = g.R.PartialEq.eq in
       let trie = c.args.trie.now in
-      let parts = fits_parts E g.met.R.PartialEq.laws g.R.Behaves.is g.met.R.Register.alike trie c.requires.cut c.args.start.now c.args.key c.above-above.result
+      let parts = fits_parts E g.met.R.PartialEq.laws g.R.Behaves.behaviour g.met.R.Register.alike trie c.requires.cut c.args.start.now c.args.key c.above-above.result
       c.above-above.ensures.each c.args.run.now i h f in
-      let step = above_step E g.met.R.PartialEq.laws g.R.Behaves.is g.met.R.Register.alike trie c.requires.cut c.args.start.now c.args.key c.above-above.result
+      let step = above_step E g.met.R.PartialEq.laws g.R.Behaves.behaviour g.met.R.Register.alike trie c.requires.cut c.args.start.now c.args.key c.above-above.result
       c.above-above.ensures.each i h in
-      let down = subst (ComesDown E (g.R.Behaves.is c.args.start.now.register) trie c.args.start.now (keys_to (keys_in trie.strands i) c.above-above.result)) (sym c.entry.ensures.entry) parts.1 in
+      let down = subst (FitsDownTo E (g.R.Behaves.behaviour c.args.start.now.register) trie c.args.start.now (keys_to (keys_in trie.strands i) c.above-above.result)) (sym c.entry.ensures.entry) parts.1 in
       absurd (true≢false (sym ((c.comes_down.ensures i step.reached).1 down) ∙ c.if-not-comes_down.true))),
 )
 
@@ -49,12 +49,12 @@ returns-clause-fits g c = λ i h. (
   (λ e.
       let E = g.R.PartialEq.eq in
       let trie = c.args.trie.now in
-      let step = above_step E g.met.R.PartialEq.laws g.R.Behaves.is g.met.R.Register.alike trie c.requires.cut c.args.start.now c.args.key c.above-above.result
+      let step = above_step E g.met.R.PartialEq.laws g.R.Behaves.behaviour g.met.R.Register.alike trie c.requires.cut c.args.start.now c.args.key c.above-above.result
       c.above-above.ensures.each i h in
-      let down = subst (ComesDown E (g.R.Behaves.is c.args.start.now.register) trie c.args.start.now (keys_to (keys_in trie.strands i) c.above-above.result)) c.entry.ensures.entry
-      (runs_come E g.met.R.PartialEq.laws g.R.Behaves.is g.met.R.Register.alike trie (g.R.Behaves.is c.args.start.now.register) c.args.start.now
+      let down = subst (FitsDownTo E (g.R.Behaves.behaviour c.args.start.now.register) trie c.args.start.now (keys_to (keys_in trie.strands i) c.above-above.result)) c.entry.ensures.entry
+      (runs_come E g.met.R.PartialEq.laws g.R.Behaves.behaviour g.met.R.Register.alike trie (g.R.Behaves.behaviour c.args.start.now.register) c.args.start.now
       (keys_to (keys_in trie.strands i) c.above-above.result) c.entry.result.now ((c.comes_down.ensures i step.reached).0 c.if-not-comes_down.false)) in
-      fits_whole E g.met.R.PartialEq.laws g.R.Behaves.is g.met.R.Register.alike trie c.requires.cut c.args.start.now c.args.key c.above-above.result
+      fits_whole E g.met.R.PartialEq.laws g.R.Behaves.behaviour g.met.R.Register.alike trie c.requires.cut c.args.start.now c.args.key c.above-above.result
       c.above-above.ensures.each c.args.run.now i h (sym c.steps.ensures.steps ∙ c.has_steps.ensures.0 c.if-not-has_steps.false) down),
   (λ f. refl),
 )
@@ -64,24 +64,24 @@ returns-clause-moved g c = λ e next linked.
     let E = g.R.PartialEq.eq in
     let trie = c.args.trie.now in
     let live = c.requires.cut.live c.args.key c.requires.there in
-    let step = above_step E g.met.R.PartialEq.laws g.R.Behaves.is g.met.R.Register.alike trie c.requires.cut c.args.start.now c.args.key c.above-above.result
+    let step = above_step E g.met.R.PartialEq.laws g.R.Behaves.behaviour g.met.R.Register.alike trie c.requires.cut c.args.start.now c.args.key c.above-above.result
     c.above-above.ensures.each live.0 live.1 in
-    let down = subst (ComesDown E (g.R.Behaves.is c.args.start.now.register) trie c.args.start.now (keys_to (keys_in trie.strands live.0) c.above-above.result)) c.entry.ensures.entry
-    (runs_come E g.met.R.PartialEq.laws g.R.Behaves.is g.met.R.Register.alike trie (g.R.Behaves.is c.args.start.now.register) c.args.start.now
+    let down = subst (FitsDownTo E (g.R.Behaves.behaviour c.args.start.now.register) trie c.args.start.now (keys_to (keys_in trie.strands live.0) c.above-above.result)) c.entry.ensures.entry
+    (runs_come E g.met.R.PartialEq.laws g.R.Behaves.behaviour g.met.R.Register.alike trie (g.R.Behaves.behaviour c.args.start.now.register) c.args.start.now
     (keys_to (keys_in trie.strands live.0) c.above-above.result) c.entry.result.now ((c.comes_down.ensures live.0 step.reached).0 c.if-not-comes_down.false)) in
-    subst (λ n. IsLinked E c.args.start.now.register next n (alone c.args.run.now.entry) trie) (sym c.number_at.ensures.number)
-    (number_came E g.met.R.PartialEq.laws g.R.Behaves.is g.met.R.Register.alike trie c.args.start.now c.args.run.now.entry (keys_in trie.strands live.0) c.above-above.result next
+    subst (λ n. IsLinked E c.args.start.now.register next n (without_register c.args.run.now.entry) trie) (sym c.number_at.ensures.number)
+    (number_came E g.met.R.PartialEq.laws g.R.Behaves.behaviour g.met.R.Register.alike trie c.args.start.now c.args.run.now.entry (keys_in trie.strands live.0) c.above-above.result next
     step.reached c.number_at.ensures.kept down linked)
 
 pub returns-clause-runs : goal.returns-clause-runs
 returns-clause-runs g c = λ e i h.
     let E = g.R.PartialEq.eq in
-    let b = g.R.Behaves.is c.args.start.now.register in
+    let b = g.R.Behaves.behaviour c.args.start.now.register in
     let trie = c.args.trie.now in
     let above = keys_to (keys_in trie.strands i) c.above-above.result in
-    let step = above_step E g.met.R.PartialEq.laws g.R.Behaves.is g.met.R.Register.alike trie c.requires.cut c.args.start.now c.args.key c.above-above.result
+    let step = above_step E g.met.R.PartialEq.laws g.R.Behaves.behaviour g.met.R.Register.alike trie c.requires.cut c.args.start.now c.args.key c.above-above.result
     c.above-above.ensures.each i h in (
       above,
       step.is,
-      subst (RunsDown E g.R.Behaves.is trie b c.args.start.now above) c.entry.ensures.entry ((c.comes_down.ensures i step.reached).0 c.if-not-comes_down.false),
+      subst (RunsDown E g.R.Behaves.behaviour trie b c.args.start.now above) c.entry.ensures.entry ((c.comes_down.ensures i step.reached).0 c.if-not-comes_down.false),
     )

@@ -34,7 +34,7 @@ pub returns-clause-marked : goal.returns-clause-marked
 returns-clause-marked g c =
     let t = c.requires.there in
     let kept = c.settle_rest.ensures.keeps t.0 t.1 t.2 (c.in_ok-rest.ensures t.0 t.1 t.2 t.3) in
-    marked_now g.R.PartialEq.eq g.R.Behaves.is c.args.trie.now c.settle_rest.new.trie c.args.start.now c.args.key t.1 c.in_ok-replayed.replayed t.3.some t.3.few kept.strands
+    marked_now g.R.PartialEq.eq g.R.Behaves.behaviour c.args.trie.now c.settle_rest.new.trie c.args.start.now c.args.key t.1 c.in_ok-replayed.replayed t.3.some t.3.few kept.strands
     (λ i count place lies. c.in_ok-replayed.ensures.settles i count place (c.in_ok-rest.ensures i count place lies))
 
 pub returns-clause-keeps : goal.returns-clause-keeps

@@ -10,7 +10,7 @@ use Rattle.cutoff.proofs.plan.plan_branch.Goals as goal
 pub loop-key-init : goal.loop-key-init
 loop-key-init g c =
     let E = g.R.PartialEq.eq in
-    let is = g.R.Behaves.is in
+    let is = g.R.Behaves.behaviour in
     let trie = c.args.trie.now in
     let start = c.args.start.now in
     let old = c.args.planning.now.jobs.items in
@@ -24,7 +24,7 @@ pub visit-requires-clause-fits : goal.visit-requires-clause-fits
 visit-requires-clause-fits g c =
     let E = g.R.PartialEq.eq in
     let per = g.met.R.PartialEq.laws in
-    let is = g.R.Behaves.is in
+    let is = g.R.Behaves.behaviour in
     let trie = c.args.trie.now in
     let start = c.args.start.now in
     let old = c.args.planning.now.jobs.items in
@@ -41,7 +41,7 @@ pub visit-requires-clause-new : goal.visit-requires-clause-new
 visit-requires-clause-new g c =
     let E = g.R.PartialEq.eq in
     let per = g.met.R.PartialEq.laws in
-    let is = g.R.Behaves.is in
+    let is = g.R.Behaves.behaviour in
     let trie = c.args.trie.now in
     let start = c.args.start.now in
     let old = c.args.planning.now.jobs.items in
@@ -50,11 +50,11 @@ visit-requires-clause-new g c =
     let p = planning_next E per is g.met.R.Register.alike trie start old c.args.index at.planning.jobs.items at.planning.seen.items items at.key-index at.fits c.loop-key-test.true at.invariant in
     p.lacks (get_or items at.key-index 0) (has-head (get_or items at.key-index 0) (drop (at.key-index + 1) items))
 
-pub visit-requires-clause-comes : goal.visit-requires-clause-comes
-visit-requires-clause-comes g c =
+pub visit-requires-clause-arrives : goal.visit-requires-clause-arrives
+visit-requires-clause-arrives g c =
     let E = g.R.PartialEq.eq in
     let per = g.met.R.PartialEq.laws in
-    let is = g.R.Behaves.is in
+    let is = g.R.Behaves.behaviour in
     let trie = c.args.trie.now in
     let start = c.args.start.now in
     let old = c.args.planning.now.jobs.items in
@@ -67,7 +67,7 @@ pub loop-key-preserved : goal.loop-key-preserved
 loop-key-preserved g c =
     let E = g.R.PartialEq.eq in
     let per = g.met.R.PartialEq.laws in
-    let is = g.R.Behaves.is in
+    let is = g.R.Behaves.behaviour in
     let trie = c.args.trie.now in
     let start = c.args.start.now in
     let old = c.args.planning.now.jobs.items in
@@ -76,12 +76,12 @@ loop-key-preserved g c =
     let p = planning_next E per is g.met.R.Register.alike trie start old c.args.index at.planning.jobs.items at.planning.seen.items items at.key-index at.fits c.loop-key-test.true at.invariant in
     let comes = next_comes E per is g.met.R.Register.alike trie start old c.args.index at.planning.jobs.items at.planning.seen.items (get_or items at.key-index 0) (drop (at.key-index + 1) items) at.fits p in
     planning_on E per is g.met.R.Register.alike trie start old c.args.index at.planning.jobs.items at.planning.seen.items (get_or items at.key-index 0) (drop (at.key-index + 1) items) at.fits p c.requires.cut
-    c.visit.new.planning.jobs.items c.visit.new.planning.seen.items c.in_ok-fits.fits c.in_ok-fits.ensures.seen c.in_ok-fits.ensures.others (c.in_ok-fits.ensures.comes old comes)
+    c.visit.new.planning.jobs.items c.visit.new.planning.seen.items c.in_ok-fits.fits c.in_ok-fits.ensures.seen c.in_ok-fits.ensures.others (c.in_ok-fits.ensures.arrives old comes)
 
 pub returns-clause-seen : goal.returns-clause-seen
 returns-clause-seen g c = c.loop-key.invariant.seen_so
 
 pub returns-clause-adds : goal.returns-clause-adds
 returns-clause-adds g c =
-    planning_ends g.R.PartialEq.eq g.met.R.PartialEq.laws g.R.Behaves.is g.met.R.Register.alike c.args.trie.now c.args.start.now c.args.planning.now.jobs.items c.args.index c.loop-key.planning.jobs.items
+    planning_ends g.R.PartialEq.eq g.met.R.PartialEq.laws g.R.Behaves.behaviour g.met.R.Register.alike c.args.trie.now c.args.start.now c.args.planning.now.jobs.items c.args.index c.loop-key.planning.jobs.items
     c.loop-key.planning.seen.items (drop c.loop-key.key-index c.deref-key-items.result.now) c.loop-key.fits (drop_past c.loop-key.key-index c.deref-key-items.result.now c.loop-key-test.false) c.loop-key.invariant

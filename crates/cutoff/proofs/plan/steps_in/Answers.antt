@@ -5,7 +5,7 @@ use Rattle.schedule_trie.specs.declared.slot.Slot.{Slot}
 use Rattle.schedule_trie.specs.Forest.{step_of}
 use Rattle.cutoff.proofs.plan.steps_in.Goals as goal
 
--- one step more
+-- one more step
 steps_on : (slots : List Slot) (i : ℕ) (d : Slot) (taken new all : List Step) → i < length slots → taken ++ map step_of (drop i slots) ≡ all → new ≡ taken ++ step_of (get_or slots i d) ∷ []
     → new ++ map step_of (drop (i + 1) slots) ≡ all
 steps_on slots i d taken new all h was added =

@@ -2,7 +2,7 @@ use Rattle.std.proofs.Common.{◌≡◌, ◌++◌, length, drop, map, vec_len, v
 use Rattle.schedule_trie.specs.Forest.{step_of}
 use Rattle.cutoff.proofs.plan.steps_in.Given as goal
 
--- with what is still to come they are all, and there is room for it
+-- with the steps still to come they are all, and memory for these is reserved
 abbrev pub invariant-loop-slot : goal.invariant-loop-slot
 invariant-loop-slot l = record {
   steps : l.steps.items ++ map step_of (drop l.slot-index l.slots) ≡ map step_of l.slots;

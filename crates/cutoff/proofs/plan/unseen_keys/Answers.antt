@@ -1,6 +1,6 @@
 use Rattle.std.proofs.Common.{◌≡◌, ◌<◌, length, sym, ap, subst, ◌∙◌, refl, arith}
 use Rattle.schedule_trie.specs.Cut.{keys_in}
-use Rattle.schedule_trie.specs.Climbs.{keys_to, IsReached}
+use Rattle.schedule_trie.specs.Climbs.{keys_to, HasClimbedTo}
 use Rattle.schedule_trie.proofs.Climbs.{IsLast, last_is, step_up}
 use Rattle.cutoff.specs.Sights.{IsKnownAt}
 use Rattle.cutoff.proofs.Climbs.{path_once, shorter}
@@ -16,7 +16,7 @@ loop-at-init g c =
 pub loop-at-smaller : goal.loop-at-smaller
 loop-at-smaller g c =
     let keys = keys_in c.args.trie.now.strands c.args.index in
-    let s = step_up keys c.in-Some.key c.above-at.result (path_once c.args.trie.now c.requires c.args.index) (subst (IsReached keys) c.in-Some.is c.loop-at.invariant.climbing.reached)
+    let s = step_up keys c.in-Some.key c.above-at.result (path_once c.args.trie.now c.requires c.args.index) (subst (HasClimbedTo keys) c.in-Some.is c.loop-at.invariant.climbing.reached)
     (λ front back e. c.above-at.ensures.each c.args.index front back e) in
     let fewer = shorter keys c.in-Some.key c.above-at.result s in
     let at = ap (λ o. length (keys_to keys o)) c.in-Some.is in
@@ -26,7 +26,7 @@ pub loop-at-preserved : goal.loop-at-preserved
 loop-at-preserved g c =
     let keys = keys_in c.args.trie.now.strands c.args.index in
     let at = c.loop-at.invariant.climbing in
-    let s = step_up keys c.in-Some.key c.above-at.result (path_once c.args.trie.now c.requires c.args.index) (subst (IsReached keys) c.in-Some.is at.reached)
+    let s = step_up keys c.in-Some.key c.above-at.result (path_once c.args.trie.now c.requires c.args.index) (subst (HasClimbedTo keys) c.in-Some.is at.reached)
     (λ front back e. c.above-at.ensures.each c.args.index front back e) in
     record { climbing = climbing_up c.args.seen.now keys c.loop-at.at c.in-Some.key c.above-at.result c.loop-at.keys.items c.push.new.self.items c.in-Some.is c.in_ok-push.ensures.items at s c.in_default-known.ensures }
 

@@ -1,7 +1,7 @@
 use Rattle.std.proofs.Common.{◌≡◌, ℕ, true, Some, sym, ap, subst, ◌∙◌}
 use Rattle.std.specs.Option.{option_copied}
 use Rattle.schedule_trie.specs.Cut.{has, keys_in, note_of, piece_at}
-use Rattle.schedule_trie.specs.Climbs.{IsReached}
+use Rattle.schedule_trie.specs.Climbs.{HasClimbedTo}
 use Rattle.schedule_trie.proofs.Climbs.{step_up}
 use Rattle.cutoff.specs.Prefixes.{IsHung}
 use Rattle.cutoff.proofs.Climbs.{path_once}
@@ -9,7 +9,7 @@ use Rattle.cutoff.proofs.Hangings.{hung_here, hung_more}
 use Rattle.cutoff.proofs.prefix.hung_from.Goals as goal
 
 pub returns-in_default : goal.returns-in_default
-returns-in_default g c = λ i h. hung_here g.R.PartialEq.eq g.R.Behaves.is c.args.trie.now c.args.key i h
+returns-in_default g c = λ i h. hung_here g.R.PartialEq.eq g.R.Behaves.behaviour c.args.trie.now c.args.key i h
 
 pub loop-init : goal.loop-init
 loop-init g c =
@@ -17,7 +17,7 @@ loop-init g c =
     let trie = c.args.trie.now in
     record {
       up = λ i h. step_up (keys_in trie.strands i) c.args.key c.step_up_from-above.result.1 (path_once trie c.requires.cut i) h (λ front back e. c.step_up_from-above.ensures.each i front back e);
-      hung = λ i h. hung_here E g.R.Behaves.is trie c.args.key i h;
+      hung = λ i h. hung_here E g.R.Behaves.behaviour trie c.args.key i h;
       stored = record {
         stored = c.in-Some.stored.now;
         noted = sym c.step_up_from-above.ensures.note ∙ ap option_copied c.in-Some.is;
@@ -29,7 +29,7 @@ loop-init g c =
 pub loop-preserved : goal.loop-preserved
 loop-preserved g c =
     let E = g.R.PartialEq.eq in
-    let is = g.R.Behaves.is in
+    let is = g.R.Behaves.behaviour in
     let trie = c.args.trie.now in
     let was = c.loop.invariant in
     let s = c.in-Some-note.stored.now in
@@ -58,4 +58,4 @@ pub step_up_from-above-requires-in-loop : goal.step_up_from-above-requires-in-lo
 step_up_from-above-requires-in-loop g c =
     let i = c.requires.there.0 in
     let up = c.loop.invariant.up i c.requires.there.1 in
-    c.requires.cut.held i c.in-Some-at.key (subst (IsReached (keys_in c.args.trie.now.strands i)) c.in-Some-at.is up.reached)
+    c.requires.cut.held i c.in-Some-at.key (subst (HasClimbedTo (keys_in c.args.trie.now.strands i)) c.in-Some-at.is up.reached)

@@ -8,7 +8,7 @@ use Rattle.cutoff.proofs.prefix.hung_from.Given as goal
 abbrev pub invariant-loop : goal.invariant-loop
 invariant-loop g l =
     let E = g.R.PartialEq.eq in
-    let is = g.R.Behaves.is in
+    let is = g.R.Behaves.behaviour in
     let keys = keys_in l.trie.strands in
     record {
       up : (i : ℕ) → has l.fn.key (keys i) ≡ true → IsStepUp (keys i) l.hung l.at;

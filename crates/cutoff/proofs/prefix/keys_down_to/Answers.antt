@@ -1,7 +1,7 @@
 use Rattle.std.proofs.Common.{◌≡◌, ◌⊎◌, ◌++◌, ◌∷◌, [], ℕ, true, Some, None, length, reverse, inl, inr, sym, ap, subst, ◌∙◌, arith, append_assoc, true≢false}
 use Rattle.std.proofs.lemmas.List.{reverse-append}
 use Rattle.schedule_trie.specs.Cut.{has, keys_in}
-use Rattle.schedule_trie.specs.Climbs.{keys_to, IsReached}
+use Rattle.schedule_trie.specs.Climbs.{keys_to, HasClimbedTo}
 use Rattle.schedule_trie.proofs.Climbs.{IsStepUp, step_up}
 use Rattle.cutoff.proofs.Climbs.{path_once, past_all, shorter}
 use Rattle.cutoff.proofs.Prefixes.{same_key, other_key, by_other}
@@ -14,7 +14,7 @@ loop-preserved g c =
     let was = c.loop.invariant in
     let step : (i : ℕ) → has c.args.key (keys_in trie.strands i) ≡ true → IsStepUp (keys_in trie.strands i) c.in-Some.key c.above-at.result =
     λ i h. step_up (keys_in trie.strands i) c.in-Some.key c.above-at.result (path_once trie c.requires.cut i)
-    (subst (IsReached (keys_in trie.strands i)) c.in-Some.is (was.reached i h)) (λ front back e. c.above-at.ensures.each i front back e) in
+    (subst (HasClimbedTo (keys_in trie.strands i)) c.in-Some.is (was.reached i h)) (λ front back e. c.above-at.ensures.each i front back e) in
     record {
       reached = λ i h. (step i h).reached;
       path = λ i h.
@@ -34,8 +34,8 @@ loop-preserved g c =
           omega (arith, up, at, old);
     }
 
-pub returns-clause-behind : goal.returns-clause-behind
-returns-clause-behind g c =
+pub returns-clause-following : goal.returns-clause-following
+returns-clause-following g c =
     let trie = c.args.trie.now in
     let was = c.loop.invariant in
     let first = c.requires.there in

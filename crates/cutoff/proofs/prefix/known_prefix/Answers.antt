@@ -2,7 +2,7 @@ use Rattle.std.proofs.Common.{◌≡◌, Some, sym, ap, subst, ◌∙◌}
 use Rattle.std.specs.Option.{option_copied}
 use Rattle.frames.specs.Equality.{SameConfiguration}
 use Rattle.schedule_trie.specs.Cut.{keys_in, note_of, piece_at}
-use Rattle.schedule_trie.specs.Climbs.{keys_to, IsReached}
+use Rattle.schedule_trie.specs.Climbs.{keys_to, HasClimbedTo}
 use Rattle.schedule_trie.proofs.Climbs.{step_up}
 use Rattle.cutoff.specs.Prefixes.{RunsDown, IsKnown}
 use Rattle.cutoff.proofs.Climbs.{path_once}
@@ -15,14 +15,14 @@ pub returns-then-is_marked : goal.returns-then-is_marked
 returns-then-is_marked g c = λ i h.
     let there = c.loop.invariant i h in (
       there,
-      hung_marked g.R.PartialEq.eq g.met.R.PartialEq.laws g.R.Behaves.is g.met.R.Register.alike c.args.trie.now c.args.start.now c.args.mark c.hung_from-top.result c.loop.front i
+      hung_marked g.R.PartialEq.eq g.met.R.PartialEq.laws g.R.Behaves.behaviour g.met.R.Register.alike c.args.trie.now c.args.start.now c.args.mark c.hung_from-top.result c.loop.front i
           c.requires.marked (c.is_marked.ensures.0 c.if-is_marked.true) (c.hung_from-top.ensures i there) there,
     )
 
 pub returns-then-eq : goal.returns-then-eq
 returns-then-eq g c = λ i h.
     let E = g.R.PartialEq.eq in
-    let is = g.R.Behaves.is in
+    let is = g.R.Behaves.behaviour in
     let trie = c.args.trie.now in
     let start = c.args.start.now in
     let top = c.hung_from-top.result in
@@ -44,7 +44,7 @@ loop-preserved g c = λ i h.
     let keys = keys_in trie.strands i in
     let hung = c.hung_from-top.ensures i (c.loop.invariant i h) in
     let step = step_up keys c.hung_from-top.result c.step_up_from-above.result.1 (path_once trie c.requires.cut i) hung.there (λ front back e. c.step_up_from-above.ensures.each i front back e) in
-    subst (IsReached keys) c.in-Some.is step.reached
+    subst (HasClimbedTo keys) c.in-Some.is step.reached
 
 pub hung_from-top-requires-clause-there : goal.hung_from-top-requires-clause-there
 hung_from-top-requires-clause-there g c = (c.requires.there.0, c.loop.invariant c.requires.there.0 c.requires.there.1)
@@ -55,12 +55,12 @@ step_up_from-above-requires g c =
     c.requires.cut.held i c.hung_from-top.result (c.hung_from-top.ensures i (c.loop.invariant i c.requires.there.1)).there
 
 pub returns-else-eq : goal.returns-else-eq
-returns-else-eq g c = none_known g.R.PartialEq.eq g.met.R.Eq.laws g.R.Behaves.is c.args.trie.now c.args.start.now c.args.key
+returns-else-eq g c = none_known g.R.PartialEq.eq g.met.R.Eq.laws g.R.Behaves.behaviour c.args.trie.now c.args.start.now c.args.key
 
 pub returns : goal.returns
-returns g c = none_known g.R.PartialEq.eq g.met.R.Eq.laws g.R.Behaves.is c.args.trie.now c.args.start.now c.args.key
+returns g c = none_known g.R.PartialEq.eq g.met.R.Eq.laws g.R.Behaves.behaviour c.args.trie.now c.args.start.now c.args.key
 
 pub returns-in_err-stored : goal.returns-in_err-stored
 returns-in_err-stored g c =
-    subst (IsKnown g.R.PartialEq.eq g.R.Behaves.is c.args.trie.now c.args.start.now c.args.key) (sym c.from_residual.ensures)
-    (none_known g.R.PartialEq.eq g.met.R.Eq.laws g.R.Behaves.is c.args.trie.now c.args.start.now c.args.key)
+    subst (IsKnown g.R.PartialEq.eq g.R.Behaves.behaviour c.args.trie.now c.args.start.now c.args.key) (sym c.from_residual.ensures)
+    (none_known g.R.PartialEq.eq g.met.R.Eq.laws g.R.Behaves.behaviour c.args.trie.now c.args.start.now c.args.key)

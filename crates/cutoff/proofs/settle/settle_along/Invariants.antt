@@ -5,4 +5,4 @@ use Rattle.cutoff.proofs.settle.settle_along.Given as goal
 
 abbrev pub invariant-loop-key : goal.invariant-loop-key
 invariant-loop-key g l =
-    IsWalking g.R.PartialEq.eq (g.R.Behaves.is l.start.register) l.fn.trie l.trie l.start l.next l.above l.keys (drop l.key-index l.keys) l.place l.rest l.replayed (map part_of l.runs.items)
+    IsWalking g.R.PartialEq.eq (g.R.Behaves.behaviour l.start.register) l.fn.trie l.trie l.start l.next l.above l.keys (drop l.key-index l.keys) l.place l.rest l.replayed (map part_of l.runs.items)

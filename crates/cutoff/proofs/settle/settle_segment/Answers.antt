@@ -1,7 +1,7 @@
 use Rattle.std.proofs.Common.{inr, refl, sym, subst, ◌∙◌}
 use Rattle.std.specs.Arc.{arc_value}
 use Rattle.cutoff.specs.Fitting.{Fits}
-use Rattle.cutoff.specs.Links.{alone, IsLinked}
+use Rattle.cutoff.specs.Links.{without_register, IsLinked}
 use Rattle.schedule_trie.proofs.PushSteps.{on_err}
 use Rattle.cutoff.proofs.Segments.{noted_still, segment_taken, taken_again}
 use Rattle.cutoff.proofs.settle.settle_segment.Goals as goal
@@ -38,7 +38,7 @@ returns-in_err-again-clause-unchanged g c = on_err c.from_residual-in_err-again.
 
 pub fitting-requires : goal.fitting-requires
 fitting-requires g c =
-    let linked = subst (λ d. IsLinked g.R.PartialEq.eq d.register c.args.next.now c.args.above (alone d) c.args.trie.now) (sym c.deref.ensures) c.requires.linked in
+    let linked = subst (λ d. IsLinked g.R.PartialEq.eq d.register c.args.next.now c.args.above (without_register d) c.args.trie.now) (sym c.deref.ensures) c.requires.linked in
     record { linked = (c.args.next.now, linked) }
 
 pub replay_segment-requires-clause-misses : goal.replay_segment-requires-clause-misses

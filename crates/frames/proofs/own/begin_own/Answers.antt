@@ -12,11 +12,11 @@ pub begin_on-requires-clause-holds : goal.begin_on-requires-clause-holds
 begin_on-requires-clause-holds g c =
     let size = (g.met.R.Register.lawful c.args.register.now).size_holds c.args.store.now c.requires.holds in
     subst (g.R.Register.Holds c.args.register.now)
-    (sym (part-whole (g.R.Behaves.is c.args.register.now).size c.args.store.now size)) c.requires.holds
+    (sym (part-whole (g.R.Behaves.behaviour c.args.register.now).size c.args.store.now size)) c.requires.holds
 
 pub returns : goal.returns
 returns g c =
-    let b = g.R.Behaves.is c.args.register.now in
+    let b = g.R.Behaves.behaviour c.args.register.now in
     let lawful = g.met.R.Register.lawful c.args.register.now in
     let m = c.args.store.now in
     let who = c.args.who in

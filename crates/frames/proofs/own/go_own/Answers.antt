@@ -6,9 +6,9 @@ use Rattle.frames.specs.Placed.{placed_bit}
 use Rattle.frames.proofs.Stacks.{bit_at_origin}
 use Rattle.frames.proofs.own.go_own.Goals as goal
 
-pub returns-clause-comes : goal.returns-clause-comes
-returns-clause-comes g c =
-    let b = g.R.Behaves.is c.args.register.now in
+pub returns-clause-arrives : goal.returns-clause-arrives
+returns-clause-arrives g c =
+    let b = g.R.Behaves.behaviour c.args.register.now in
     let lawful = g.met.R.Register.lawful c.args.register.now in
     let m = c.args.store.now in
     let size = lawful.size_holds m c.requires.holds in
@@ -27,11 +27,11 @@ pub go_on-requires-clause-holds : goal.go_on-requires-clause-holds
 go_on-requires-clause-holds g c =
     let size = (g.met.R.Register.lawful c.args.register.now).size_holds c.args.store.now c.requires.holds in
     subst (g.R.Register.Holds c.args.register.now)
-    (sym (part-whole (g.R.Behaves.is c.args.register.now).size c.args.store.now size)) c.requires.holds
+    (sym (part-whole (g.R.Behaves.behaviour c.args.register.now).size c.args.store.now size)) c.requires.holds
 
 pub returns-clause-chosen : goal.returns-clause-chosen
 returns-clause-chosen g c =
-    let b = g.R.Behaves.is c.args.register.now in
+    let b = g.R.Behaves.behaviour c.args.register.now in
     let m = c.args.store.now in
     let size = (g.met.R.Register.lawful c.args.register.now).size_holds m c.requires.holds in
     λ o p on.

@@ -14,12 +14,12 @@ blank_size p size m e same = record {
 
 pub init-requires-clause-inside : goal.init-requires-clause-inside
 init-requires-clause-inside g c =
-    let b = g.R.Behaves.is c.args.register.now in
+    let b = g.R.Behaves.behaviour c.args.register.now in
     LiesIn-whole b.size c.in_ok-store.store (blank_size _ b.size _ c.in_ok-store.ensures c.size-size.ensures)
 
 pub returns : goal.returns
 returns g c =
-    let b = g.R.Behaves.is c.args.register.now in
+    let b = g.R.Behaves.behaviour c.args.register.now in
     let lawful = g.met.R.Register.lawful c.args.register.now in
     c.init.ensures
     ∙ with_part-whole b.size (b.initial c.args.value) c.in_ok-store.store

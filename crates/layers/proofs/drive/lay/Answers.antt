@@ -9,6 +9,6 @@ lay-requires-clause-room g c =
 pub returns : goal.returns
 returns g c =
     laid c.args.stack.now c.push.new.self c.lay.new.stack
-    ((g.S.Behaves.is c.args.below.now).frames c.args.pending.now.below)
+    ((g.S.Behaves.behaviour c.args.below.now).frames c.args.pending.now.below)
     c.frame.result ((g.L.Rules.table c.args.layer.now).frame c.args.pending.now.task) c.push.ensures c.lay.ensures
     c.frame.ensures

@@ -5,7 +5,7 @@ use Rattle.layers.proofs.fit.fits_below.Goals as goal
 pub returns-clause-fit : goal.returns-clause-fit
 returns-clause-fit g c =
     let t = g.L.Rules.table c.args.layer.now in
-    let size = (g.S.Behaves.is c.args.below.now).size in
+    let size = (g.S.Behaves.behaviour c.args.below.now).size in
     let parts : c.from-parts.result ≡ t.parts = c.from-parts.ensures ∙ c.shape-shape.ensures.parts in
     let cell : c.from.result ≡ size.cell = c.from.ensures ∙ ap (λ s. s.cell) c.size-size.ensures in
     let word : c.from-2.result ≡ size.word = c.from-2.ensures ∙ ap (λ s. s.word) c.size-size.ensures in

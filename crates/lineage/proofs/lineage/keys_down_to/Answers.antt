@@ -1,7 +1,7 @@
 use Rattle.std.proofs.Common.{ℕ, ◌<◌, List, [], ◌∷◌, ◌++◌, length, subst, sym, ◌∙◌, ap}
 use Rattle.std.proofs.lemmas.List.{append_assoc}
 use Rattle.lineage.specs.Climbs.{Ends}
-use Rattle.lineage.specs.Held.{above_of, keys_up}
+use Rattle.lineage.specs.Held.{above_node, keys_up}
 use Rattle.lineage.proofs.Walks.{onward, no_end}
 use Rattle.lineage.proofs.lineage.keys_down_to.Goals as goal
 
@@ -16,7 +16,7 @@ loop-at-preserved-in-Some-get g c =
     let u = onward s c.loop-at.at c.in-Some.key c.in-Some-get.node.now c.loop-at.invariant.ends c.in-Some.is (sym c.in-Some-get.ensures) in
     let rest = keys_up s c.get-at.result in
     record {
-      ends = subst (Ends (above_of s)) (sym c.get-at.ensures) u.ends;
+      ends = subst (Ends (above_node s)) (sym c.get-at.ensures) u.ends;
       so_far = ap (λ (x : List ℕ). x ++ rest) c.in_ok-push.ensures.items
           ∙ append_assoc c.loop-at.keys.items (c.in-Some.key ∷ []) rest
           ∙ ap (λ (x : List ℕ). c.loop-at.keys.items ++ x) (ap (λ o. c.in-Some.key ∷ keys_up s o) c.get-at.ensures ∙ sym (u.keys c.in-Some.key c.in-Some.is))

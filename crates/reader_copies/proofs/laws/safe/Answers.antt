@@ -5,5 +5,5 @@ use Rattle.reader_copies.proofs.laws.safe.Goals as goal
 pub returns : goal.returns
 returns g c =
     let r = c.args.register.now in
-    copies_over_safe (g.S.Behaves.is r.below) (g.S.Register.Holds r.below) (g.S.Register.Reaches r.below) r.layer.readers r.layer.values (copies_left r.layer.readers) (g.met.S.Register.lawful r.below)
+    copies_over_safe (g.S.Behaves.behaviour r.below) (g.S.Register.Holds r.below) (g.S.Register.Reaches r.below) r.layer.readers r.layer.values (copies_left r.layer.readers) (g.met.S.Register.lawful r.below)
     (copies_sound r.layer.readers r.layer.values r.layer.some r.layer.few) r.fit c.requires

@@ -6,7 +6,7 @@ use Rattle.schedule_trie.specs.Limbs.{may_share, is_own_of}
 use Rattle.schedule_trie.proofs.limb.may_share.Goals as goal
 use Rattle.schedule_trie.proofs.limb.may_share.Goals.{else-limb-eq0-via-then-limb-eq0+else-limb-eq0-2, else-limb-eq0-via-else-limb-eq0}
 
--- where a limb shares something, what it is from tells
+-- if a limb shares something, the branch that it is from determines the result
 stem_tells : (earlier : List Limb) (l : Limb) → (l.from ≡ 0 → l.shared ≡ 0 → ⊥)
     → is_own_of (slice_get earlier l.from) l.shared ≡ may_share earlier l
 stem_tells earlier l some =

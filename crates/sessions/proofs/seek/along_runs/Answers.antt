@@ -1,6 +1,6 @@
 use Rattle.std.proofs.Common.{◌≡◌, ◌∙◌, ◌+◌, sym, ap, subst, map, take, arith}
 use Rattle.cutoff.specs.Fitting.{counted, part_of}
-use Rattle.sessions.specs.Walks.{Tells}
+use Rattle.sessions.specs.Walks.{ReportsPart}
 use Rattle.sessions.proofs.Runs.{counted_split, counted_within, tells_at}
 use Rattle.sessions.proofs.seek.along_runs.Goals as goal
 
@@ -26,7 +26,7 @@ loop-run-preserved g c =
       place = ap (λ n. n + x.1) c.loop-run.invariant.place ∙ sym (counted_split runs i x c.loop-run-test.true c.loop-run-item.is);
       found = λ test first tells.
           c.in_ok-found.ensures test
-          (subst (λ r. Tells g.R.Behaves.is c.args.search.now.breaks.now test c.loop-run.place (record { run = r; count = x.1 })) (sym c.deref.ensures)
-          (subst (λ n. Tells g.R.Behaves.is c.args.search.now.breaks.now test n (part_of x)) here (tells_at g.R.Behaves.is c.args.search.now.breaks.now test 0 runs i x c.loop-run-test.true c.loop-run-item.is tells)))
+          (subst (λ r. ReportsPart g.R.Behaves.behaviour c.args.search.now.breaks.now test c.loop-run.place (record { run = r; count = x.1 })) (sym c.deref.ensures)
+          (subst (λ n. ReportsPart g.R.Behaves.behaviour c.args.search.now.breaks.now test n (part_of x)) here (tells_at g.R.Behaves.behaviour c.args.search.now.breaks.now test 0 runs i x c.loop-run-test.true c.loop-run-item.is tells)))
           (c.loop-run.invariant.found test first tells);
     }

@@ -1,30 +1,24 @@
 use Rattle.std.proofs.Common.{◌≡◌, ◌∙◌, ◌+◌, sym, ap, subst, arith, true, length, take, get_or, slice_index_or}
 use Rattle.std.proofs.lemmas.List.{get_or_default}
-use Rattle.safe_bit.specs.Parts.{HasSize}
 use Rattle.frames.specs.declared.types.Step.TheVariants.{Write}
 use Rattle.frames.specs.Configuration.{events_of, fits_step, replayed, stepped}
 use Rattle.cutoff.proofs.Fits.{register_kept}
 use Rattle.views.specs.Breaks.{is_met}
-use Rattle.sessions.specs.Seeks.{next_of, places_with}
+use Rattle.sessions.specs.Seeks.{next_place, places_with}
 use Rattle.sessions.proofs.Runs.{made_next, recorded_next}
 use Rattle.sessions.proofs.seek.along_steps.Goals as goal
 
 pub step-events-requires : goal.step-events-requires
 step-events-requires g c =
-    let is = g.R.Behaves.is in
+    let is = g.R.Behaves.behaviour in
     let first = c.args.config in
     let own : c.loop-i.config.register ≡ first.register =
     ap (λ d. d.register) c.loop-i.invariant.config ∙ register_kept (is first.register) first (take c.loop-i.i c.args.steps.now) in
     subst (λ r. fits_step (is r) (slice_index_or c.args.steps.now c.loop-i.i (Write 0 0)) ≡ true) (sym own) (c.requires.fits c.loop-i.i (Write 0 0) c.loop-i-test.true)
 
-pub is_met-hit-requires : goal.is_met-hit-requires
-is_met-hit-requires g c =
-    subst (λ d. HasSize (g.R.Behaves.is d.register).size d.memory) c.config.view_is
-    ((g.met.R.Register.lawful c.config.inside.register).size_holds c.config.inside.store c.config.invariant.configuration.holds)
-
 pub loop-i-preserved : goal.loop-i-preserved
 loop-i-preserved g c =
-    let is = g.R.Behaves.is in
+    let is = g.R.Behaves.behaviour in
     let first = c.args.config in
     let b = is first.register in
     let steps = c.args.steps.now in
@@ -47,12 +41,12 @@ loop-i-preserved g c =
           let told : test ((place + 1) + i) ≡ c.is_met-hit.result =
           each i within ∙ ap (λ es. is_met c.args.search.now.breaks.now es (replayed b first (take (i + 1) steps)).memory) (recorded_next b first steps i s within item ∙ sym events)
           ∙ ap (λ d. is_met c.args.search.now.breaks.now c.step-events.result d.memory) (sym after) ∙ sym c.is_met-hit.ensures in
-          subst (λ n. c.with_place-found.result ≡ next_of c.args.search.now.way c.args.search.now.from (places_with test n)) next
+          subst (λ n. c.with_place-found.result ≡ next_place c.args.search.now.way c.args.search.now.from (places_with test n)) next
           (c.with_place-found.ensures test told
-          (subst (λ n. c.loop-i.found ≡ next_of c.args.search.now.way c.args.search.now.from (places_with test n)) here (c.loop-i.invariant.found test each start)));
+          (subst (λ n. c.loop-i.found ≡ next_place c.args.search.now.way c.args.search.now.from (places_with test n)) here (c.loop-i.invariant.found test each start)));
     }
 
 pub returns : goal.returns
 returns g c = λ test each start.
     let full : c.loop-i.i ≡ length c.args.steps.now = omega arith in
-    subst (λ n. c.loop-i.found ≡ next_of c.args.search.now.way c.args.search.now.from (places_with test ((c.args.place + n) + 1))) full (c.loop-i.invariant.found test each start)
+    subst (λ n. c.loop-i.found ≡ next_place c.args.search.now.way c.args.search.now.from (places_with test ((c.args.place + n) + 1))) full (c.loop-i.invariant.found test each start)

@@ -1,10 +1,11 @@
+use Rattle.tower_file.specs.Said.{as_bench}
 use Rattle.tower_file.specs.BenchSpelling.{SpellsFront}
 use Rattle.tower_file.proofs.Formats.{parses, plain_memory}
 use Rattle.tower_file.proofs.BenchAnswers.{bench_format}
 use Rattle.tower_file.proofs.bench_reading.bench_of.Goals as goal
 
 pub returns-clause-parsed : goal.returns-clause-parsed
-returns-clause-parsed c = parses bench_format c.args.bytes.now c.bench_of_lines.result c.odd_first.result c.bench_of_lines.ensures.exact c.odd_first.ensures
+returns-clause-parsed c = parses bench_format as_bench c.args.bytes.now c.bench_of_lines.result c.odd_first.result c.bench_of_lines.ensures.exact c.odd_first.ensures
 
 pub returns-clause-memory : goal.returns-clause-memory
 returns-clause-memory c = plain_memory c.args.bytes.now (SpellsFront c.args.bytes.now) c.bench_of_lines.result c.odd_first.result c.bench_of_lines.ensures.memory c.odd_first.ensures

@@ -18,6 +18,6 @@ returns-in_err-limbs-clause-memory c =
     want_of_memory c.from_residual-in_err-limbs.result _ _ c.from_residual-in_err-limbs.ensures.0 c.from_residual-in_err-limbs.ensures.1 (λ x h. h) (first_odd c.args.bytes.now ≡ None → SpellsFront c.args.bytes.now)
     (λ k plain. spells_front c.args.bytes.now c.in_ok-tower.tower c.tower_of.new.lines plain header tower behind (c.in_err-limbs.ensures.memory k))
 
-pub new-requires : goal.new-requires
-new-requires c =
+pub of_lawful-requires : goal.of_lawful-requires
+of_lawful-requires c =
     record { lawful = bench_lawful c.in_ok-tower.tower 3 c.tower_of.new.lines c.in_ok-limbs.limbs.items c.in_ok-tower.ensures.lawful c.in_ok-limbs.ensures.read }

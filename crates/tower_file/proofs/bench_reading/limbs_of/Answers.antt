@@ -1,10 +1,10 @@
 use Rattle.std.proofs.Common.{rules, ◌≡◌, [], true, false, length, List, Result, Some, sym, ap, subst, ◌∙◌, arith}
 use Rattle.schedule_trie.specs.declared.limb.Limb.{Limb}
 use Rattle.words.specs.Words.{words, next, after_next, is_end}
-use Rattle.words.specs.Steps.{step_of}
+use Rattle.words.specs.Steps.{step_of_words}
 use Rattle.tower_file.specs.declared.fault.FileFault.{FileFault}
 use Rattle.tower_file.specs.Faults.{Gives}
-use Rattle.tower_file.specs.BenchReading.{then_line, ended, limbs_of}
+use Rattle.tower_file.specs.BenchReading.{then_line, limbs_at_end, limbs_of}
 use Rattle.tower_file.proofs.BenchAnswers.{at_end, fewer, goes_on, fails, wants_memory, is_then_step}
 use Rattle.tower_file.proofs.bench_reading.limbs_of.Goals as goal
 
@@ -15,8 +15,8 @@ returns-then-is_end-clause-read c =
     let limbs = c.reading.limbs in
     let kept : c.next_step.new.self ≡ c.reading.lines = search rules in
     let end : is_end (after_next c.reading.lines) ≡ true = search rules in
-    let same : limbs_of t 3 [] c.args.lines.now ≡ ended n limbs c.next-line.result.now =
-    sym c.reading.invariant.so_far.read ∙ at_end t n limbs c.reading.lines end ∙ ap (ended n limbs) (sym (c.next-line.ensures.part ∙ ap next kept)) in
+    let same : limbs_of t 3 [] c.args.lines.now ≡ limbs_at_end n limbs c.next-line.result.now =
+    sym c.reading.invariant.so_far.read ∙ at_end t n limbs c.reading.lines end ∙ ap (limbs_at_end n limbs) (sym (c.next-line.ensures.part ∙ ap next kept)) in
     subst (λ (r : Result (List Limb) FileFault). Gives (λ limbs. limbs.items) c.ended.result r) (sym same) c.ended.ensures.read
 
 pub returns-in_err-add_line-clause-read : goal.returns-in_err-add_line-clause-read
@@ -48,7 +48,7 @@ pub returns-in_err-add_step-clause-read : goal.returns-in_err-add_step-clause-re
 returns-in_err-add_step-clause-read c =
     let line = next c.reading.lines in
     let whole : is_end (after_next c.reading.lines) ≡ false = search rules in
-    let spelled : step_of (words line) ≡ Some c.in-Some.step = search rules in
+    let spelled : step_of_words (words line) ≡ Some c.in-Some.step = search rules in
     fails c.reading.invariant.so_far whole c.from_residual.result _ _ c.from_residual.ensures.0 c.from_residual.ensures.1 (λ x h. h) (λ limbs. limbs.items) _
     (is_then_step c.args.tower.now c.reading.number c.reading.limbs line c.in-Some.step spelled) (c.in_err-add_step.ensures.read line spelled)
 
@@ -56,7 +56,7 @@ pub returns-in_err-add_step-clause-memory : goal.returns-in_err-add_step-clause-
 returns-in_err-add_step-clause-memory c =
     let line = next c.reading.lines in
     let whole : is_end (after_next c.reading.lines) ≡ false = search rules in
-    let spelled : step_of (words line) ≡ Some c.in-Some.step = search rules in
+    let spelled : step_of_words (words line) ≡ Some c.in-Some.step = search rules in
     wants_memory c.reading.invariant.so_far whole c.from_residual.result _ _ c.from_residual.ensures.0 c.from_residual.ensures.1 (λ x h. h) _
     (is_then_step c.args.tower.now c.reading.number c.reading.limbs line c.in-Some.step spelled) (λ k. c.in_err-add_step.ensures.memory k line spelled)
 
@@ -64,7 +64,7 @@ pub reading-preserved-in-Some : goal.reading-preserved-in-Some
 reading-preserved-in-Some c =
     let line = next c.reading.lines in
     let whole : is_end (after_next c.reading.lines) ≡ false = search rules in
-    let spelled : step_of (words line) ≡ Some c.in-Some.step = search rules in
+    let spelled : step_of_words (words line) ≡ Some c.in-Some.step = search rules in
     let left : c.next_step.new.self ≡ after_next c.reading.lines = search rules in
     let said = is_then_step c.args.tower.now c.reading.number c.reading.limbs line c.in-Some.step spelled ∙ c.in_ok-add_step.ensures.read line spelled in
     record {

@@ -30,7 +30,7 @@ reading-preserved c =
         i.0 ++ step ∷ [],
         ap (λ (ls : List (List _)). with_front (i.0 ++ step ∷ []) (steps_of c.args.version c.args.tower.now (c.reading.number + 1) ls)) c.next_step.ensures.left
             ∙ goes_on c.args.version c.args.tower.now c.reading.number i.0 c.reading.lines total i.1 step has,
-        λ h. c.keep-has_room.ensures.kept h ∙ ap (λ (xs : List Step). xs ++ step ∷ []) (i.2 (c.keep-has_room.ensures.had_room h)),
+        λ h. c.keep-has_room.ensures.kept h ∙ ap (λ (xs : List Step). xs ++ step ∷ []) (i.2 (c.keep-has_room.ensures.room_was_left h)),
         λ h. omega (arith, length-append i.0 (step ∷ [])),
       );
     }

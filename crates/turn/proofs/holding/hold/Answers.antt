@@ -1,5 +1,5 @@
 use Rattle.std.proofs.Common.{ℕ, ◌<◌, sym, ap, ◌∙◌, subst}
-use Rattle.turn.specs.Shares.{has}
+use Rattle.turn.specs.Shares.{has_share}
 use Rattle.turn.specs.ShareLaws.{number_held}
 use Rattle.turn.proofs.Holds.{still_has, all_seen, one_more, put_ready, release_ready, still_owns, holding}
 use Rattle.turn.proofs.holding.hold.Goals as goal
@@ -14,7 +14,7 @@ pub publish-requires-clause-own : goal.publish-requires-clause-own
 publish-requires-clause-own g c =
     let t = c.take-value.ensures in
     still_has g.T.Counted.by g.T.Counted.entries c.args.place.now.me c.grab.new.place.me c.take-value.new.place.me c.take-value.result c.grab.ensures.grabs c.requires.idle.0 t.value t.empty c.args.number
-    (ap (has c.args.place.now.me.0.shares) c.requires.number.0 ∙ (number_held c.args.place.now.me.0.shares c.requires.number.1 c.requires.number.2).1)
+    (ap (has_share c.args.place.now.me.0.shares) c.requires.number.0 ∙ (number_held c.args.place.now.me.0.shares c.requires.number.1 c.requires.number.2).1)
 
 pub publish-requires-clause-added : goal.publish-requires-clause-added
 publish-requires-clause-added g c =

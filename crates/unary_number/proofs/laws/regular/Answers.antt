@@ -10,12 +10,12 @@ use Rattle.unary_number.proofs.laws.regular.Goals as goal
 pub returns-clause-regular : goal.returns-clause-regular
 returns-clause-regular g c =
     let r = c.args.register.now in
-    unary_over_regular (g.S.Behaves.is r.below) (g.S.Register.Holds r.below) (g.S.Register.Reaches r.below) (Value (r.layer.values - 1)) r.layer.values r.layer.processes unary_left r.layer.two (g.met.S.Register.lawful r.below)
+    unary_over_regular (g.S.Behaves.behaviour r.below) (g.S.Register.Holds r.below) (g.S.Register.Reaches r.below) (Value (r.layer.values - 1)) r.layer.values r.layer.processes unary_left r.layer.two (g.met.S.Register.lawful r.below)
     (unary_sound r.layer.values r.layer.processes r.layer.two r.layer.some) r.fit c.requires
 
 pub returns-clause-found : goal.returns-clause-found
 returns-clause-found g c =
     let r = c.args.register.now in
-    always_finds (g.S.Behaves.is r.below) (g.S.Register.Holds r.below) (g.S.Register.Reaches r.below) Stamped r.layer.values r.layer.processes unary_left r.layer.two (g.met.S.Register.lawful r.below)
+    always_finds (g.S.Behaves.behaviour r.below) (g.S.Register.Holds r.below) (g.S.Register.Reaches r.below) Stamped r.layer.values r.layer.processes unary_left r.layer.two (g.met.S.Register.lawful r.below)
     (table_sound (Spent Stamped) r.layer.values r.layer.processes r.layer.two r.layer.some tt)
     (record { some_values = r.fit.some_values; some_processes = r.fit.some_processes; few_processes = r.fit.few_processes; same_values = r.fit.same_values; same_processes = r.fit.same_processes; room = r.fit.room; few_cells = r.fit.few_cells; few_words = r.fit.few_words }) c.requires

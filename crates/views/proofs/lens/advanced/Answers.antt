@@ -7,7 +7,7 @@ use Rattle.views.proofs.lens.advanced.Goals as goal
 
 pub make-requires : goal.make-requires
 make-requires g c =
-    let is = g.R.Behaves.is in
+    let is = g.R.Behaves.behaviour in
     let run = c.args.run.now in
     let b = is run.entry.register in
     let front = c.front.result.now in
@@ -20,7 +20,7 @@ make-requires g c =
 
 pub returns : goal.returns
 returns g c =
-    let is = g.R.Behaves.is in
+    let is = g.R.Behaves.behaviour in
     let run = c.args.run.now in
     let front = c.front.result.now in
     let steps : front ≡ take c.args.count run.steps = c.front.ensures ∙ ap (take c.args.count) c.steps.ensures.steps in

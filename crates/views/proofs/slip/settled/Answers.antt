@@ -1,5 +1,4 @@
-use Rattle.std.proofs.Common.{map, sym, ap, subst, ◌∙◌}
-use Rattle.cutoff.specs.Fitting.{part_of}
+use Rattle.std.proofs.Common.{sym, ap, subst, ◌∙◌}
 use Rattle.views.specs.RunPages.{found_last, Shows}
 use Rattle.views.proofs.Slips.{shows_all, shows_last}
 use Rattle.views.proofs.Spots.{spot_of}
@@ -7,15 +6,15 @@ use Rattle.views.proofs.slip.settled.Goals as goal
 
 pub returns-then-shows_events-clause-spot : goal.returns-then-shows_events-clause-spot
 returns-then-shows_events-clause-spot g c = (
-  map part_of c.in_ok-spot.spot.runs.items,
-  spot_of g.R.PartialEq.eq g.met.R.Eq.laws g.R.Behaves.is g.met.R.Register.alike c.args.chart.now c.settle.new.self c.args.branch.now c.args.place c.in_ok-spot.spot.len
-      (map part_of c.in_ok-spot.spot.runs.items) c.in_ok-spot.spot.replayed (sym c.in_ok-spot.ensures.len) c.in_ok-spot.ensures.begins c.in_ok-spot.ensures.ok,
-  shows_all g.R.Behaves.is c.args.kind (sym c.shows_events.ensures ∙ c.if-shows_events.true) c.args.chart.now.start c.in_ok-spot.spot.runs,
+  c.in_ok-spot.spot.runs,
+  spot_of g.R.PartialEq.eq g.met.R.Eq.laws g.R.Behaves.behaviour g.met.R.Register.alike c.args.chart.now c.settle.new.self c.args.branch.now c.args.place c.in-Some.len
+      c.in_ok-spot.spot.runs c.in_ok-spot.spot.replayed c.in-Some.ensures c.in_ok-spot.ensures.begins c.in_ok-spot.ensures.ok,
+  shows_all g.R.Behaves.behaviour c.args.kind (sym c.shows_events.ensures ∙ c.if-shows_events.true) c.args.chart.now.start c.in_ok-spot.spot.runs,
 )
 
 pub returns-clause-spot : goal.returns-clause-spot
 returns-clause-spot g c =
-    let is = g.R.Behaves.is in
+    let is = g.R.Behaves.behaviour in
     let start = c.args.chart.now.start in
     let ok = c.in_ok-last.ensures.ok in (
       ok.0,

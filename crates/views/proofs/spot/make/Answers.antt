@@ -5,7 +5,7 @@ use Rattle.frames.specs.Behaviour.{Behaviour}
 use Rattle.frames.specs.Configuration.{Configuration, replayed, stepped}
 use Rattle.views.proofs.spot.make.Goals as goal
 
--- with a step more, what is still to come makes it the same
+-- after one more step, the remaining steps lead to the same configuration
 more : {R P : Type 0} (is : R → Behaviour P) (register : R) (c next whole : Configuration R P) (steps : List Step)
     (i : ℕ) (d : Step) → i < length steps → c.register ≡ register → next ≡ stepped (is c.register) c (get_or steps i d)
     → replayed (is register) c (drop i steps) ≡ whole
@@ -21,7 +21,7 @@ loop-step-preserved g c =
     let after = c.step.ensures.after in
     record {
       register = ap (λ e. e.register) after ∙ so_far.register;
-      config = more g.R.Behaves.is now c.loop-step.config c.step.new.self _ c.args.steps.now c.loop-step.step-index _
+      config = more g.R.Behaves.behaviour now c.loop-step.config c.step.new.self _ c.args.steps.now c.loop-step.step-index _
           c.loop-step-test.true so_far.register after so_far.config;
     }
 
@@ -31,5 +31,5 @@ all b c whole steps i done so_far = ap (replayed b c) (sym (drop_all i steps don
 
 pub returns : goal.returns
 returns g c =
-    all (g.R.Behaves.is c.args.config.now.register) c.loop-step.config _ c.args.steps.now c.loop-step.step-index
+    all (g.R.Behaves.behaviour c.args.config.now.register) c.loop-step.config _ c.args.steps.now c.loop-step.step-index
     c.loop-step-test.false c.loop-step.invariant.config

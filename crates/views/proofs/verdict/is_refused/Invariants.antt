@@ -2,6 +2,6 @@ use Rattle.std.proofs.Common.{◌≡◌, drop}
 use Rattle.frames.specs.Verdicts.{is_refused}
 use Rattle.views.proofs.verdict.is_refused.Given as goal
 
--- the events so far leave it to those that come
+-- the events so far don't decide whether the write is refused; the remaining ones do
 abbrev pub invariant-loop-index : goal.invariant-loop-index
 invariant-loop-index l = is_refused (drop l.index l.events) ≡ is_refused l.events

@@ -2,6 +2,6 @@ use Rattle.std.proofs.Common.{◌≡◌, ◌++◌, drop}
 use Rattle.frames.specs.Verdicts.{accepted, verdicts_from, verdicts}
 use Rattle.views.proofs.verdict.verdicts.Given as goal
 
--- the verdicts so far, and those on what is still to come
+-- the verdicts so far, and then those on the remaining events, are all verdicts
 abbrev pub invariant-loop-place : goal.invariant-loop-place
 invariant-loop-place l = l.all.items ++ verdicts_from l.known (accepted (drop l.place l.events)) ≡ verdicts l.fn.value l.events

@@ -6,10 +6,10 @@ use Rattle.words.proofs.front.more_digits.Goals as goal
 pub loop-value-preserved : goal.loop-value-preserved
 loop-value-preserved c =
     let digit : is_ascii_digit c.in-Some.digit.now ≡ true = search rules in
-    let left : c.loop-value.left.now ≡ c.in-Some.digit.now ∷ c.in-Some.behind.now = search rules in
+    let left : c.loop-value.left.now ≡ c.in-Some.digit.now ∷ c.in-Some.following.now = search rules in
     record {
       some = omega (arith, c.loop-value.invariant.some);
       short = small_more c.loop-value.value c.from.result c.in-Some.digit.now c.loop-value-test.true digit c.from.ensures;
-      front = one_more c.args.first c.loop-value.value c.from.result c.in-Some.digit.now c.args.text.now c.loop-value.left.now c.in-Some.behind.now
+      front = one_more c.args.first c.loop-value.value c.from.result c.in-Some.digit.now c.args.text.now c.loop-value.left.now c.in-Some.following.now
           c.loop-value.invariant.some c.loop-value-test.true digit c.from.ensures left c.loop-value.invariant.front;
     }

@@ -10,9 +10,9 @@ absorb-requires-clause-rule g t c = comes_back _ _ _ _ (let part = c.join-thief.
 
 pub put_all-requires : goal.put_all-requires
 put_all-requires g t c =
-    tray_slots g.J.Job.gives c.args.jobs.now _ _ c.join-thief.result.1.1.items c.join-thief.result.0.tray.items c.join-thief.ensures.second.1 c.join-thief.ensures.first.1
+    tray_slots g.J.Runnable.gives c.args.jobs.now _ _ c.join-thief.result.1.1.items c.join-thief.result.0.tray.items c.join-thief.ensures.second.1 c.join-thief.ensures.first.1
 
 pub returns-clause-done : goal.returns-clause-done
 returns-clause-done g t c =
-    let over = comes_over g.J.Job.gives c.args.jobs.now _ _ (worker_view c.absorb.new.self) c.join-thief.result.1.1.items c.join-thief.result.0.tray.items c.join-thief.ensures.second.1 c.join-thief.ensures.first.1 c.absorb.ensures.rule in
-    subst (IsAtWork g.J.Job.gives c.args.jobs.now (worker_view c.absorb.new.self)) (sym c.put_all.ensures) over
+    let over = comes_over g.J.Runnable.gives c.args.jobs.now _ _ (worker_view c.absorb.new.self) c.join-thief.result.1.1.items c.join-thief.result.0.tray.items c.join-thief.ensures.second.1 c.join-thief.ensures.first.1 c.absorb.ensures.rule in
+    subst (IsAtWork g.J.Runnable.gives c.args.jobs.now (worker_view c.absorb.new.self)) (sym c.put_all.ensures) over

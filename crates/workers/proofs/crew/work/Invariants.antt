@@ -8,7 +8,7 @@ abbrev pub invariant-loop-index : goal.invariant-loop-index
 invariant-loop-index g l = record {
   same : SameOwner l.initial.owner l.owner;
   fifo : worker_flavor l.owner ≡ 0;
-  ready : IsAtWork g.J.Job.gives l.jobs (worker_view l.owner) l.slots.items;
+  ready : IsAtWork g.J.Runnable.gives l.jobs (worker_view l.owner) l.slots.items;
 }
 
 abbrev pub decreases-loop-index : goal.decreases-loop-index

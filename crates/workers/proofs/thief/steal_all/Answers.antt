@@ -16,15 +16,15 @@ run_job-outcome-requires g c =
 
 pub push_reserved-requires : goal.push_reserved-requires
 push_reserved-requires g c =
-    let fewer = tray_room g.J.Job.gives c.args.jobs.now _ _ c.loop.tray.items c.in-Success.index c.loop.invariant.tray c.in-Success.ensures.rule in
+    let fewer = tray_room g.J.Runnable.gives c.args.jobs.now _ _ c.loop.tray.items c.in-Success.index c.loop.invariant.tray c.in-Success.ensures.rule in
     let room = c.loop.invariant.room in
     omega arith
 
 pub loop-preserved-in-Success : goal.loop-preserved-in-Success
 loop-preserved-in-Success g c =
-    let on = steals_on g.J.Job.gives c.args.jobs.now _ _ c.loop.tray.items c.in-Success.index c.run_job-outcome.result c.loop.invariant.tray c.in-Success.ensures.rule c.run_job-outcome.ensures in
+    let on = steals_on g.J.Runnable.gives c.args.jobs.now _ _ c.loop.tray.items c.in-Success.index c.run_job-outcome.result c.loop.invariant.tray c.in-Success.ensures.rule c.run_job-outcome.ensures in
     record {
       pass = search rules;
       room = search rules;
-      tray = subst (HasTray g.J.Job.gives c.args.jobs.now (view c.steal_as.new.pass)) (sym c.push_reserved.ensures.items) on;
+      tray = subst (HasTray g.J.Runnable.gives c.args.jobs.now (view c.steal_as.new.pass)) (sym c.push_reserved.ensures.items) on;
     }

@@ -7,5 +7,5 @@ abbrev pub invariant-loop : goal.invariant-loop
 invariant-loop g l = record {
   pass : IsPassOf (stealer_deque l.deque) l.pass;
   room : length l.jobs ≤ vec_capacity l.tray;
-  tray : HasTray g.J.Job.gives l.jobs (view l.pass) l.tray.items;
+  tray : HasTray g.J.Runnable.gives l.jobs (view l.pass) l.tray.items;
 }

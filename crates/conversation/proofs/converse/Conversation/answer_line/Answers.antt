@@ -1,21 +1,21 @@
 use Rattle.std.proofs.Common.{◌≡◌, ℕ, ◌+◌, List, [], ◌∙◌, rules, sym, ap, subst, take, true, ◌∷◌, length, ◌==◌, refl, arith}
 use Rattle.std.proofs.lemmas.Bool.Decides.{nat_tests}
 use Rattle.conversation.specs.declared.limits.TheConstants.{KEPT_BYTES}
-use Rattle.conversation.specs.Scripts.{IsAnswer}
-use Rattle.conversation.specs.Told.{kept_with}
+use Rattle.conversation.specs.Scripts.{IsLineAnswer}
+use Rattle.conversation.specs.Answering.{kept_with}
 use Rattle.conversation.proofs.converse.Conversation.answer_line.Goals as goal
 
 nothing : (xs : List ℕ) → true ≡ (length xs == 0) → xs ≡ []
 nothing [] h = refl
 nothing (x ∷ xs) h = grind (arith, nat_tests)
 
--- where nothing is kept of a line, its front is
+-- if nothing of a line was kept before, its front is kept
 front_alone : (line bytes front : List ℕ) → line ≡ [] → front ≡ take KEPT_BYTES bytes → front ≡ kept_with line bytes
 front_alone line bytes front e f = f ∙ ap (λ l. kept_with l bytes) (sym e)
 
 pub returns-then-is_empty-clause-answer : goal.returns-then-is_empty-clause-answer
-returns-then-is_empty-clause-answer g c =
-    subst (λ l. IsAnswer g.A.Answers.define (c.args.self.now.lines + 1) l (g.A.Answers.world c.args.answers.now) (g.A.Answers.world c.answer.new.arg2) c.args.self.now.out.items
+returns-then-is_empty-clause-answer g c = λ alone.
+    subst (λ l. IsLineAnswer g.A.Answers.define (c.args.self.now.lines + 1) l (g.A.Answers.world c.args.answers.now) (g.A.Answers.world c.answer.new.arg2) c.args.self.now.out.items
     c.answer.new.arg5.items)
     (front_alone c.args.self.now.line.items c.args.end.now c.kept_front.result.now (sym c.as_slice.ensures.value ∙ nothing c.as_slice.result.now c.if-is_empty.ensures) c.kept_front.ensures)
     (search rules)

@@ -1,11 +1,13 @@
 use Rattle.std.proofs.Common.{◌≡◌, ◌++◌, ◌∷◌, ◌+◌, ◌≤◌, [], ℕ, List, length, refl, sym, ap, subst, ◌∙◌, arith, append_assoc, append-nil}
+use Rattle.std.specs.Prelude.{⊤, OnOk, Result, Ok, Err}
+use Rattle.std.specs.declared.alloc.AllocError.{AllocError}
 use Rattle.std.proofs.lemmas.List.{length-append}
 use Rattle.std.proofs.lemmas.Result.{on_ok_weaker}
-use Rattle.conversation.specs.Told.{Told, kept_with}
+use Rattle.conversation.specs.Answering.{HasAnswered, kept_with}
 use Rattle.conversation.proofs.Tellings.{told_on, told_line, behind}
 use Rattle.conversation.proofs.converse.Conversation.take.Goals as goal
 
--- a line more of a piece
+-- one more line of a piece
 joined : (before rest line later : List ℕ) → rest ≡ line ++ 10 ∷ later → before ++ rest ≡ ((before ++ line) ++ 10 ∷ []) ++ later
 joined before rest line later e =
     ap (λ xs. before ++ xs) e ∙ sym (append_assoc before line (10 ∷ later)) ∙ sym (append_assoc (before ++ line) (10 ∷ []) later)
@@ -19,60 +21,74 @@ lines-init g c =
     let old = c.args.self.now in
     record {
       few = omega arith;
-      told = (
-        [],
-        refl,
-        λ start seen front t.
-            subst (λ xs. Told A.define start xs (A.world c.args.answers.now) old.lines old.line.items (front ++ old.out.items))
-            (sym (append-nil seen)) t,
+      reported = λ alone. (
+        alone,
+        (
+          [],
+          refl,
+          λ start seen front t.
+              subst (λ xs. HasAnswered A.define start xs (A.world c.args.answers.now) old.lines old.line.items (front ++ old.out.items))
+              (sym (append-nil seen)) t,
+        ),
       );
     }
 
 pub answer_line-requires-clause-few : goal.answer_line-requires-clause-few
 answer_line-requires-clause-few g c =
-    let less = shorter c.lines.rest.now c.in-Some.end.now c.in-Some.behind.now c.in-Some.ensures.1 in
+    let less = shorter c.lines.rest.now c.in-Some.end.now c.in-Some.following.now c.in-Some.ensures.1 in
     omega (arith, c.requires.few, c.lines.invariant.few, less)
 
 pub returns-in_err-answer_line-clause-lines : goal.returns-in_err-answer_line-clause-lines
 returns-in_err-answer_line-clause-lines g c =
-    let less = shorter c.lines.rest.now c.in-Some.end.now c.in-Some.behind.now c.in-Some.ensures.1 in
+    let less = shorter c.lines.rest.now c.in-Some.end.now c.in-Some.following.now c.in-Some.ensures.1 in
     omega (arith, c.lines.invariant.few, less, c.answer_line.ensures.lines)
 
 pub lines-smaller : goal.lines-smaller
-lines-smaller g c = omega (arith, shorter c.lines.rest.now c.in-Some.end.now c.in-Some.behind.now c.in-Some.ensures.1)
+lines-smaller g c = omega (arith, shorter c.lines.rest.now c.in-Some.end.now c.in-Some.following.now c.in-Some.ensures.1)
 
 pub lines-preserved : goal.lines-preserved
 lines-preserved g c =
     let A = g.A.Answers in
-    let so_far = c.lines.invariant.told in
     let line = c.in-Some.end.now in
     let cut = c.in-Some.ensures.1 in
     record {
-      few = omega (arith, c.lines.invariant.few, shorter c.lines.rest.now line c.in-Some.behind.now cut, c.answer_line.ensures.lines);
-      told = (
-        (so_far.0 ++ line) ++ 10 ∷ [],
-        so_far.1 ∙ joined so_far.0 c.lines.rest.now line c.in-Some.behind.now cut,
-        λ start seen front t.
-            let before = so_far.2 start seen front t in
-            let whole = kept_with c.lines.self.line.items line in
-            let kept = told_on A.define start (seen ++ so_far.0) (A.world c.lines.answers) c.lines.self.lines c.lines.self.line.items (front ++ c.lines.self.out.items) before
-            line c.lines.self.lines whole (front ++ c.lines.self.out.items) c.in-Some.ensures.0 refl refl refl in
-            subst (λ xs. Told A.define start xs (A.world c.answer_line.new.answers) c.answer_line.new.self.lines c.answer_line.new.self.line.items (front ++ c.answer_line.new.self.out.items))
-            (ap (λ xs. xs ++ 10 ∷ []) (append_assoc seen so_far.0 line) ∙ append_assoc seen (so_far.0 ++ line) (10 ∷ []))
-            (told_line A.define g.A.Answers.reads_front start ((seen ++ so_far.0) ++ line) (A.world c.lines.answers) c.lines.self.lines whole (front ++ c.lines.self.out.items) kept
-            (A.world c.answer_line.new.answers) c.answer_line.new.self.lines c.answer_line.new.self.line.items (front ++ c.answer_line.new.self.out.items)
-            (behind A.define _ _ _ _ _ _ front c.in_ok-answer_line.ensures.answer) c.in_ok-answer_line.ensures.counted c.in_ok-answer_line.ensures.line),
-      );
+      few = omega (arith, c.lines.invariant.few, shorter c.lines.rest.now line c.in-Some.following.now cut, c.answer_line.ensures.lines);
+      reported = λ alone.
+          let still = c.lines.invariant.reported alone in
+          let so_far = still.1 in (
+            c.in_ok-answer_line.ensures.alone still.0,
+            (
+              (so_far.0 ++ line) ++ 10 ∷ [],
+              so_far.1 ∙ joined so_far.0 c.lines.rest.now line c.in-Some.following.now cut,
+              λ start seen front t.
+                  let before = so_far.2 start seen front t in
+                  let whole = kept_with c.lines.self.line.items line in
+                  let kept = told_on A.define start (seen ++ so_far.0) (A.world c.lines.answers) c.lines.self.lines c.lines.self.line.items (front ++ c.lines.self.out.items) before
+                  line c.lines.self.lines whole (front ++ c.lines.self.out.items) c.in-Some.ensures.0 refl refl refl in
+                  subst (λ xs. HasAnswered A.define start xs (A.world c.answer_line.new.answers) c.answer_line.new.self.lines c.answer_line.new.self.line.items (front ++ c.answer_line.new.self.out.items))
+                  (ap (λ xs. xs ++ 10 ∷ []) (append_assoc seen so_far.0 line) ∙ append_assoc seen (so_far.0 ++ line) (10 ∷ []))
+                  (told_line A.define g.A.Answers.reads_front start ((seen ++ so_far.0) ++ line) (A.world c.lines.answers) c.lines.self.lines whole (front ++ c.lines.self.out.items) kept
+                  (A.world c.answer_line.new.answers) c.answer_line.new.self.lines c.answer_line.new.self.line.items (front ++ c.answer_line.new.self.out.items)
+                  (behind A.define _ _ _ _ _ _ front (c.in_ok-answer_line.ensures.answer still.0)) c.in_ok-answer_line.ensures.counted c.in_ok-answer_line.ensures.line),
+            ),
+          );
     }
 
-pub returns-clause-told : goal.returns-clause-told
-returns-clause-told g c =
+pub returns-clause-reported : goal.returns-clause-reported
+returns-clause-reported g c = λ alone.
     let A = g.A.Answers in
-    let so_far = c.lines.invariant.told in
+    let so_far = (c.lines.invariant.reported alone).1 in
     on_ok_weaker c.keep.result
     (λ kept start seen front t.
-    subst (λ xs. Told A.define start xs (A.world c.lines.answers) c.keep.new.self.lines c.keep.new.self.line.items (front ++ c.keep.new.self.out.items))
+    subst (λ xs. HasAnswered A.define start xs (A.world c.lines.answers) c.keep.new.self.lines c.keep.new.self.line.items (front ++ c.keep.new.self.out.items))
     (append_assoc seen so_far.0 c.lines.rest.now ∙ ap (λ xs. seen ++ xs) (sym so_far.1))
     (told_on A.define start (seen ++ so_far.0) (A.world c.lines.answers) c.lines.self.lines c.lines.self.line.items (front ++ c.lines.self.out.items) (so_far.2 start seen front t)
     c.lines.rest.now c.keep.new.self.lines c.keep.new.self.line.items (front ++ c.keep.new.self.out.items) (rw c.in_default.is at c.first_line.ensures) c.keep.ensures.lines kept (ap (λ out. front ++ out.items) c.keep.ensures.out)))
     c.keep.ensures.line
+
+always : (r : Result ⊤ AllocError) (P : Type 0) → P → OnOk r P
+always (Ok done) P p = p
+always (Err e) P p = tt
+
+pub returns-clause-alone : goal.returns-clause-alone
+returns-clause-alone g c = λ alone. always c.keep.result _ (c.lines.invariant.reported alone).0

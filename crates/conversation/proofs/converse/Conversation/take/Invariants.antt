@@ -1,13 +1,13 @@
 use Rattle.std.proofs.Common.{◌≡◌, ◌≤◌, ◌+◌, ◌++◌, ℕ, List, length}
-use Rattle.conversation.specs.Told.{Told}
+use Rattle.conversation.specs.Answering.{HasAnswered}
 use Rattle.conversation.proofs.converse.Conversation.take.Given as goal
 
 abbrev pub invariant-lines : goal.invariant-lines
 invariant-lines g l = record {
   few : l.self.lines + length l.rest ≤ l.initial.self.lines + length l.piece;
-  told : (before : List ℕ) × (l.piece ≡ before ++ l.rest) × ((start : g.A.Answers.Worlds) (seen front : List ℕ)
-      → Told g.A.Answers.define start seen (g.A.Answers.world l.initial.answers) l.initial.self.lines l.initial.self.line.items (front ++ l.initial.self.out.items)
-      → Told g.A.Answers.define start (seen ++ before) (g.A.Answers.world l.answers) l.self.lines l.self.line.items (front ++ l.self.out.items));
+  reported : g.A.Answers.alone l.initial.answers → g.A.Answers.alone l.answers × ((before : List ℕ) × (l.piece ≡ before ++ l.rest) × ((start : g.A.Answers.Worlds) (seen front : List ℕ)
+      → HasAnswered g.A.Answers.define start seen (g.A.Answers.world l.initial.answers) l.initial.self.lines l.initial.self.line.items (front ++ l.initial.self.out.items)
+      → HasAnswered g.A.Answers.define start (seen ++ before) (g.A.Answers.world l.answers) l.self.lines l.self.line.items (front ++ l.self.out.items)));
 }
 
 abbrev pub decreases-lines : goal.decreases-lines

@@ -6,7 +6,7 @@ use Rattle.cutoff.proofs.chart.Chart.detach.Goals as goal
 
 pub invariant_of-self : goal.invariant_of-self
 invariant_of-self g c =
-    charted g.R.PartialEq.eq g.R.Behaves.is c.self.inside.next c.self.inside.mark _ c.detach.new.self (Detach c.args.branch.now) c.detach.result c.self.invariant
+    charted g.R.PartialEq.eq g.R.Behaves.behaviour c.self.inside.next c.self.inside.mark _ c.detach.new.self (Detach c.args.branch.now) c.detach.result c.self.invariant
     tt c.detach.ensures.ok c.detach.ensures.err
 
 pub returns-clause-ok : goal.returns-clause-ok

@@ -6,7 +6,7 @@ use Rattle.cutoff.proofs.chart.Chart.drop_branch.Goals as goal
 
 pub invariant_of-self : goal.invariant_of-self
 invariant_of-self g c =
-    charted g.R.PartialEq.eq g.R.Behaves.is c.self.inside.next c.self.inside.mark _ c.drop_branch.new.self (Drop c.args.branch.now) c.drop_branch.result c.self.invariant
+    charted g.R.PartialEq.eq g.R.Behaves.behaviour c.self.inside.next c.self.inside.mark _ c.drop_branch.new.self (Drop c.args.branch.now) c.drop_branch.result c.self.invariant
     tt c.drop_branch.ensures.ok c.drop_branch.ensures.err
 
 pub returns-clause-ok : goal.returns-clause-ok

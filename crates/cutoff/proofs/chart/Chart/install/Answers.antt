@@ -9,17 +9,17 @@ use Rattle.cutoff.proofs.chart.Chart.install.Goals as goal
 pub returns-then-not-fits : goal.returns-then-not-fits
 returns-then-not-fits g c =
     let E = g.R.PartialEq.eq in
-    let b = g.R.Behaves.is c.self.inside.start.register in
+    let b = g.R.Behaves.behaviour c.self.inside.start.register in
     let was : Charted g.row.R.Denot g.row.R-Pending.Denot = record { cut = c.self.inside.trie; start = c.self.inside.start; value = c.self.inside.value } in
     let refused : CannotInstall E b was c.args.key (arc_value c.args.run) =
     λ i h f. true≢false (sym ((c.fits_down-fits.ensures.fits i h).1 (subst (λ r. FitsDown E b c.self.inside.trie c.args.key r c.self.inside.start (keys_in c.self.inside.trie.strands i)) (sym c.deref.ensures) f)) ∙ c.if-not-fits.true) in
-    subst (λ v. IsSome (piece_at v.cut.pieces c.args.key) × CannotInstall E (g.R.Behaves.is v.start.register) v c.args.key (arc_value c.args.run) × (v ≡ v)) c.self.view_is
+    subst (λ v. IsSome (piece_at v.cut.pieces c.args.key) × CannotInstall E (g.R.Behaves.behaviour v.start.register) v c.args.key (arc_value c.args.run) × (v ≡ v)) c.self.view_is
     (c.has_segment.ensures.yes c.if-not-has_segment.false, refused, refl)
 
 pub invariant_of-self : goal.invariant_of-self
 invariant_of-self g c =
     let live = c.self.invariant.whole.live c.args.key (c.has_segment.ensures.yes c.if-not-has_segment.false) in
-    charted_installed g.R.PartialEq.eq g.met.R.PartialEq.laws g.R.Behaves.is g.met.R.Register.alike c.self.inside.next c.take_number-id.new.next c.self.inside.mark _ c.set_note.new.self c.args.key c.new.result
+    charted_installed g.R.PartialEq.eq g.met.R.PartialEq.laws g.R.Behaves.behaviour g.met.R.Register.alike c.self.inside.next c.take_number-id.new.next c.self.inside.mark _ c.set_note.new.self c.args.key c.new.result
     (arc_value c.args.run) c.deref.result.now (keys_in c.self.inside.trie.strands live.0) c.take_number-id.result c.self.invariant
     ((c.fits_down-fits.ensures.fits live.0 live.1).0 c.if-not-fits.false) (c.fits_down-fits.ensures.runs c.if-not-fits.false) (c.fits_down-fits.ensures.kept c.if-not-fits.false)
     (c.has_segment.ensures.yes c.if-not-has_segment.false) c.deref.ensures
@@ -28,10 +28,10 @@ invariant_of-self g c =
 pub returns : goal.returns
 returns g c =
     let E = g.R.PartialEq.eq in
-    let b = g.R.Behaves.is c.self.inside.start.register in
+    let b = g.R.Behaves.behaviour c.self.inside.start.register in
     let was : Charted g.row.R.Denot g.row.R-Pending.Denot = record { cut = c.self.inside.trie; start = c.self.inside.start; value = c.self.inside.value } in
     let now : Charted g.row.R.Denot g.row.R-Pending.Denot = record { cut = c.set_note.new.self; start = c.self.inside.start; value = c.self.inside.value } in
     let can : CanInstall E b was c.args.key (arc_value c.args.run) =
     λ i h. subst (λ r. FitsDown E b c.self.inside.trie c.args.key r c.self.inside.start (keys_in c.self.inside.trie.strands i)) c.deref.ensures ((c.fits_down-fits.ensures.fits i h).0 c.if-not-fits.false) in
-    subst (λ v. IsSome (piece_at v.cut.pieces c.args.key) × CanInstall E (g.R.Behaves.is v.start.register) v c.args.key (arc_value c.args.run) × IsInstalled v now c.args.key (arc_value c.args.run)) c.self.view_is
+    subst (λ v. IsSome (piece_at v.cut.pieces c.args.key) × CanInstall E (g.R.Behaves.behaviour v.start.register) v c.args.key (arc_value c.args.run) × IsInstalled v now c.args.key (arc_value c.args.run)) c.self.view_is
     (c.has_segment.ensures.yes c.if-not-has_segment.false, can, record { noted = (c.new.result, c.new.ensures.run, c.set_note.ensures); start = refl; value = refl })

@@ -8,7 +8,7 @@ use Rattle.cutoff.proofs.chart.Chart.load.Goals as goal
 
 pub over-requires-clause-fits : goal.over-requires-clause-fits
 over-requires-clause-fits g c =
-    loaded_fits (g.R.Behaves.is c.args.register) c.args.limits c.args.limbs.now (forest c.in_ok-trie.trie) c.requires.fits c.in_ok-trie.ensures.ok
+    loaded_fits (g.R.Behaves.behaviour c.args.register) c.args.limits c.args.limbs.now (forest c.in_ok-trie.trie) c.requires.fits c.in_ok-trie.ensures.ok
 
 pub returns-clause-blank : goal.returns-clause-blank
 returns-clause-blank g c = subst IsBlank (sym c.in_ok-over.ensures.cut) c.in_ok-trie.ensures.blank

@@ -7,7 +7,7 @@ use Rattle.cutoff.proofs.chart.Chart.new.Goals as goal
 
 pub over-requires-clause-fits : goal.over-requires-clause-fits
 over-requires-clause-fits g c =
-    opened_fits (g.R.Behaves.is c.args.register) c.args.limits c.args.steps.now (forest c.in_ok-trie.trie) c.requires.fits c.in_ok-trie.ensures.ok
+    opened_fits (g.R.Behaves.behaviour c.args.register) c.args.limits c.args.steps.now (forest c.in_ok-trie.trie) c.requires.fits c.in_ok-trie.ensures.ok
 
 pub returns-in_err-trie-clause-err : goal.returns-in_err-trie-clause-err
 returns-in_err-trie-clause-err g c =

@@ -9,14 +9,14 @@ use Rattle.cutoff.proofs.chart.Chart.settle_last.Goals as goal
 
 pub returns-then-place-eq0-clause-ok : goal.returns-then-place-eq0-clause-ok
 returns-then-place-eq0-clause-ok g c =
-    none_settled g.R.PartialEq.eq (g.R.Behaves.is c.args.self.now.start.register) c.args.self.now c.args.branch.now c.args.place c.if-place-eq0.true
+    none_settled g.R.PartialEq.eq (g.R.Behaves.behaviour c.args.self.now.start.register) c.args.self.now c.args.branch.now c.args.place c.if-place-eq0.true
 
 pub settle_to-requires-clause-there : goal.settle_to-requires-clause-there
 settle_to-requires-clause-there g c =
     let found = c.in_ok-index.ensures in
     let index = c.in_ok-index.index in
     let few : length (line (piece_at c.self.inside.trie.pieces) (keys_in c.self.inside.trie.strands index)) ≡ c.in_ok-index.len =
-    len_there (g.R.Behaves.is c.self.inside.start.register) c.self.inside.trie c.args.branch.now index c.in_ok-index.len found.index found.long in
+    len_there (g.R.Behaves.behaviour c.self.inside.start.register) c.self.inside.trie c.args.branch.now index c.in_ok-index.len found.index found.long in
     (index, c.in-Some.offset + 1, c.args.place, place_found c.self.inside.trie index c.args.place c.in-Some.key c.in-Some.offset c.in-Some.ensures.lies c.if-place-eq0.false, omega (arith, few))
 
 pub invariant_of-self : goal.invariant_of-self
@@ -24,23 +24,23 @@ invariant_of-self g c =
     let index = c.in_ok-index.index in
     let lies = place_found c.self.inside.trie index c.args.place c.in-Some.key c.in-Some.offset c.in-Some.ensures.lies c.if-place-eq0.false in
     let keeps = c.settle_to.ensures.keeps index (c.in-Some.offset + 1) c.args.place lies in
-    charted_kept g.R.PartialEq.eq g.R.Behaves.is c.self.inside.next c.settle_to.new.next c.self.inside.mark _ c.settle_to.new.trie _ keeps c.settle_to.ensures.linked c.self.invariant
+    charted_kept g.R.PartialEq.eq g.R.Behaves.behaviour c.self.inside.next c.settle_to.new.next c.self.inside.mark _ c.settle_to.new.trie _ keeps c.settle_to.ensures.linked c.self.invariant
 
 pub invariant_of-self-2 : goal.invariant_of-self-2
 invariant_of-self-2 g c =
     let index = c.in_ok-index.index in
     let lies = place_found c.self.inside.trie index c.args.place c.in-Some.key c.in-Some.offset c.in-Some.ensures.lies c.if-place-eq0.false in
     let keeps = c.settle_to.ensures.keeps index (c.in-Some.offset + 1) c.args.place lies in
-    charted_marked g.R.PartialEq.eq g.R.Behaves.is c.settle_to.new.next None (Some c.in-Some.key) _ c.in_ok-run.ensures.marked
-    (charted_kept g.R.PartialEq.eq g.R.Behaves.is c.self.inside.next c.settle_to.new.next c.self.inside.mark _ c.settle_to.new.trie _ keeps c.settle_to.ensures.linked c.self.invariant)
+    charted_marked g.R.PartialEq.eq g.R.Behaves.behaviour c.settle_to.new.next None (Some c.in-Some.key) _ c.in_ok-run.ensures.marked
+    (charted_kept g.R.PartialEq.eq g.R.Behaves.behaviour c.self.inside.next c.settle_to.new.next c.self.inside.mark _ c.settle_to.new.trie _ keeps c.settle_to.ensures.linked c.self.invariant)
 
 pub returns-clause-ok : goal.returns-clause-ok
 returns-clause-ok g c =
     let index = c.in_ok-index.index in
     let lies = place_found c.self.inside.trie index c.args.place c.in-Some.key c.in-Some.offset c.in-Some.ensures.lies c.if-place-eq0.false in
-    subst (λ v. IsSettledLast g.R.PartialEq.eq (g.R.Behaves.is v.start.register) v (record { cut = c.settle_to.new.trie; start = c.self.inside.start; value = c.self.inside.value }) c.args.branch.now c.args.place
+    subst (λ v. IsSettledLast g.R.PartialEq.eq (g.R.Behaves.behaviour v.start.register) v (record { cut = c.settle_to.new.trie; start = c.self.inside.start; value = c.self.inside.value }) c.args.branch.now c.args.place
     (Some (part_of (c.in_ok-run.run', c.in-Some.offset + 1))) c.in_ok-run.replayed) c.self.view_is
-    (last_settled g.R.PartialEq.eq g.R.Behaves.is _ _ c.args.branch.now c.args.place c.in-Some.key (c.in-Some.offset + 1) index c.in_ok-run.replayed c.in_ok-run.run' c.in_ok-index.ensures.index
+    (last_settled g.R.PartialEq.eq g.R.Behaves.behaviour _ _ c.args.branch.now c.args.place c.in-Some.key (c.in-Some.offset + 1) index c.in_ok-run.replayed c.in_ok-run.run' c.in_ok-index.ensures.index
     (c.in_ok-run.ensures.settles index (c.in-Some.offset + 1) c.args.place lies) c.in_ok-run.ensures.run)
 
 pub returns-clause-found : goal.returns-clause-found
@@ -49,7 +49,7 @@ returns-clause-found g c =
     let index = c.in_ok-index.index in
     let lies = place_found c.self.inside.trie index c.args.place c.in-Some.key c.in-Some.offset c.in-Some.ensures.lies c.if-place-eq0.false in
     let keeps = c.settle_to.ensures.keeps index (c.in-Some.offset + 1) c.args.place lies in
-    let there = look_there (g.R.Behaves.is c.self.inside.start.register) c.self.inside.trie c.args.branch.now index c.in_ok-index.len found.index found.long c.args.place found.within in
+    let there = look_there (g.R.Behaves.behaviour c.self.inside.start.register) c.self.inside.trie c.args.branch.now index c.in_ok-index.len found.index found.long c.args.place found.within in
     subst (λ v. look (forest v.cut) c.args.branch.now c.args.place ≡ Ok (forest c.settle_to.new.trie)) c.self.view_is (there ∙ ap Ok (sym keeps.forest_kept))
 
 pub returns-clause-keeps : goal.returns-clause-keeps
@@ -57,7 +57,7 @@ returns-clause-keeps g c =
     let index = c.in_ok-index.index in
     let lies = place_found c.self.inside.trie index c.args.place c.in-Some.key c.in-Some.offset c.in-Some.ensures.lies c.if-place-eq0.false in
     let keeps = c.settle_to.ensures.keeps index (c.in-Some.offset + 1) c.args.place lies in
-    keeps_named g.R.PartialEq.eq g.R.Behaves.is c.args.self.now c.self.inside.trie c.settle_to.new.trie c.self.inside.start c.self.inside.value c.self.view_is c.args.branch.now c.args.place index c.in_ok-index.ensures.index keeps
+    keeps_named g.R.PartialEq.eq g.R.Behaves.behaviour c.args.self.now c.self.inside.trie c.settle_to.new.trie c.self.inside.start c.self.inside.value c.self.view_is c.args.branch.now c.args.place index c.in_ok-index.ensures.index keeps
 
 pub returns-in_err-index-clause-err : goal.returns-in_err-index-clause-err
 returns-in_err-index-clause-err g c =
@@ -68,15 +68,15 @@ returns-in_err-index-clause-err g c =
 pub returns-in_err-run-clause-err : goal.returns-in_err-run-clause-err
 returns-in_err-run-clause-err g c =
     let found = c.in_ok-index.ensures in
-    let there = look_there (g.R.Behaves.is c.self.inside.start.register) c.self.inside.trie c.args.branch.now c.in_ok-index.index c.in_ok-index.len found.index found.long c.args.place found.within in
+    let there = look_there (g.R.Behaves.behaviour c.self.inside.start.register) c.self.inside.trie c.args.branch.now c.in_ok-index.index c.in_ok-index.len found.index found.long c.args.place found.within in
     passed_up c.from_residual-in_err-run.result (IsRefused (look (forest c.args.self.now.cut) c.args.branch.now c.args.place))
     (λ e h. inr (h, subst (λ v. IsOk (look (forest v.cut) c.args.branch.now c.args.place)) c.self.view_is (subst IsOk (sym there) refl))) c.from_residual-in_err-run.ensures.1
 
 pub returns-clause-begins : goal.returns-clause-begins
-returns-clause-begins g c = seen_begins c.self.view_is g.R.PartialEq.eq g.R.Behaves.is c.self.inside.next c.self.inside.mark c.self.invariant
+returns-clause-begins g c = seen_begins c.self.view_is g.R.PartialEq.eq g.R.Behaves.behaviour c.self.inside.next c.self.inside.mark c.self.invariant
 
 pub returns-in_err-run-clause-begins : goal.returns-in_err-run-clause-begins
-returns-in_err-run-clause-begins g c = seen_begins c.self.view_is g.R.PartialEq.eq g.R.Behaves.is c.self.inside.next c.self.inside.mark c.self.invariant
+returns-in_err-run-clause-begins g c = seen_begins c.self.view_is g.R.PartialEq.eq g.R.Behaves.behaviour c.self.inside.next c.self.inside.mark c.self.invariant
 
 pub returns-then-place-eq0-clause-keeps : goal.returns-then-place-eq0-clause-keeps
 returns-then-place-eq0-clause-keeps g c = all_kept c.args.self.now.cut _
@@ -95,14 +95,14 @@ overflow_add-part g c = record {
 }
 
 pub returns-in_err-index-clause-begins : goal.returns-in_err-index-clause-begins
-returns-in_err-index-clause-begins g c = seen_begins c.self.view_is g.R.PartialEq.eq g.R.Behaves.is c.self.inside.next c.self.inside.mark c.self.invariant
+returns-in_err-index-clause-begins g c = seen_begins c.self.view_is g.R.PartialEq.eq g.R.Behaves.behaviour c.self.inside.next c.self.inside.mark c.self.invariant
 
 pub returns-then-place-eq0-clause-begins : goal.returns-then-place-eq0-clause-begins
-returns-then-place-eq0-clause-begins g c = seen_begins c.self.view_is g.R.PartialEq.eq g.R.Behaves.is c.self.inside.next c.self.inside.mark c.self.invariant
+returns-then-place-eq0-clause-begins g c = seen_begins c.self.view_is g.R.PartialEq.eq g.R.Behaves.behaviour c.self.inside.next c.self.inside.mark c.self.invariant
 
 pub returns-in_err-run-clause-keeps : goal.returns-in_err-run-clause-keeps
 returns-in_err-run-clause-keeps g c =
     let index = c.in_ok-index.index in
     let lies = place_found c.self.inside.trie index c.args.place c.in-Some.key c.in-Some.offset c.in-Some.ensures.lies c.if-place-eq0.false in
     let keeps = c.settle_to.ensures.keeps index (c.in-Some.offset + 1) c.args.place lies in
-    keeps_named g.R.PartialEq.eq g.R.Behaves.is c.args.self.now c.self.inside.trie c.settle_to.new.trie c.self.inside.start c.self.inside.value c.self.view_is c.args.branch.now c.args.place index c.in_ok-index.ensures.index keeps
+    keeps_named g.R.PartialEq.eq g.R.Behaves.behaviour c.args.self.now c.self.inside.trie c.settle_to.new.trie c.self.inside.start c.self.inside.value c.self.view_is c.args.branch.now c.args.place index c.in_ok-index.ensures.index keeps

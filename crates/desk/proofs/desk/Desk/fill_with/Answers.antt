@@ -7,5 +7,5 @@ use Rattle.desk.proofs.desk.Desk.fill_with.Goals as goal
 
 pub returns-in-Err-rounds-clause-filled : goal.returns-in-Err-rounds-clause-filled
 returns-in-Err-rounds-clause-filled g c =
-    filled_so g.R.Behaves.is c.args.self.now.first.value (view c.args.chair.now) (view c.planned.new.chair) (view c.rounds.new.chair) c.args.branch.now (Ok c.in-Ok.jobs) (Err Memory)
+    filled_so g.R.Behaves.behaviour c.args.self.now.first.value (view c.args.chair.now) (view c.planned.new.chair) (view c.rounds.new.chair) c.args.branch.now (Ok c.in-Ok.jobs) (Err Memory)
     (λ world. wants_memory Report world c.args.branch.now c.in-Ok.jobs) c.in-Ok.ensures.reads c.rounds.ensures.stays

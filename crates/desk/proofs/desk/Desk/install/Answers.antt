@@ -5,10 +5,10 @@ use Rattle.desk.proofs.desk.Desk.install.Goals as goal
 pub returns-clause-chair : goal.returns-clause-chair
 returns-clause-chair g c = (
   c.with.ensures.turn,
-  (reads_on g.R.Behaves.is c.args.self.now.first.value (view c.args.chair.now) (view c.with.new.chair) (λ n world. Unit {0}) c.requires.1 c.with.ensures.held).1,
+  (reads_on g.R.Behaves.behaviour c.args.self.now.first.value (view c.args.chair.now) (view c.with.new.chair) (λ n world. Unit {0}) c.requires.1 c.with.ensures.held).1,
 )
 
 pub returns-clause-stays : goal.returns-clause-stays
 returns-clause-stays g c =
-    reads_stay g.R.Behaves.is c.args.self.now.first.value (view c.args.chair.now) (view c.with.new.chair) (λ n world. Unit {0})
-    (reads_on g.R.Behaves.is c.args.self.now.first.value (view c.args.chair.now) (view c.with.new.chair) (λ n world. Unit {0}) c.requires.1 c.with.ensures.held).0
+    reads_stay g.R.Behaves.behaviour c.args.self.now.first.value (view c.args.chair.now) (view c.with.new.chair) (λ n world. Unit {0})
+    (reads_on g.R.Behaves.behaviour c.args.self.now.first.value (view c.args.chair.now) (view c.with.new.chair) (λ n world. Unit {0}) c.requires.1 c.with.ensures.held).0

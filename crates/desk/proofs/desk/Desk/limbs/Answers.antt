@@ -6,9 +6,9 @@ use Rattle.desk.proofs.desk.Desk.limbs.Goals as goal
 pub returns-clause-chair : goal.returns-clause-chair
 returns-clause-chair g c = (
   c.with.ensures.turn,
-  (reads_on g.R.Behaves.is c.args.self.now.first.value (view c.args.chair.now) (view c.with.new.chair) (λ n world. IsSaving n world c.with.result) c.requires.1 c.with.ensures.held).1,
+  (reads_on g.R.Behaves.behaviour c.args.self.now.first.value (view c.args.chair.now) (view c.with.new.chair) (λ n world. IsSaving n world c.with.result) c.requires.1 c.with.ensures.held).1,
 )
 
 pub returns-clause-saved : goal.returns-clause-saved
 returns-clause-saved g c =
-    (reads_on g.R.Behaves.is c.args.self.now.first.value (view c.args.chair.now) (view c.with.new.chair) (λ n world. IsSaving n world c.with.result) c.requires.1 c.with.ensures.held).0
+    (reads_on g.R.Behaves.behaviour c.args.self.now.first.value (view c.args.chair.now) (view c.with.new.chair) (λ n world. IsSaving n world c.with.result) c.requires.1 c.with.ensures.held).0

@@ -13,5 +13,5 @@ returns-clause-first g c = c.over.ensures.first
 pub returns-clause-opening : goal.returns-clause-opening
 returns-clause-opening g c =
     IfOk-weaker c.over.result (λ r. book_at_first r.0 ≡ c.in_ok-book.book) _
-    (λ r same. ap (opening_of g.R.Behaves.is) same ∙ c.in_ok-book.ensures.opening)
+    (λ r same. ap (opening_of g.R.Behaves.behaviour) same ∙ c.in_ok-book.ensures.opening)
     c.over.ensures.book

@@ -12,7 +12,7 @@ returns-clause-first g c = first g c
 
 pub returns-clause-chair : goal.returns-clause-chair
 returns-clause-chair g c =
-    (c.in-Ok.ensures.turn, begun_legal g.R.Behaves.is c.of-first.result.value (view c.in-Ok.chair) (first g c))
+    (c.in-Ok.ensures.turn, begun_legal g.R.Behaves.behaviour c.of-first.result.value (view c.in-Ok.chair) (first g c))
 
 pub returns-clause-book : goal.returns-clause-book
 returns-clause-book g c = c.of-first.ensures

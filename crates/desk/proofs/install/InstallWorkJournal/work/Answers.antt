@@ -4,14 +4,14 @@ use Rattle.desk.proofs.install.InstallWorkJournal.work.Goals as goal
 
 pub returns-in_err-run-clause-kept : goal.returns-in_err-run-clause-kept
 returns-in_err-run-clause-kept g c =
-    let is = g.R.Behaves.is in
+    let is = g.R.Behaves.behaviour in
     let first = c.journal.inside.first.value in
     let old = c.deref_mut-book.result.now in
     reads_so is first old old (taken is first c.deref_mut-book.ensures.value c.journal.invariant c.journal.view_is) refl c.held.ensures.log (λ n w. Unit {0}) refl refl tt
 
 pub returns-clause-kept : goal.returns-clause-kept
 returns-clause-kept g c =
-    let is = g.R.Behaves.is in
+    let is = g.R.Behaves.behaviour in
     let first = c.journal.inside.first.value in
     let told = c.offer-answer.ensures in
     reads_so is first c.deref_mut-book.result.now c.offer-answer.new.book (taken is first c.deref_mut-book.ensures.value c.journal.invariant c.journal.view_is) told.opening c.held-2.ensures.log

@@ -1,4 +1,5 @@
-use Rattle.std.proofs.Common.{◌∙◌, Ok}
+use Rattle.std.proofs.Common.{◌∙◌, Ok, sym, subst}
+use Rattle.sessions.specs.Saves.{IsSaved}
 use Rattle.desk.specs.Works.{IsSaving}
 use Rattle.desk.proofs.Works.{stays_so, taken, wants_memory}
 use Rattle.desk.proofs.save.SaveWorkJournal.work.Goals as goal
@@ -7,12 +8,12 @@ pub returns-in_err-limbs-clause-kept : goal.returns-in_err-limbs-clause-kept
 returns-in_err-limbs-clause-kept g c =
     let first = c.journal.inside.first.value in
     let r = c.from_residual.result in
-    stays_so g.R.Behaves.is first c.deref-book.result.now (taken g.R.Behaves.is first c.deref-book.ensures c.journal.invariant c.journal.view_is) c.len.ensures.kept (λ n w. IsSaving n w r)
+    stays_so g.R.Behaves.behaviour first c.deref-book.result.now (taken g.R.Behaves.behaviour first c.deref-book.ensures c.journal.invariant c.journal.view_is) c.len.ensures.kept (λ n w. IsSaving n w r)
     (wants_memory _ _ r _ c.from_residual.ensures.1 (λ x h. h))
 
 pub returns-clause-kept : goal.returns-clause-kept
 returns-clause-kept g c =
     let first = c.journal.inside.first.value in
-    let r = Ok (record { at = c.from-at.result; limbs = c.in_ok-limbs.limbs }) in
-    stays_so g.R.Behaves.is first c.deref-book.result.now (taken g.R.Behaves.is first c.deref-book.ensures c.journal.invariant c.journal.view_is) c.len.ensures.kept (λ n w. IsSaving n w r)
-    (c.from-at.ensures ∙ c.len.ensures.count, c.in_ok-limbs.ensures)
+    let r = Ok (record { at = c.from-at.result; limbs = c.new-limbs.result }) in
+    stays_so g.R.Behaves.behaviour first c.deref-book.result.now (taken g.R.Behaves.behaviour first c.deref-book.ensures c.journal.invariant c.journal.view_is) c.len.ensures.kept (λ n w. IsSaving n w r)
+    (c.from-at.ensures ∙ c.len.ensures.count, subst (IsSaved _) (sym c.new-limbs.ensures) c.in_ok-limbs.ensures)

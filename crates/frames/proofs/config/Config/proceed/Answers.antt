@@ -2,20 +2,20 @@ use Rattle.std.proofs.Common.{◌<◌, sym, subst}
 use Rattle.frames.proofs.Stepped.{stands, proceeds}
 use Rattle.frames.proofs.config.Config.proceed.Goals as goal
 
-pub proceed-requires-clause-stands : goal.proceed-requires-clause-stands
-proceed-requires-clause-stands g c =
-    let lt = subst (λ x. c.args.who < (g.R.Behaves.is x.register).processes) (sym c.self.view_is) c.requires in
-    stands (g.met.R.Register.lawful c.self.inside.register) (g.met.R.Register.tells c.self.inside.register) c.self.inside.processes.items c.self.invariant c.args.who lt c.index_mut.result.now c.index_mut.ensures.value
+pub proceed-requires-clause-may_be_at : goal.proceed-requires-clause-may_be_at
+proceed-requires-clause-may_be_at g c =
+    let lt = subst (λ x. c.args.who < (g.R.Behaves.behaviour x.register).processes) (sym c.self.view_is) c.requires in
+    stands (g.met.R.Register.lawful c.self.inside.register) (g.met.R.Register.reports c.self.inside.register) c.self.inside.processes.items c.self.invariant c.args.who lt c.index_mut.result.now c.index_mut.ensures.value
 
 pub invariant_of-self : goal.invariant_of-self
 invariant_of-self g c =
-    let lt = subst (λ x. c.args.who < (g.R.Behaves.is x.register).processes) (sym c.self.view_is) c.requires in
-    (proceeds (g.met.R.Register.lawful c.self.inside.register) (g.met.R.Register.tells c.self.inside.register) c.self.inside.processes.items c.self.invariant c.args.who lt
+    let lt = subst (λ x. c.args.who < (g.R.Behaves.behaviour x.register).processes) (sym c.self.view_is) c.requires in
+    (proceeds (g.met.R.Register.lawful c.self.inside.register) (g.met.R.Register.reports c.self.inside.register) c.self.inside.processes.items c.self.invariant c.args.who lt
     c.index_mut.result.now c.index_mut.ensures.value c.proceed.result c.proceed.new.stack c.proceed.new.store c.args.choice c.proceed.ensures).flat
 
 pub returns : goal.returns
 returns g c =
-    let lt = subst (λ x. c.args.who < (g.R.Behaves.is x.register).processes) (sym c.self.view_is) c.requires in
-    let did = proceeds (g.met.R.Register.lawful c.self.inside.register) (g.met.R.Register.tells c.self.inside.register) c.self.inside.processes.items c.self.invariant c.args.who lt
+    let lt = subst (λ x. c.args.who < (g.R.Behaves.behaviour x.register).processes) (sym c.self.view_is) c.requires in
+    let did = proceeds (g.met.R.Register.lawful c.self.inside.register) (g.met.R.Register.reports c.self.inside.register) c.self.inside.processes.items c.self.invariant c.args.who lt
     c.index_mut.result.now c.index_mut.ensures.value c.proceed.result c.proceed.new.stack c.proceed.new.store c.args.choice c.proceed.ensures in
     record { events = rw (← c.self.view_is) did.events; after = rw (← c.self.view_is) did.after }

@@ -12,7 +12,7 @@ use mir.Val.{bool_byte}
 use Rattle.frames.specs.declared.types.Op.{Op}
 use Rattle.frames.specs.declared.types.Frame.{Frame}
 use Rattle.frames.specs.declared.safe.SafePoint.{SafePoint}
-use Rattle.frames.specs.Flat.{StandsOn, Lands}
+use Rattle.frames.specs.Flat.{HasFramesFrom, Lands}
 use Rattle.frames.specs.laws.Safe.{on_own_cell, safe_size, byte_value, stands_on, ends_there}
 use Rattle.frames.proofs.safe.SafeRegister.go_on.Goals as goal
 
@@ -37,11 +37,11 @@ returns-in-ReadStart-clause-lands c =
     (c.start_read.ensures ∙ on_own_cell c.args.at start_read c.args.store.now c.requires.inside) in
     rw (c.set-in-ReadStart.ensures, c.frame_of-in-ReadStart.ensures) there
 
--- a read has ended with what its action gave
+-- a read has ended with the value that its action gave
 read_ended : (place : Place) (m : Memory) (who first : ℕ) (stack : List Frame) (choice : Bool) (frame : Frame) (found : drop first stack ≡ frame ∷ drop (first + 1) stack)
     (is : at.ReadEnd ≡ point_at frame.op frame.i) (gave : Bool) (value : ℕ) (m' : Memory) → gave ≡ read_gives choice (cell_at place.cell m) → value ≡ bool_byte gave
     → m' ≡ on_cell place.cell end_read m → LiesIn place safe_size m
-    → (o : Op) (p : SafePoint) → StandsOn safe_behaviour.frames SafeReaches who first stack o p
+    → (o : Op) (p : SafePoint) → HasFramesFrom safe_behaviour.frames SafeReaches who first stack o p
     → Lands safe_behaviour.frames place (safe_goes p choice (part place safe_size m)).next (safe_goes p choice (part place safe_size m)).memory (take first stack) m (Some (Value value)) (take first stack) m'
 read_ended place m who first stack choice frame found is gave value m' told byte after inside =
     let given : value_of (read_gives choice (cell_at 0 (part place safe_size m))) ≡ value =
@@ -73,4 +73,4 @@ pub leave-requires-in-ReadEnd : goal.leave-requires-in-ReadEnd
 leave-requires-in-ReadEnd c = omega (arith, ap length c.frame-frame.ensures, length-drop c.args.first c.args.stack.now)
 
 pub frame-frame-requires : goal.frame-frame-requires
-frame-frame-requires c = omega (arith, ap length c.requires.stands.1.1.there, length-drop c.args.first c.args.stack.now)
+frame-frame-requires c = omega (arith, ap length c.requires.may_be_at.1.1.there, length-drop c.args.first c.args.stack.now)

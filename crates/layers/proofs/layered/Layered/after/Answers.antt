@@ -16,9 +16,9 @@ pub returns : goal.returns
 returns g c =
     let r = c.args.self.now in
     let l = over (g.met.S.Register.lawful r.below) (g.met.L.Construction.sound r.layer) r.fit in
-    let who = c.requires.stands.0 in
-    let o = c.requires.stands.1.0 in
-    let stands = c.requires.stands.1.1 in
+    let who = c.requires.may_be_at.0 in
+    let o = c.requires.may_be_at.1.0 in
+    let stands = c.requires.may_be_at.1.1 in
     let sound = rest_sound l who o c.args.task c.args.outcome stands c.requires.answers c.requires.goes_on in
     let there = settles_there l c.args.at who o _ c.args.store.now c.requires.lies sound c.words_at-base.result c.words_at-base.ensures c.after.result c.after.new.store c.after.ensures.continuation c.after.ensures.memory in
     record {

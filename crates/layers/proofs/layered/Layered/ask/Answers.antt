@@ -7,13 +7,13 @@ pub begin_on-end-requires-clause-holds : goal.begin_on-end-requires-clause-holds
 begin_on-end-requires-clause-holds g c =
     let r = c.args.self.now in
     let l = over (g.met.S.Register.lawful r.below) (g.met.L.Construction.sound r.layer) r.fit in
-    part_keeps l c.args.at c.args.store.now c.requires.lies c.args.task c.asks-ask.result c.asks-ask.ensures c.part_place-place.result c.part_place-place.ensures c.requires.stands.0 c.requires.stands.1.0 c.requires.stands.1.1
+    part_keeps l c.args.at c.args.store.now c.requires.lies c.args.task c.asks-ask.result c.asks-ask.ensures c.part_place-place.result c.part_place-place.ensures c.requires.may_be_at.0 c.requires.may_be_at.1.0 c.requires.may_be_at.1.1
 
 pub begin_on-end-requires-clause-inside : goal.begin_on-end-requires-clause-inside
 begin_on-end-requires-clause-inside g c =
     let r = c.args.self.now in
     let l = over (g.met.S.Register.lawful r.below) (g.met.L.Construction.sound r.layer) r.fit in
-    part_lies l c.args.at c.args.store.now c.requires.lies c.args.task c.asks-ask.result c.asks-ask.ensures c.part_place-place.result c.part_place-place.ensures c.requires.stands.0 c.requires.stands.1.0 c.requires.stands.1.1
+    part_lies l c.args.at c.args.store.now c.requires.lies c.args.task c.asks-ask.result c.asks-ask.ensures c.part_place-place.result c.part_place-place.ensures c.requires.may_be_at.0 c.requires.may_be_at.1.0 c.requires.may_be_at.1.1
 
 pub begin_on-end-requires-clause-room : goal.begin_on-end-requires-clause-room
 begin_on-end-requires-clause-room g c =
@@ -24,7 +24,7 @@ pub returns : goal.returns
 returns g c =
     let r = c.args.self.now in
     let l = over (g.met.S.Register.lawful r.below) (g.met.L.Construction.sound r.layer) r.fit in
-    part_asked l c.args.at c.args.store.now c.requires.lies c.args.task c.asks-ask.result c.asks-ask.ensures c.part_place-place.result c.part_place-place.ensures c.requires.stands.0 c.requires.stands.1.0 c.requires.stands.1.1
+    part_asked l c.args.at c.args.store.now c.requires.lies c.args.task c.asks-ask.result c.asks-ask.ensures c.part_place-place.result c.part_place-place.ensures c.requires.may_be_at.0 c.requires.may_be_at.1.0 c.requires.may_be_at.1.1
     c.args.stack.now c.push.new.self c.begin_on-end.new.stack c.close.new.stack c.len-first.result c.begin_on-end.result c.begin_on-end.new.store
     (c.push.ensures ∙ ap (λ f. c.args.stack.now ++ f ∷ []) c.frame.ensures) (sym c.len-first.ensures) c.begin_on-end.ensures c.close.ensures
 

@@ -14,17 +14,17 @@ pub run-requires-clause-lies : goal.run-requires-clause-lies
 run-requires-clause-lies g c =
     let r = c.args.self.now in
     let l = over (g.met.S.Register.lawful r.below) (g.met.L.Construction.sound r.layer) r.fit in
-    let sound = rest_sound l c.requires.stands.0 c.requires.stands.1.0 c.args.task c.args.outcome c.requires.stands.1.1 c.requires.answers (c.is_spent.ensures.goes_on c.if-is_spent.false) in
+    let sound = rest_sound l c.requires.may_be_at.0 c.requires.may_be_at.1.0 c.args.task c.args.outcome c.requires.may_be_at.1.1 c.requires.answers (c.is_spent.ensures.goes_on c.if-is_spent.false) in
     settles_lies l c.args.at _ _ _ c.args.store.now c.requires.lies sound c.after-continuation.result c.after-continuation.new.store c.after-continuation.ensures.continuation c.after-continuation.ensures.memory
 
-pub run-requires-clause-stands : goal.run-requires-clause-stands
-run-requires-clause-stands g c =
+pub run-requires-clause-may_be_at : goal.run-requires-clause-may_be_at
+run-requires-clause-may_be_at g c =
     let r = c.args.self.now in
     let l = over (g.met.S.Register.lawful r.below) (g.met.L.Construction.sound r.layer) r.fit in
-    let sound = rest_sound l c.requires.stands.0 c.requires.stands.1.0 c.args.task c.args.outcome c.requires.stands.1.1 c.requires.answers (c.is_spent.ensures.goes_on c.if-is_spent.false) in (
-      c.requires.stands.0,
+    let sound = rest_sound l c.requires.may_be_at.0 c.requires.may_be_at.1.0 c.args.task c.args.outcome c.requires.may_be_at.1.1 c.requires.answers (c.is_spent.ensures.goes_on c.if-is_spent.false) in (
+      c.requires.may_be_at.0,
       (
-        c.requires.stands.1.0,
+        c.requires.may_be_at.1.0,
         settles_stands l c.args.at _ _ _ c.args.store.now c.requires.lies sound c.after-continuation.result c.after-continuation.new.store c.after-continuation.ensures.continuation c.after-continuation.ensures.memory,
       ),
     )
@@ -34,6 +34,6 @@ returns g c =
     let r = c.args.self.now in
     let l = over (g.met.S.Register.lawful r.below) (g.met.L.Construction.sound r.layer) r.fit in
     let goes_on = c.is_spent.ensures.goes_on c.if-is_spent.false in
-    let sound = rest_sound l c.requires.stands.0 c.requires.stands.1.0 c.args.task c.args.outcome c.requires.stands.1.1 c.requires.answers goes_on in
+    let sound = rest_sound l c.requires.may_be_at.0 c.requires.may_be_at.1.0 c.args.task c.args.outcome c.requires.may_be_at.1.1 c.requires.answers goes_on in
     settles l c.args.at _ _ _ c.args.store.now c.requires.lies sound c.after-continuation.result c.after-continuation.new.store c.after-continuation.ensures.continuation c.after-continuation.ensures.memory
     _ (advances l c.args.at c.args.task c.args.outcome (own_memory r c.args.at c.args.store.now) goes_on) c.args.stack.now c.run.result c.run.new.stack c.run.new.store c.run.ensures

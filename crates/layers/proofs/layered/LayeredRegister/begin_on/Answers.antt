@@ -10,8 +10,8 @@ run-requires-clause-lies g c =
     let sound = l.sound.begins_sound c.args.who c.args.op c.requires.fits in
     settles_lies l c.args.at _ _ _ c.args.store.now c.lies.ensures sound c.start-continuation.result c.start-continuation.new.store c.start-continuation.ensures.continuation c.start-continuation.ensures.memory
 
-pub run-requires-clause-stands : goal.run-requires-clause-stands
-run-requires-clause-stands g c =
+pub run-requires-clause-may_be_at : goal.run-requires-clause-may_be_at
+run-requires-clause-may_be_at g c =
     let r = c.args.self.now in
     let l = over (g.met.S.Register.lawful r.below) (g.met.L.Construction.sound r.layer) r.fit in
     let sound = l.sound.begins_sound c.args.who c.args.op c.requires.fits in

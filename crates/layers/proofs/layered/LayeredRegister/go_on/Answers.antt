@@ -4,13 +4,13 @@ use Rattle.layers.specs.laws.Over.{over}
 use Rattle.layers.proofs.Runs.{stands_at, stands_still, found_again, chooses, waits, ended_lies, again_stands, ended_goes_on}
 use Rattle.layers.proofs.layered.LayeredRegister.go_on.Goals as goal
 
-pub push-progress-requires-clause-stands : goal.push-progress-requires-clause-stands
-push-progress-requires-clause-stands g c =
+pub push-progress-requires-clause-may_be_at : goal.push-progress-requires-clause-may_be_at
+push-progress-requires-clause-may_be_at g c =
     let l = over (g.met.S.Register.lawful c.args.self.now.below) (g.met.L.Construction.sound c.args.self.now.layer) c.args.self.now.fit in
-    let n = c.requires.stands.1.0 in
+    let n = c.requires.may_be_at.1.0 in
     let on = stands_at l c.lies.ensures c.args.who c.args.first c.args.stack.now c.args.choice c.frame.ensures c.find-task.ensures
-    c.requires.stands.0 n c.requires.stands.1.1 in
-    (c.args.who, (c.requires.stands.0, (n.below, on)))
+    c.requires.may_be_at.0 n c.requires.may_be_at.1.1 in
+    (c.args.who, (c.requires.may_be_at.0, (n.below, on)))
 
 pub returns-in_default-clause-lands : goal.returns-in_default-clause-lands
 returns-in_default-clause-lands g c =
@@ -42,16 +42,16 @@ pub follow-end-requires-clause-lies : goal.follow-end-requires-clause-lies
 follow-end-requires-clause-lies g c =
     let l = over (g.met.S.Register.lawful c.args.self.now.below) (g.met.L.Construction.sound c.args.self.now.layer) c.args.self.now.fit in
     ended_lies l c.lies.ensures c.args.who c.args.first c.args.stack.now c.args.choice c.frame.ensures c.find-task.ensures
-    c.push-progress.new.stack (c.push-progress.ensures.lands c.args.who) c.requires.stands.1.1 c.in-Some.is
+    c.push-progress.new.stack (c.push-progress.ensures.lands c.args.who) c.requires.may_be_at.1.1 c.in-Some.is
 
-pub follow-end-requires-clause-stands : goal.follow-end-requires-clause-stands
-follow-end-requires-clause-stands g c =
+pub follow-end-requires-clause-may_be_at : goal.follow-end-requires-clause-may_be_at
+follow-end-requires-clause-may_be_at g c =
     let l = over (g.met.S.Register.lawful c.args.self.now.below) (g.met.L.Construction.sound c.args.self.now.layer) c.args.self.now.fit in
     let same = found_again l c.lies.ensures c.args.who c.args.first c.args.stack.now c.args.choice c.frame.ensures c.find-task.ensures
     c.push-progress.new.stack c.in-Some.is c.push-progress.ensures.own c.frame-2.ensures c.find-ended.ensures in
     let ended = again_stands l c.lies.ensures c.args.who c.args.first c.args.stack.now c.args.choice c.frame.ensures c.find-task.ensures
-    c.push-progress.new.stack (c.push-progress.ensures.lands c.args.who) c.requires.stands.1.1 c.in-Some.is c.find-ended.result same in
-    (c.args.who, (c.requires.stands.0, ended.0))
+    c.push-progress.new.stack (c.push-progress.ensures.lands c.args.who) c.requires.may_be_at.1.1 c.in-Some.is c.find-ended.result same in
+    (c.args.who, (c.requires.may_be_at.0, ended.0))
 
 pub follow-end-requires-clause-answers : goal.follow-end-requires-clause-answers
 follow-end-requires-clause-answers g c =
@@ -59,7 +59,7 @@ follow-end-requires-clause-answers g c =
     let same = found_again l c.lies.ensures c.args.who c.args.first c.args.stack.now c.args.choice c.frame.ensures c.find-task.ensures
     c.push-progress.new.stack c.in-Some.is c.push-progress.ensures.own c.frame-2.ensures c.find-ended.ensures in
     (again_stands l c.lies.ensures c.args.who c.args.first c.args.stack.now c.args.choice c.frame.ensures c.find-task.ensures
-    c.push-progress.new.stack (c.push-progress.ensures.lands c.args.who) c.requires.stands.1.1 c.in-Some.is c.find-ended.result same).1
+    c.push-progress.new.stack (c.push-progress.ensures.lands c.args.who) c.requires.may_be_at.1.1 c.in-Some.is c.find-ended.result same).1
 
 pub follow-end-requires-clause-room : goal.follow-end-requires-clause-room
 follow-end-requires-clause-room g c =
@@ -81,7 +81,7 @@ returns-clause-chosen g c =
     c.push-progress.result.chosen (c.push-progress.ensures.chosen c.args.who)
 
 pub frame-requires : goal.frame-requires
-frame-requires g c = index_there c.args.first c.args.stack.now _ _ c.requires.stands.1.1.there
+frame-requires g c = index_there c.args.first c.args.stack.now _ _ c.requires.may_be_at.1.1.there
 
 pub push-progress-requires-clause-lies : goal.push-progress-requires-clause-lies
 push-progress-requires-clause-lies g c = c.lies.ensures

@@ -10,7 +10,7 @@ pub returns : goal.returns
 returns g c =
     let l = over (g.met.S.Register.lawful c.args.self.now.below) (g.met.L.Construction.sound c.args.self.now.layer) c.args.self.now.fit in
     let t = g.L.Rules.table c.args.self.now.layer in
-    let b = g.S.Behaves.is c.args.self.now.below in
+    let b = g.S.Behaves.behaviour c.args.self.now.below in
     let W = gathered (λ k. t.first_word c.args.value k ∷ []) t.words in
     c.init_words.ensures
     ∙ ap (λ base. record c.init_parts.new.store { words = splice base W c.init_parts.new.store.words }) c.words_at-base.ensures

@@ -2,7 +2,7 @@ use Rattle.std.proofs.Common.{refl, ◌+◌, sym, ◌∙◌, ap, subst, arith}
 use Rattle.std.specs.Prelude.{is_some, IsSome}
 use Rattle.std.specs.List.{count_by}
 use Rattle.lineage.specs.Family.{item_at}
-use Rattle.lineage.specs.Held.{IsSound, node_at, over, under}
+use Rattle.lineage.specs.Held.{IsSoundFamily, node_at, node_over, node_under}
 use Rattle.lineage.proofs.Forks.{some_node}
 use Rattle.lineage.proofs.Walks.{item_is}
 use Rattle.lineage.proofs.Divisions.{IsDivided, divided_all}
@@ -10,7 +10,7 @@ use Rattle.lineage.proofs.lineage.Lineage.divide.Goals as goal
 use Rattle.lineage.proofs.lineage.Lineage.divide.Given.{Over}
 
 pub invariant_of-self : goal.invariant_of-self
-invariant_of-self g c = subst (λ s. IsSound s c.self.inside.tips.items) (sym c.in_err-reserve_node.ensures.slots) c.self.invariant
+invariant_of-self g c = subst (λ s. IsSoundFamily s c.self.inside.tips.items) (sym c.in_err-reserve_node.ensures.slots) c.self.invariant
 
 pub put_above-requires-clause-there : goal.put_above-requires-clause-there
 put_above-requires-clause-there g c =
@@ -31,8 +31,8 @@ divided g c =
     let len = c.len.ensures in
     let items = a.tips.ok.0 in
     divided_all a.nodes.slots c.put_above.new.nodes.slots a.tips.items c.args.key c.put_above.result c.args.item n.0 c.self.invariant n.1
-    (ap (λ s. node_at s c.put_above.result) (sym same) ∙ here.vacant) (here.fresh ∙ ap (λ s. over c.args.item (node_at s c.args.key)) same)
-    (here.below ∙ ap (λ s. under c.put_above.result (node_at s c.args.key)) same) (λ k ne nf. here.others k ne nf ∙ ap (λ s. node_at s k) same)
+    (ap (λ s. node_at s c.put_above.result) (sym same) ∙ here.vacant) (here.fresh ∙ ap (λ s. node_over c.args.item (node_at s c.args.key)) same)
+    (here.below ∙ ap (λ s. node_under c.put_above.result (node_at s c.args.key)) same) (λ k ne nf. here.others k ne nf ∙ ap (λ s. node_at s k) same)
     (here.len ∙ ap (λ s. count_by is_some s + 1) same) (omega (arith, few, len, items))
 
 pub invariant_of-self-2 : goal.invariant_of-self-2

@@ -3,7 +3,7 @@ use Rattle.std.specs.Prelude.{is_some, IsSome}
 use Rattle.std.specs.List.{count_by}
 use Rattle.lineage.specs.declared.node.Node.{Node}
 use Rattle.lineage.specs.Family.{item_at}
-use Rattle.lineage.specs.Held.{node_at, item_in, over, under}
+use Rattle.lineage.specs.Held.{node_at, item_in, node_over, node_under}
 use Rattle.lineage.proofs.Forks.{some_node}
 use Rattle.lineage.proofs.Walks.{item_is}
 use Rattle.lineage.proofs.ForksAbove.{above_sound, forked_above}
@@ -26,8 +26,8 @@ invariant_of-self-2 g c =
     let here = c.put_above-fresh.ensures in
     let n = there g c in
     above_sound a.nodes.slots c.put_above-fresh.new.nodes.slots c.hold.new.nodes.slots a.tips.items c.push_reserved.new.self.items c.args.key c.put_above-fresh.result c.args.item n.0
-    c.self.invariant n.1 (ap (λ s. node_at s c.put_above-fresh.result) (sym same) ∙ here.vacant) (here.fresh ∙ ap (λ s. over c.args.item (node_at s c.args.key)) same)
-    (here.below ∙ ap (λ s. under c.put_above-fresh.result (node_at s c.args.key)) same) (λ k ne nf. here.others k ne nf ∙ ap (λ s. node_at s k) same)
+    c.self.invariant n.1 (ap (λ s. node_at s c.put_above-fresh.result) (sym same) ∙ here.vacant) (here.fresh ∙ ap (λ s. node_over c.args.item (node_at s c.args.key)) same)
+    (here.below ∙ ap (λ s. node_under c.put_above-fresh.result (node_at s c.args.key)) same) (λ k ne nf. here.others k ne nf ∙ ap (λ s. node_at s k) same)
     (here.len ∙ ap (λ s. count_by is_some s + 1) same) (room g c) c.hold.ensures.nodes
     (c.push_reserved.ensures.items ∙ ap (λ e. c.reserve_path.new.tips.items ++ e ∷ []) c.of.ensures
     ∙ ap (λ xs. xs ++ Some c.put_above-fresh.result ∷ []) c.in_ok-reserve_path.ensures.items) c.hold.ensures.len
@@ -39,8 +39,8 @@ returns-clause-ok g c =
     let here = c.put_above-fresh.ensures in
     let n = there g c in
     rw (← c.self.view_is) (forked_above a.nodes.slots c.put_above-fresh.new.nodes.slots c.hold.new.nodes.slots a.tips.items c.push_reserved.new.self.items c.args.key c.put_above-fresh.result c.args.item n.0
-    c.self.invariant n.1 (ap (λ s. node_at s c.put_above-fresh.result) (sym same) ∙ here.vacant) (here.fresh ∙ ap (λ s. over c.args.item (node_at s c.args.key)) same)
-    (here.below ∙ ap (λ s. under c.put_above-fresh.result (node_at s c.args.key)) same) (λ k ne nf. here.others k ne nf ∙ ap (λ s. node_at s k) same)
+    c.self.invariant n.1 (ap (λ s. node_at s c.put_above-fresh.result) (sym same) ∙ here.vacant) (here.fresh ∙ ap (λ s. node_over c.args.item (node_at s c.args.key)) same)
+    (here.below ∙ ap (λ s. node_under c.put_above-fresh.result (node_at s c.args.key)) same) (λ k ne nf. here.others k ne nf ∙ ap (λ s. node_at s k) same)
     (here.len ∙ ap (λ s. count_by is_some s + 1) same) (room g c) c.hold.ensures.nodes
     (c.push_reserved.ensures.items ∙ ap (λ e. c.reserve_path.new.tips.items ++ e ∷ []) c.of.ensures
     ∙ ap (λ xs. xs ++ Some c.put_above-fresh.result ∷ []) c.in_ok-reserve_path.ensures.items) c.hold.ensures.slots)

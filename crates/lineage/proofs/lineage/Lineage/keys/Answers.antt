@@ -2,7 +2,7 @@ use Rattle.std.proofs.Common.{◌≡◌, Option, ℕ, List, sym, ◌∙◌, ap, 
 use Rattle.std.proofs.lemmas.Result.{IfOk-weaker}
 use Rattle.lineage.specs.Family.{path_in}
 use Rattle.lineage.specs.Climbs.{Ends}
-use Rattle.lineage.specs.Held.{tip_at, above_of, path_to}
+use Rattle.lineage.specs.Held.{tip_at, above_node, path_to}
 use Rattle.lineage.proofs.Walks.{path_at}
 use Rattle.lineage.proofs.lineage.Lineage.keys.Goals as goal
 
@@ -11,7 +11,7 @@ keys_down_to-requires g c =
     let a = c.self.inside in
     let tip : c.get.result ≡ tip_at a.tips.items c.args.path =
     c.get.ensures ∙ c.tip_at.ensures ∙ ap (λ (xs : List (Option ℕ)). tip_at xs c.args.path) c.deref.ensures.value in
-    subst (Ends (above_of a.nodes.slots)) (sym tip) (c.self.invariant.ends c.args.path)
+    subst (Ends (above_node a.nodes.slots)) (sym tip) (c.self.invariant.ends c.args.path)
 
 pub returns : goal.returns
 returns g c =

@@ -2,7 +2,7 @@ use Rattle.std.proofs.Common.{◌≡◌, ◌+◌, length, map, sym, ◌∙◌, a
 use Rattle.std.proofs.lemmas.List.{length-map}
 use Rattle.std.specs.Prelude.{is_some}
 use Rattle.std.specs.List.{count_by}
-use Rattle.lineage.specs.Held.{IsSound, node_at, path_to}
+use Rattle.lineage.specs.Held.{IsSoundFamily, node_at, path_to}
 use Rattle.lineage.proofs.Pushes.{IsPushed, pushed_all}
 use Rattle.lineage.proofs.lineage.Lineage.push.Goals as goal
 use Rattle.lineage.proofs.lineage.Lineage.push.Given.{Over}
@@ -36,7 +36,7 @@ pub invariant_of-self-2 : goal.invariant_of-self-2
 invariant_of-self-2 g c = (pushed g c).sound
 
 pub invariant_of-self : goal.invariant_of-self
-invariant_of-self g c = subst (λ s. IsSound s c.self.inside.tips.items) (sym c.in_err-reserve_node.ensures.slots) c.self.invariant
+invariant_of-self g c = subst (λ s. IsSoundFamily s c.self.inside.tips.items) (sym c.in_err-reserve_node.ensures.slots) c.self.invariant
 
 pub returns-clause-item : goal.returns-clause-item
 returns-clause-item g c = rw (← c.self.view_is) (pushed g c).added

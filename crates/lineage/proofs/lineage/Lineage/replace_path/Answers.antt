@@ -1,17 +1,17 @@
 use Rattle.std.proofs.Common.{◌<◌, None, length, sym, subst, arith}
-use Rattle.lineage.specs.Held.{IsSound}
+use Rattle.lineage.specs.Held.{IsSoundFamily}
 use Rattle.lineage.proofs.Exchanges.{within_now, let_go_first, all_exchanged}
 use Rattle.lineage.proofs.lineage.Lineage.replace_path.Goals as goal
 
 pub invariant_of-self : goal.invariant_of-self
 invariant_of-self g c =
     let here = c.in_err-reserve_path.ensures in
-    subst (λ s. IsSound s c.reserve_path.new.tips.items) (sym here.slots) (subst (IsSound c.self.inside.nodes.slots) (sym here.items) c.self.invariant)
+    subst (λ s. IsSoundFamily s c.reserve_path.new.tips.items) (sym here.slots) (subst (IsSoundFamily c.self.inside.nodes.slots) (sym here.items) c.self.invariant)
 
 pub put_last-requires-clause-sound : goal.put_last-requires-clause-sound
 put_last-requires-clause-sound g c =
     let here = c.in_ok-reserve_path.ensures in
-    subst (λ s. IsSound s c.reserve_path.new.tips.items) (sym here.slots) (subst (IsSound c.self.inside.nodes.slots) (sym here.items) c.self.invariant)
+    subst (λ s. IsSoundFamily s c.reserve_path.new.tips.items) (sym here.slots) (subst (IsSoundFamily c.self.inside.nodes.slots) (sym here.items) c.self.invariant)
 
 pub swap_remove-tip-requires : goal.swap_remove-tip-requires
 swap_remove-tip-requires g c =
@@ -22,8 +22,8 @@ swap_remove-tip-requires g c =
     let len = c.put_last.new.tips.ok.0 in
     omega (arith, inside, len)
 
-pub let_go_up-requires : goal.let_go_up-requires
-let_go_up-requires g c =
+pub free_up-requires : goal.free_up-requires
+free_up-requires g c =
     let a = c.self.inside in
     let here = c.in_ok-reserve_path.ensures in
     let out = c.swap_remove-tip.ensures in (
@@ -38,7 +38,7 @@ invariant_of-self-2 g c =
     let a = c.self.inside in
     let here = c.in_ok-reserve_path.ensures in
     let out = c.swap_remove-tip.ensures in
-    c.let_go_up.ensures.sound c.swap_remove-tip.new.self.items
+    c.free_up.ensures.sound c.swap_remove-tip.new.self.items
     (let_go_first a.nodes.slots c.reserve_path.new.nodes.slots c.put_last.new.nodes.slots a.tips.items c.reserve_path.new.tips.items c.put_last.new.tips.items c.swap_remove-tip.new.self.items
     c.args.items.items c.args.path c.swap_remove-tip.result c.self.invariant (subst (λ f. c.args.path < length f.paths) (sym c.self.view_is) c.requires) here.slots here.items c.put_last.ensures
     out.value out.items)
@@ -49,9 +49,9 @@ returns-clause-ok g c =
     let here = c.in_ok-reserve_path.ensures in
     let out = c.swap_remove-tip.ensures in
     let inside = subst (λ f. c.args.path < length f.paths) (sym c.self.view_is) c.requires in
-    let sound = c.let_go_up.ensures.sound c.swap_remove-tip.new.self.items
+    let sound = c.free_up.ensures.sound c.swap_remove-tip.new.self.items
     (let_go_first a.nodes.slots c.reserve_path.new.nodes.slots c.put_last.new.nodes.slots a.tips.items c.reserve_path.new.tips.items c.put_last.new.tips.items c.swap_remove-tip.new.self.items
     c.args.items.items c.args.path c.swap_remove-tip.result c.self.invariant inside here.slots here.items c.put_last.ensures out.value out.items) in
     rw (← c.self.view_is) (all_exchanged a.nodes.slots c.reserve_path.new.nodes.slots c.put_last.new.nodes.slots a.tips.items c.reserve_path.new.tips.items c.put_last.new.tips.items
     c.swap_remove-tip.new.self.items c.args.items.items c.args.path c.swap_remove-tip.result c.self.invariant inside here.slots here.items c.put_last.ensures out.value out.items
-    c.let_go_up.new.nodes.slots sound c.let_go_up.ensures.stays)
+    c.free_up.new.nodes.slots sound c.free_up.ensures.stays)

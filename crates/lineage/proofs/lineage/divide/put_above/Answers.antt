@@ -3,11 +3,12 @@ use Rattle.std.specs.Prelude.{is_some, IsSome}
 use Rattle.slab.specs.Slab.{Slab, get, slab_len, with_value, ContainsKey, Updates}
 use Rattle.slab.proofs.SlabLemmas.{Updates-with_value}
 use Rattle.lineage.specs.declared.node.Node.{Node}
-use Rattle.lineage.specs.Held.{node, over, under}
+use Rattle.lineage.specs.Held.{node, node_over, node_under}
 use Rattle.lineage.proofs.Counts.{one, count_changed}
 use Rattle.lineage.proofs.lineage.divide.put_above.Goals as goal
 
--- a node that is there is put over another below a new one: the slab before, with the new one, and at last
+-- a node is put over an existing one, below a new one:
+-- the slab before, then with the new node, then at last
 module _ {X : Type 0} (old mid : Slab (Node X)) (key fresh : ℕ) (o n : Node X) (there : ContainsKey old key) (vacant : get old fresh ≡ None)
     (updates : Updates old mid fresh (Some o)) where
   apart : key ≢ fresh
@@ -40,7 +41,7 @@ returns-clause-fresh g c =
     let put = c.insert_reserved-fresh in
     new_there c.args.nodes.now put.new.self c.args.key put.result _ _ c.requires.there put.ensures.was_vacant
     put.ensures.updates
-    ∙ sym (ap (over c.args.item) c.index.ensures)
+    ∙ sym (ap (node_over c.args.item) c.index.ensures)
 
 pub returns-clause-below : goal.returns-clause-below
 returns-clause-below g c =
@@ -49,7 +50,7 @@ returns-clause-below g c =
     let same = kept c.args.nodes.now put.new.self c.args.key put.result _ m c.requires.there put.ensures.was_vacant put.ensures.updates in
     (written c.args.nodes.now put.new.self c.args.key put.result _ (node m.item c.of.result m.holders) c.requires.there
     put.ensures.was_vacant put.ensures.updates).changed
-    ∙ ap (λ a. Some (node m.item a m.holders)) c.of.ensures ∙ sym (ap (under put.result) (sym same ∙ c.index_mut.ensures.value))
+    ∙ ap (λ a. Some (node m.item a m.holders)) c.of.ensures ∙ sym (ap (node_under put.result) (sym same ∙ c.index_mut.ensures.value))
 
 pub returns-clause-others : goal.returns-clause-others
 returns-clause-others g c =

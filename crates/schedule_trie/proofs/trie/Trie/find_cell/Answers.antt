@@ -21,7 +21,7 @@ returns-then-is_here-clause-lies g c =
     let was = c.loop-up.invariant in
     let up = c.in-Some.ensures in
     let len = ap length up.slots in
-    let here = subst (λ b. FalseIff b (length c.in-Some.up.1.now ≤ c.loop-up.behind)) c.if-is_here.true c.overflowing_sub-left.ensures.overflow in
+    let here = subst (λ b. FalseIff b (length c.in-Some.up.1.now ≤ c.loop-up.following)) c.if-is_here.true c.overflowing_sub-left.ensures.overflow in
     let left = c.overflowing_sub-left.ensures.value in
     lies_here (piece_at now.pieces) (keys_in now.strands c.args.index) c.loop-up.at c.in-Some.up.0 c.args.place
     (18446744073709551615 - c.overflowing_sub-left.result.0) was.reached up.key
@@ -43,7 +43,7 @@ loop-up-preserved g c =
     let up = c.in-Some.ensures in
     let t = turn c.args.self.now up.whole c.args.index c.loop-up.at c.in-Some.up.0 c.in-Some.up.2 was.reached up.key up.each in
     let len = ap length up.slots in
-    let above = subst (λ b. FalseIff b (length c.in-Some.up.1.now ≤ c.loop-up.behind)) c.if-is_here.false c.overflowing_sub-left.ensures.overflow in
+    let above = subst (λ b. FalseIff b (length c.in-Some.up.1.now ≤ c.loop-up.following)) c.if-is_here.false c.overflowing_sub-left.ensures.overflow in
     record { reached = t.step.reached; cells = omega (arith, t.cells, len, was.cells, above, c.overflowing_sub-left.ensures.value) }
 
 pub returns-clause-none : goal.returns-clause-none

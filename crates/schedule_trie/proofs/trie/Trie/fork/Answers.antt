@@ -5,7 +5,7 @@ use Rattle.schedule_trie.specs.Edits.{Fork, IsEdited}
 use Rattle.schedule_trie.specs.Names.{is_well_formed}
 use Rattle.schedule_trie.specs.Forest.{index_of, slots_in}
 use Rattle.schedule_trie.specs.Cut.{forest}
-use Rattle.schedule_trie.specs.Forks.{IsForked, IsForkedWhole}
+use Rattle.schedule_trie.specs.Forks.{IsBranchForked, IsForkedWhole}
 use Rattle.schedule_trie.proofs.ForkAnswers.{name_taken, bad_name, no_place, too_many, is_forked, memory_alone, none_from}
 use Rattle.schedule_trie.proofs.LengthsAfter.{branch_count, fork_last, fork_long}
 use Rattle.schedule_trie.proofs.trie.Trie.fork.Goals as goal
@@ -96,7 +96,7 @@ pub returns-clause-ok : goal.returns-clause-ok
 returns-clause-ok g c =
     let most = ap (λ z. z.limits.branches) (c.self.view_is ∙ c.learn_len.ensures.same) in
     let branches = c.branches-count.ensures.count ∙ ap (λ z. length (forest z).branches) c.learn_len.ensures.same in
-    let told = subst (λ z. IsForked z c.fork_at.new.self c.in-Some.index c.args.place c.args.name) c.learn_len.ensures.same c.in_ok-fork_at.ensures.ok in
+    let told = subst (λ z. IsBranchForked z c.fork_at.new.self c.in-Some.index c.args.place c.args.name) c.learn_len.ensures.same c.in_ok-fork_at.ensures.ok in
     subst (λ z. IsEdited c.args.self.now z (Fork c.args.branch.now c.args.place c.args.name)) (sym c.keep_len.ensures)
     (record {
       forest = is_forked c.args.self.now.limits (forest c.args.self.now) c.args.branch.now c.args.name c.args.place c.in-Some.index (sym c.in-Some.ensures.index)

@@ -2,7 +2,7 @@ use Rattle.std.proofs.Common.{◌≡◌, ◌-◌, Some, length, sym, ap, subst, 
 use Rattle.std.specs.Result.{OnOk}
 use Rattle.schedule_trie.specs.Cut.{piece_at, keys_in, line}
 use Rattle.schedule_trie.specs.Climbs.{keys_to}
-use Rattle.schedule_trie.specs.Forks.{IsForked}
+use Rattle.schedule_trie.specs.Forks.{IsBranchForked}
 use Rattle.schedule_trie.proofs.Climbs.{cells_to, cells_within}
 use Rattle.schedule_trie.proofs.ForkEnds.{on_ok, always_on_ok, have_cells, no_keys, all_to}
 use Rattle.schedule_trie.proofs.Lines.{slots_in_on}
@@ -11,25 +11,25 @@ use Rattle.schedule_trie.proofs.trie.Trie.fork_at.Goals as goal
 pub returns-then-count-slots_at-clause-ok : goal.returns-then-count-slots_at-clause-ok
 returns-then-count-slots_at-clause-ok g c =
     let now = c.args.self.now in
-    let forked = c.fork_behind-then-count-slots_at in
+    let forked = c.fork_after-then-count-slots_at in
     let keys = keys_in now.strands c.args.index in
     let cells = cells_to (piece_at now.pieces) keys c.in-Some.key (c.args.place - 1) c.in-Some.offset c.in-Some.ensures.lies in
     let own = ap length c.slots_at.ensures in
     let place : length (line (piece_at now.pieces) (keys_to keys (Some c.in-Some.key))) ≡ c.args.place = omega (arith, cells, own) in
-    subst (λ n. OnOk forked.result (IsForked now forked.new.self c.args.index n c.args.name)) place forked.ensures.ok
+    subst (λ n. OnOk forked.result (IsBranchForked now forked.new.self c.args.index n c.args.name)) place forked.ensures.ok
 
 pub returns-then-place-eq0-clause-end : goal.returns-then-place-eq0-clause-end
 returns-then-place-eq0-clause-end g c =
     let now = c.args.self.now in
     let all = ap length (slots_in_on (piece_at now.pieces) now.strands c.args.index) in
-    on_ok c.fork_behind.result
+    on_ok c.fork_after.result
     (λ told long. told (sym (no_keys (piece_at now.pieces) (keys_in now.strands c.args.index) (have_cells now c.held.ensures.whole c.args.index) (omega (arith, all, long, c.if-place-eq0.true)))))
-    c.fork_behind.ensures.end
+    c.fork_after.ensures.end
 
 pub returns-then-count-slots_at-clause-end : goal.returns-then-count-slots_at-clause-end
 returns-then-count-slots_at-clause-end g c =
     let now = c.args.self.now in
-    let forked = c.fork_behind-then-count-slots_at in
+    let forked = c.fork_after-then-count-slots_at in
     let all = ap length (slots_in_on (piece_at now.pieces) now.strands c.args.index) in
     let own = ap length c.slots_at.ensures in
     on_ok forked.result

@@ -2,7 +2,7 @@ use Rattle.std.proofs.Common.{◌≡◌, ◌≤◌, ℕ, map, ◌<◌, ◌++◌,
 use Rattle.std.proofs.lemmas.List.{length-map}
 use Rattle.schedule_trie.specs.Cut.{forest}
 use Rattle.schedule_trie.specs.Forest.{Forest, name_of}
-use Rattle.schedule_trie.specs.Limbs.{FitLimits, IsLawful, forest_of, limbs}
+use Rattle.schedule_trie.specs.Limbs.{FitLimits, AreLawfulLimbs, forest_of, limbs}
 use Rattle.schedule_trie.specs.Renumbering.{IsRenumbered}
 use Rattle.schedule_trie.proofs.LimbCounts.{taken_whole}
 use Rattle.schedule_trie.proofs.LimbsKept.{limbs_kept}
@@ -16,7 +16,7 @@ past_all : (f : Forest) {count i : ℕ} → count ≡ length f.branches → coun
 past_all f is past = omega (arith, length-limbs f, is, past)
 
 pub loop-index-init : goal.loop-index-init
-loop-index-init g c = record { told = c.new-limbs.ensures.items; marked = c.in_ok-marks.ensures }
+loop-index-init g c = record { reported = c.new-limbs.ensures.items; marked = c.in_ok-marks.ensures }
 
 pub unreachable-requires : goal.unreachable-requires
 unreachable-requires g c =
@@ -31,31 +31,31 @@ limb_at-requires-clause-marks g c = c.loop-index.invariant.marked
 
 pub loop-index-preserved : goal.loop-index-preserved
 loop-index-preserved g c = record {
-  told = c.in_ok-push.ensures.items ∙ ap (λ l. l ++ c.in_ok-limb_at.field-0 ∷ []) c.loop-index.invariant.told
+  reported = c.in_ok-push.ensures.items ∙ ap (λ l. l ++ c.in_ok-limb_at.field-0 ∷ []) c.loop-index.invariant.reported
       ∙ sym (taken_next (limbs (forest c.args.self.now)) c.loop-index.index c.in_ok-limb_at.field-0 c.in_ok-limb_at.ensures.limb);
   marked = c.in_ok-limb_at.ensures.marks;
 }
 
 pub returns-clause-limbs : goal.returns-clause-limbs
 returns-clause-limbs g c =
-    c.loop-index.invariant.told ∙ taken_whole c.loop-index.index (limbs (forest c.args.self.now)) (past_all (forest c.args.self.now) c.branches-index-end.ensures.count c.loop-index-test.false)
+    c.loop-index.invariant.reported ∙ taken_whole c.loop-index.index (limbs (forest c.args.self.now)) (past_all (forest c.args.self.now) c.branches-index-end.ensures.count c.loop-index-test.false)
 
 pub returns-clause-kept : goal.returns-clause-kept
 returns-clause-kept g c =
-    let told = c.loop-index.invariant.told ∙ taken_whole c.loop-index.index (limbs (forest c.args.self.now)) (past_all (forest c.args.self.now) c.branches-index-end.ensures.count c.loop-index-test.false) in
+    let told = c.loop-index.invariant.reported ∙ taken_whole c.loop-index.index (limbs (forest c.args.self.now)) (past_all (forest c.args.self.now) c.branches-index-end.ensures.count c.loop-index-test.false) in
     subst (λ l. IsRenumbered (forest c.args.self.now) (forest_of l)) (sym told) (limbs_kept (forest c.args.self.now) c.held.ensures.forest)
 
 pub returns-clause-lawful : goal.returns-clause-lawful
 returns-clause-lawful g c =
-    let told = c.loop-index.invariant.told ∙ taken_whole c.loop-index.index (limbs (forest c.args.self.now)) (past_all (forest c.args.self.now) c.branches-index-end.ensures.count c.loop-index-test.false) in
-    subst IsLawful (sym told) (limbs_lawful (forest c.args.self.now) c.held.ensures.forest c.held.ensures.names)
+    let told = c.loop-index.invariant.reported ∙ taken_whole c.loop-index.index (limbs (forest c.args.self.now)) (past_all (forest c.args.self.now) c.branches-index-end.ensures.count c.loop-index-test.false) in
+    subst AreLawfulLimbs (sym told) (limbs_lawful (forest c.args.self.now) c.held.ensures.forest c.held.ensures.names)
 
 pub returns-clause-some : goal.returns-clause-some
 returns-clause-some g c =
-    let told = c.loop-index.invariant.told ∙ taken_whole c.loop-index.index (limbs (forest c.args.self.now)) (past_all (forest c.args.self.now) c.branches-index-end.ensures.count c.loop-index-test.false) in
+    let told = c.loop-index.invariant.reported ∙ taken_whole c.loop-index.index (limbs (forest c.args.self.now)) (past_all (forest c.args.self.now) c.branches-index-end.ensures.count c.loop-index-test.false) in
     subst (λ l. 0 < length l) (sym told) (omega (arith, length-limbs (forest c.args.self.now), c.branches-index-end.ensures.count, c.branches-index-end.ensures.some))
 
 pub returns-clause-near : goal.returns-clause-near
 returns-clause-near g c =
-    let told = c.loop-index.invariant.told ∙ taken_whole c.loop-index.index (limbs (forest c.args.self.now)) (past_all (forest c.args.self.now) c.branches-index-end.ensures.count c.loop-index-test.false) in
+    let told = c.loop-index.invariant.reported ∙ taken_whole c.loop-index.index (limbs (forest c.args.self.now)) (past_all (forest c.args.self.now) c.branches-index-end.ensures.count c.loop-index-test.false) in
     subst (FitLimits c.args.self.now.limits) (sym told) (limbs_near c.args.self.now c.held.ensures.whole)

@@ -6,6 +6,6 @@ use Rattle.schedule_trie.proofs.trie.Trie.limbs.Given as goal
 
 abbrev pub invariant-loop-index : goal.invariant-loop-index
 invariant-loop-index g l = record {
-  told : l.limbs.items ≡ take l.index (limbs (forest l.self));
+  reported : l.limbs.items ≡ take l.index (limbs (forest l.self));
   marked : MarksFirst l.self l.index l.marks.items;
 }

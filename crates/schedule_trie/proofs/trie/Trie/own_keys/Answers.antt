@@ -1,6 +1,6 @@
 use Rattle.std.proofs.Common.{◌≡◌, ◌<◌, length, Some, None, sym, subst, slice_index_or, refl}
 use Rattle.schedule_trie.specs.Cut.{keys_in, piece_at}
-use Rattle.schedule_trie.specs.Climbs.{keys_to, IsReached}
+use Rattle.schedule_trie.specs.Climbs.{keys_to, HasClimbedTo}
 use Rattle.schedule_trie.specs.Marks.{IsMarkOf}
 use Rattle.schedule_trie.proofs.Climbs.{shorter_up}
 use Rattle.schedule_trie.proofs.ClimbSteps.{path_last, path_up}
@@ -26,7 +26,7 @@ pub loop-at-smaller : goal.loop-at-smaller
 loop-at-smaller g c =
     let keys = keys_in c.args.self.now.strands c.args.index in
     let s = path_up c.self.inside c.args.self.now c.self.view_is c.self.invariant.held c.args.index c.in-Some.key c.above-at.result
-    (subst (IsReached keys) c.in-Some.is c.loop-at.invariant.climbing.reached) c.above-at.ensures.each in
+    (subst (HasClimbedTo keys) c.in-Some.is c.loop-at.invariant.climbing.reached) c.above-at.ensures.each in
     subst (λ o. length (keys_to keys c.above-at.result) < length (keys_to keys o)) (sym c.in-Some.is)
     (shorter_up (piece_at c.args.self.now.pieces) keys c.in-Some.key c.above-at.result s)
 
@@ -36,7 +36,7 @@ loop-at-preserved g c =
     let keys = keys_in c.args.self.now.strands c.args.index in
     let at = c.loop-at.invariant.climbing in
     let s = path_up c.self.inside c.args.self.now c.self.view_is c.self.invariant.held c.args.index c.in-Some.key c.above-at.result
-    (subst (IsReached keys) c.in-Some.is at.reached) c.above-at.ensures.each in
+    (subst (HasClimbedTo keys) c.in-Some.is at.reached) c.above-at.ensures.each in
     let read : slice_index_or marks c.in-Some.key None ≡ None = c.in_default-marks.is in
     record { climbing = climbing_up marks keys c.loop-at.at c.in-Some.key c.above-at.result c.loop-at.own.items c.push.new.self.items c.in-Some.is c.in_ok-push.ensures.items at s read }
 

@@ -1,5 +1,5 @@
 use Rattle.std.proofs.Common.{◌+◌, ◌≤◌, ◌≡◌, length, take, sym, subst, arith, ◌∙◌, ap}
-use Rattle.schedule_trie.specs.Forest.{alone}
+use Rattle.schedule_trie.specs.Forest.{lone_branch}
 use Rattle.schedule_trie.specs.Cut.{forest}
 use Rattle.schedule_trie.specs.Limbs.{cells_of, forest_of}
 use Rattle.schedule_trie.proofs.LimbCounts.{taken_whole}
@@ -8,7 +8,7 @@ use Rattle.schedule_trie.proofs.trie.Trie.with_limbs.Goals as goal
 
 pub loop-limb-init : goal.loop-limb-init
 loop-limb-init g c =
-    let is : forest c.in_ok-trie.trie ≡ alone c.first-item.result.name c.first-item.result.steps = c.in_ok-trie.ensures.forest ∙ ap (alone c.first-item.result.name) c.as_slice.ensures in
+    let is : forest c.in_ok-trie.trie ≡ lone_branch c.first-item.result.name c.first-item.result.steps = c.in_ok-trie.ensures.forest ∙ ap (lone_branch c.first-item.result.name) c.as_slice.ensures in
     let one : 1 ≡ 0 + 1 = omega arith in
     record {
       grown = subst (λ n. forest c.in_ok-trie.trie ≡ forest_of (take n c.args.limbs.now)) one

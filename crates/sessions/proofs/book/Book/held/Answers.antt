@@ -11,7 +11,7 @@ returns-clause-cut g c = subst (λ h. IsCut h.now.chart.cut) c.self.view_is (sub
 
 pub returns-clause-begins : goal.returns-clause-begins
 returns-clause-begins g c =
-    let is = g.R.Behaves.is in
+    let is = g.R.Behaves.behaviour in
     let i = c.self.inside in
     let begins = subst (λ chart. chart.start ≡ initial_configuration (is chart.start.register) chart.start.register chart.value) c.chart.ensures c.held.ensures.initial in
     subst (BeginsAtOpening is) c.self.view_is (begins_so is (kept i.first.value i.stage i.log) c.self.invariant begins)

@@ -5,4 +5,4 @@ use Rattle.sessions.proofs.book.Book.over.Goals as goal
 pub returns-clause-opening : goal.returns-clause-opening
 returns-clause-opening g c =
     let limits = ap (λ w. w.limits) c.in_ok-stage.ensures in
-    λ i. opening_over g.R.Behaves.is (c.of-first.ensures i) (limits i)
+    λ i. opening_over g.R.Behaves.behaviour (c.of-first.ensures i) (limits i)

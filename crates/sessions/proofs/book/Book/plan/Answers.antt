@@ -6,7 +6,7 @@ use Rattle.sessions.proofs.book.Book.plan.Goals as goal
 
 pub returns-clause-ok : goal.returns-clause-ok
 returns-clause-ok g c =
-    subst (λ chart. IfOk c.plan.result (λ jobs. IsPlan g.R.PartialEq.eq (g.R.Behaves.is chart.start.register) chart c.args.branch.now jobs.items))
+    subst (λ chart. IfOk c.plan.result (λ jobs. IsPlan g.R.PartialEq.eq (g.R.Behaves.behaviour chart.start.register) chart c.args.branch.now jobs.items))
     (c.chart.ensures ∙ ap (λ h. h.now.chart) c.self.view_is) c.plan.ensures.ok
 
 pub returns-clause-found : goal.returns-clause-found

@@ -9,20 +9,20 @@ use Rattle.sessions.proofs.stage.Stage.act.Goals as goal
 
 pub answer-requires : goal.answer-requires
 answer-requires g c =
-    let w = world_of g.R.Behaves.is c.args.self.now in
+    let w = world_of g.R.Behaves.behaviour c.args.self.now in
     let fine = early_none c.args.who c.args.if_at c.args.command.now w (sym c.in-None.ensures) in
     record { room = c.requires.room; session = fine.0; fits = fine.1 }
 
 pub returns-in-Some-clause-ok : goal.returns-in-Some-clause-ok
 returns-in-Some-clause-ok g c =
-    early_refused c.args.who c.args.if_at c.args.command.now (world_of g.R.Behaves.is c.args.self.now) c.in-Some.refusal
-    (world_of g.R.Behaves.is c.refuse.new.self) c.refuse.result c.in-Some.ensures c.refuse.ensures.world c.refuse.ensures.reply
+    early_refused c.args.who c.args.if_at c.args.command.now (world_of g.R.Behaves.behaviour c.args.self.now) c.in-Some.refusal
+    (world_of g.R.Behaves.behaviour c.refuse.new.self) c.refuse.result c.in-Some.ensures c.refuse.ensures.world c.refuse.ensures.reply
 
 pub returns-in-None-clause-ok : goal.returns-in-None-clause-ok
 returns-in-None-clause-ok g c =
-    let w = world_of g.R.Behaves.is c.args.self.now in
+    let w = world_of g.R.Behaves.behaviour c.args.self.now in
     IfOk-weaker c.answer.result
-    (λ reply. answered (first_refusal (late_refusals c.args.who c.args.command.now w)) c.args.who c.args.command.now w ≡ record { world = world_of g.R.Behaves.is c.answer.new.self; reply = reply })
+    (λ reply. answered (first_refusal (late_refusals c.args.who c.args.command.now w)) c.args.who c.args.command.now w ≡ record { world = world_of g.R.Behaves.behaviour c.answer.new.self; reply = reply })
     _
     (λ reply h. not_early c.args.who c.args.if_at c.args.command.now w c.in-None.ensures ∙ h)
     c.answer.ensures.ok
@@ -33,7 +33,7 @@ on_err (Err e) P Q f p = f p
 
 pub returns-in-None-clause-memory : goal.returns-in-None-clause-memory
 returns-in-None-clause-memory g c =
-    let w = world_of g.R.Behaves.is c.args.self.now in
+    let w = world_of g.R.Behaves.behaviour c.args.self.now in
     on_err c.answer.result (first_refusal (late_refusals c.args.who c.args.command.now w) ≡ None)
     (first_refusal (refusals c.args.who c.args.if_at c.args.command.now w) ≡ None)
     (λ h. first_behind (early_refusals c.args.who c.args.if_at c.args.command.now w) (late_refusals c.args.who c.args.command.now w) (sym c.in-None.ensures) ∙ h)

@@ -12,7 +12,7 @@ invariant_of-self g c =
     let i = c.self.inside in
     let old : Staged g.row.R.Denot g.row.R-Pending.Denot = record { chart = i.chart; limits = i.limits; cursors = i.cursors; breaks = i.breaks.items; edits = i.edits; logged = i.logged } in
     kept_staged old c.install.new.self
-    (install_kept g.R.PartialEq.eq (g.R.Behaves.is i.chart.start.register) i.chart c.install.new.self c.args.key (arc_value c.args.run)
+    (install_kept g.R.PartialEq.eq (g.R.Behaves.behaviour i.chart.start.register) i.chart c.install.new.self c.args.key (arc_value c.args.run)
     c.install.result c.install.ensures)
     c.self.invariant
 
@@ -20,7 +20,7 @@ pub returns-clause-world : goal.returns-clause-world
 returns-clause-world g c =
     let i = c.self.inside in
     let old : Staged g.row.R.Denot g.row.R-Pending.Denot = record { chart = i.chart; limits = i.limits; cursors = i.cursors; breaks = i.breaks.items; edits = i.edits; logged = i.logged } in
-    kept_world g.R.Behaves.is old c.install.new.self
-    (install_kept g.R.PartialEq.eq (g.R.Behaves.is i.chart.start.register) i.chart c.install.new.self c.args.key (arc_value c.args.run)
+    kept_world g.R.Behaves.behaviour old c.install.new.self
+    (install_kept g.R.PartialEq.eq (g.R.Behaves.behaviour i.chart.start.register) i.chart c.install.new.self c.args.key (arc_value c.args.run)
     c.install.result c.install.ensures)
-    ∙ ap (world_of g.R.Behaves.is) c.self.view_is
+    ∙ ap (world_of g.R.Behaves.behaviour) c.self.view_is

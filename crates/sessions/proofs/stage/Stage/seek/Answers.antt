@@ -1,6 +1,6 @@
 use Rattle.std.proofs.Common.{◌∙◌, ◌<◌, ◌≡◌, sym, ap, subst, IfSome, arith}
 use Rattle.schedule_trie.specs.Cut.{forest}
-use Rattle.sessions.specs.Cursors.{StandsIn}
+use Rattle.sessions.specs.Cursors.{IsAtPlace}
 use Rattle.sessions.specs.Held.{Staged}
 use Rattle.sessions.proofs.EditAnswers.{put_staged}
 use Rattle.sessions.proofs.stage.Stage.seek.Goals as goal
@@ -18,13 +18,13 @@ invariant_of-self g c =
       | then-is_some w ↦
           rw w.self-inside-is
           (put_staged old c.args.who c.in_ok-hit.hit i.breaks.items c.self.invariant c.requires.session
-          (subst (λ s. IfSome c.in_ok-hit.hit (StandsIn (forest s.chart.cut))) (sym c.self.view_is) c.in_ok-hit.ensures.stands) c.self.invariant.breaks room)
+          (subst (λ s. IfSome c.in_ok-hit.hit (IsAtPlace (forest s.chart.cut))) (sym c.self.view_is) c.in_ok-hit.ensures.may_be_at) c.self.invariant.breaks room)
       | else-is_some w ↦
           rw w.self-inside-is (record {
             same_limits = c.self.invariant.same_limits;
             in_range = c.self.invariant.in_range;
             few_cells = c.self.invariant.few_cells;
-            stand = c.self.invariant.stand;
+            all_placed = c.self.invariant.all_placed;
             cursors = c.self.invariant.cursors;
             breaks = c.self.invariant.breaks;
             few_edits = omega (arith, c.self.invariant.few_edits);

@@ -1,21 +1,38 @@
-use Rattle.std.proofs.Common.{subst}
+use Rattle.std.proofs.Common.{◌≡◌, ap, subst, sym}
+use Rattle.turn.specs.Shares.{HasAll}
 use Rattle.turn.specs.Chairs.{view}
+use Rattle.sessions.specs.Held.{opening_of}
+use Rattle.sessions.specs.Logs.{world_after}
+use Rattle.desk.specs.Histories.{seen}
 use Rattle.desk.specs.Works.{IsAnswer}
-use Rattle.towerbench.specs.Seats.{Seated, world_at}
-use Rattle.towerbench.proofs.Replies.{looked_answers, shown, found, refused}
+use Rattle.towerbench.specs.Seats.{Seated, IsAlone, world_at}
+use Rattle.towerbench.proofs.Replies.{looked_answers, looked_sees, shown, found, refused}
 use Rattle.towerbench.proofs.seat.Seat.look.Goals as goal
 
 pub returns-clause-page : goal.returns-clause-page
-returns-clause-page g c = shown (world_at g.R.Behaves.is c.args.self.now) c.args.query c.look-answer.result.result
-    (subst (λ (s : Seated g.row.R.Denot g.row.R-Pending.Denot). IsAnswer (world_at g.R.Behaves.is s) c.args.query c.look-answer.result.result) c.self.view_is
-    (looked_answers g.R.Behaves.is c.self.inside.desk.first.value (view c.self.inside.chair) (view c.look-answer.new.chair) c.args.query c.look-answer.result c.look-answer.ensures.looked c.self.invariant.1))
+returns-clause-page g c = λ alone. shown (world_at g.R.Behaves.behaviour c.args.self.now) c.args.query c.look-answer.result.result
+    (subst (λ (s : Seated g.row.R.Denot g.row.R-Pending.Denot). IsAlone s → IsAnswer (world_at g.R.Behaves.behaviour s) c.args.query c.look-answer.result.result) c.self.view_is
+    (looked_answers g.R.Behaves.behaviour c.self.inside.desk.first.value (view c.self.inside.chair) (view c.look-answer.new.chair) c.args.query c.look-answer.result c.look-answer.ensures.looked) alone)
 
 pub returns-clause-found : goal.returns-clause-found
-returns-clause-found g c = found (world_at g.R.Behaves.is c.args.self.now) c.args.query c.look-answer.result.result
-    (subst (λ (s : Seated g.row.R.Denot g.row.R-Pending.Denot). IsAnswer (world_at g.R.Behaves.is s) c.args.query c.look-answer.result.result) c.self.view_is
-    (looked_answers g.R.Behaves.is c.self.inside.desk.first.value (view c.self.inside.chair) (view c.look-answer.new.chair) c.args.query c.look-answer.result c.look-answer.ensures.looked c.self.invariant.1))
+returns-clause-found g c = λ alone. found (world_at g.R.Behaves.behaviour c.args.self.now) c.args.query c.look-answer.result.result
+    (subst (λ (s : Seated g.row.R.Denot g.row.R-Pending.Denot). IsAlone s → IsAnswer (world_at g.R.Behaves.behaviour s) c.args.query c.look-answer.result.result) c.self.view_is
+    (looked_answers g.R.Behaves.behaviour c.self.inside.desk.first.value (view c.self.inside.chair) (view c.look-answer.new.chair) c.args.query c.look-answer.result c.look-answer.ensures.looked) alone)
 
 pub returns-clause-err : goal.returns-clause-err
-returns-clause-err g c = refused (world_at g.R.Behaves.is c.args.self.now) c.args.query c.look-answer.result.result
-    (subst (λ (s : Seated g.row.R.Denot g.row.R-Pending.Denot). IsAnswer (world_at g.R.Behaves.is s) c.args.query c.look-answer.result.result) c.self.view_is
-    (looked_answers g.R.Behaves.is c.self.inside.desk.first.value (view c.self.inside.chair) (view c.look-answer.new.chair) c.args.query c.look-answer.result c.look-answer.ensures.looked c.self.invariant.1))
+returns-clause-err g c = λ alone. refused (world_at g.R.Behaves.behaviour c.args.self.now) c.args.query c.look-answer.result.result
+    (subst (λ (s : Seated g.row.R.Denot g.row.R-Pending.Denot). IsAlone s → IsAnswer (world_at g.R.Behaves.behaviour s) c.args.query c.look-answer.result.result) c.self.view_is
+    (looked_answers g.R.Behaves.behaviour c.self.inside.desk.first.value (view c.self.inside.chair) (view c.look-answer.new.chair) c.args.query c.look-answer.result c.look-answer.ensures.looked) alone)
+
+pub returns-clause-kept : goal.returns-clause-kept
+returns-clause-kept g c =
+    let is = g.R.Behaves.behaviour in
+    let first = c.self.inside.desk.first.value in
+    let after = world_after (opening_of is first) (seen (view c.look-answer.new.chair)) in
+    subst (λ (s : Seated g.row.R.Denot g.row.R-Pending.Denot). IsAlone s → after ≡ world_at is s) c.self.view_is
+    (λ all. ap (world_after (opening_of is first)) (looked_sees is first (view c.self.inside.chair) (view c.look-answer.new.chair) c.args.query c.look-answer.result c.look-answer.ensures.looked all))
+
+pub returns-clause-alone : goal.returns-clause-alone
+returns-clause-alone g c =
+    subst (λ (s : Seated g.row.R.Denot g.row.R-Pending.Denot). IsAlone s → HasAll (view c.look-answer.new.chair).shares) c.self.view_is
+    (λ all. subst HasAll (sym c.look-answer.ensures.looked.shares) all)

@@ -1,7 +1,7 @@
 use Rattle.std.specs.Prelude.{◌||◌}
-use Rattle.turn.specs.Shares.{has}
+use Rattle.turn.specs.Shares.{has_share}
 use Rattle.turn.specs.ShareLaws.{MarkedBelow}
 use Rattle.turn.proofs.shares.Shares.together.Given as goal
 
 abbrev pub invariant-loop-share : goal.invariant-loop-share
-invariant-loop-share l = MarkedBelow (λ i. has l.self.marks i || has l.others.marks i) l.share l.marks
+invariant-loop-share l = MarkedBelow (λ i. has_share l.self.marks i || has_share l.others.marks i) l.share l.marks

@@ -7,25 +7,25 @@ use Rattle.views.proofs.lens.Lens.find.Goals as goal
 
 pub invariant_of-self : goal.invariant_of-self
 invariant_of-self g c =
-    subst (AreTrue g.R.Behaves.is) (sym c.get.follows.holds-at-none)
-    (still_true g.R.Behaves.is g.R.PartialEq.eq g.R.Pending.PartialEq.eq g.met.R.Register.alike g.met.R.Register.same_pending c.self.inside.places c.self.invariant
+    subst (AreTrue g.R.Behaves.behaviour) (sym c.get.follows.holds-at-none)
+    (still_true g.R.Behaves.behaviour g.R.PartialEq.eq g.R.Pending.PartialEq.eq g.met.R.Register.alike g.met.R.Register.same_pending c.self.inside.places c.self.invariant
     (same_place g.R.PartialEq.eq g.R.Pending.PartialEq.eq c.in-Ok.place))
 
 pub invariant_of-self-in_default-copy : goal.invariant_of-self-in_default-copy
 invariant_of-self-in_default-copy g c =
-    subst (AreTrue g.R.Behaves.is) (sym c.get.follows.holds-at-none)
-    (still_true g.R.Behaves.is g.R.PartialEq.eq g.R.Pending.PartialEq.eq g.met.R.Register.alike g.met.R.Register.same_pending c.self.inside.places c.self.invariant
+    subst (AreTrue g.R.Behaves.behaviour) (sym c.get.follows.holds-at-none)
+    (still_true g.R.Behaves.behaviour g.R.PartialEq.eq g.R.Pending.PartialEq.eq g.met.R.Register.alike g.met.R.Register.same_pending c.self.inside.places c.self.invariant
     (same_place g.R.PartialEq.eq g.R.Pending.PartialEq.eq c.in-Ok.place))
 
 pub invariant_of-self-2 : goal.invariant_of-self-2
 invariant_of-self-2 g c =
-    subst (AreTrue g.R.Behaves.is) (sym c.get.follows.holds-at-none)
-    (still_true g.R.Behaves.is g.R.PartialEq.eq g.R.Pending.PartialEq.eq g.met.R.Register.alike g.met.R.Register.same_pending c.self.inside.places c.self.invariant
+    subst (AreTrue g.R.Behaves.behaviour) (sym c.get.follows.holds-at-none)
+    (still_true g.R.Behaves.behaviour g.R.PartialEq.eq g.R.Pending.PartialEq.eq g.met.R.Register.alike g.met.R.Register.same_pending c.self.inside.places c.self.invariant
     (same_place g.R.PartialEq.eq g.R.Pending.PartialEq.eq c.in-Ok.place))
 
 pub returns : goal.returns
 returns g c =
-    let is = g.R.Behaves.is in
+    let is = g.R.Behaves.behaviour in
     subst (λ p. IsAlike is c.in-Ok-copy.copy (part_end is p)) c.in-Ok.ensures
     (subst (λ x. IsAlike is x (part_end is c.in-Ok.place)) (sym c.in-Ok-copy.ensures)
     (found is g.R.PartialEq.eq g.R.Pending.PartialEq.eq g.met.R.Register.alike g.met.R.Register.same_pending c.self.inside.places c.self.invariant

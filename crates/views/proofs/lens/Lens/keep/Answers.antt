@@ -5,7 +5,7 @@ use Rattle.views.proofs.lens.Lens.keep.Goals as goal
 
 pub invariant_of-self : goal.invariant_of-self
 invariant_of-self g c =
-    let is = g.R.Behaves.is in
+    let is = g.R.Behaves.behaviour in
     let place = c.in_ok-place.place in
     let config = c.in_ok-config.config in
     let like : IsAlike is config (part_end is place) =

@@ -1,6 +1,6 @@
 use Rattle.std.proofs.Common.{◌≡◌, map, take}
-use Rattle.views.specs.page.Memory.{value_of}
+use Rattle.views.specs.page.Memory.{cell_value}
 use Rattle.views.proofs.page.memory.bits.Given as goal
 
 abbrev pub invariant-loop-cell : goal.invariant-loop-cell
-invariant-loop-cell l = l.all.items ≡ map value_of (take l.cell-index l.cells)
+invariant-loop-cell l = l.all.items ≡ map cell_value (take l.cell-index l.cells)

@@ -1,6 +1,6 @@
 use Rattle.std.proofs.Common.{◌≡◌, ◌⊎◌, false, sym, subst}
 use Rattle.safe_bit.specs.Parts.{part, origin}
-use Rattle.register_tests.specs.Neighbours.{Neighbours, Stands}
+use Rattle.register_tests.specs.Neighbours.{Neighbours, IsAtPoint}
 use Rattle.register_tests.proofs.Neighbours.{neighbours_after}
 use Rattle.register_tests.proofs.built_towers.neighbours.Neighbours.go.Goals as goal
 
@@ -8,12 +8,12 @@ pub invariant_of-self : goal.invariant_of-self
 invariant_of-self g c =
     let laws = g.met.R.Register in
     let r = c.self.inside.register in
-    let b = g.R.Behaves.is r in
+    let b = g.R.Behaves.behaviour r in
     let at = c.place-at.result in
     let own = part at b.size c.self.inside.store in
-    let side = subst (λ (n : Neighbours _). (at ≡ origin) ⊎ (at ≡ (g.R.Behaves.is n.register).size)) (sym c.self.view_is) c.place-at.ensures.side in
-    let holds = subst (λ (n : Neighbours _). g.R.Register.Holds n.register (part at (g.R.Behaves.is n.register).size n.memory)) (sym c.self.view_is) c.place-at.ensures.holds in
-    let stands = subst (λ (n : Neighbours _). Stands (g.R.Behaves.is n.register) (g.R.Register.Reaches n.register) c.args.who c.args.stack.now) (sym c.self.view_is) c.requires in
+    let side = subst (λ (n : Neighbours _). (at ≡ origin) ⊎ (at ≡ (g.R.Behaves.behaviour n.register).size)) (sym c.self.view_is) c.place-at.ensures.side in
+    let holds = subst (λ (n : Neighbours _). g.R.Register.Holds n.register (part at (g.R.Behaves.behaviour n.register).size n.memory)) (sym c.self.view_is) c.place-at.ensures.holds in
+    let stands = subst (λ (n : Neighbours _). IsAtPoint (g.R.Behaves.behaviour n.register) (g.R.Register.Reaches n.register) c.args.who c.args.stack.now) (sym c.self.view_is) c.requires in
     let lands = c.go_on-progress.ensures.lands stands.0 stands.1.0 stands.1.1 in
     neighbours_after b (g.R.Register.Holds r) (g.R.Register.Reaches r) (laws.lawful r) at c.self.inside.store
     (b.goes stands.1.0 false own).memory c.go_on-progress.new.store side c.self.invariant

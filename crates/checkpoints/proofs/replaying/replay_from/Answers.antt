@@ -1,0 +1,73 @@
+use Rattle.std.proofs.Common.{◌≡◌, ◌∙◌, ◌+◌, ◌∷◌, ◌++◌, true, map, drop, ap, sym, subst, append-nil}
+use Rattle.frames.specs.Configuration.{fits_step, stepped, events_of, replayed, history}
+use Rattle.checkpoints.specs.Kept.{kept_events}
+use Rattle.checkpoints.specs.Reports.{reported_events}
+use Rattle.checkpoints.proofs.Replays.{left_at, none_left, step_fits, rest_fits, step_kept, step_replayed, step_told}
+use Rattle.checkpoints.proofs.Tellings.{told_more}
+use Rattle.checkpoints.proofs.replaying.replay_from.Goals as goal
+
+pub step-reported-requires : goal.step-reported-requires
+step-reported-requires g c =
+    let is = g.R.Behaves.behaviour in
+    let at = c.loop-that in
+    let step_in = g.S.HasStep.step_in in
+    let those = c.args.those.now in
+    let step = c.step-step.result in
+    let rest = map step_in (drop (at.that-index + 1) those) in
+    let first = left_at step_in those at.that-index c.that-item.result c.loop-that-test.true c.that-item.is ∙ ap (λ s. s ∷ rest) (sym c.step-step.ensures) in
+    let fits = step_fits step (map step_in (drop at.that-index those)) rest first (is c.args.entry.register) at.invariant.fit in
+    subst (λ r. fits_step (is r) step ≡ true) (sym at.invariant.register) fits
+
+pub loop-that-preserved : goal.loop-that-preserved
+loop-that-preserved g c =
+    let is = g.R.Behaves.behaviour in
+    let b = is c.args.entry.register in
+    let at = c.loop-that in
+    let so_far = at.invariant in
+    let step_in = g.S.HasStep.step_in in
+    let those = c.args.those.now in
+    let step = c.step-step.result in
+    let left = map step_in (drop at.that-index those) in
+    let rest = map step_in (drop (at.that-index + 1) those) in
+    let first = left_at step_in those at.that-index c.that-item.result c.loop-that-test.true c.that-item.is ∙ ap (λ s. s ∷ rest) (sym c.step-step.ensures) in
+    let before = at.config in
+    let behind = c.step-reported.new.self in
+    let one = c.step-reported.result in
+    let after : behind ≡ stepped b before step = c.step-reported.ensures.after ∙ ap (λ r. stepped (is r) before step) so_far.register in
+    let events : one ≡ events_of b before step = c.step-reported.ensures.events ∙ ap (λ r. events_of (is r) before step) so_far.register in
+    let more = told_more at.steps.items c.push_reserved.new.self.items at.marks.items c.push_reported.new.marks.items (kept_events at.events.items) (kept_events c.push_reported.new.events.items) step one
+    so_far.are_told c.push_reserved.ensures.items c.in_ok-push_reported.ensures.added in
+    record {
+      register = ap (λ d. d.register) c.step-reported.ensures.after ∙ so_far.register;
+      fit = rest_fits step left rest first b so_far.fit;
+      steps = step_kept step left rest first at.steps.items c.push_reserved.new.self.items c.push_reserved.ensures.items ∙ so_far.steps;
+      config = step_replayed b before behind step left rest first after ∙ so_far.config;
+      are_told = more.kept;
+      events = step_told b before behind step left rest first after (reported_events at.steps.items at.marks.items (kept_events at.events.items))
+          (reported_events c.push_reserved.new.self.items c.push_reported.new.marks.items (kept_events c.push_reported.new.events.items)) one events more.reports ∙ so_far.events;
+      steps_room = c.push_reserved.ensures.capacity ∙ so_far.steps_room;
+      made = c.push_reserved.ensures.len ∙ ap (λ n. n + 1) so_far.made;
+      marks_room = c.push_reported.ensures.marks_room ∙ so_far.marks_room;
+      marked = c.in_ok-push_reported.ensures.marks ∙ ap (λ n. n + 1) so_far.marked;
+    }
+
+pub returns-clause-steps : goal.returns-clause-steps
+returns-clause-steps g c =
+    let at = c.loop-that in
+    let none = none_left g.S.HasStep.step_in c.args.those.now at.that-index c.loop-that-test.false in
+    let made = at.steps.items in
+    c.new-reported.ensures.steps ∙ sym (append-nil made) ∙ ap (λ l. made ++ l) (sym none) ∙ at.invariant.steps
+
+pub returns-clause-config : goal.returns-clause-config
+returns-clause-config g c =
+    let at = c.loop-that in
+    let none = none_left g.S.HasStep.step_in c.args.those.now at.that-index c.loop-that-test.false in
+    ap (replayed (g.R.Behaves.behaviour c.args.entry.register) at.config) (sym none) ∙ at.invariant.config
+
+pub returns-clause-events : goal.returns-clause-events
+returns-clause-events g c =
+    let at = c.loop-that in
+    let none = none_left g.S.HasStep.step_in c.args.those.now at.that-index c.loop-that-test.false in
+    let made = reported_events at.steps.items at.marks.items (kept_events at.events.items) in
+    let later = history (g.R.Behaves.behaviour c.args.entry.register) at.config in
+    c.new-reported.ensures.reported ∙ sym (append-nil made) ∙ ap (λ l. made ++ later l) (sym none) ∙ at.invariant.events

@@ -1,0 +1,26 @@
+use Rattle.std.proofs.Common.{◌≡◌, ◌++◌, map, length, drop, vec_len, vec_capacity}
+use Rattle.frames.specs.Configuration.{replayed, history}
+use Rattle.frames.specs.Recorded.{AllFit}
+use Rattle.checkpoints.specs.Kept.{kept_events}
+use Rattle.checkpoints.specs.Reports.{reported_events}
+use Rattle.checkpoints.proofs.Tellings.{IsTold}
+use Rattle.checkpoints.proofs.replaying.replay_from.Given as goal
+
+-- the replay so far, and that of the steps still to be made, are together the whole replay
+abbrev pub invariant-loop-that : goal.invariant-loop-that
+invariant-loop-that g l =
+    let b = g.R.Behaves.behaviour l.fn.entry.register in
+    let all = map g.S.HasStep.step_in l.those in
+    let left = map g.S.HasStep.step_in (drop l.that-index l.those) in
+    record {
+      register : l.config.register ≡ l.fn.entry.register;
+      fit : AllFit b left;
+      steps : l.steps.items ++ left ≡ all;
+      config : replayed b l.config left ≡ replayed b l.fn.entry all;
+      are_told : IsTold l.steps.items l.marks.items (kept_events l.events.items);
+      events : reported_events l.steps.items l.marks.items (kept_events l.events.items) ++ history b l.config left ≡ history b l.fn.entry all;
+      steps_room : vec_capacity l.steps ≡ length l.those;
+      made : vec_len l.steps ≡ l.that-index;
+      marks_room : vec_capacity l.marks ≡ length l.those;
+      marked : vec_len l.marks ≡ l.that-index;
+    }

@@ -1,0 +1,80 @@
+-- What steps recorded, as it is stored: a mark for each step and, in order, the events that the
+-- marks don't determine.
+use Rattle.std.specs.Prelude.{◌≡◌, List, [], ◌∷◌, ◌++◌, Option, Some, None}
+use Rattle.frames.specs.declared.types.Event.{Event}
+use Rattle.frames.specs.declared.types.Event.TheVariants as event
+use Rattle.frames.specs.declared.types.Op.TheVariants as op
+use Rattle.frames.specs.declared.types.Reason.TheVariants as reason
+use Rattle.frames.specs.declared.types.Step.{Step}
+use Rattle.frames.specs.declared.types.Step.TheVariants as step
+use Rattle.frames.specs.declared.types.StepEvents.{StepEvents}
+use Rattle.frames.specs.Fitting.{process_of}
+use Rattle.checkpoints.specs.declared.mark.Mark.{Mark}
+use Rattle.checkpoints.specs.declared.mark.Mark.TheVariants.{Nothing, First, Second, Both, Invoked, Wrote, Busy, Idle, Stopped}
+use Rattle.checkpoints.specs.declared.events.Reported.{Reported}
+use Rattle.checkpoints.specs.Kept.{kept_events}
+
+-- the event of a step that invokes an operation; `None` for other steps
+abbrev pub invocation : Step → Option Event
+invocation (step.Write p v) = Some (event.Invoke p (op.Write v))
+invocation (step.Read p) = Some (event.Invoke p op.Read)
+invocation (step.Go p c) = None
+invocation (step.Stop p) = None
+
+-- the event that a step and its mark determine, if they determine one
+abbrev pub own_event : Step → Mark → Option Event
+own_event s Nothing = None
+own_event s First = None
+own_event s Second = None
+own_event s Both = None
+own_event s Invoked = invocation s
+own_event s Wrote = Some (event.Wrote (process_of s))
+own_event s Busy = Some (event.Void (process_of s) reason.Busy)
+own_event s Idle = Some (event.Void (process_of s) reason.Idle)
+own_event s Stopped = Some (event.Void (process_of s) reason.Stopped)
+
+-- the next event, if one is left, and those after it
+abbrev pub next_event : List Event → Option Event
+next_event [] = None
+next_event (event ∷ events) = Some event
+
+abbrev pub later_events : List Event → List Event
+later_events [] = []
+later_events (event ∷ events) = events
+
+-- the events of a step with a mark: the one that the two determine, the next one or two of the
+-- stored events, or none
+abbrev pub events_with : Step → Mark → List Event → StepEvents
+events_with s First events = record { first = next_event events; second = None }
+events_with s Second events = record { first = None; second = next_event events }
+events_with s Both events = record { first = next_event events; second = next_event (later_events events) }
+events_with s mark events = record { first = own_event s mark; second = None }
+
+-- the stored events that are left after a step with this mark
+abbrev pub left_after : Mark → List Event → List Event
+left_after First events = later_events events
+left_after Second events = later_events events
+left_after Both events = later_events (later_events events)
+left_after mark events = events
+
+-- the events of each of these steps, from their marks and the stored events
+abbrev pub reported_events : List Step → List Mark → List Event → List StepEvents
+reported_events [] marks events = []
+reported_events (s ∷ steps) [] events = []
+reported_events (s ∷ steps) (mark ∷ marks) events = events_with s mark events ∷ reported_events steps marks (left_after mark events)
+
+-- the events of each of the stored steps
+abbrev pub reported_in : Reported → List StepEvents
+reported_in t = reported_events t.steps.items t.marks.items (kept_events t.events.items)
+
+-- a mark and the events stored with it give what a step recorded, whatever events follow
+abbrev pub ReportsOne : Step → Mark → List Event → StepEvents → Type 0
+ReportsOne s mark kept one = (later : List Event) → (events_with s mark (kept ++ later) ≡ one) × (left_after mark (kept ++ later) ≡ later)
+
+-- a step's mark was added, and so were those of its events that the mark doesn't determine
+pub record IsStepAdded (s : Step) (one : StepEvents) (marks more : List Mark) (events later : List Event) : Type 0 where
+  pub mark : Mark
+  pub kept : List Event
+  pub reports : ReportsOne s mark kept one
+  pub marked : more ≡ marks ++ mark ∷ []
+  pub added : later ≡ events ++ kept

@@ -1,0 +1,41 @@
+//! Stored runs, one after the other.
+
+ghost use Rattle.std.specs.Prelude.{◌≡◌, map};
+ghost use Rattle.cutoff.specs.Fitting.{part_of};
+
+use checkpoints::run::Run;
+use frames::register::Register;
+use std::marker::Model;
+use std::sync::Arc;
+
+/// Stored runs, in order, each with how many of its steps count. Contracts see them as a list of
+/// values, and don't see the vector's capacity.
+#[derive(Drop)]
+pub struct Runs<R: Register> {
+    items: Vec<(Arc<Run<R>>, u32)>,
+}
+
+impl<R: Register> Model for Runs<R> {
+    ghost use Rattle.std.specs.Prelude.{List, map};
+    ghost use Rattle.cutoff.specs.Fitting.{RunPart, part_of};
+
+    ghost Value = { List (RunPart R R.Pending) };
+
+    ghost view = { λ r. map part_of r.items.items };
+}
+
+impl<R: Register> Runs<R> {
+    /// A list of these runs. Never allocates.
+    pub fn new(items: Vec<(Arc<Run<R>>, u32)>) -> Runs<R>
+        ensures { result ≡ map part_of items.items }
+    {
+        Runs { items }
+    }
+
+    /// The runs, in order.
+    pub fn as_slice(&self) -> &[(Arc<Run<R>>, u32)]
+        ensures { map part_of result.now ≡ self.now }
+    {
+        &self.items
+    }
+}

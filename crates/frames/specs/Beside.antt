@@ -1,9 +1,0 @@
--- What lies beside a register that lies at a place.
-use Rattle.std.specs.Prelude.{◌≡◌}
-use Rattle.safe_bit.specs.declared.Place.{Place}
-use Rattle.safe_bit.specs.Memory.{Memory}
-use Rattle.safe_bit.specs.Parts.{LiesIn, Apart, part}
-
--- the part at any place apart from this one is as before
-abbrev pub LeavesOthers : Place → Place → Memory → Memory → Type 0
-LeavesOthers at size before after = (beside other : Place) → LiesIn beside other before → Apart at size beside other → part beside other after ≡ part beside other before

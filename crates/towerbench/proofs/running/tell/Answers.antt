@@ -1,0 +1,13 @@
+use Rattle.towerbench.specs.Seats.{world_at}
+use Rattle.towerbench.proofs.Benches.{have_fit, lawful_bench}
+use Rattle.towerbench.proofs.running.tell.Goals as goal
+
+pub of_lawful-left-requires : goal.of_lawful-left-requires
+of_lawful-left-requires g c =
+    let w = world_at g.B.Behaves.behaviour c.args.seat.now in
+    let saved = c.in_ok-limbs-in-Branches.ensures c.requires.alone in
+    let limbs = c.in_ok-limbs-in-Branches.limbs.items in
+    record {
+      lawful = lawful_bench c.args.tower limbs c.requires.lawful saved.some saved.lawful
+          (have_fit c.args.tower w.tower c.requires.alike w.limits c.requires.branches c.requires.cells limbs saved.fit saved.near);
+    }

@@ -1,0 +1,176 @@
+//! What the program does with its words and its streams.
+
+ghost use Rattle.std.specs.Prelude.{◌≡◌, ◌≢◌, ◌≤◌, ℕ, List, Option, Ok, IfOk, IfErr, OnErr, map};
+ghost use Rattle.std.specs.IoError.{error_kind};
+ghost use Rattle.std.specs.Option.{is_some};
+ghost use Rattle.std.specs.String.{string_bytes};
+ghost use Rattle.tower_file.specs.Said.{as_bench};
+ghost use Rattle.command_line.specs.Ranges.{AreOptionsInRange, limits_of};
+ghost use Rattle.towerbench.specs.declared.ending.Ending.{Ending};
+ghost use Rattle.towerbench.specs.Opening.{IsUntouched, opened_bench};
+ghost use Rattle.towerbench.specs.Endings.{IsLacking, IsPrinted, IsRead, ProgramEndsBy, WorksOut, ending_of, exit_status};
+
+use crate::bench_source::open_file;
+use crate::ending::Ending;
+use crate::fault::{Fault, ProgramFault};
+use crate::opening::Setup;
+use crate::running::{run_bench, run_leaving};
+use crate::saving::save_at;
+use crate::tower_source::read_file;
+use command_line::{Invocation, Options, parse_words};
+use conversation::streams::write_whole;
+use std::io;
+use std::io::{ErrorKind, Read, Write};
+use std::rt::Files;
+use std::sync::Wait;
+use std::thread::Threads;
+use tower_file::BenchFile;
+
+/// Does the program's work, and returns the exit status: 0 at the end of the script or after the
+/// help, 1 after a fault, 2 if the words are refused. A process should end after this call: after a
+/// script that ended well, the memory of the branches is freed only when the process ends.
+pub fn tool<F: Files + AllocGlobal + Threads + Wait + Sync, R: Read, W: Write, E: Write>(
+    files: &F,
+    words: io::Result<Vec<String>>,
+    reader: &mut R,
+    writer: &mut W,
+    errors: &mut E,
+) -> u8
+    ensures status { result ≤ 2 }
+    ensures ends { IfOk words (λ ws. (ending : Ending)
+        × ProgramEndsBy (map string_bytes ws.items) (R.remaining reader.old)
+        (R.remaining reader.new)
+        (W.contents writer.old) (W.contents writer.new) ending
+        × (result ≡ exit_status ending)) }
+    ensures unread { OnErr words (IsUntouched (R.remaining reader.old) (R.remaining reader.new)
+        (W.contents writer.old) (W.contents writer.new) × (1 ≤ result)) }
+    // If there is no memory for the words, that is a fault; if a word isn't text, the words are
+    // refused.
+    ensures no_memory { IfErr words (λ e. error_kind e ≡ ErrorKind.OutOfMemory → result ≡ 1) }
+    ensures not_text { IfErr words (λ e. error_kind e ≢ ErrorKind.OutOfMemory → result ≡ 2) }
+{
+    match words {
+        Ok(words) => {
+            let ending = follow(files, words.as_slice(), reader, writer);
+            report(errors, ending)
+        }
+        Err(e) if e.kind() == ErrorKind::OutOfMemory => tell(errors, ProgramFault::Memory),
+        Err(_) => {
+            let _ = writeln!(errors, "towerbench: a word of the command line is not text");
+            2
+        }
+    }
+}
+
+/// Reports how the program ended, unless it ended well, and returns the exit status.
+fn report<E: Write>(errors: &mut E, ending: Ending) -> u8
+    ensures { result ≡ exit_status ending }
+{
+    match ending {
+        Ending::Done => 0,
+        Ending::Refused(text) => {
+            let _ = errors.write_all(text.as_bytes());
+            2
+        }
+        Ending::Faulted(fault) => tell(errors, fault),
+    }
+}
+
+/// Does what the words ask for.
+fn follow<F: Files + AllocGlobal + Threads + Wait + Sync, R: Read, W: Write>(
+    files: &F,
+    words: &[String],
+    reader: &mut R,
+    writer: &mut W,
+) -> Ending
+    ensures { ProgramEndsBy (map string_bytes words.now) (R.remaining reader.old)
+        (R.remaining reader.new)
+        (W.contents writer.old) (W.contents writer.new) result }
+{
+    match parse_words(files.alloc(), words) {
+        Invocation::Run {
+            file,
+            options,
+            save,
+        } => work(files, file, options, save, reader, writer),
+        Invocation::Help(text) => print(writer, &text),
+        Invocation::Refused(text) => Ending::Refused(text),
+        Invocation::Memory => Ending::Faulted(ProgramFault::Memory),
+    }
+}
+
+/// Opens the named file, if one is named, and answers the script. If a path to save to is given,
+/// saves the branches that the script left.
+fn work<F: Files + AllocGlobal + Threads + Wait + Sync, R: Read, W: Write>(
+    files: &F,
+    file: Option<&str>,
+    options: Options,
+    save: Option<&str>,
+    reader: &mut R,
+    writer: &mut W,
+) -> Ending
+    requires limits { AreOptionsInRange options }
+    ensures { WorksOut (is_some file.entry) (limits_of options) (is_some save.entry)
+        (R.remaining reader.old) (R.remaining reader.new)
+        (W.contents writer.old) (W.contents writer.new) result }
+{
+    let setup = match bench_at(files, file) {
+        Ok(bench) => Setup::last(bench, options),
+        Err(fault) => return Ending::Faulted(fault),
+    };
+    let Some(path) = save else {
+        return ending_of(run_bench(files, files.alloc(), setup, reader, writer));
+    };
+    match run_leaving(files, files.alloc(), setup, reader, writer) {
+        Ok(bytes) => ending_of(save_at(files, path, &bytes)),
+        Err(fault) => ending_of(Err(fault)),
+    }
+}
+
+/// The tower and the branches of the file at a path. If no path is given, a safe bit at 0, and a
+/// branch `main` without steps.
+fn bench_at<F: Files + AllocGlobal>(
+    files: &F,
+    file: Option<&str>,
+) -> Result<BenchFile, ProgramFault>
+    ensures ok { IfOk result (λ bench. (bytes : Option (List ℕ))
+        × IsRead (is_some file.entry) bytes × (opened_bench bytes ≡ Ok (as_bench bench))) }
+    ensures err { IfErr result (IsLacking (is_some file.entry)) }
+{
+    let Some(path) = file else {
+        return Ok(open_file(files.alloc(), None)?);
+    };
+    let bytes = read_file(files, path)?;
+    Ok(open_file(files.alloc(), Some(&bytes))?)
+}
+
+/// How the program ends, given the result of its run.
+fn ending_of(ran: Result<(), Fault>) -> Ending
+    ensures { result ≡ ending_of ran }
+{
+    match ran {
+        Ok(()) => Ending::Done,
+        Err(fault) => Ending::Faulted(ProgramFault::Run(fault)),
+    }
+}
+
+/// Prints the help.
+fn print<W: Write>(writer: &mut W, text: &str) -> Ending
+    ensures { IsPrinted (W.contents writer.old) (W.contents writer.new) result }
+{
+    let Ok(()) = write_whole(writer, text.as_bytes()) else {
+        return Ending::Faulted(ProgramFault::Help);
+    };
+    let Ok(()) = writer.flush() else {
+        return Ending::Faulted(ProgramFault::Help);
+    };
+    Ending::Done
+}
+
+/// Reports a fault, and returns its exit status, even if the report can't be written.
+fn tell<E: Write>(errors: &mut E, fault: ProgramFault) -> u8
+    ensures { result ≡ 1 }
+{
+    let _ = writeln!(errors, "towerbench: {fault}");
+    1
+}

@@ -1,0 +1,77 @@
+//! A run of the program that saves the branches that its script left.
+
+ghost use Rattle.std.specs.Prelude.{◌≡◌, ◌⊎◌, OnOk, OnErr, IfErr};
+ghost use Rattle.std.specs.Option.{option_map};
+ghost use Rattle.std.specs.Io.KnownBytes.{Appends};
+ghost use Rattle.conversation.specs.Conversations.{WroteFront};
+ghost use Rattle.command_line.specs.Ranges.{AreOptionsInRange, limits_of};
+ghost use Rattle.towerbench.specs.Opening.{RanSaving, SavesInto};
+
+use crate::bench_source::open_file;
+use crate::fault::Fault;
+use crate::opening::Setup;
+use crate::running::run_leaving;
+use command_line::Options;
+use conversation::streams::write_whole;
+use std::alloc::Global;
+use std::fs;
+use std::io::{ErrorKind, Read, Write};
+use std::rt::Files;
+use std::sync::Wait;
+use std::thread::Threads;
+
+/// Answers a script as `run` does. If the script ended well, writes the bench file of the branches
+/// that it left to `saver`.
+///
+/// Nothing is saved before the script has ended well. If a write to the saver fails, a prefix of
+/// the file has been written.
+pub fn run_saving<H: Threads + Wait + Sync, R: Read, W: Write, S: Write>(
+    rt: &H,
+    alloc: Global,
+    file: Option<&[u8]>,
+    options: Options,
+    reader: &mut R,
+    writer: &mut W,
+    saver: &mut S,
+) -> Result<(), Fault>
+    requires limits { AreOptionsInRange options }
+    ensures done { OnOk result (RanSaving
+        (option_map (λ bytes. bytes.now) file.entry) (limits_of options)
+        (R.remaining reader.old) (R.remaining reader.new)
+        (W.contents writer.old) (W.contents writer.new)
+        (S.contents saver.old) (S.contents saver.new)) }
+    ensures fault { IfErr result (SavesInto
+        (option_map (λ bytes. bytes.now) file.entry) (limits_of options)
+        (R.remaining reader.old) (R.remaining reader.new)
+        (W.contents writer.old) (W.contents writer.new)
+        (S.contents saver.old) (S.contents saver.new)) }
+{
+    let setup = Setup::new(open_file(alloc, file)?, options);
+    let bytes = run_leaving(rt, alloc, setup, reader, writer)?;
+    save(saver, &bytes)
+}
+
+/// Opens and empties the file at a path, and writes bytes to it.
+pub(crate) fn save_at<F: Files>(files: &F, path: &str, bytes: &[u8]) -> Result<(), Fault>
+    ensures { IfErr result (λ e. (e ≡ Fault.Save) ⊎ (e ≡ Fault.Memory)) }
+{
+    match fs::create(files, path) {
+        Ok(mut file) => save(&mut file, bytes),
+        Err(e) if e.kind() == ErrorKind::OutOfMemory => Err(Fault::Memory),
+        Err(_) => Err(Fault::Save),
+    }
+}
+
+/// Writes all bytes. If a write fails or takes no bytes, a prefix of the bytes has been written.
+fn save<S: Write>(saver: &mut S, bytes: &[u8]) -> Result<(), Fault>
+    ensures written { OnOk result
+        (Appends (S.contents saver.old) (S.contents saver.new) bytes.now) }
+    ensures front { OnErr result
+        (WroteFront (S.contents saver.old) (S.contents saver.new) bytes.now) }
+    ensures fault { IfErr result (λ e. e ≡ Fault.Save) }
+{
+    match write_whole(saver, bytes) {
+        Ok(()) => Ok(()),
+        Err(_) => Err(Fault::Save),
+    }
+}

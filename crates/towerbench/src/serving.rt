@@ -1,0 +1,90 @@
+//! Serving a script at a desk.
+
+ghost use Rattle.std.specs.Prelude.{◌≡◌, ◌≤◌, OnOk, IfErr};
+ghost use Rattle.conversation.specs.Conversations.{IsAnswered, Leaves, Breaks};
+ghost use Rattle.conversation.specs.Scripts.{answers_to, IsLineAnswer};
+ghost use Rattle.script.specs.Answers.{answer_line};
+ghost use Rattle.turn.specs.Shares.{HasAll};
+ghost use Rattle.turn.specs.Chairs.{view};
+ghost use Rattle.desk.specs.Chairs.{IsChairOf};
+ghost use Rattle.towerbench.specs.Streams.{BreaksBy, IsOfStreams};
+ghost use Rattle.towerbench.specs.Seats.{IsAlone, seated, world_at};
+
+use crate::answer::{LineAnswer, answer};
+use crate::fault::Fault;
+use crate::seat::Seat;
+use conversation::converse::converse;
+use conversation::fault::StreamFault;
+use desk::{Chair, Desk};
+use frames::register::Register;
+use std::alloc::Global;
+use std::io::{Read, Write};
+use std::sync::Wait;
+use std::thread::Threads;
+
+/// Answers a script at a desk, by one of the desk's chairs. All whole lines that have been read are
+/// answered before the next read. If the chair holds all 16 shares, the first line is answered from
+/// the world after the history that the chair has seen. At most 4 thieves help with fills, and no
+/// answer depends on how many. The desk and the chair are dropped.
+///
+/// # Errors
+///
+/// Read, Write, TooLong, Memory. After Read or TooLong, all whole lines that were read have been
+/// answered.
+pub fn serve<B: Register + Send + Sync, H: Threads + Wait + Sync, R: Read, W: Write>(
+    rt: &H,
+    alloc: Global,
+    desk: Desk<B>,
+    chair: Chair<B>,
+    thieves: u32,
+    reader: &mut R,
+    writer: &mut W,
+) -> Result<(), Fault>
+where
+    B::Pending: Send + Sync,
+    requires chair { IsChairOf B.behaviour desk chair }
+    requires thieves { thieves ≤ 4 }
+    ensures done { HasAll (view chair).shares → OnOk result (IsAnswered
+        (answers_to answer_line (world_at B.behaviour (seated desk (view chair))))
+        (R.remaining reader.old) (R.remaining reader.new)
+        (W.contents writer.old) (W.contents writer.new)) }
+    ensures fault { HasAll (view chair).shares → IfErr result (λ e. BreaksBy
+        (answers_to answer_line (world_at B.behaviour (seated desk (view chair)))) e
+        (R.remaining reader.old) (R.remaining reader.new)
+        (W.contents writer.old) (W.contents writer.new)) }
+    ensures of_streams { IfErr result IsOfStreams }
+{
+    let mut seat = Seat::new(rt, desk, chair, thieves);
+    serve_at(alloc, &mut seat, reader, writer)?;
+    Ok(())
+}
+
+/// Answers a script at a seat. Afterwards the seat's world is the one that the lines leave.
+pub(crate) fn serve_at<B: Register + Send + Sync, H: Threads + Wait + Sync, R: Read, W: Write>(
+    alloc: Global,
+    seat: &mut Seat<'_, B, H>,
+    reader: &mut R,
+    writer: &mut W,
+) -> Result<(), StreamFault>
+where
+    B::Pending: Send + Sync,
+    ensures done { IsAlone seat.old → OnOk result (Leaves answer_line
+        (world_at B.behaviour seat.old) (world_at B.behaviour seat.new)
+        (R.remaining reader.old) (R.remaining reader.new)
+        (W.contents writer.old) (W.contents writer.new)) }
+    ensures alone { IsAlone seat.old → OnOk result (IsAlone seat.new) }
+    ensures fault { IsAlone seat.old → IfErr result (λ e. Breaks
+        (answers_to answer_line (world_at B.behaviour seat.old)) e
+        (R.remaining reader.old) (R.remaining reader.new)
+        (W.contents writer.old) (W.contents writer.new)) }
+{
+    let answering = |seat: &mut Seat<'_, B, H>, number: u32, line: &[u8], out: &mut Vec<
+        u8,
+    >| -> LineAnswer
+        ensures { IsAlone seat.old → OnOk result (IsLineAnswer answer_line number line.now
+            (world_at B.behaviour seat.old) (world_at B.behaviour seat.new) out.old.items
+            out.new.items
+            × IsAlone seat.new) }
+    { answer(alloc, seat, number, line, out) };
+    converse(alloc, seat, &answering, reader, writer)
+}

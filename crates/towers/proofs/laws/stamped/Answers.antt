@@ -1,4 +1,0 @@
-use Rattle.towers.proofs.laws.stamped.Goals as goal
-
-pub returns-clause-never_stray : goal.returns-clause-never_stray
-returns-clause-never_stray c = c.never_stray.ensures.atomic c.atomic.ensures

@@ -1,0 +1,41 @@
+//! Digests of steps: the number that is hashed instead of the steps.
+
+ghost use Rattle.std.specs.Prelude.{◌≡◌};
+ghost use Rattle.views.specs.Digests as spec;
+
+use frames::types::Step;
+
+/// The multiplier: 2^64 over the golden ratio, so that the bits of each step reach higher ones too.
+const FACTOR: u64 = 0x9E37_79B9_7F4A_7C15;
+
+/// A number for a list of steps. Equal lists have equal numbers.
+pub(crate) fn digest(steps: &[Step]) -> u64
+    ensures { result ≡ spec.digest steps.now }
+{
+    let mut digest = 0;
+    for step in steps {
+        digest = digest_with_step(digest, *step);
+    }
+    digest
+}
+
+/// The digest of a list with `step` added at its end, given the list's `digest`.
+#[inline(always)]
+fn digest_with_step(digest: u64, step: Step) -> u64
+    ensures { result ≡ spec.digest_with_step digest step }
+{
+    digest.wrapping_mul(FACTOR).wrapping_add(word_of_step(step))
+}
+
+/// A number for a step. Bit actions, the most frequent steps, are matched first.
+#[inline(always)]
+fn word_of_step(step: Step) -> u64
+    ensures { result ≡ spec.word_of_step step }
+{
+    match step {
+        Step::Go { p, c } => 4 * u64::from(p) + 1024 * u64::from(c),
+        Step::Write { p, v } => 4 * u64::from(p) + 1024 * u64::from(v) + 1,
+        Step::Read { p } => 4 * u64::from(p) + 2,
+        Step::Stop { p } => 4 * u64::from(p) + 3,
+    }
+}
