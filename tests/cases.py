@@ -8,13 +8,19 @@ NAME.script and NAME.expected, what standard output says, may come with
 - NAME.status   the exit status, if it isn't 0
 - NAME.errors   what standard error says, if it says anything
 Each may be made: NAME.KIND.make is a line of shell, run in the case's folder, that writes it.
+A row is a case in a folder of tests/rows, one for each subject. No two rows share a name, and those
+of sizes are lines of a table (tests/sizes.py).
 All names are of the repository's top, which is the current folder.
 """
 import collections
+import functools
 import os
 import shlex
 import subprocess
 
+import sizes
+
+ROWS = "tests/rows"
 KINDS = ("script", "expected", "tower", "bench", "saved", "words", "status", "errors")
 MADE = ".make"
 NUMBERS_OF_WORKERS = (0, 1, 4)
@@ -53,14 +59,25 @@ def run(program, words, script, environment=None):
     return Ran(ran.stdout, ran.returncode, ran.stderr)
 
 
+def written(path, text):
+    """Writes a text to a path, and returns the path; None: there is no text."""
+    if text is None:
+        return None
+    with open(path, "w", encoding="ascii") as file:
+        file.write(text)
+    return path
+
+
 def path_of(name, kind, scratch):
     """Returns the path of a case's file, which is made if it must be; None: it has none."""
     path = f"{name}.{kind}"
+    target = f"{scratch}/{path.replace('/', '-')}"
+    if name in sizes.files():
+        return written(target, sizes.files()[name].get(kind))
     if not os.path.exists(path + MADE):
         return path if os.path.exists(path) else None
     if os.path.exists(path):
         raise Spoilt(f"there are both {path} and {path + MADE}")
-    target = f"{scratch}/{path.replace('/', '-')}"
     with open(target, "wb") as file, open(path + MADE, encoding="utf-8") as line:
         folder = os.path.dirname(path)
         made = subprocess.run(["sh", "-c", line.read()], cwd=folder, stdout=file, check=False)
@@ -170,14 +187,41 @@ def fault_of(name, program, scratch):
     return None
 
 
-def names_in(folder):
-    """Returns the names of a folder's cases, and the files there that belong to none."""
-    names, others = set(), []
-    for file in sorted(os.listdir(folder)):
-        made = file[: -len(MADE)] if file.endswith(MADE) else file
-        name, _, kind = made.rpartition(".")
-        if kind in KINDS and name:
-            names.add(f"{folder}/{name}")
-        else:
-            others.append(f"{folder}/{file}")
-    return sorted(names), others
+def given(name, kind):
+    """Returns the bytes of a case's file that is made by no line of shell; None: there is none."""
+    if name in sizes.files():
+        text = sizes.files()[name].get(kind)
+        return None if text is None else text.encode()
+    path = f"{name}.{kind}"
+    return read(path) if os.path.exists(path) else None
+
+
+def own_name(name):
+    """Returns a row's name without its folder."""
+    return name.rpartition("/")[2]
+
+
+def rows():
+    """Returns the paths of all rows without their kinds, in the order of their names, and what is
+    wrong with the other files there, by their paths."""
+    found, strange = set(sizes.files()), {}
+    for at, _, files in os.walk(ROWS):
+        for file in files:
+            made = file[: -len(MADE)] if file.endswith(MADE) else file
+            name, _, kind = made.rpartition(".")
+            if kind in KINDS and name:
+                found.add(f"{at}/{name}")
+            elif f"{at}/{file}" != sizes.TABLE:
+                strange[f"{at}/{file}"] = "no file of a row"
+    names = sorted(found, key=lambda it: (own_name(it), it))
+    strange.update((one, f"{other} has its name") for one, other in zip(names, names[1:]) if own_name(one) == own_name(other))
+    return names, strange
+
+
+@functools.lru_cache(None)
+def row(name):
+    """Returns the path of the row of a name."""
+    found = [it for it in rows()[0] if own_name(it) == name]
+    if not found:
+        raise Spoilt(f"no row is called {name}")
+    return found[0]

@@ -5,6 +5,7 @@ usage: tests/clauses.py [NAME..]   reads crates/NAME/src of these crates, or of 
 
 Each clause is a `requires` or `ensures` with the text between its braces; of one that is too
 wide its widest line is reported, with the file and the line. Parameters are counted without `self`.
+Public calls that serve a script also take the runtime and the allocator, and so may have one more.
 The last line sums up. Status 1 if anything is reported.
 """
 import glob
@@ -13,6 +14,7 @@ import re
 import sys
 
 MOST_COLUMNS, MOST_PARAMETERS = 100, 6
+SERVING = {"serve", "run_saving"}
 TOP = os.path.dirname(os.path.dirname(os.path.realpath(__file__)))
 CLAUSE = re.compile(r"\b(?:requires|ensures)\b[^{}\n]*\{")
 FUNCTION = re.compile(r"\bfn (\w+)")
@@ -84,7 +86,7 @@ def long_functions(code):
     """Yields the line, the name and the parameters of each function that has too many."""
     for found in FUNCTION.finditer(code):
         count = parameters_of(code, after_generics(code, found.end()))
-        if count > MOST_PARAMETERS:
+        if count > MOST_PARAMETERS + (found.group(1) in SERVING):
             yield code.count("\n", 0, found.start()) + 1, found.group(1), count
 
 

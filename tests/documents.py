@@ -21,6 +21,7 @@ import subprocess
 
 import cases
 import definitions
+import sizes
 
 MOST_COLUMNS = 100
 SCREENS = re.compile(r"lessons/[^/]+/README\.md")
@@ -98,8 +99,8 @@ def is_there(path):
 
 @functools.lru_cache(None)
 def names_of_files():
-    """Returns the names of all files up to their first dot, and of all folders."""
-    return {part.split(".")[0] for it in files() for part in it.split("/")}
+    """Returns the names of all files up to their first dot, of all folders, and of the rows of a table."""
+    return {part.split(".")[0] for it in [*files(), *sizes.files()] for part in it.split("/")}
 
 
 @functools.lru_cache(None)

@@ -8,7 +8,7 @@ An existential is a `(x : T) ×` in a public clause or in a definition that one 
 tests/citations.py says; or a record with fields that are data as well as fields that are facts. Its
 examples are theorems of its crate's proofs/Examples.antt: of a definition `Old` they are
 `Old-holds` and `Old-fails`, and of a clause's own existential they have the name of the function
-in place of `Old`, the first of those whose clauses say the same of other values. Each is below
+in place of `Old`, one of those whose clauses say the same of other values. Each is below
 a comment that says what is there or what is wrong, and names `Old`, or has a `(x : T) ×`; the near
 miss ends in `→ ⊥`. The last line sums up. Status 1 if an example is missing.
 """
@@ -31,8 +31,8 @@ EXAMPLE = re.compile(
     rf"^-- .*\n({WORD}-(?:holds|fails)) : (.*(?:\n .*)*)\n(?:unfolding .*\n)?\1\b", re.MULTILINE
 )
 
-# name: that of the examples; where: its place; by: what reaches it, in words
-Existential = collections.namedtuple("Existential", "crate name where by is_clause")
+# names: those that the examples can have; where: its place; by: what reaches it, in words
+Existential = collections.namedtuple("Existential", "crate names where by is_clause")
 
 
 def is_data(kind, parameters, own, imports):
@@ -73,15 +73,16 @@ def existentials():
         if is_existential(it):
             where = f"{os.path.relpath(it.path, TOP)}:{it.line}"
             by = f"{crate_of(clause.path)}'s {clause.name}"
-            found.append(Existential(crate_of(it.path), it.name, where, by, False))
-    said = set()
+            found.append(Existential(crate_of(it.path), [it.name], where, by, False))
+    said = {}
     for it in all_clauses():
         witness = WITNESS.search(it.text)
-        key = witness and (crate_of(it.path), *TYPES.findall(it.text, witness.start()))
-        if witness and key not in said:
-            said.add(key)
-            where = os.path.relpath(it.path, TOP)
-            found.append(Existential(crate_of(it.path), it.name, where, "its own clause", True))
+        if witness:
+            key = (crate_of(it.path), *TYPES.findall(it.text, witness.start()))
+            said.setdefault(key, []).append(it)
+    for (crate, *_), same in said.items():
+        names, where = [it.name for it in same], os.path.relpath(same[0].path, TOP)
+        found.append(Existential(crate, names, where, "its own clause", True))
     return found
 
 
@@ -94,15 +95,20 @@ def examples(crate):
         return dict(EXAMPLE.findall(file.read()))
 
 
+def is_example(it, ending, stated):
+    """Returns whether a statement is an existential's example of this ending."""
+    says = WITNESS.search(stated) if it.is_clause else it.names[0] in NAMED.findall(stated)
+    return bool(says) and stated.rstrip().endswith("→ ⊥") == (ending == "fails")
+
+
 def faults_of(crate):
     """Yields what is missing in a crate's examples."""
     found = examples(crate)
     for it in existentials():
         for ending in ("holds", "fails") if it.crate == crate else ():
-            stated = found.get(f"{it.name}-{ending}", "")
-            says = WITNESS.search(stated) if it.is_clause else it.name in NAMED.findall(stated)
-            if not says or stated.rstrip().endswith("→ ⊥") != (ending == "fails"):
-                yield f"{it.where}: there is no example {it.name}-{ending}, for {it.by}"
+            stated = [found.get(f"{name}-{ending}", "") for name in it.names]
+            if not any(is_example(it, ending, text) for text in stated):
+                yield f"{it.where}: there is no example {it.names[0]}-{ending}, for {it.by}"
 
 
 def fault_of(crate):
@@ -113,7 +119,7 @@ def fault_of(crate):
 def main(words):
     if words == ["--list"]:
         for it in existentials():
-            print(f"{it.where}: {it.name}, by {it.by}")
+            print(f"{it.where}: {it.names[0]}, by {it.by}")
         return 0
     if set(words) - set(crates()):
         print(__doc__, end="", file=sys.stderr)

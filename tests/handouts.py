@@ -1,6 +1,6 @@
 """Pages that are handed out: each is whole HTML, no mark of Markdown is left, and what it links to or names is handed out.
 
-The pages are those that tools/handout makes from the lessons and the guide.
+The pages are those that tools/handout makes from the lessons, the guide and the glossary.
 """
 import functools
 import html.parser

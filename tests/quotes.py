@@ -3,7 +3,8 @@
 A block that begins with ```transcript NAME has lines that are typed, and below each some lines of
 its answer; one that begins with ```timeline NAME is looked at by tests/timelines.py.
 - The lines typed in all blocks of a NAME are the commands of NAME.script, in order, and each script
-  has its blocks.
+  has its blocks. `0 insert main 4.. r 1, 3 * g 1 0` is short for an insert of each of these four
+  steps, at places 4 to 7.
 - The lines below one of them are in that command's answer in NAME.expected, in order.
 - The page says how the program is started on NAME.tower, or on NAME.bench, also with `--save`.
 - A line of an answer that the page's text names, as `4 p1 return 0` does, is one of those quoted in
@@ -33,6 +34,7 @@ COMMANDS = (
     "state process pending bits history verdict steps branches cursor fill"
 )
 COMMAND = re.compile(rf"`(\d+ (?:{COMMANDS.replace(' ', '|')})\b[^`]*)`")
+SHORT, TIMES = re.compile(r"(\d+ insert \S+ )(\d+)\.\. (.+)"), re.compile(r"(?:(\d+) \* )?(.+)")
 EXERCISE = re.compile(r"^\d\. \*\*(.*?)[.?]\*\*", re.M)
 QUESTION, OF_YOUR_OWN, FEWEST_EXERCISES = "**Question.** ", "A schedule of your own", 3
 FOLD, END_OF_FOLD = "<details>\n<summary>Answers, and why</summary>\n", "\n</details>\n"
@@ -41,6 +43,17 @@ LINK = re.compile(r"\]\((\d\d-[a-z-]+)/(?:README\.md)?\)")
 
 def is_command(line):
     return re.match(r"\d+ ", line) is not None
+
+
+def written_out(line):
+    """Returns the lines that a line of a block is short for."""
+    short = SHORT.fullmatch(line)
+    if not short:
+        return [line]
+    head, first, listed = short.groups()
+    parts = [TIMES.fullmatch(it).groups() for it in listed.split(", ")]
+    steps = [step for count, step in parts for _ in range(int(count or 1))]
+    return [f"{head}{place} {step}" for place, step in enumerate(steps, int(first))]
 
 
 def parted(page):
@@ -70,7 +83,7 @@ def answers(expected):
 
 
 def quotes_faults(page, name, lines):
-    """Yields what is wrong with the lines of all transcripts of a name."""
+    """Yields what is wrong with the lines of all transcripts of a name, which are written out."""
     script = page.parent / f"{name}.script"
     if not script.exists():
         yield f"there is no {script.name}"
@@ -102,8 +115,8 @@ def page_faults(page):
         file = re.escape(f"{page.parent.relative_to(TOP)}/{name}.")
         if not re.search(rf"`\./towerbench {file}(tower|bench)( --save [^`]*)?`", text):
             yield f"it doesn't say how to start {name}.tower or {name}.bench"
-        yield from quotes_faults(page, name, lines)
-    shown = [line for lines in transcripts.values() for line in lines]
+        yield from quotes_faults(page, name, [it for line in lines for it in written_out(line)])
+    shown = [it for lines in transcripts.values() for line in lines for it in {line, *written_out(line)}]
     quoted = {line.strip() for line in shown if not is_command(line)}
     for named in NAMED.findall(text):
         if not any(it == named or it.startswith(named + " ") for it in quoted):

@@ -8,9 +8,11 @@ expected output of a row, an example or a lesson, but that of refused memory, wh
 import glob
 import re
 
+import sizes
+
 GUIDE = "docs/guide/*.md"
 EXPECTED = ("expected", "errors", "saved", "expected.make", "errors.make")
-FOLDERS = ("tests/rows", "examples", "lessons", "lessons/*")
+FOLDERS = ("tests/rows/*", "examples", "lessons", "lessons/*")
 SPAN = re.compile(r"`([^`\n]+)`")
 FRAME = re.compile(r"(?:safe|copies|regular|unary|stamped|matrix) [wr]\b.*")
 NUMBERED = re.compile(r"\d\d [A-Z]\w+")
@@ -48,7 +50,9 @@ def read(path):
 
 def outputs():
     """Returns all that is expected of the program, in one text."""
-    return "\n".join(read(path) for folder in FOLDERS for kind in EXPECTED for path in sorted(glob.glob(f"{folder}/*.{kind}")))
+    found = [read(path) for folder in FOLDERS for kind in EXPECTED for path in sorted(glob.glob(f"{folder}/*.{kind}"))]
+    found += [texts[kind] for texts in sizes.files().values() for kind in EXPECTED if kind in texts]
+    return "\n".join(found)
 
 
 def pages():

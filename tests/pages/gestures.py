@@ -228,7 +228,7 @@ def files(page, program):
 def open_files(page):
     page.do("chooseOpen")
     node = page.chrome.ask("DOM.querySelector", nodeId=page.chrome.ask("DOM.getDocument")["root"]["nodeId"], selector="#files")["nodeId"]
-    page.chrome.ask("DOM.setFileInputFiles", nodeId=node, files=[str(pathlib.Path("tests/rows/bench-file.bench").resolve())])
+    page.chrome.ask("DOM.setFileInputFiles", nodeId=node, files=[str(pathlib.Path("tests/rows/benches/bench-file.bench").resolve())])
     page.until("document.querySelectorAll('.panel').length === 3")
     page.wait()
     same(page.branches(), ["main", "a", "b"])

@@ -1,6 +1,5 @@
 """Scripts and files that are random changes of those of the cases."""
 import collections
-import os
 import random
 
 import cases
@@ -41,8 +40,8 @@ def changed(text, pool, chance):
 
 
 def texts(names, kinds):
-    paths = [f"{name}.{kind}" for name in names for kind in kinds]
-    return [cases.read(it) for it in paths if os.path.exists(it) and os.path.getsize(it) < MOST_BYTES]
+    found = [cases.given(name, kind) for name in names for kind in kinds]
+    return [it for it in found if it is not None and len(it) < MOST_BYTES]
 
 
 def made(names, seed, count):

@@ -1,4 +1,4 @@
-"""Turns the lessons' and the guide's Markdown into pages for a browser.
+"""Turns the Markdown of the lessons, the guide and the glossary into pages for a browser.
 
 It knows what these pages use: headings, paragraphs, lists, tables, fenced and indented blocks, spans of code, strong and emphasized
 words, links, and the lines of a folded part. A link to a page that isn't handed out becomes its text.

@@ -1,0 +1,66 @@
+"""What a step costs, replayed and stored, and replayed alone."""
+import subprocess
+
+from costs.runs import PROGRAM, TOWERS, instructions, tower, varied
+
+# How many pairs of operations, and the most actions that one of them has.
+OPERATIONS = {
+    "safe 0": (200, 2),
+    "copies 4 0": (80, 8),
+    "regular 4 0": (80, 8),
+    "unary 8 2 0": (100, 10),
+    "stamped 4 3": (50, 34),
+    "matrix 2 2 1 3": (20, 110),
+}
+
+
+def steps(room):
+    print("instructions a step: replayed and stored, of a first page at 3,000, 6,000 and 12,000 steps; and replayed alone")
+    for line, cycle in TOWERS.items():
+        figures = []
+        for count in (3000, 6000, 12000):
+            path = tower(line, cycle, count, room)
+            page = f"0 state main {count}\n"
+            figures.append((instructions([path], page, room) - instructions([path], "", room)) / count)
+        path = tower(line, varied(cycle, count), count, room)
+        # (each look is at another run than the 32 before it, of which the lens may keep places)
+        rounds = ("".join(f"0 state main {128 * k + place}\n" for k in range(80)) * 3 for place in (11, 111))
+        near, far = (instructions([path], page + looks, room) for looks in rounds)
+        figures.append((far - near) / (3 * 80 * 100))
+        print(f"  {line:16}" + "".join(f"{it:9.1f}" for it in figures))
+
+
+def operations(room):
+    print("instructions a step of whole operations, one pair in five overlapping: replayed alone, within the first run, one in the middle, "
+          "and the last")
+    for line in TOWERS:
+        path = whole_operations(line, room)
+        count = sum(1 for _ in open(path)) - 2
+        figures = []
+        for first in (0, count // 256 * 128, (count // 128 - 1) * 128):
+            page, other = f"0 state main {first + 11}\n", 0 if first else 128
+            # (between two looks the lens is filled with places of another run, none after its neighbour)
+            fill = "".join(f"0 state main {other + place}\n" for place in range(2, 68, 2))
+            near, far = (instructions([path], page + f"0 state main {first + place}\n{fill}" * 20, room) for place in (11, 111))
+            figures.append((far - near) / (20 * 100))
+        print(f"  {line:16}" + "".join(f"{it:9.1f}" for it in figures) + f"   of {count} steps")
+
+
+def whole_operations(line, room):
+    """A tower's file in which no step is void: each operation is given more actions than it has, and the void ones are left out."""
+    pairs, actions = OPERATIONS[line]
+    given = []
+    for pair in range(pairs):
+        invoked = "r 0" if line.startswith("matrix") else f"w 0 {pair % 2}"
+        if pair % 5 == 0:
+            given += [invoked, "r 1"] + ["g 0 0", "g 1 0"] * actions
+        else:
+            given += [invoked] + ["g 0 0"] * actions + ["r 1"] + ["g 1 0"] * actions
+    path = tower(line, given, len(given), room)
+    with open(f"{room}/script", "w") as file:
+        file.write(f"0 history main {len(given)}\n")
+    with open(f"{room}/script") as script_file:
+        page = subprocess.run([PROGRAM, path], stdin=script_file, capture_output=True, text=True, check=True).stdout
+    void = {int(it.split()[0]) for it in page.splitlines() if " void " in it}
+    kept = [step for i, step in enumerate(given) if i not in void]
+    return tower(line, kept, len(kept), room)

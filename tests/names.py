@@ -1,0 +1,71 @@
+"""Public names that two definitions share: each has one of its own.
+
+usage: tests/names.py   prints each name that is shared, with the files that define it; status 1 if there is one
+
+- Definitions: what a file of specs/ defines as `pub`, at the margin or in a `module _`, apart from fields and what it passes on, and
+  from the facts in specs/laws/.
+- Items: the `pub` types, traits, functions and constants at the margin of a crate's sources. Those of `laws.rt` are apart, since
+  each crate states its own laws; so is a type that only gives another of its name.
+A definition may have the name of the item that it is about.
+"""
+import collections
+import glob
+import os
+import re
+import sys
+
+TOP = os.path.dirname(os.path.dirname(os.path.realpath(__file__)))
+DEFINED = re.compile(r" *(?:unfoldable |abbrev )?pub (?:record |data )?(?!(?:use|mod) )([^\W\d][\w'-]*)")
+RECORD = re.compile(r" *(?:pub )?(?:record|data) ")
+ITEM = re.compile(r"pub (?:const |unsafe )*(?:struct|enum|trait|type|fn|const) (\w+)")
+LAWS = "laws.rt"
+
+
+def definitions_of(text):
+    """Returns the names that a file of specs/ defines for others, but for those of fields."""
+    found, record = set(), None
+    for line in text.split("\n"):
+        margin = len(line) - len(line.lstrip(" "))
+        if not line.strip() or line.strip().startswith("--") or (record is not None and margin > record):
+            continue
+        record = margin if RECORD.match(line) else None
+        found.update(it.group(1) for it in [DEFINED.match(line)] if it)
+    return found
+
+
+def items_of(text):
+    """Returns the names of the public items of a source."""
+    found = set()
+    for line in text.split("\n"):
+        item = ITEM.match(line)
+        is_alias = item and re.match(rf"pub type {item.group(1)}\b.*= (?:\w+::)*{item.group(1)}\b", line)
+        found.update([item.group(1)] if item and not is_alias else [])
+    return found
+
+
+def shared(pattern, names_of):
+    """Returns the names that several files have, each with these files."""
+    found = collections.defaultdict(list)
+    for path in sorted(glob.glob(f"{TOP}/crates/{pattern}", recursive=True)):
+        if os.path.basename(path) == LAWS or "/specs/laws/" in path:
+            continue
+        with open(path, encoding="utf-8") as file:
+            names = names_of(file.read())
+        for name in names:
+            found[name].append(os.path.relpath(path, TOP))
+    return {name: paths for name, paths in found.items() if len(paths) > 1}
+
+
+def faults():
+    found = [shared("*/specs/**/*.antt", definitions_of), shared("*/src/**/*.rt", items_of)]
+    return [f"{name}: {', '.join(paths)}" for it in found for name, paths in sorted(it.items())]
+
+
+def fault():
+    """Returns which public names are shared, or None."""
+    return "; ".join(faults()) or None
+
+
+if __name__ == "__main__":
+    print("\n".join(faults()) or "no public name is shared")
+    sys.exit(1 if faults() else 0)

@@ -1,0 +1,240 @@
+"""Tests of the tools that prove and build, in scratch folders, with substitutes for the prover and the program: nothing is proved.
+
+Each tool is loaded for each test by itself, and works on a repository of three crates: `over` is above `low`, `tool` is a program over
+both. Expected values are written by hand.
+"""
+import contextlib
+import importlib.machinery
+import importlib.util
+import io
+import os
+import shutil
+import subprocess
+import sys
+import tempfile
+
+import cases
+from trials import Test
+
+TOP = os.path.dirname(os.path.dirname(os.path.realpath(__file__)))
+LISTED = "# the crates\nlow: std\nover: low std  # above it\ntool: low, over\n"
+SOURCES = {"low/src/lib.rt": 7, "low/proofs/Low.antt": 14, "over/src/lib.rt": 3, "over/specs/Over.antt": 2, "tool/src/main.rt": 1}
+# What `rt try` adds after a program that ended with a status.
+ENDED = "checked: all\nrun=ended status={} steps=1\n"
+
+
+def same(what, got, wanted):
+    if got != wanted:
+        raise cases.Spoilt(f"{what}: {got!r}, and {wanted!r} is right")
+
+
+def loaded(path):
+    """Returns a tool as a module of its own."""
+    loader = importlib.machinery.SourceFileLoader(os.path.basename(path).partition(".")[0], f"{TOP}/{path}")
+    module = importlib.util.module_from_spec(importlib.util.spec_from_loader(loader.name, loader))
+    with_tools = f"{TOP}/tools"
+    if with_tools not in sys.path:
+        sys.path.append(with_tools)
+    loader.exec_module(module)
+    return module
+
+
+def put(path, text, mode=0o644):
+    os.makedirs(os.path.dirname(path), exist_ok=True)
+    with open(path, "w", encoding="utf-8") as file:
+        file.write(text)
+    os.chmod(path, mode)
+
+
+@contextlib.contextmanager
+def repository():
+    """Makes a scratch folder with three crates; its path."""
+    with tempfile.TemporaryDirectory() as top:
+        put(f"{top}/crates.txt", LISTED)
+        for path, lines in SOURCES.items():
+            put(f"{top}/crates/{path}", "line\n" * lines)
+        yield top
+
+
+def side_at(top):
+    side = loaded("tools/side_by_side.py")
+    side.TOP = top
+    return side
+
+
+def crates_and_lines():
+    with repository() as top:
+        side = side_at(top)
+        crates = side.crates_of()
+        same("crates", crates, {"low": [], "over": ["low"], "tool": ["low", "over"]})
+        same("below tool", side.all_below(crates, "tool"), ["low", "over"])
+        same("lines of low", side.lines_of("low"), 21)
+        # (its own 5, and a seventh of the 21 below)
+        same("lines of the check of over", side.lines_of_check(crates, "over"), 8)
+        same("programs", [it for it in crates if side.is_program(it)], ["tool"])
+
+
+def tree_of_a_crate():
+    with repository() as top:
+        side = side_at(top)
+        put(f"{top}/crates/low/out/rlib/low.rlib", "built")
+        put(f"{top}/crates/over/out/before", "kept")
+        with side.Tree(side.crates_of(), "over") as tree:
+            found = sorted(os.path.relpath(f"{at}/{it}", tree.top) for at, _, files in os.walk(tree.top) for it in files)
+            put(f"{tree.folder}/out/after", "made")
+            tree.put_back()
+        same("files of the tree", found, [
+            "crates.txt", "crates/low/out/rlib/low.rlib", "crates/low/proofs/Low.antt", "crates/low/src/lib.rt",
+            "crates/over/out/before", "crates/over/specs/Over.antt", "crates/over/src/lib.rt",
+        ])
+        same("products", sorted(os.listdir(f"{top}/crates/over/out")), ["after", "before"])
+        same("the tree is left", os.path.exists(tree.top), False)
+
+
+def ran_side_by_side(failing=None):
+    """Returns in which order four tasks ran, one at a time, and whether all went well."""
+    side, order = loaded("tools/side_by_side.py"), []
+    side.lanes = side.processors = lambda: 1
+
+    def task(name, waits, lines):
+        return side.Task(waits, lines, 4, lambda jobs, niceness: (order.append((name, jobs)), name != failing)[1])
+
+    tasks = {"short": task("short", [], 3), "first": task("first", [], 1), "then": task("then", ["first"], 5), "last": task("last", ["then"], 1)}
+    same("chains", side.chains(tasks), {"short": 3, "first": 7, "then": 6, "last": 1})
+    return side.run_side_by_side(tasks, lambda *_: None), order
+
+
+def order_of_tasks():
+    same("all tasks", ran_side_by_side(), (True, [("first", 1), ("then", 1), ("short", 1), ("last", 1)]))
+    same("a task that fails", ran_side_by_side("then"), (False, [("first", 1), ("then", 1)]))
+
+
+def statements_at(top):
+    """Returns the module over a kit in /kit, and the commands that it gives; each makes the file that it names."""
+    statements, given = loaded("tools/statements.py"), []
+    statements.side = side_at(top)
+    statements.said_by_rt = {"doc": "/kit/START.md", "version": "kit 1"}.__getitem__
+
+    def call(words, folder, _):
+        given.append((os.path.relpath(folder, top), words))
+        put(os.path.join(folder, words[words.index("-o") + 1]), "made")
+        return True
+
+    statements.side.PROCESSES.call = call
+    return statements, given
+
+
+def words_of_a_library():
+    with repository() as top:
+        statements, _ = statements_at(top)
+        words = " ".join(statements.steps_of(statements.side.crates_of(), "over", 2)[0]).replace(top, "TOP")
+        same("words", words, (
+            "/kit/bin/rattle build --crate-name over src/lib.rt --extern std=/kit/rlibs/std.rlib --extern std=/kit/rlibs/std.rlib"
+            " --extern low=TOP/crates/low/out/statements/low.rlib -L dependency=/kit/rlibs"
+            " -L dependency=TOP/crates/low/out/statements --antt-project /kit/rattle/logic/antt-project.json"
+            " --logic-built /kit/logic_built --links over= --jobs 2 --statements -o TOP/crates/over/out/statements/over.rlib"
+        ))
+
+
+def built_once():
+    with repository() as top:
+        statements, given = statements_at(top)
+        crates = statements.side.crates_of()
+        made = [statements.prove(crates, it, 1, 0) for it in ("low", "low", "over", "tool")]
+        same("proved", made, [True] * 4)
+        # (a program is compiled, and then linked)
+        same("built", [folder for folder, _ in given], ["crates/low", "crates/over", "crates/tool", "crates/tool"])
+        same("the program is where rt builds it", os.path.exists(f"{top}/crates/tool/out/tool"), True)
+        put(f"{top}/crates/over/specs/Over.antt", "another line\n")
+        same("current", [it for it in crates if statements.is_current(crates, it)], ["low"])
+
+
+def words_of_first_run():
+    first = loaded("tools/first_run")
+    for words, place in (([], None), (["a"], 0), (["--workers", "4", "a"], 2), (["--workers=4", "a"], 1), (["--save", "s"], None), (["--", "-a"], 1)):
+        same(f"file of {words}", first.place_of_file(words), place)
+    for words, left in ((["a", "--save", "s"], ["a"]), (["--save=s", "a"], ["a"]), (["--save"], ["--save"]), (["--", "--save", "s"], ["--", "--save", "s"])):
+        same(f"{words} without its save", first.without_save(words), left)
+    twice = ["--save", "s", "--save=t"]
+    same("two saves", first.without_save(twice), twice)
+    with tempfile.TemporaryDirectory() as room:
+        first.kept(io.BytesIO(b"abcdef"), f"{room}/kept", 3)
+        same("kept of a long stream", cases.read(f"{room}/kept"), b"abcd")
+        same("a folder is kept", first.kept_file(room, f"{room}/none"), False)
+
+
+def first_run(early, program, words=(), has_rt=True):
+    """Runs tools/first_run between substitutes, which are shell: for `rt try`, and for the program, or None: it isn't proved."""
+    with repository() as top:
+        os.makedirs(f"{top}/crates/program")
+        for it in ("first_run", "side_by_side.py"):
+            put(f"{top}/tools/{it}", "")
+            shutil.copy(f"{TOP}/tools/{it}", f"{top}/tools/{it}")
+        put(f"{top}/built", f"#!/bin/sh\n{program}\n", 0o755)
+        put(f"{top}/tools/program", "#!/bin/sh\n" + (f"echo '{top}/built'\n" if program else "exit 1\n"), 0o755)
+        if has_rt:
+            put(f"{top}/bin/rt", f"#!/bin/sh\n{early}\n", 0o755)
+        path = {"PATH": f"{top}/bin:/usr/bin:/bin" if has_rt else f"{top}/bin"}
+        ran = subprocess.run([sys.executable, f"{top}/tools/first_run", *words], input=b"0 join\n", capture_output=True,
+                             env={**os.environ, **path}, check=False)
+        return ran.returncode, ran.stdout.decode(), ran.stderr.decode().split("\n")
+
+
+def answers_twice():
+    early = "cat; printf '%s' '" + ENDED.format(0) + "' >&2"
+    status, output, said = first_run(early, "cat")
+    same("the same answers", (status, output, said[-2]), (0, "0 join\n", "towerbench: proved, and the proved program answers the same"))
+    status, output, said = first_run(early, "cat; echo more; exit 1")
+    same("other answers", (status, output, said[-3:]), (3, "0 join\n", ["+more", "towerbench: the status was 0, and is 1", ""]))
+    status, output, said = first_run("echo stuck >&2", "cat; exit 1")
+    same("no unproved answers", (status, output, "stuck" in said), (1, "0 join\n", True))
+    same("no proof", first_run(early, None)[:2], (1, "0 join\n"))
+    same("no rt", first_run(early, "cat", has_rt=False)[:2], (1, ""))
+
+
+def answers_and_saves():
+    early = "cat; echo \"$@\"; printf '%s' '" + ENDED.format(0) + "' >&2"
+    proved = "cat; echo try --; echo towerbench: save failed >&2; exit 1"
+    status, output, said = first_run(early, proved, ["--save", "s"])
+    wanted = ["towerbench: proved, and the proved program answers the same, but the branches aren't saved", "towerbench: save failed", ""]
+    same("a save that fails", (status, output, said[-3:]), (1, "0 join\ntry --\n", wanted))
+
+
+def table_of_shares():
+    parts = {1: ("low", "proof"), 2: ("low", "wrong bodies"), 3: ("over", "proof"), 4: None}
+    same("table", loaded(".ci/shares").written(parts, {1: 120, 2: 30, 3: 60, 4: 600}), (
+        "processor minutes                proof         tests  wrong bodies    in all\n"
+        "low                                2.0           0.0           0.5       2.5\n"
+        "over                               1.0           0.0           0.0       1.0\n"
+        "in all                             3.0           0.0           0.5       3.5\n"
+        "(tests + wrong bodies) over proofs: 0.17\n"
+    ))
+
+
+def shares_of(command):
+    """Returns the status of a command under .ci/shares, and the lines of its table, if there is one."""
+    with tempfile.TemporaryDirectory() as room:
+        status = subprocess.run([f"{TOP}/.ci/shares", f"{room}/table", "bash", "-c", command], check=False).returncode
+        return status, cases.read(f"{room}/table").decode().splitlines() if os.path.exists(f"{room}/table") else []
+
+
+def shares_of_commands():
+    same("a command that ends", shares_of("exit 7"), (7, []))
+    same("a command that is killed", shares_of("kill -9 $$"), (137, []))
+    # (it looks at what the command has started, once a second)
+    prover = f"exec -a rattle '{sys.executable}' -c 'import time; time.sleep(3)' --crate-name low --test"
+    status, lines = shares_of(f"({prover}); exit 0")
+    same("the prover's crates", (status, [it.split()[0] for it in lines[1:-2]]), (0, ["low"]))
+    same("the prover's ratio", lines[-1:], ["(tests + wrong bodies) over proofs: no proofs in this run"])
+
+
+ALL = {
+    "side_by_side": (crates_and_lines, tree_of_a_crate, order_of_tasks),
+    "statements": (words_of_a_library, built_once),
+    "first_run": (words_of_first_run, answers_twice, answers_and_saves),
+    "shares": (table_of_shares, shares_of_commands),
+}
+
+
+def tests():
+    return [Test(f"tool {tool}: {it.__name__.replace('_', ' ')}", it) for tool, its in ALL.items() for it in its]
