@@ -1,5 +1,5 @@
 //! Tests of books on one safe bit. What a book is asked is data, so that only one function makes a
-//! book. Each call is in a function without clauses, so that no later proof carries what it
+//! book. Each call is in a function without clauses, so that no later proof carries what the call
 //! promises.
 
 ghost use Rattle.std.specs.Prelude.{◌<◌};
@@ -34,16 +34,15 @@ use views::slip::Slip;
 /// What a book is asked, and the expected result.
 #[derive(Clone, Copy)]
 enum Ask<'a> {
-    /// A command of session 0 without a guard has this reply.
+    /// Session 0 gives this command without a guard, and gets this reply.
     Replies(Command, Reply),
-    /// A command of session 0 without a guard is refused for this reason.
+    /// Session 0 gives this command without a guard, and is refused for this reason.
     Refuses(Command, Refusal),
-    /// Each of these commands of a session, with a guard that fails, is refused for this reason.
+    /// A session gives these commands with a guard that fails; each is refused for this reason.
     RefusesEach(u32, &'a [Command], Refusal),
-    /// Each of these commands of session 0, without a guard, is refused for this reason.
-    RefusesLate(&'a [Command], Refusal),
-    /// Each of these commands of session 0, without a guard, is refused for the reason given with
-    /// it.
+    /// Session 0 gives these commands without a guard; each is refused for this reason.
+    RefusesUnguarded(&'a [Command], Refusal),
+    /// Session 0 gives these commands without a guard; each is refused for the reason next to it.
     RefusesAll(&'a [(Command, Refusal)]),
     /// A look's page has this text.
     Shows(Query, &'a [u8]),
@@ -51,9 +50,9 @@ enum Ask<'a> {
     Hides(Query, Refusal),
     /// The four sessions from this number on join, and move their cursors to places 0 to 3 of a
     /// branch.
-    Stand(u32, &'a Name),
+    GoToFourPlaces(u32, &'a Name),
     /// The cursors of the four sessions from this number on are at these places of a branch.
-    StandAt(u32, &'a Name, [u32; 4]),
+    AreAt(u32, &'a Name, [u32; 4]),
     /// The log has this number of commands.
     Logs(u32),
     /// This number of edits was accepted.
@@ -76,7 +75,7 @@ fn answer(
     book.act(alloc, 0, who, if_at, command)
 }
 
-/// Whether each of these commands of a session, with this guard, is refused for this reason.
+/// Gives a session's commands with this guard. Returns whether each is refused for this reason.
 fn refuses_each(
     alloc: Global,
     book: &mut Book<Safe>,
@@ -93,7 +92,8 @@ fn refuses_each(
     true
 }
 
-/// Whether each command of session 0, without a guard, is refused for the reason given with it.
+/// Gives commands of session 0 without a guard. Returns whether each is refused for the reason next
+/// to it.
 fn refuses_all(alloc: Global, book: &mut Book<Safe>, rows: &[(Command, Refusal)]) -> bool {
     for (command, refusal) in rows {
         if answer(alloc, book, 0, None, command) != Reply::No(*refusal) {
@@ -140,7 +140,7 @@ fn hides(alloc: Global, book: &mut Book<Safe>, query: Query, refusal: Refusal) -
 
 /// The four sessions from `first` on join, and move their cursors to places 0 to 3 of a branch.
 /// Returns whether all were accepted.
-fn stand(alloc: Global, book: &mut Book<Safe>, first: u32, branch: &Name) -> bool
+fn go_to_four_places(alloc: Global, book: &mut Book<Safe>, first: u32, branch: &Name) -> bool
     requires { first < 16 }
 {
     for place in 0..4 {
@@ -155,7 +155,7 @@ fn stand(alloc: Global, book: &mut Book<Safe>, first: u32, branch: &Name) -> boo
 }
 
 /// Whether a session's cursor is at a place of a branch.
-fn stands_at(
+fn is_cursor_of_session_at(
     alloc: Global,
     book: &mut Book<Safe>,
     who: u32,
@@ -167,7 +167,7 @@ fn stands_at(
 }
 
 /// Whether the cursors of the four sessions from `first` on are at these places of a branch.
-fn stand_at(
+fn are_cursors_at(
     alloc: Global,
     book: &mut Book<Safe>,
     first: u32,
@@ -177,7 +177,7 @@ fn stand_at(
     requires { first < 16 }
 {
     for i in 0..4u32 {
-        if !stands_at(alloc, book, first + i, branch, places[i as usize])? {
+        if !is_cursor_of_session_at(alloc, book, first + i, branch, places[i as usize])? {
             return Ok(false);
         }
     }
@@ -227,15 +227,17 @@ fn answers(alloc: Global, book: &mut Book<Safe>, ask: &Ask<'_>) -> Result<bool, 
         Ask::RefusesEach(who, commands, refusal) => {
             Ok(refuses_each(alloc, book, *who, MISSED, commands, *refusal))
         }
-        Ask::RefusesLate(commands, refusal) => {
+        Ask::RefusesUnguarded(commands, refusal) => {
             Ok(refuses_each(alloc, book, 0, None, commands, *refusal))
         }
         Ask::RefusesAll(rows) => Ok(refuses_all(alloc, book, rows)),
         Ask::Shows(query, text) => shows(alloc, book, *query, text),
         Ask::Hides(query, refusal) => Ok(hides(alloc, book, *query, *refusal)),
-        Ask::Stand(first, branch) => Ok(*first < 16 && stand(alloc, book, *first, branch)),
-        Ask::StandAt(first, branch, places) => {
-            Ok(*first < 16 && stand_at(alloc, book, *first, branch, places)?)
+        Ask::GoToFourPlaces(first, branch) => Ok(
+            *first < 16 && go_to_four_places(alloc, book, *first, branch),
+        ),
+        Ask::AreAt(first, branch, places) => {
+            Ok(*first < 16 && are_cursors_at(alloc, book, *first, branch, places)?)
         }
         Ask::Logs(count) => Ok(book.len() == *count),
         Ask::Counts(edits) => Ok(book.edits() == *edits),

@@ -44,7 +44,7 @@ fn is_well_formed(text: &[u8]) -> Option<bool> {
 
 /// Whether names have at most 16 bytes, and a new branch's name is a lower-case letter, followed by
 /// lower-case letters or digits.
-fn names_are_told() -> bool {
+fn names_are_reported() -> bool {
     is_well_formed(b"abcdefghijklmnop") == Some(true)
         && is_well_formed(b"abcdefghijklmnopq").is_none()
         && is_well_formed(b"a1") == Some(true)
@@ -55,7 +55,7 @@ fn names_are_told() -> bool {
 
 #[test]
 fn names(rt: HostRuntime) {
-    assert!(rt; names_are_told());
+    assert!(rt; names_are_reported());
 }
 
 /// Whether a name equals its clone, and differs from `other`.
@@ -73,16 +73,16 @@ fn a_name_is_its_clone(rt: HostRuntime) {
 /// What is checked of a trie: the steps of `main`, the number of `main`'s segments, how many cells
 /// were ever made, and whether each segment in memory is one of `main`'s.
 #[derive(Drop)]
-struct Told {
+struct Reported {
     steps: Vec<Step>,
     segments: usize,
     made: u32,
     is_alone: bool,
 }
 
-fn told_of(alloc: Global, trie: &Trie<u32>, main: &Name) -> Result<Told, Refusal> {
+fn reported_of(alloc: Global, trie: &Trie<u32>, main: &Name) -> Result<Reported, Refusal> {
     let (segments, is_alone) = segments_of(alloc, trie, main)?;
-    Ok(Told {
+    Ok(Reported {
         steps: trie.path(alloc, main)?,
         segments,
         made: trie.made(),
@@ -107,19 +107,24 @@ fn holds_alone(trie: &Trie<u32>, keys: &[SegKey]) -> bool {
 }
 
 /// What is checked of a trie that has these steps on `main`, after edits.
-fn tried(rt: &impl Abort, alloc: Global, steps: &[Step], edits: &[Edit]) -> Result<Told, Refusal> {
+fn tried(
+    rt: &impl Abort,
+    alloc: Global,
+    steps: &[Step],
+    edits: &[Edit],
+) -> Result<Reported, Refusal> {
     let mut trie: Trie<u32> = Trie::new(alloc, limits(2046), steps)?;
-    told_behind(rt, alloc, &mut trie, edits)
+    reported_after(rt, alloc, &mut trie, edits)
 }
 
-fn told_behind(
+fn reported_after(
     rt: &impl Abort,
     alloc: Global,
     trie: &mut Trie<u32>,
     edits: &[Edit],
-) -> Result<Told, Refusal> {
+) -> Result<Reported, Refusal> {
     edited_by(rt, alloc, trie, edits)?;
-    told_of(alloc, trie, &name(rt, b"main"))
+    reported_of(alloc, trie, &name(rt, b"main"))
 }
 
 /// Why a trie of these steps is refused if at most `cells` cells may be made; `None` if it isn't.
@@ -171,7 +176,7 @@ fn changed(
     alloc: Global,
     count: u32,
     change: Option<Change>,
-) -> Result<Told, Refusal> {
+) -> Result<Reported, Refusal> {
     let steps = reads(alloc, count).expect(rt, "memory");
     match change {
         Some(change) => tried(rt, alloc, &steps, &[(Branch::Main, change)]),
@@ -278,7 +283,7 @@ fn dropped_branches_leave_nothing(rt: HostRuntime) {
 }
 
 /// Whether refusals have their numbers and names.
-fn refusals_are_told(rt: &impl Abort, alloc: Global) -> bool {
+fn refusals_are_reported(rt: &impl Abort, alloc: Global) -> bool {
     let text = format!(in alloc; "{}", Refusal::Newer(7)).expect(rt, "memory");
     text.as_str() == "34 Newer"
         && Refusal::TooManyBranches.number() == 26
@@ -287,5 +292,5 @@ fn refusals_are_told(rt: &impl Abort, alloc: Global) -> bool {
 
 #[test]
 fn refusals_have_numbers_and_names(rt: HostRuntime) {
-    assert!(rt; refusals_are_told(&rt, rt.alloc()));
+    assert!(rt; refusals_are_reported(&rt, rt.alloc()));
 }

@@ -20,8 +20,8 @@ const WRITE: Step = Step::Write { p: 0, v: 1 };
 /// A write of 0 by process 0.
 const CLEAR: Step = Step::Write { p: 0, v: 0 };
 
-/// A limb: the branch's name, the index of the branch whose first cells it shares, how many of
-/// them, and its own steps.
+/// A limb: the branch's name, the index of the branch whose first cells it shares, how many cells
+/// the two share, and the branch's own steps.
 type Row = (&'static [u8], u32, u32, &'static [Step]);
 
 /// Edits of a trie that has a read and a write on `main`. They make `a`, which shares the first
@@ -66,7 +66,7 @@ fn limits(cells: u32, branches: u32) -> Limits
 }
 
 /// Makes edits of a trie, and returns its limbs.
-fn limbs_behind(
+fn limbs_after(
     rt: &impl Abort,
     alloc: Global,
     trie: &mut Trie<u32>,
@@ -85,7 +85,7 @@ fn limbs_of(rt: &impl Abort, alloc: Global, edits: &[Edit]) -> Result<Vec<Limb>,
     ensures some { IfOk result (λ r. 0 < length r.items) }
 {
     let mut trie: Trie<u32> = Trie::new(alloc, limits(64, 64), &[READ, WRITE])?;
-    limbs_behind(rt, alloc, &mut trie, edits)
+    limbs_after(rt, alloc, &mut trie, edits)
 }
 
 /// Loads a trie from `limbs`, makes edits of it, and returns its limbs.
@@ -101,7 +101,7 @@ fn limbs_again(
     requires some { 0 < length limbs.now }
 {
     let mut trie: Trie<u32> = Trie::load(alloc, limits, limbs)?;
-    limbs_behind(rt, alloc, &mut trie, edits)
+    limbs_after(rt, alloc, &mut trie, edits)
 }
 
 fn is_row(limb: &Limb, row: &Row) -> bool {

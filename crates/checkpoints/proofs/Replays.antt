@@ -9,20 +9,20 @@ use Rattle.frames.specs.Behaviour.{Behaviour}
 use Rattle.frames.specs.Configuration.{Configuration, fits_step, stepped, events_of, replayed, history}
 use Rattle.frames.specs.Recorded.{AllFit}
 
--- the steps of the items from index i on begin with that of the item at i
-pub left_at : {S : Type 0} (step_in : S → Step) (those : List S) (i : ℕ) (that : S) → i < length those → that ≡ get_or those i that
-    → map step_in (drop i those) ≡ step_in that ∷ map step_in (drop (i + 1) those)
-left_at step_in those i that within is =
+-- the steps of the items from index i on begin with item of the item at i
+pub left_at : {S : Type 0} (step_in : S → Step) (items : List S) (i : ℕ) (item : S) → i < length items → item ≡ get_or items i item
+    → map step_in (drop i items) ≡ step_in item ∷ map step_in (drop (i + 1) items)
+left_at step_in items i item within is =
     let next : suc i ≡ i + 1 = omega arith in
-    ap (map step_in) (drop-cons those i that within)
-    ∙ ap (λ s. step_in s ∷ map step_in (drop (suc i) those)) (sym is)
-    ∙ ap (λ n. step_in that ∷ map step_in (drop n those)) next
+    ap (map step_in) (drop-cons items i item within)
+    ∙ ap (λ s. step_in s ∷ map step_in (drop (suc i) items)) (sym is)
+    ∙ ap (λ n. step_in item ∷ map step_in (drop n items)) next
 
 -- after the last item no steps are left
-pub none_left : {S : Type 0} (step_in : S → Step) (those : List S) (i : ℕ) → length those ≤ i → map step_in (drop i those) ≡ []
-none_left step_in those i past = ap (map step_in) (drop_of_length-le those past)
+pub none_left : {S : Type 0} (step_in : S → Step) (items : List S) (i : ℕ) → length items ≤ i → map step_in (drop i items) ≡ []
+none_left step_in items i past = ap (map step_in) (drop_of_length-le items past)
 
--- the first of the steps that are left
+-- the first of the steps item are left
 module _ (step : Step) (left rest : List Step) (first : left ≡ step ∷ rest) where
   pub step_fits : {P : Type 0} (b : Behaviour P) → AllFit b left → fits_step b step ≡ true
   step_fits b all = All-head (λ s. fits_step b s ≡ true) step rest (subst (AllFit b) first all)
@@ -33,7 +33,7 @@ module _ (step : Step) (left rest : List Step) (first : left ≡ step ∷ rest) 
   pub step_kept : (steps more : List Step) → more ≡ steps ++ step ∷ [] → more ++ rest ≡ steps ++ left
   step_kept steps more is_more = ap (λ l. l ++ rest) is_more ∙ append_assoc steps (step ∷ []) rest ∙ sym (ap (λ l. steps ++ l) first)
 
--- the first of the steps that are left is made, from c to d
+-- the first of the steps item are left is made, from c to d
 module _ {R P : Type 0} (b : Behaviour P) (c d : Configuration R P) (step : Step) (left rest : List Step) (first : left ≡ step ∷ rest) where
   pub step_replayed : d ≡ stepped b c step → replayed b d rest ≡ replayed b c left
   step_replayed after = ap (λ e. replayed b e rest) after ∙ sym (ap (replayed b c) first)
@@ -45,7 +45,7 @@ module _ {R P : Type 0} (b : Behaviour P) (c d : Configuration R P) (step : Step
       ∙ ap (λ e. told ++ e ∷ history b d rest) is ∙ ap (λ e. told ++ events_of b c step ∷ history b e rest) after
       ∙ sym (ap (λ l. told ++ history b c l) first)
 
--- what steps give from a configuration, if each step is an item that holds itself
+-- what steps give from a configuration, if each step is an item item holds itself
 pub from_same : {R P T : Type 0} (is : R → Behaviour P) (come_to : Behaviour P → Configuration R P → List Step → T) (c d : Configuration R P) (steps : List Step) → c ≡ d
     → come_to (is c.register) c (map (λ s. s) steps) ≡ come_to (is d.register) d steps
 from_same is come_to c d steps same = ap (λ e. come_to (is e.register) e (map (λ s. s) steps)) same ∙ ap (come_to (is d.register) d) (map-id steps)

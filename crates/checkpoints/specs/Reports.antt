@@ -1,5 +1,5 @@
--- What steps recorded, as it is stored: a mark for each step and, in order, the events that the
--- marks don't determine.
+-- How the events of steps are stored: a mark for each step, and a list of the events that the marks
+-- don't determine.
 use Rattle.std.specs.Prelude.{◌≡◌, List, [], ◌∷◌, ◌++◌, Option, Some, None}
 use Rattle.frames.specs.declared.types.Event.{Event}
 use Rattle.frames.specs.declared.types.Event.TheVariants as event
@@ -14,7 +14,7 @@ use Rattle.checkpoints.specs.declared.mark.Mark.TheVariants.{Nothing, First, Sec
 use Rattle.checkpoints.specs.declared.events.Reported.{Reported}
 use Rattle.checkpoints.specs.Kept.{kept_events}
 
--- the event of a step that invokes an operation; `None` for other steps
+-- if the step invokes an operation, the event of this invocation; `None` for other steps
 abbrev pub invocation : Step → Option Event
 invocation (step.Write p v) = Some (event.Invoke p (op.Write v))
 invocation (step.Read p) = Some (event.Invoke p op.Read)
@@ -33,17 +33,18 @@ own_event s Busy = Some (event.Void (process_of s) reason.Busy)
 own_event s Idle = Some (event.Void (process_of s) reason.Idle)
 own_event s Stopped = Some (event.Void (process_of s) reason.Stopped)
 
--- the next event, if one is left, and those after it
+-- the first of the events that are left; `None` if there are none
 abbrev pub next_event : List Event → Option Event
 next_event [] = None
 next_event (event ∷ events) = Some event
 
+-- the events after the first of those that are left
 abbrev pub later_events : List Event → List Event
 later_events [] = []
 later_events (event ∷ events) = events
 
--- the events of a step with a mark: the one that the two determine, the next one or two of the
--- stored events, or none
+-- the events of a step with this mark: the event that step and mark determine, or the next one or
+-- two of the stored events, or no event
 abbrev pub events_with : Step → Mark → List Event → StepEvents
 events_with s First events = record { first = next_event events; second = None }
 events_with s Second events = record { first = None; second = next_event events }
@@ -63,15 +64,18 @@ reported_events [] marks events = []
 reported_events (s ∷ steps) [] events = []
 reported_events (s ∷ steps) (mark ∷ marks) events = events_with s mark events ∷ reported_events steps marks (left_after mark events)
 
--- the events of each of the stored steps
+-- the events of each of the steps that are stored together in t
 abbrev pub reported_in : Reported → List StepEvents
 reported_in t = reported_events t.steps.items t.marks.items (kept_events t.events.items)
 
--- a mark and the events stored with it give what a step recorded, whatever events follow
+-- the mark of the step s, and the events `kept` stored for it, give the step's events `one`:
+-- whatever stored events follow, reading this step's events gives `one`, and leaves the events that
+-- follow
 abbrev pub ReportsOne : Step → Mark → List Event → StepEvents → Type 0
 ReportsOne s mark kept one = (later : List Event) → (events_with s mark (kept ++ later) ≡ one) × (left_after mark (kept ++ later) ≡ later)
 
--- a step's mark was added, and so were those of its events that the mark doesn't determine
+-- the events `one` of the step s are recorded: `more` are `marks` followed by the step's mark, and
+-- `later` are `events` followed by those of `one` that the mark doesn't determine
 pub record IsStepAdded (s : Step) (one : StepEvents) (marks more : List Mark) (events later : List Event) : Type 0 where
   pub mark : Mark
   pub kept : List Event

@@ -17,8 +17,8 @@ use std::marker::Model;
 /// Memory is reserved for this many events at a time, so at most this many slots stay unused.
 const MORE_EVENTS: usize = 8;
 
-/// Steps, and what each recorded: a mark for each step and, in order, the events that the marks
-/// don't determine.
+/// Steps; a mark for each step: which of its events are stored, or what its only event is; and the
+/// stored events, in order. Together they give what each step recorded.
 #[derive(Debug, Drop)]
 pub(crate) struct Reported {
     pub(crate) steps: Vec<Step>,
@@ -26,8 +26,8 @@ pub(crate) struct Reported {
     events: Vec<Kept>,
 }
 
-/// The events of steps made one after another. Contracts see a list with one item for each step, at
-/// the step's index.
+/// The events of steps made one after another. Contracts see a list with an item for each step, in
+/// order: the step's events, two at most.
 #[derive(Debug, Drop)]
 pub struct Events {
     reported: Reported,
@@ -64,8 +64,8 @@ impl<'a> Model for EventWalk<'a> {
 }
 
 impl Reported {
-    /// Steps with these marks and events. If memory for more than `MORE_EVENTS` further events is
-    /// reserved, it is freed.
+    /// Steps with these marks and stored events. If memory is reserved for more than `MORE_EVENTS`
+    /// further events, frees that memory.
     pub(crate) fn new(steps: Vec<Step>, marks: Vec<Mark>, events: Vec<Kept>) -> Reported
         ensures steps { result.steps.items ≡ steps.items }
         ensures reported { spec.reported_in result
@@ -82,7 +82,7 @@ impl Reported {
         }
     }
 
-    /// A walk over the events.
+    /// A walk over the events of all steps.
     pub(crate) fn walk(&self) -> EventWalk<'_>
         ensures { result ≡ spec.reported_in self.now }
     {
@@ -95,14 +95,14 @@ impl Reported {
 }
 
 impl Events {
-    /// The events of `reported`.
+    /// The events of the steps of `reported`.
     pub(crate) fn of(reported: Reported) -> Events
         ensures { result ≡ spec.reported_in reported }
     {
         Events { reported }
     }
 
-    /// Each event with the index of its step, in order.
+    /// Each event with the index of its step, in order. The first step has the index 0.
     pub fn indexed(&self, alloc: Global) -> Result<Vec<(usize, Event)>, AllocError>
         ensures { IfOk result (λ all. all.items ≡ indexed 0 self.now) }
     {
@@ -111,7 +111,8 @@ impl Events {
 }
 
 impl<'a> EventWalk<'a> {
-    /// The events of the first `count` steps, or of all if there are fewer.
+    /// The walk over the events of the next `count` steps, or of all that are left if there are
+    /// fewer.
     pub fn front(self, count: usize) -> EventWalk<'a>
         ensures { result ≡ take count self.entry }
     {
@@ -127,7 +128,8 @@ impl<'a> EventWalk<'a> {
         }
     }
 
-    /// Each event with the index of its step, in order.
+    /// Each event of the steps that are left, with the index of its step, in order. The next step
+    /// has the index 0.
     pub fn indexed(self, alloc: Global) -> Result<Vec<(usize, Event)>, AllocError>
         ensures { IfOk result (λ all. all.items ≡ indexed 0 self.entry) }
     {
@@ -138,7 +140,7 @@ impl<'a> EventWalk<'a> {
 }
 
 impl EventWalk<'_> {
-    /// The events of the next step; `None` if no step is left.
+    /// Returns the events of the next step, and passes that step; `None` if no step is left.
     #[inline(always)]
     pub fn next(&mut self) -> Option<StepEvents>
         ensures some { IfSome result (λ reported. self.old ≡ reported ∷ self.new) }
@@ -153,8 +155,9 @@ impl EventWalk<'_> {
         Some(reported)
     }
 
-    /// Adds each event to `all`, with the index of its step; the first step has the index `from`.
-    /// Returns the index after the last step.
+    /// Adds each event of the steps that are left to the end of `all`, with the index of its step;
+    /// the next step has the index `from`. Returns the index after the last step's: `from` and the
+    /// number of steps, added.
     pub fn push_indexed(
         self,
         from: usize,
@@ -168,7 +171,7 @@ impl EventWalk<'_> {
         while let Some(reported) = left.next() {
             push_at(all, index, reported.first)?;
             push_at(all, index, reported.second)?;
-            // no memory holds more steps than there are indices, so this is refused as out of
+            // no memory holds enough steps to overflow the index, so this counts as out of
             // memory
             let Some(next) = index.checked_add(1) else {
                 all.reserve(usize::MAX)?;
@@ -180,8 +183,8 @@ impl EventWalk<'_> {
     }
 }
 
-/// Adds the mark of the next step, and the events of the step that the mark doesn't determine.
-/// Memory for the mark is reserved already.
+/// Adds the mark of `step`, which recorded `reported`, to `marks`, and those of the step's events
+/// that the mark doesn't determine to `events`. Memory for one more mark must be reserved.
 #[inline(always)]
 pub(crate) fn push_reported(
     marks: &mut Vec<Mark>,
@@ -235,7 +238,7 @@ fn push_kept(events: &mut Vec<Kept>, event: Event) -> Result<(), AllocError>
     Ok(())
 }
 
-/// Reserves memory for more events.
+/// Reserves memory for `MORE_EVENTS` more events.
 #[cold]
 #[inline(never)]
 fn take_room(events: &mut Vec<Kept>) -> Result<(), AllocError>

@@ -6,8 +6,8 @@ ghost use Rattle.checkpoints.specs.Kept as spec;
 
 use frames::types::{Event, Layer, Op, Reason};
 
-/// An event in 12 bytes, instead of the 16 of `Event`. To save a field, the variant distinguishes
-/// which operation is invoked, and which value a hit read of a bit chose.
+/// An event in 12 bytes, instead of the 16 of `Event`. To save a field, the variant says which
+/// operation is invoked, and which value was chosen at the end of a hit read of a bit.
 #[derive(Clone, Copy, Debug, PartialEq, Eq)]
 pub(crate) enum Kept {
     InvokedWrite(u32, u32),
@@ -48,7 +48,7 @@ fn kept_invocation(p: u32, op: Op) -> Kept
     }
 }
 
-/// The stored form of a choice, which ends a hit read of a bit.
+/// The stored form of the choice at the end of a hit read of a bit.
 #[inline(always)]
 fn kept_choice(p: u32, bit: u32, value: bool) -> Kept
     ensures { spec.event_of result ≡ recorded.Chosen p bit value }

@@ -1,4 +1,5 @@
-//! Replays: of steps from the initial configuration, and of one segment from its entry.
+//! Replay: making steps one after another, from the initial configuration or from the entry of a
+//! segment (the configuration before its steps).
 #![tactic(auto)]
 
 pub mod events;

@@ -1,4 +1,4 @@
-//! Marks: what a step recorded, as far as the step itself determines it.
+//! Marks: which events a step recorded. An event that follows from step and mark isn't stored.
 
 ghost use Rattle.std.specs.Prelude.{◌≡◌, Some, IfSome};
 ghost use Rattle.frames.specs.Fitting.{process_of};
@@ -8,8 +8,9 @@ ghost use Rattle.checkpoints.specs.Reports as spec;
 
 use frames::types::{Event, Op, Reason, Step};
 
-/// What a step recorded. With the first four marks, the step's events are stored: none, the first,
-/// the second, or both. Each other mark determines, together with the step, its only event.
+/// What a step recorded. The first four marks say which events it recorded (none, only the first,
+/// only the second, or both); these events are stored. Each other mark, together with the step,
+/// determines the step's only event, so that this event isn't stored.
 #[derive(Clone, Copy, Debug, PartialEq, Eq)]
 pub(crate) enum Mark {
     Nothing,
@@ -50,8 +51,8 @@ fn invocation(step: Step) -> Option<Event>
     }
 }
 
-/// The mark that, together with the step, determines its only event; `None` if there is no such
-/// mark.
+/// The mark that, together with `step`, determines `event` as the step's only event; `None` if no
+/// mark does.
 #[inline(always)]
 pub(crate) fn own_mark(step: Step, event: Event) -> Option<Mark>
     ensures { IfSome result (λ mark. spec.own_event step mark ≡ Some event) }

@@ -39,8 +39,9 @@ impl<R: Register> Made<R> {
     }
 }
 
-/// Makes `steps` one after another, from the initial configuration of `register` with the value
-/// `value`.
+/// Makes `steps`, which must fit the register, one after another, from the initial configuration of
+/// `register` with the value `value`, one of its values. Returns the configuration after the steps,
+/// and the events of each step.
 pub fn replay<R: Register>(
     alloc: Global,
     register: R,
@@ -59,26 +60,27 @@ pub fn replay<R: Register>(
     Ok(made.into_replayed())
 }
 
-/// Makes the steps of the items `those` one after another, from `entry`.
+/// Makes the steps of `items`, in order, from `entry`, whose register they must fit; each item has
+/// one step. Returns the steps, what each recorded, and the configuration after them.
 pub(crate) fn replay_from<R: Register, S: HasStep>(
     alloc: Global,
     entry: Config<R>,
-    those: &[S],
+    items: &[S],
 ) -> Result<Made<R>, AllocError>
-    requires { AllFit (R.behaviour entry.register) (map S.step_in those.now) }
-    ensures steps { IfOk result (λ r. r.reported.steps.items ≡ map S.step_in those.now) }
+    requires { AllFit (R.behaviour entry.register) (map S.step_in items.now) }
+    ensures steps { IfOk result (λ r. r.reported.steps.items ≡ map S.step_in items.now) }
     ensures config { IfOk result
-        (λ r. r.config ≡ replayed (R.behaviour entry.register) entry (map S.step_in those.now)) }
+        (λ r. r.config ≡ replayed (R.behaviour entry.register) entry (map S.step_in items.now)) }
     ensures events { IfOk result
         (λ r. reported_in r.reported
-        ≡ history (R.behaviour entry.register) entry (map S.step_in those.now)) }
+        ≡ history (R.behaviour entry.register) entry (map S.step_in items.now)) }
 {
-    let mut steps = Vec::with_capacity(alloc, those.len())?;
-    let mut marks = Vec::with_capacity(alloc, those.len())?;
+    let mut steps = Vec::with_capacity(alloc, items.len())?;
+    let mut marks = Vec::with_capacity(alloc, items.len())?;
     let mut events = Vec::new(alloc);
     let mut config = entry;
-    for that in those {
-        let step = that.step();
+    for item in items {
+        let step = item.step();
         let reported = config.step(step);
         steps.push_reserved(step);
         push_reported(&mut marks, &mut events, step, reported)?;

@@ -1,4 +1,4 @@
-//! Runs of a segment: its steps, made one after another from an entry.
+//! Runs: a segment's steps, made one after another from the configuration before them.
 
 ghost use Rattle.std.specs.Prelude.{◌≡◌, IfOk, map};
 ghost use Rattle.std.specs.Arc.{arc_value};
@@ -15,9 +15,9 @@ use std::marker::Model;
 use std::sync::Arc;
 
 /// A run of a segment: its entry, which is the configuration before its steps; the steps; its exit,
-/// which is the configuration after them; and the events of each step. A run is true by its type:
-/// its steps fit, and making them from its entry gives its exit and its events. A run shares its
-/// exit with a run that begins there.
+/// which is the configuration after them; and the events of each step. The type guarantees that a
+/// run is true: its steps fit the register, and making them from the entry gives the exit and the
+/// events. A run that begins at this exit can share it.
 #[derive(Drop)]
 pub struct Run<R: Register> {
     entry: Arc<Config<R>>,
@@ -38,7 +38,8 @@ impl<R: Register> Model for Run<R> {
 }
 
 impl<R: Register> Run<R> {
-    /// The configuration before the run's steps.
+    /// The configuration before the run's steps. The steps fit its register, and making them from
+    /// it gives the run's exit and events.
     pub fn entry(&self) -> &Config<R>
         ensures entry { result.now ≡ self.now.entry }
         ensures kept { IsRun (R.behaviour self.now.entry.register) self.now }
@@ -46,7 +47,8 @@ impl<R: Register> Run<R> {
         &self.entry
     }
 
-    /// The run's steps.
+    /// The run's steps. They fit the register of the run's entry, and making them from this entry
+    /// gives the run's exit and events.
     pub fn steps(&self) -> &[Step]
         ensures steps { result.now ≡ self.now.steps }
         ensures kept { IsRun (R.behaviour self.now.entry.register) self.now }
@@ -54,7 +56,8 @@ impl<R: Register> Run<R> {
         &self.reported.steps
     }
 
-    /// The configuration after the run's steps.
+    /// The configuration after the run's steps. The steps fit the register of the run's entry, and
+    /// making them from this entry gives this configuration and the run's events.
     pub fn exit(&self) -> &Config<R>
         ensures exit { result.now ≡ self.now.exit }
         ensures kept { IsRun (R.behaviour self.now.entry.register) self.now }
@@ -62,7 +65,9 @@ impl<R: Register> Run<R> {
         self.shared_exit()
     }
 
-    /// The configuration after the run's steps, to be shared with a run that begins there.
+    /// The configuration after the run's steps, to be shared with a run that begins there. The
+    /// steps fit the register of the run's entry, and making them from this entry gives this
+    /// configuration and the run's events.
     pub fn shared_exit(&self) -> &Arc<Config<R>>
         ensures exit { arc_value result.now ≡ self.now.exit }
         ensures kept { IsRun (R.behaviour self.now.entry.register) self.now }
@@ -70,7 +75,8 @@ impl<R: Register> Run<R> {
         &self.exit
     }
 
-    /// A walk over the events of each step, in the order of the steps.
+    /// A walk over the events of each step, in the order of the steps. The steps fit the register
+    /// of the run's entry, and making them from this entry gives the run's exit and these events.
     pub fn events(&self) -> EventWalk<'_>
         ensures events { result ≡ self.now.events }
         ensures kept { IsRun (R.behaviour self.now.entry.register) self.now }
@@ -79,18 +85,19 @@ impl<R: Register> Run<R> {
     }
 }
 
-/// Makes the steps of the items `those` one after another, from a copy of `entry`. The run shares
-/// `entry` itself.
+/// Makes the steps of `items`, in order, from a copy of `entry`, whose register they must fit; each
+/// item has one step. Returns the run of these steps. Its entry is `entry` itself, shared. Fails
+/// only if memory runs out.
 pub fn run_of<R: Register, S: HasStep>(
     alloc: Global,
     entry: &Arc<Config<R>>,
-    those: &[S],
+    items: &[S],
 ) -> Result<Run<R>, AllocError>
-    requires { AllFit (R.behaviour (arc_value entry.now).register) (map S.step_in those.now) }
+    requires { AllFit (R.behaviour (arc_value entry.now).register) (map S.step_in items.now) }
     ensures entry { IfOk result (λ run. run.entry ≡ arc_value entry.now) }
-    ensures steps { IfOk result (λ run. run.steps ≡ map S.step_in those.now) }
+    ensures steps { IfOk result (λ run. run.steps ≡ map S.step_in items.now) }
 {
-    let made = replay_from(alloc, entry.copy(alloc)?, those)?;
+    let made = replay_from(alloc, entry.copy(alloc)?, items)?;
     let exit = Arc::new(alloc, made.config)?;
     let entry = Arc::try_clone(entry)?;
     Ok(Run {
@@ -100,7 +107,8 @@ pub fn run_of<R: Register, S: HasStep>(
     })
 }
 
-/// Makes the steps of a segment one after another, from a copy of `entry`.
+/// Makes the steps of a segment, which must fit the register of `entry`, one after another, from a
+/// copy of `entry`. Returns the run of these steps, whose entry equals `entry`.
 pub fn run_segment<R: Register>(
     alloc: Global,
     entry: &Config<R>,

@@ -10,7 +10,7 @@ pub fn front<T>(items: &[T], count: usize) -> &[T]
     &items[..items.len().min(count)]
 }
 
-/// The items after the first `count`; empty if there are no more than `count`.
+/// The items after the first `count`; no items if there are at most `count`.
 #[inline]
 pub fn following<T>(items: &[T], count: usize) -> &[T]
     ensures { result.now ≡ drop count items.now }

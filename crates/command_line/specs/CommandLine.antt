@@ -16,11 +16,12 @@ use Rattle.command_line.specs.declared.options.Options.{Options}
 use Rattle.command_line.specs.declared.invocation.Invocation.{Invocation}
 use Rattle.command_line.specs.declared.invocation.Invocation.TheVariants.{Run, Help, Refused, Memory}
 
--- FILE is a word that belongs to no option
+-- the rule for FILE, a word that belongs to no option
 abbrev pub file_rule : Rule
 file_rule = new_rule (codes "FILE")
 
--- an option whose value is read by this parser, and is `default` if the option isn't used
+-- the rule for the option with the name `id`: its value is what `parser` reads, and is `default` if
+-- the option isn't used
 abbrev pub option_rule : Text → ValueParser → Text → Rule
 option_rule id parser default = record (new_rule id) {
   long = Some id;
@@ -30,23 +31,24 @@ option_rule id parser default = record (new_rule id) {
   parser = Some parser;
 }
 
--- an option with a number from `least` to `most`
+-- the rule for the option with the name `id`: its value is a number from `least` to `most`, and is
+-- `default` if the option isn't used
 abbrev pub number_rule : Text → ℕ → ℕ → Text → Rule
 number_rule id least most default = option_rule id (value_parser.Signed (pos least) (pos most)) default
 
--- --workers has a number from 0 to 4, by default 0
+-- the rule for the option --workers: a number from 0 to 4, by default 0
 abbrev pub workers_rule : Rule
 workers_rule = number_rule (codes "workers") 0 4 (codes "0")
 
--- --cells has a number from 1 to 2^28, by default 65536
+-- the rule for the option --cells: a number from 1 to 2^28, by default 65536
 abbrev pub cells_rule : Rule
 cells_rule = number_rule (codes "cells") 1 MOST_CELLS_MADE (codes "65536")
 
--- --branches has a number from 1 to 1,024, by default 64
+-- the rule for the option --branches: a number from 1 to 1,024, by default 64
 abbrev pub branches_rule : Rule
 branches_rule = number_rule (codes "branches") 1 1024 (codes "64")
 
--- an option with a path
+-- the rule for the option with the name `id`: its value is a path
 abbrev pub path_rule : Text → Rule
 path_rule id = record (new_rule id) {
   long = Some id;
@@ -54,32 +56,33 @@ path_rule id = record (new_rule id) {
   value_names = 1;
 }
 
--- --save has a path
+-- the rule for the option --save: a path
 abbrev pub save_rule : Rule
 save_rule = path_rule (codes "save")
 
--- the program's command line, without the program's name
+-- the rules for the words of the command line, which begin after the program's name: FILE and the
+-- four options
 abbrev pub program : App
 program = with_rule (with_rule (with_rule (with_rule (with_rule
     (on_top (λ s. record s { no_binary_name = true }) (new_app (codes "towerbench"))) file_rule) workers_rule) cells_rule) branches_rule) save_rule
 
--- the faults of the words; none if the words are accepted
+-- the kinds of error that reading these words may give; none if the words are accepted
 abbrev pub faults_of : List Text → Kinds
 faults_of words = fault_of program words
 
--- the FILE that the words name, if any
+-- the FILE that the words name; `None` if they name none
 abbrev pub file_word : List Text → Option Text
 file_word words = first_of (codes "FILE") (matches_of program words)
 
--- the path to save to, if the words name one
+-- the path to save to that the words give; `None` if they give none
 abbrev pub save_path : List Text → Option Text
 save_path words = first_of (codes "save") (matches_of program words)
 
--- the number that an option has, given or by default
+-- the number of the option with the name `id`: the one that the words give, or else its default
 abbrev pub option_number : Text → List Text → ℕ
 option_number id words = option_map_or (λ t. digits_value 10 (without_leading_plus t)) (one_of id (matches_of program words)) 0
 
--- the options that the words give
+-- the options that the words give; those that they don't give have their defaults
 abbrev pub options_of : List Text → Options
 options_of words = record {
   workers = option_number (codes "workers") words;
@@ -87,7 +90,8 @@ options_of words = record {
   branches = option_number (codes "branches") words;
 }
 
--- the words are accepted, and give this FILE, these options and this PATH
+-- The words are accepted, and give this FILE, if any, these options, and this PATH to save to, if
+-- any. Each option is in its range.
 pub record Says (words : List Text) (file : Option Text) (options : Options) (save : Option Text) : Type 0 where
   pub taken : faults_of words ≡ []
   pub file_is : file ≡ file_word words
@@ -95,35 +99,37 @@ pub record Says (words : List Text) (file : Option Text) (options : Options) (sa
   pub save_is : save ≡ save_path words
   pub limits : AreOptionsInRange options
 
--- the words ask for the help, and nothing before that is wrong
+-- The words ask for the help, and nothing before that request is wrong.
 abbrev pub AsksHelp : List Text → Type 0
 AsksHelp words = IsAmong DisplayHelp (faults_of words)
 
--- the words have a fault other than asking for the help
+-- The words have a fault, which isn't that they ask for the help.
 abbrev pub IsWrong : List Text → Type 0
 IsWrong words = (k : ErrorKind) × IsAmong k (faults_of words) × (k ≢ DisplayHelp)
 
--- the outcome for words that aren't accepted, by what is wrong with them
+-- an outcome that suits words that gave an error of kind k: the help if k is DisplayHelp; a refusal
+-- if k is neither DisplayHelp nor OutOfMemory; or, for any k, Memory
 abbrev pub Explains : ErrorKind → Invocation → Type 0
 Explains k (Run file options save) = ⊥
 Explains k (Help text) = k ≡ DisplayHelp
 Explains k (Refused text) = (k ≢ DisplayHelp) × (k ≢ OutOfMemory)
 Explains k Memory = ⊤
 
--- the outcome is what the words ask for, or Memory if memory ran out
+-- The outcome suits the words. It is a run with what the words give, if they are accepted; the
+-- help, if they ask for it; a refusal, if they are wrong; or Memory, if memory ran out.
 abbrev pub IsAskedBy : List Text → Invocation → Type 0
 IsAskedBy words (Run file options save) = Says words (option_map (λ p. p.now) file) options (option_map (λ p. p.now) save)
 IsAskedBy words (Help text) = AsksHelp words
 IsAskedBy words (Refused text) = IsWrong words
 IsAskedBy words Memory = ⊤
 
--- the outcome is to run the program with this FILE, these options and this PATH, or is Memory
+-- the outcome is a run of the program with this FILE, these options and this PATH; or it is Memory
 abbrev pub IsRunInvocation : Option Text → Options → Option Text → Invocation → Type 0
 IsRunInvocation file options save (Run f o s) = (option_map (λ p. p.now) f ≡ file) × (o ≡ options) × (option_map (λ p. p.now) s ≡ save)
 IsRunInvocation file options save (Help text) = ⊥
 IsRunInvocation file options save (Refused text) = ⊥
 IsRunInvocation file options save Memory = ⊤
 
--- the options if the words give none
+-- the options of a run if the words give none
 abbrev pub default_options : Options
 default_options = record { workers = 0; cells = 65536; branches = 64 }

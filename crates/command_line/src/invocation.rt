@@ -29,8 +29,8 @@ const SAVE: &str = "save";
 /// What the words ask for.
 #[derive(Debug, Drop)]
 pub enum Invocation<'a> {
-    /// To run the program. `file` is the FILE that is named, if any; `save` is the path to save the
-    /// branches to, if one is given.
+    /// To run the program. `file` is the FILE that is named, if any; `save` is the path of the file
+    /// to which the branches are saved, if one is given.
     Run {
         file: Option<&'a str>,
         options: Options,
@@ -44,7 +44,9 @@ pub enum Invocation<'a> {
     Memory,
 }
 
-/// Reads the words after the program's name.
+/// Reads the words after the program's name. Returns what they ask for (a run of the program, with
+/// each option in its range, or the help), why they are refused, or `Memory` if memory ran out. If
+/// there are no words, they ask for a run with the default options, without FILE and PATH.
 pub fn parse_words<'a>(alloc: Global, words: &'a [String]) -> Invocation<'a>
     ensures asked { IsAskedBy (map string_bytes words.entry.now) result }
     ensures bare { words.entry.now ≡ [] → IsRunInvocation None default_options None result }
@@ -109,7 +111,7 @@ fn command<'a>(alloc: Global) -> Result<Command<'a>, AllocError>
         .arg(save)
 }
 
-/// An option with a number, which is `default` if the option isn't used.
+/// An option with a number. The number is `default` if the option isn't used.
 fn number_option<'a>(
     alloc: Global,
     id: &'a str,
@@ -138,7 +140,7 @@ fn path_option<'a>(alloc: Global, id: &'a str) -> Arg<'a>
         .value_name("PATH")
 }
 
-/// The outcome for words that aren't accepted.
+/// The outcome for words that aren't accepted, because of this error.
 fn invocation_of<'a>(alloc: Global, error: &Error) -> Invocation<'a>
     ensures { Explains (kind_of error.now) result }
 {

@@ -1,4 +1,4 @@
--- How far a conversation has got.
+-- How far a conversation has got: what was read, and which answers were written.
 use Rattle.std.specs.Prelude.{ℕ, ◌≡◌, ◌+◌, ◌-◌, ◌≤◌, List, ◌∷◌, [], ◌++◌, Option, Some, None, Result, Ok, Err, ⊤, All, false, take, length}
 use Rattle.std.specs.Io.KnownBytes.{Appends, Consumes, IsAtEnd}
 use Rattle.conversation.specs.declared.converse.Conversation.{Conversation}
@@ -7,9 +7,10 @@ use Rattle.conversation.specs.declared.limits.TheConstants.{KEPT_BYTES}
 use Rattle.conversation.specs.Scripts.{Definition, Marks, lines_of, after_lines, answers_to, is_line_end}
 use Rattle.conversation.specs.Conversations.{Leaves, Breaks}
 
--- From the opening world `start`, the whole lines of the bytes `seen` were answered by `text` and
--- left `world`; some of these lines may have been refused memory. Of the last line, which has no
--- end yet, `line` is the part that is kept: at most its first KEPT_BYTES bytes.
+-- The whole lines (those that end with an LF) of the bytes `seen` were answered, from the opening
+-- world `start` on: `lines` is their number, `text` has their answers, and `world` is the world
+-- that they left. Some of them may have been refused memory. `line` is what is kept of the bytes
+-- after the last LF: at most the first KEPT_BYTES.
 pub record HasAnswered {W : Type 0} (define : Definition W) (start : W) (seen : List ℕ) (world : W) (lines : ℕ) (line text : List ℕ) : Type 0 where
   pub marks : Marks
   pub whole : List (List ℕ)
@@ -20,22 +21,26 @@ pub record HasAnswered {W : Type 0} (define : Definition W) (start : W) (seen : 
   pub same_lines : lines ≡ (after_lines define start whole marks).lines
   pub same_text : text ≡ (after_lines define start whole marks).text
 
--- If the bytes seen before were answered, then so are these bytes followed by `piece`.
+-- Suppose that some bytes were answered (`HasAnswered`), which left the conversation `before` and
+-- the world `old`. Then these bytes followed by `piece` are answered, which leaves the conversation
+-- `after` and the world `new`.
 abbrev pub AnswersFurther : {W : Type 0} → Definition W → W → Conversation → W → Conversation → List ℕ → Type 0
 AnswersFurther {W} define old before new after piece = (start : W) (seen front : List ℕ)
     → HasAnswered define start seen old before.lines before.line.items (front ++ before.out.items)
     → HasAnswered define start (seen ++ piece) new after.lines after.line.items (front ++ after.out.items)
 
--- no line ends in these bytes
+-- there is no line end in these bytes
 abbrev pub HasNoEnd : List ℕ → Type 0
 HasNoEnd bytes = All (λ b. is_line_end b ≡ false) bytes
 
--- what is kept of a line after more bytes of it, if `line` was kept before
+-- what is kept of a line once more bytes of it are read, if `line` was kept before: as many more as
+-- there is room for in KEPT_BYTES
 abbrev pub kept_with : List ℕ → List ℕ → List ℕ
 kept_with line bytes = line ++ take (KEPT_BYTES - length line) bytes
 
--- The reader had `old` left, and gave `count` bytes. The writer held `before`, and took the answers
--- to the whole lines of these bytes.
+-- Since the start, when the reader had `old` left and the writer had `before`, `count` bytes were
+-- read, and the answers to their whole lines were written; now the reader has `now` left, and the
+-- writer has `after`. The other arguments are what these lines left, as in `HasAnswered`.
 pub record Reached {W : Type 0} (define : Definition W) (start : W) (old now before after : Option (List ℕ)) (count : ℕ) (world : W) (lines : ℕ) (line : List ℕ) : Type 0 where
   pub seen : List ℕ
   pub text : List ℕ
@@ -44,13 +49,14 @@ pub record Reached {W : Type 0} (define : Definition W) (start : W) (old now bef
   pub wrote : Appends before after text
   pub reported : HasAnswered define start seen world lines line text
 
--- The result of a turn: the bytes read so far are answered, or there was a fault.
+-- the result of answering one more piece of a script: all bytes read so far are answered, as
+-- `Reached` says; or there was a fault
 abbrev pub TurnsTo : {W : Type 0} → Definition W → W → Option (List ℕ) → Option (List ℕ) → Option (List ℕ) → Option (List ℕ) → ℕ → W → ℕ → List ℕ → Result ⊤ StreamFault → Type 0
 TurnsTo define start old now before after count world lines line (Ok done) = Reached define start old now before after count world lines line
 TurnsTo define start old now before after count world lines line (Err e) = Breaks (answers_to define start) e old now before after
 
--- The result at the end of a conversation: the whole script is answered and leaves `world`, or
--- there was a fault.
+-- the result at the end of a conversation: the whole script is answered, and leaves `world`; or
+-- there was a fault
 abbrev pub Finished : {W : Type 0} → Definition W → W → Option (List ℕ) → Option (List ℕ) → Option (List ℕ) → Option (List ℕ) → W → Result ⊤ StreamFault → Type 0
 Finished define start old now before after world (Ok done) = Leaves define start world old now before after
 Finished define start old now before after world (Err e) = Breaks (answers_to define start) e old now before after

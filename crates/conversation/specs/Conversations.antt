@@ -6,7 +6,8 @@ use Rattle.conversation.specs.declared.fault.StreamFault.TheVariants.{Read, Writ
 use Rattle.conversation.specs.declared.limits.TheConstants.{MOST_SCRIPT_BYTES}
 use Rattle.conversation.specs.Scripts.{Definition, Marks, after_lines, answers_to, lines_of, whole_lines}
 
--- the answers to lines, given which of them were refused memory
+-- how scripts are answered: a function from a script's lines, and marks of those that were refused
+-- memory, to the text of all answers
 abbrev pub Answering : Type 0
 Answering = List (List ℕ) → Marks → List ℕ
 
@@ -14,11 +15,13 @@ Answering = List (List ℕ) → Marks → List ℕ
 abbrev pub IsFront : List ℕ → List ℕ → Type 0
 IsFront front all = (rest : List ℕ) × (all ≡ front ++ rest)
 
--- a prefix of `bytes` was written
+-- a prefix of `bytes` was written, to a writer that had `before` and now has `after`
 abbrev pub WroteFront : Option (List ℕ) → Option (List ℕ) → List ℕ → Type 0
 WroteFront before after bytes = (front : List ℕ) × IsFront front bytes × Appends before after front
 
--- A script was read to its end, within the limit, and the writer took the answers to all its lines.
+-- A script of fewer than MOST_SCRIPT_BYTES bytes was read to its end, and the answers to all its
+-- lines were written. The reader had `old` left and has `now`; the writer had `before` and has
+-- `after`.
 pub record IsAnswered (answering : Answering) (old now before after : Option (List ℕ)) : Type 0 where
   pub script : List ℕ
   pub marks : Marks
@@ -27,16 +30,16 @@ pub record IsAnswered (answering : Answering) (old now before after : Option (Li
   pub short : length script < MOST_SCRIPT_BYTES
   pub wrote : Appends before after (answering (lines_of script) marks)
 
--- The script was answered, and its lines turned the world `start` into `world`.
+-- A whole script was read and answered, and its lines turned the world `start` into `world`.
 pub record Leaves {W : Type 0} (define : Definition W) (start world : W) (old now before after : Option (List ℕ)) : Type 0 where
   pub answered : IsAnswered (answers_to define start) old now before after
   pub left : world ≡ (after_lines define start (lines_of answered.script) answered.marks).world
 
--- What was written after a fault, of the answers to the bytes `seen`. After a failed read, or if
--- the script is too long: the answers to all whole lines. If memory ran out: the answers to the
--- first `count` whole lines, for some `count`. After a failed write: a prefix of the answers to the
--- whole lines, or, at the script's end, a prefix of the answers to all lines. Such a prefix may end
--- within an answer.
+-- The text that was written by the time of a fault, if the bytes `seen` were read. After a failed
+-- read, or if the script is too long: the answers to all whole lines (those that end with an LF).
+-- If memory ran out: the answers to the first `count` whole lines, for some `count`. After a failed
+-- write: a prefix of the answers to the whole lines, or, at the script's end, a prefix of the
+-- answers to all lines. Such a prefix may end within an answer.
 abbrev pub WentOut : StreamFault → Answering → Marks → List ℕ → Option (List ℕ) → List ℕ → Type 0
 WentOut Read answering marks seen now text = text ≡ answering (whole_lines seen) marks
 WentOut TooLong answering marks seen now text = text ≡ answering (whole_lines seen) marks
@@ -44,7 +47,8 @@ WentOut Write answering marks seen now text =
     IsFront text (answering (whole_lines seen) marks) ⊎ (IsAtEnd now × IsFront text (answering (lines_of seen) marks))
 WentOut Memory answering marks seen now text = (count : ℕ) × (text ≡ answering (take count (whole_lines seen)) marks)
 
--- There was a fault after the bytes `seen` were read, and `text` was written, as that fault allows.
+-- A conversation ended with this fault. At most MOST_SCRIPT_BYTES bytes, `seen`, were read, and
+-- `text` was written: a prefix of the answers, as `WentOut` says for this fault.
 pub record Breaks (answering : Answering) (fault : StreamFault) (old now before after : Option (List ℕ)) : Type 0 where
   pub seen : List ℕ
   pub marks : Marks

@@ -1,13 +1,13 @@
-//! The state that lines see and change.
+//! The state that the lines of a script see and change when they are answered.
 
 ghost use Rattle.std.specs.Prelude.{◌≡◌, ℕ, Bool, List, take};
 ghost use Rattle.conversation.specs.Scripts.{Definition};
 ghost use Rattle.conversation.specs.declared.limits.TheConstants.{KEPT_BYTES};
 
-/// The state that a conversation's closure is called with. For contracts, this trait also defines
-/// what each line does to the state.
+/// The state that is passed to the closure which answers a script's lines. For contracts, this
+/// trait also defines how each line is answered, and what it does to the state.
 pub trait Answers {
-    /// The type of the worlds.
+    /// The type of the world in a state.
     ghost Worlds: { Type 0 };
 
     /// The world in a state: what lines see and change.

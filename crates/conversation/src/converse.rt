@@ -1,4 +1,5 @@
-//! A conversation: a script is read in pieces, and the answers to each piece are written together.
+//! A conversation: a script is read in pieces; after each piece, the answers to the lines that end
+//! in it are written together.
 
 ghost use Rattle.std.specs.Prelude.{◌≡◌, ◌++◌, ◌∷◌, [], ◌<◌, ◌≤◌, ◌+◌, ◌^◌, ℕ, List, Option, OnOk, OnErr, IfOk, IfErr, IfSome, MatchOption, length, take};
 ghost use Rattle.std.specs.Io.KnownBytes.{Appends, Consumes, IsAtEnd};
@@ -21,8 +22,8 @@ const PIECE_BYTES: usize = 4096;
 /// The end of a line.
 const LINE_END: u8 = b'\n';
 
-/// The kept bytes of the line that hasn't ended yet, how many lines have ended, and the answers
-/// that aren't written yet.
+/// How far a conversation has got: what is kept of the line that hasn't ended yet (at most
+/// `KEPT_BYTES` bytes), how many lines have ended, and the answers that aren't written yet.
 #[derive(Drop)]
 pub struct Conversation {
     line: Vec<u8>,
@@ -44,7 +45,8 @@ impl Conversation {
         }
     }
 
-    /// Takes a piece of the script, and adds the answers to the lines that end in the piece.
+    /// Adds the answers to the lines that end in a piece of the script, and writes none of them.
+    /// Keeps the bytes after these lines, up to `KEPT_BYTES` of a line in all.
     fn take<A: Answers, F: Fn(&mut A, u32, &[u8], &mut Vec<u8>) -> Result<(), AllocError>>(
         &mut self,
         answers: &mut A,
@@ -120,7 +122,7 @@ impl Conversation {
         Ok(())
     }
 
-    /// Keeps more bytes of the line, up to `KEPT_BYTES` in all, one more than any call has.
+    /// Keeps more bytes of the line, up to `KEPT_BYTES` in all.
     fn keep(&mut self, bytes: &[u8]) -> Result<(), AllocError>
         ensures out { self.new.out ≡ self.old.out }
         ensures lines { self.new.lines ≡ self.old.lines }
@@ -131,8 +133,8 @@ impl Conversation {
         self.line.extend_from_slice(&bytes[..most])
     }
 
-    /// Writes the answers, in one write if the writer takes them all. If there are none, writes
-    /// nothing.
+    /// Writes the answers, in one write if the writer takes them all; if there are none, writes
+    /// nothing. After an error, a prefix of the answers was written.
     fn send<W: Write>(&mut self, writer: &mut W) -> Result<(), StreamFault>
         ensures line { self.new.line ≡ self.old.line }
         ensures lines { self.new.lines ≡ self.old.lines }
@@ -191,8 +193,8 @@ impl Conversation {
         Ok(())
     }
 
-    /// Answers the last line, which has no line end. It is empty if the script ends with a line
-    /// end.
+    /// Answers the last line, which has no line end, and writes the answer. The last line is empty
+    /// if the script ends with a line end.
     fn finish<
         A: Answers,
         F: Fn(&mut A, u32, &[u8], &mut Vec<u8>) -> Result<(), AllocError>,
@@ -239,8 +241,20 @@ fn first_line(text: &[u8]) -> Option<(&[u8], &[u8])>
     Some((line, &following[1..]))
 }
 
-/// Answers a script: calls `answer` for each line, and writes the answers. The lines that end in
-/// one read are answered before the next read.
+/// Answers a script: reads it in pieces from `reader`, calls `answer` for each line, and writes the
+/// answers to `writer`. The answers to the lines that end in one read are written before the next
+/// read. While nobody else changes what lines see, each call of `answer` that returns Ok has to
+/// answer its line as `A::define` says.
+///
+/// If nobody else changes what lines see, then on success the whole script was read, the answers to
+/// all its lines were written, the world is the one that these lines leave, and still nobody else
+/// changes what lines see.
+///
+/// # Errors
+///
+/// Read or Write if a stream fails; TooLong if the script has `MOST_SCRIPT_BYTES` bytes or more, or
+/// takes more than `MOST_READS` reads; Memory if memory runs out. If nobody else changes what lines
+/// see, only a prefix of the answers was then written.
 pub fn converse<
     A: Answers,
     F: Fn(&mut A, u32, &[u8], &mut Vec<u8>) -> Result<(), AllocError>,

@@ -1,8 +1,8 @@
-//! Why a conversation ends before its script does.
+//! Why a conversation fails.
 
 use thiserror::Error;
 
-/// A fault of a script's streams.
+/// Why a conversation fails: a stream fails, the script is too long, or memory runs out.
 #[derive(Clone, Copy, Debug, PartialEq, Eq, Error)]
 pub enum StreamFault {
     /// A read failed.

@@ -1,5 +1,5 @@
 //! Conversations: a script is read in pieces, and the answers to its lines are written. The caller
-//! supplies what answers a line.
+//! supplies the closure that answers one line.
 #![tactic(auto)]
 
 pub mod answering;

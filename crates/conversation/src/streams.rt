@@ -1,4 +1,4 @@
-//! One read, and one write of all bytes.
+//! One read from a stream, and a write of given bytes in full to a stream.
 
 ghost use Rattle.std.specs.Prelude.{◌≡◌, [], ◌<◌, ◌≤◌, ℕ, List, OnErr, OnOk, IfOk, IfErr, IfSome, MatchOption, length, take};
 ghost use Rattle.std.specs.Io.KnownBytes.{Appends, Consumes, IsAtEnd};
@@ -7,8 +7,9 @@ ghost use Rattle.conversation.specs.Conversations.{IsFront, WroteFront};
 use crate::fault::StreamFault;
 use std::io::{ErrorKind, Read, Write};
 
-/// Reads at most `most` bytes into the front of `buffer`. Returns how many were read, which is 0 if
-/// the read was interrupted, or `None` at the end.
+/// Reads once, at most `most` bytes, into the front of `buffer`. Returns how many bytes were read,
+/// which is 0 if the read was interrupted; or `None` at the reader's end. If the read fails,
+/// returns the error Read, and nothing was taken from the reader.
 pub(crate) fn read_piece<R: Read>(
     reader: &mut R,
     buffer: &mut [u8],
@@ -32,7 +33,8 @@ pub(crate) fn read_piece<R: Read>(
     }
 }
 
-/// Writes all bytes. If a write fails or takes no bytes, a prefix of `bytes` was written.
+/// Writes all of `bytes`, in as many writes as are needed. If a write fails or takes no bytes,
+/// returns the error Write; then only a prefix of `bytes` was written.
 pub fn write_whole<W: Write>(writer: &mut W, bytes: &[u8]) -> Result<(), StreamFault>
     ensures written { OnOk result
         (Appends (W.contents writer.old) (W.contents writer.new) bytes.now) }

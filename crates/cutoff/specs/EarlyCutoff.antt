@@ -1,4 +1,6 @@
--- Early cutoff: once configurations are the old ones again, nothing more is replayed.
+-- Early cutoff. Suppose that stored runs fitted some segments, which an edit left unchanged. If
+-- replay after the edit reaches, right above them, the configuration that it reached there before,
+-- these runs still fit, and none of the segments' steps are replayed.
 use Rattle.std.specs.Prelude.{ℕ, ◌≡◌, Bool, true, List, [], ◌∷◌, ◌++◌, length, take}
 use Rattle.frames.specs.Behaviour.{Behaviour}
 use Rattle.frames.specs.Configuration.{Configuration, replayed}
@@ -6,23 +8,24 @@ use Rattle.schedule_trie.specs.Cut.{Cut, has, piece_at}
 use Rattle.cutoff.specs.Fitting.{StoredRun, RunPart, Fits, Settles, steps_at}
 
 module _ {R P : Type 0} where
-  -- these segments have the same cells and stored runs as before
+  -- the segments at these keys have the same cells and stored runs in `now` as in `was`
   abbrev pub AreKept : Cut (StoredRun R P) → Cut (StoredRun R P) → List ℕ → Type 0
   AreKept was now keys = (k : ℕ) → has k keys ≡ true → piece_at now.pieces k ≡ piece_at was.pieces k
 
   module _ (b : Behaviour P) (cut : Cut (StoredRun R P)) where
-    -- the configuration that replay reaches after these segments, from c
+    -- the configuration that replay of these segments reaches, if the first of them begins at c
     abbrev pub replayed_through : Configuration R P → List ℕ → Configuration R P
     replayed_through c [] = c
     replayed_through c (k ∷ ks) = replayed_through (replayed b c (steps_at cut k)) ks
 
-    -- stored runs fit all these segments, from c on
+    -- stored runs fit all these segments, if the first of them begins at c
     abbrev pub AreFitted : (R → R → Bool) → Configuration R P → List ℕ → Type 0
     AreFitted E c [] = Unit {0}
     AreFitted E c (k ∷ ks) = Fits E cut c k × AreFitted E (replayed b c (steps_at cut k)) ks
 
--- a settle along the segments `above` and then `below` replays only steps of those above, if replay
--- of those above reaches c, and those below still have the cells and the runs that fitted from c
+-- Suppose that stored runs fitted the segments `below`, of which the first began at c; that these
+-- segments still have the same cells and runs; and that replay of the segments `above` reaches c.
+-- Then a settle along `above` and then `below` replays only steps of `above`.
 abbrev pub StopsEarly : {R P : Type 0} → (R → R → Bool) → Behaviour P → Type 0
 StopsEarly {R} {P} E b =
     (was old new : Cut (StoredRun R P)) (start c : Configuration R P) (place : ℕ) (above below : List ℕ) (parts : List (RunPart R P)) (n : ℕ)

@@ -1,16 +1,17 @@
--- What an edit of a chart keeps besides the cut; and refused edits, which change nothing.
+-- What every edit of a chart leaves as it was; and refused edits, which change nothing.
 use Rattle.std.specs.Prelude.{◌≡◌}
 use Rattle.schedule_trie.specs.declared.refusal.Refusal.{Refusal}
 use Rattle.schedule_trie.specs.Cut.{forest}
 use Rattle.schedule_trie.specs.Edits.{Edit, edited, WhyRefused}
 use Rattle.cutoff.specs.Held.{Charted}
 
--- the branches begin from the same configuration and value
+-- the branches still begin from the same configuration, with the same initial value
 pub record KeepsBeginning {R P : Type 0} (old new : Charted R P) : Type 0 where
   pub start : new.start ≡ old.start
   pub value : new.value ≡ old.value
 
--- an edit is refused, for the same reason as on the cut alone, and the chart doesn't change
+-- an edit is refused, and the chart doesn't change; e is the first reason that the edit, the
+-- branches and the limits give, or Memory, if the edit allocates and they give none
 pub record IsUneditedChart {R P : Type 0} (old new : Charted R P) (edit : Edit) (e : Refusal) : Type 0 where
   pub why : WhyRefused edit (edited old.cut.limits (forest old.cut) edit) e
   pub unchanged : new ≡ old

@@ -19,18 +19,19 @@ pub record StoredRun (R P : Type 0) : Type 0 where
   pub id : Option ℕ
   pub link : Option ℕ
 
--- a run, and how many of its steps count
+-- a run, and how many of its steps count: those of the cells that were settled
 pub record RunPart (R P : Type 0) : Type 0 where
   pub run : SegmentRun R P
   pub count : ℕ
 
--- a run fits a segment at c, the configuration that replay reaches there: it has the segment's
--- steps, and begins at c; E compares registers
+-- a run fits a segment with these steps, which replay reaches at c: the run has these steps, and
+-- begins at c; registers are compared by E
 pub record RunFits {R P : Type 0} (E : R → R → Bool) (c : Configuration R P) (segment : List Step) (run : SegmentRun R P) : Type 0 where
   pub steps : run.steps ≡ segment
   pub entry : SameConfiguration E run.entry c
 
 module _ {R P : Type 0} where
+  -- a stored run, without its number and its link
   abbrev pub run_of : StoredRun R P → SegmentRun R P
   run_of s = s.run
 
@@ -42,22 +43,23 @@ module _ {R P : Type 0} where
   abbrev pub run_at : Cut (StoredRun R P) → ℕ → Option (SegmentRun R P)
   run_at cut k = option_map run_of (note_of (piece_at cut.pieces k))
 
-  -- the keys of the segments that have at least one of the first `place` cells
+  -- given a branch's keys in order, those of the segments that have at least one of the branch's
+  -- first `place` cells
   abbrev pub reached : Cut (StoredRun R P) → ℕ → List ℕ → List ℕ
   reached cut place [] = []
   reached cut place (k ∷ ks) = if nat_eq place 0 then [] else k ∷ reached cut (place - length (steps_at cut k)) ks
 
-  -- a run that fits at c is stored at a key
+  -- the segment k, which replay reaches at c, has a stored run that fits it
   abbrev pub Fits : (R → R → Bool) → Cut (StoredRun R P) → Configuration R P → ℕ → Type 0
   Fits E cut c k = MatchOption (run_at cut k) ⊥ (RunFits E c (steps_at cut k))
 
--- how many steps settling a segment at c replays: none if its stored run fits, and that run then
--- stays; otherwise all of the segment's steps
+-- settling the segment k at c replays n steps: none if its stored run fits there, and that run,
+-- `run`, then stays; otherwise all of the segment's steps
 abbrev pub IsWork : {R P : Type 0} → (R → R → Bool) → Cut (StoredRun R P) → Configuration R P → ℕ → SegmentRun R P → ℕ → Type 0
 IsWork E old c k run n = (Fits E old c k × (run_at old k ≡ Some run) × (n ≡ 0)) ⊎ ((Fits E old c k → ⊥) × (n ≡ length (steps_at old k)))
 
--- a segment is settled at c: a run that fits is now stored, and its first steps count, at most
--- `place` of them
+-- the segment k is settled at c, and n steps are replayed: the run of `part`, which fits, is now
+-- stored there, and its first `place` steps count, or all if there are fewer
 pub record IsSettledAt {R P : Type 0} (E : R → R → Bool) (old new : Cut (StoredRun R P)) (c : Configuration R P) (place k : ℕ) (part : RunPart R P) (n : ℕ) : Type 0 where
   pub stored : run_at new k ≡ Some part.run
   pub fits : RunFits E c (steps_at old k) part.run
@@ -65,7 +67,9 @@ pub record IsSettledAt {R P : Type 0} (E : R → R → Bool) (old new : Cut (Sto
   pub work : IsWork E old c k part.run n
 
 module _ {R P : Type 0} (E : R → R → Bool) (b : Behaviour P) (old : Cut (StoredRun R P)) where
-  -- settling `place` cells along these segments from c gives these parts, and replays n steps
+  -- these segments, of which the first begins at c, are settled one after another: `parts` are
+  -- their runs, each with how many of its steps are among the first `place` steps of these
+  -- segments; and n steps are replayed
   abbrev pub Settles : Cut (StoredRun R P) → Configuration R P → ℕ → List ℕ → List (RunPart R P) → ℕ → Type 0
   Settles new c place [] parts n = (parts ≡ []) × (n ≡ 0)
   Settles new c place (k ∷ ks) [] n = ⊥
@@ -73,17 +77,19 @@ module _ {R P : Type 0} (E : R → R → Bool) (b : Behaviour P) (old : Cut (Sto
       (here : ℕ) × (below : ℕ) × (n ≡ here + below) × IsSettledAt E old new c place k part here
       × Settles new (replayed b c (steps_at old k)) (place - length (steps_at old k)) ks parts below
 
-  -- a run that fits a segment at c is now stored
+  -- the segment k, which replay reaches at c, now has a stored run that fits it
   abbrev pub HasFitting : Cut (StoredRun R P) → Configuration R P → ℕ → Type 0
   HasFitting new c k = (run : SegmentRun R P) × (run_at new k ≡ Some run) × RunFits E c (steps_at old k) run
 
-  -- the segment k is one of these, no stored run fitted it, and a run that fits is now stored
+  -- the segment k is one of these, of which the first begins at c; no stored run fitted k, and a
+  -- run that fits it is now stored
   abbrev pub IsFilled : Cut (StoredRun R P) → Configuration R P → List ℕ → ℕ → Type 0
   IsFilled new c [] k = ⊥
   IsFilled new c (j ∷ js) k =
       ((k ≡ j) × (Fits E old c j → ⊥) × HasFitting new c j) ⊎ IsFilled new (replayed b c (steps_at old j)) js k
 
--- a run that fits at c is stored at a segment, and nothing else changes
+-- the segment k is settled at c, and n steps are replayed: `run`, which fits, is now stored there,
+-- and nothing else changes
 pub record IsSegmentSettled {R P : Type 0} (E : R → R → Bool) (old new : Cut (StoredRun R P)) (c : Configuration R P) (k : ℕ) (run : SegmentRun R P) (n : ℕ) : Type 0 where
   pub noted : (s : StoredRun R P) × IsNoted old new k (Some s) × (s.run ≡ run)
   pub fits : RunFits E c (steps_at old k) run
@@ -94,7 +100,7 @@ abbrev pub exit_of : {R P : Type 0} → Configuration R P → List (RunPart R P)
 exit_of c [] = c
 exit_of c (part ∷ parts) = exit_of part.run.exit parts
 
--- how many steps of all parts count
+-- how many steps count in all these parts together
 abbrev pub counted : {R P : Type 0} → List (RunPart R P) → ℕ
 counted [] = 0
 counted (part ∷ parts) = part.count + counted parts
@@ -103,8 +109,8 @@ counted (part ∷ parts) = part.count + counted parts
 abbrev pub slots_at : {R P : Type 0} → Cut (StoredRun R P) → ℕ → Option (List Slot)
 slots_at cut k = option_map (λ p. p.slots) (piece_at cut.pieces k)
 
--- the forest stays cut in the same way, and each segment keeps its stored run, except those that
--- are filled
+-- the branches and their segments stay the same, and each segment k for which `Filled k` doesn't
+-- hold keeps its stored run
 pub record KeepsRuns {R P : Type 0} (old new : Cut (StoredRun R P)) (Filled : ℕ → Type 0) : Type 0 where
   pub strands : new.strands ≡ old.strands
   pub limits : new.limits ≡ old.limits
@@ -112,6 +118,6 @@ pub record KeepsRuns {R P : Type 0} (old new : Cut (StoredRun R P)) (Filled : �
   pub slots : (k : ℕ) → slots_at new k ≡ slots_at old k
   pub runs : (k : ℕ) → (run_at new k ≡ run_at old k) ⊎ Filled k
 
--- a shared run and how many of its steps count, as values
+-- a shared run and how many of its steps count, as a `RunPart`
 abbrev pub part_of : {R P Z : Type 0} → (Arc (SegmentRun R P) Z × ℕ) → RunPart R P
 part_of p = record { run = arc_value p.0; count = p.1 }

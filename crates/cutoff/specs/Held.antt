@@ -1,4 +1,4 @@
--- The invariant of a chart.
+-- The invariant of a chart, and the results of looks and settles.
 use Rattle.std.specs.Prelude.{ℕ, ◌≡◌, ◌<◌, Bool, nat_lt, List, [], ◌∷◌, Option, None, Some, Result, Ok, Err, length, map, if◌then◌else◌}
 use Rattle.std.specs.List.{All}
 use Rattle.frames.specs.Behaviour.{Behaviour}
@@ -20,12 +20,13 @@ pub record Charted (R P : Type 0) : Type 0 where
   pub start : Configuration R P
   pub value : ℕ
 
--- each step of each branch fits
+-- each step of each branch fits the register with the behaviour b
 abbrev pub StepsFit : {P : Type 0} → Behaviour P → Forest → Type 0
 StepsFit b f = (i : ℕ) → AllFit b (map step_of (slots_in f.branches i))
 
--- the invariant of a chart: in particular, the numbers below `next` are given out, and stored runs
--- fit down to the mark
+-- the invariant of a chart: the initial value is one of the register's values, the branches begin
+-- from the initial configuration, their steps fit the register, they are cut into segments, the
+-- numbers below `next` are those given to runs, and stored runs fit down to the marked segment
 pub record IsCharted {R P : Type 0} (E : R → R → Bool) (is : R → Behaviour P) (next : ℕ) (mark : Option ℕ) (c : Charted R P) : Type 0 where
   pub within : c.value < (is c.start.register).values
   pub begins : c.start ≡ initial_configuration (is c.start.register) c.start.register c.value
@@ -34,23 +35,26 @@ pub record IsCharted {R P : Type 0} (E : R → R → Bool) (is : R → Behaviour
   pub linked : IsLinked E c.start.register next None (without_register c.start) c.cut
   pub marked : IsMarked E is c.cut c.start mark
 
--- each own step of each limb fits
+-- each limb's own steps fit the register with the behaviour b
 abbrev pub LimbsFit : {P : Type 0} → Behaviour P → List Limb → Type 0
 LimbsFit b limbs = All (λ l. AllFit b l.steps) limbs
 
--- the keys of the segments of the named branch; none if there is no such branch
+-- the keys of the segments of the branch at an index; none if the index is `None`
 abbrev pub keys_or : Option ℕ → List Strand → List ℕ
 keys_or None strands = []
 keys_or (Some i) strands = keys_in strands i
 
+-- the keys of the segments of the named branch; none if there is no such branch
 abbrev pub keys_named : {R P : Type 0} → Cut (StoredRun R P) → List ℕ → List ℕ
 keys_named cut name = keys_or (index_of (forest cut).branches name) cut.strands
 
--- a look at a place of a branch keeps the forest, and is refused if there is no such branch or
--- place
+-- the result of a look at a place of the branch i: the same branches, or NoPlace if the branch has
+-- fewer than `place` cells
 abbrev pub looked_at : Forest → ℕ → ℕ → Result Forest Refusal
 looked_at f place i = if nat_lt (length (slots_in f.branches i)) place then Err NoPlace else Ok f
 
+-- the result of a look at a place of the named branch: the same branches, or NoBranch or NoPlace if
+-- there is no such branch or place
 abbrev pub look : Forest → List ℕ → ℕ → Result Forest Refusal
 look f name place = on_branch f name (looked_at f place)
 
@@ -58,24 +62,26 @@ look f name place = on_branch f name (looked_at f place)
 abbrev pub reached_by : {R P : Type 0} → Cut (StoredRun R P) → List ℕ → ℕ → List ℕ
 reached_by cut name place = reached cut place (keys_named cut name)
 
--- a settle of the first `place` cells of a branch keeps each segment's stored run, unless that run
--- didn't fit or was missing, and one that fits is now stored
+-- all that a settle of the named branch's first `place` cells may change: a segment that has one of
+-- these cells and no stored run that fits may have one that fits now
 abbrev pub KeepsOrFills : {R P : Type 0} → (R → R → Bool) → (R → Behaviour P) → Charted R P → Charted R P → List ℕ → ℕ → Type 0
 KeepsOrFills E is old new name place =
     KeepsRuns old.cut new.cut (IsFilled E (is old.start.register) old.cut new.cut old.start (reached_by old.cut name place))
 
--- the result of a settle of the first `place` cells of a branch: the parts are stored runs that fit
--- their segments, with `place` steps that count in all, and n steps were replayed
+-- the result of a settle of the named branch's first `place` cells: `parts` are the stored runs of
+-- their segments, which fit, each with how many of its steps count, `place` in all; and n steps
+-- were replayed
 pub record IsSettled {R P : Type 0} (E : R → R → Bool) (b : Behaviour P) (old new : Charted R P) (name : List ℕ) (place : ℕ) (parts : List (RunPart R P)) (n : ℕ) : Type 0 where
   pub settles : Settles E b old.cut new.cut old.start place (reached_by old.cut name place) parts n
   pub sum : counted parts ≡ place
 
--- the last of some parts, if there are any
+-- the last of these parts; `None` if there are none
 abbrev pub last_part : {R P : Type 0} → List (RunPart R P) → Option (RunPart R P)
 last_part [] = None
 last_part (part ∷ []) = Some part
 last_part (part ∷ next ∷ parts) = last_part (next ∷ parts)
 
--- the result of a settle of the first `place` cells of a branch that returns only the last run
+-- the result of a settle of the named branch's first `place` cells that returns only the last part,
+-- `last`, or `None` if there are no parts; n steps were replayed
 abbrev pub IsSettledLast : {R P : Type 0} → (R → R → Bool) → Behaviour P → Charted R P → Charted R P → List ℕ → ℕ → Option (RunPart R P) → ℕ → Type 0
 IsSettledLast {R} {P} E b old new name place last n = (parts : List (RunPart R P)) × IsSettled E b old new name place parts n × (last_part parts ≡ last)

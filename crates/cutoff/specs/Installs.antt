@@ -8,8 +8,9 @@ use Rattle.cutoff.specs.declared.install.Installation.TheVariants.{Installed, St
 use Rattle.cutoff.specs.Held.{Charted}
 use Rattle.cutoff.specs.Plans.{CanInstall, CannotInstall, IsInstalled}
 
--- Gone if there is no segment at the key; Installed if the run fits and stored runs fit all
--- segments above; else Stale
+-- the result of an install of `run` in the segment `key`: Gone if there is no such segment;
+-- Installed if the run fits and stored runs fit all segments above; else Stale; only Installed
+-- changes the chart
 abbrev pub Installs : {R P : Type 0} → (R → R → Bool) → Behaviour P → Charted R P → Charted R P → ℕ → SegmentRun R P → Installation → Type 0
 Installs E b old new key run Gone = (piece_at old.cut.pieces key ≡ None) × (new ≡ old)
 Installs E b old new key run Stale = IsSome (piece_at old.cut.pieces key) × CannotInstall E b old key run × (new ≡ old)

@@ -1,5 +1,5 @@
--- Numbers and links of stored runs. A link shows at which exit a run begins, and so saves a
--- comparison.
+-- Numbers and links of stored runs. A run's link is the number of a run at whose exit it begins;
+-- this saves comparing the two configurations.
 use Rattle.std.specs.Prelude.{ℕ, ◌≡◌, ⊤, Bool, true, List, Option, Some, None, MatchOption, length, map, slice_get}
 use Rattle.frames.specs.declared.types.Step.{Step}
 use Rattle.frames.specs.Configuration.{Configuration}
@@ -11,37 +11,41 @@ use Rattle.cutoff.specs.Fitting.{StoredRun}
 abbrev pub without_register : {R P : Type 0} → Configuration R P → Configuration ⊤ P
 without_register c = record { register = tt; memory = c.memory; running = c.running; stopped = c.stopped }
 
--- the number, if there is one, is that of a run with the exit c; `exits` are the exits of the
--- numbered runs, by number
+-- `number` is `None`, or the number of a run with the exit c; `exits` has, at each index, the exit
+-- of the run with that number
 abbrev pub IsExitOf : {P : Type 0} → List (Configuration ⊤ P) → Option ℕ → Configuration ⊤ P → Type 0
 IsExitOf exits number c = MatchOption number ⊤ (λ a. slice_get exits a ≡ Some c)
 
--- a stored run is of the chart's register h, it has its segment's steps, and its number and link
--- are true
+-- the stored run s begins with a register equal to h (by E), and has its segment's steps; `exits`
+-- has its exit at its number, if it has one, and its entry at its link, if it has one
 pub record IsStored {R P : Type 0} (E : R → R → Bool) (h : R) (exits : List (Configuration ⊤ P)) (segment : List Step) (s : StoredRun R P) : Type 0 where
   pub own : E s.run.entry.register h ≡ true
   pub covers : s.run.steps ≡ segment
   pub id : IsExitOf exits s.id (without_register s.run.exit)
   pub link : IsExitOf exits s.link (without_register s.run.entry)
 
+-- if there is a segment and it has a stored run: the run begins with a register equal to h, and has
+-- the segment's steps; its number and link agree with `exits` (`IsStored`)
 abbrev pub IsTruePiece : {R P : Type 0} → (R → R → Bool) → R → List (Configuration ⊤ P) → Option (Piece (StoredRun R P)) → Type 0
 IsTruePiece E h exits None = ⊤
 IsTruePiece E h exits (Some p) = MatchOption p.note ⊤ (IsStored E h exits (map step_of p.slots))
 
--- the numbers below `next` are given out, each stored run is true, as in `IsStored`, and `above`,
--- if it is a number, is that of a run with the exit c
+-- the numbers below `next` were given to runs, whose exits are `exits`; each stored run begins with
+-- a register equal to h, and has its segment's steps, and a number and link that agree with
+-- `exits`, if any; and `above` is `None`, or the number of a run with the exit c
 pub record IsLinked {R P : Type 0} (E : R → R → Bool) (h : R) (next : ℕ) (above : Option ℕ) (c : Configuration ⊤ P) (cut : Cut (StoredRun R P)) : Type 0 where
   pub exits : List (Configuration ⊤ P)
   pub as_many : length exits ≡ next
   pub each : (k : ℕ) → IsTruePiece E h exits (piece_at cut.pieces k)
   pub reached_exit : IsExitOf exits above c
 
--- the number of the run stored at a key; `None` if there is no key or no run, or if the run has no
--- number
+-- the number of a stored run; `None` if there is no run, or if it has no number
 abbrev pub run_number : {R P : Type 0} → Option (StoredRun R P) → Option ℕ
 run_number None = None
 run_number (Some s) = s.id
 
+-- the number of the run stored at a key; `None` if there is no key or no run, or if the run has no
+-- number
 abbrev pub number_at : {R P : Type 0} → Cut (StoredRun R P) → Option ℕ → Option ℕ
 number_at cut None = None
 number_at cut (Some k) = run_number (note_of (piece_at cut.pieces k))

@@ -1,4 +1,4 @@
--- What is planned, and the conditions for an install.
+-- The jobs of a plan, and the conditions for an install.
 use Rattle.std.specs.Prelude.{ℕ, ◌≡◌, ◌⊎◌, Bool, true, List, [], ◌∷◌, ◌++◌, Option, None, Some, map, if◌then◌else◌}
 use Rattle.frames.specs.declared.types.Step.{Step}
 use Rattle.frames.specs.Behaviour.{Behaviour}
@@ -15,64 +15,72 @@ pub record Planned (R P : Type 0) : Type 0 where
   pub entry : Configuration R P
   pub steps : List Step
 
+-- the key of a job's segment
 abbrev pub key_of : {R P : Type 0} → Planned R P → ℕ
 key_of job = job.key
 
+-- the keys of a branch's segments, in order
 abbrev pub keys_of : Strand → List ℕ
 keys_of s = s.keys
 
--- the job of a segment that no stored run fits, if there is one; replay reaches `end` at its start
+-- the job of the segment k, which replay reaches at `end`; no job if the key is `None`
 abbrev pub job_of : {R P : Type 0} → Cut (StoredRun R P) → Option ℕ → Configuration R P → Option (Planned R P)
 job_of cut None end = None
 job_of cut (Some k) end = Some (record { key = k; entry = end; steps = steps_at cut k })
 
--- a job is added to the others, unless there is already one for its segment
+-- these jobs, followed by the given job, unless it is `None` or its segment has a job already
 abbrev pub with_job : {R P : Type 0} → List (Planned R P) → Option (Planned R P) → List (Planned R P)
 with_job jobs None = jobs
 with_job jobs (Some job) = if has job.key (map key_of jobs) then jobs else jobs ++ job ∷ []
 
 module _ {R P : Type 0} (E : R → R → Bool) (b : Behaviour P) (cut : Cut (StoredRun R P)) where
-  -- `missed` is the first of these segments that no stored run fits, if there is one; replay from c
-  -- reaches `end` at its start, or else after all these segments
+  -- `missed` is the first of these segments that no stored run fits, and `end` is the configuration
+  -- that replay from c reaches at its start; if stored runs fit them all, `missed` is `None`, and
+  -- replay reaches `end` after them all
   abbrev pub Descends : Configuration R P → List ℕ → Option ℕ → Configuration R P → Type 0
   Descends c [] missed end = (missed ≡ None) × SameConfiguration E end c
   Descends c (k ∷ ks) missed end =
       (Fits E cut c k × Descends (replayed b c (steps_at cut k)) ks missed end)
       ⊎ ((Fits E cut c k → ⊥) × (missed ≡ Some k) × SameConfiguration E end c)
 
-  -- stored runs fit all these segments from c on, and replay then reaches `entry`
+  -- stored runs fit all these segments, of which the first begins at c, and replay of them reaches
+  -- `entry`
   abbrev pub FitsDownTo : Configuration R P → List ℕ → Configuration R P → Type 0
   FitsDownTo c [] entry = SameConfiguration E entry c
   FitsDownTo c (k ∷ ks) entry = Fits E cut c k × FitsDownTo (replayed b c (steps_at cut k)) ks entry
 
-  -- `run` fits the segment at `key`, and stored runs fit those of these segments that are above it
+  -- `key` is one of these segments, of which the first begins at c; `run` fits it, and stored runs
+  -- fit all segments above it
   abbrev pub FitsDown : ℕ → SegmentRun R P → Configuration R P → List ℕ → Type 0
   FitsDown key run c [] = ⊥
   FitsDown key run c (k ∷ ks) =
       ((key ≡ k) × RunFits E c (steps_at cut k) run)
       ⊎ ((key ≡ k → ⊥) × Fits E cut c k × FitsDown key run (replayed b c (steps_at cut k)) ks)
 
-  -- to the jobs `done`, each of these paths from c adds a job for its first segment that no stored
-  -- run fits, unless there is no such segment or it has a job already
+  -- `jobs` are `done`, followed by a job for each of these paths, in order: for its first segment
+  -- that no stored run fits, unless there is none or it has a job already; the first segment of
+  -- each path begins at c
   abbrev pub Plans : Configuration R P → List (Planned R P) → List (List ℕ) → List (Planned R P) → Type 0
   Plans c done [] jobs = jobs ≡ done
   Plans c done (keys ∷ paths) jobs =
       (missed : Option ℕ) × (end : Configuration R P) × Descends c keys missed end × Plans c (with_job done (job_of cut missed end)) paths jobs
 
--- the jobs of a chart: the named branch's comes first, then those of all branches in the order they
--- were made
+-- `jobs` are a chart's plan: the job of the named branch's first segment that no stored run fits,
+-- then that of each branch in the order they were made, without a second job for any segment
 abbrev pub IsPlan : {R P : Type 0} → (R → R → Bool) → Behaviour P → Charted R P → List ℕ → List (Planned R P) → Type 0
 IsPlan E b c name jobs = Plans E b c.cut c.start [] (keys_named c.cut name ∷ map keys_of c.cut.strands) jobs
 
--- on each branch with the segment at `key`, the run fits it and stored runs fit all segments above;
--- or that is so on none of these branches
+-- on each branch with the segment `key`, `run` fits that segment and stored runs fit all segments
+-- above it
 abbrev pub CanInstall : {R P : Type 0} → (R → R → Bool) → Behaviour P → Charted R P → ℕ → SegmentRun R P → Type 0
 CanInstall E b c key run = (i : ℕ) → has key (keys_in c.cut.strands i) ≡ true → FitsDown E b c.cut key run c.start (keys_in c.cut.strands i)
 
+-- on each branch with the segment `key`, `run` doesn't fit that segment, or stored runs don't fit
+-- all segments above it
 abbrev pub CannotInstall : {R P : Type 0} → (R → R → Bool) → Behaviour P → Charted R P → ℕ → SegmentRun R P → Type 0
 CannotInstall E b c key run = (i : ℕ) → has key (keys_in c.cut.strands i) ≡ true → FitsDown E b c.cut key run c.start (keys_in c.cut.strands i) → ⊥
 
--- a run is stored at a segment, and nothing else changes
+-- `run` is stored in the segment `key`, and nothing else changes
 pub record IsInstalled {R P : Type 0} (old new : Charted R P) (key : ℕ) (run : SegmentRun R P) : Type 0 where
   pub noted : (s : StoredRun R P) × (s.run ≡ run) × IsNoted old.cut new.cut key (Some s)
   pub start : new.start ≡ old.start

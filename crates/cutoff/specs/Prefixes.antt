@@ -1,4 +1,5 @@
--- Stored runs that fit the segments of a branch, from its first one on.
+-- Stored runs that fit the segments of a branch, from its first one on. A run is true if its steps
+-- fit the register, and replay of them from its entry gives its exit and its events (`IsRun`).
 use Rattle.std.specs.Prelude.{ℕ, ◌≡◌, ◌⊎◌, ◌<◌, ◌≤◌, ◌+◌, Bool, true, List, [], ◌∷◌, ◌++◌, Option, Some, None, length, map}
 use Rattle.frames.specs.Behaviour.{Behaviour}
 use Rattle.frames.specs.Configuration.{Configuration, replayed}
@@ -20,36 +21,39 @@ abbrev pub exit_or : {R P : Type 0} → Configuration R P → Option (SegmentRun
 exit_or c None = c
 exit_or c (Some run) = run.exit
 
--- the exit of the run stored at a key, or the initial configuration if there is no key or no run
+-- the exit of the run stored at a key, or `start` if there is no key or no run
 abbrev pub exit_or_start : {R P : Type 0} → Cut (StoredRun R P) → Configuration R P → Option ℕ → Configuration R P
 exit_or_start cut start key = exit_or start (run_named cut key)
 
 module _ {R P : Type 0} (E : R → R → Bool) (is : R → Behaviour P) (cut : Cut (StoredRun R P)) where
-  -- a run that is true for its own register is stored at a key, and fits at c
+  -- the segment k, which replay reaches at c, has a stored run that fits it; the run is true, for
+  -- the register of its entry
   pub record HasTrueRun (c : Configuration R P) (k : ℕ) : Type 0 where
     pub stored : StoredRun R P
     pub noted : note_of (piece_at cut.pieces k) ≡ Some stored
     pub true_run : IsRun (is stored.run.entry.register) stored.run
     pub fits : RunFits E c (steps_at cut k) stored.run
 
-  -- true runs that fit from c on are stored at all these keys, and lead to the configuration `end`
+  -- true runs that fit are stored in all these segments, of which the first begins at c, and replay
+  -- of them reaches `end`
   abbrev pub RunsDown : Behaviour P → Configuration R P → List ℕ → Configuration R P → Type 0
   RunsDown b c [] end = SameConfiguration E end c
   RunsDown b c (k ∷ ks) end = HasTrueRun c k × RunsDown b (replayed b c (steps_at cut k)) ks end
 
-  -- true runs are stored at all these keys: the first fits at c, and each other one at the exit of
-  -- the run right above it
+  -- true runs are stored in all these segments: the first fits at c, and each other one at the exit
+  -- of the run right above it
   abbrev pub Hangs : Configuration R P → List ℕ → Type 0
   Hangs c [] = Unit {0}
   Hangs c (k ∷ ks) = (here : HasTrueRun c k) × Hangs here.stored.run.exit ks
 
   module _ (start : Configuration R P) where
-    -- true runs that fit are stored at these keys, from the first down to `last`; if `last` is
-    -- `None`, no run is needed
+    -- true runs that fit are stored at these keys, from the first down to `last`, and replay
+    -- reaches the last one's exit; if `last` is `None`, no run is needed
     abbrev pub RunsTo : Option ℕ → List ℕ → Type 0
     RunsTo last keys = RunsDown (is start.register) start (keys_to keys last) (exit_or_start cut start last)
 
-    -- on each branch with the marked key, if there is one, true runs that fit are stored down to it
+    -- if a segment is marked: on each branch that has it, true runs that fit are stored in all
+    -- segments from the first down to it
     abbrev pub IsMarked : Option ℕ → Type 0
     IsMarked None = Unit {0}
     IsMarked (Some k) = (i : ℕ) → has k (keys_in cut.strands i) ≡ true → RunsTo (Some k) (keys_in cut.strands i)
@@ -61,34 +65,36 @@ module _ {R P : Type 0} (E : R → R → Bool) (is : R → Behaviour P) (cut : C
         (i : ℕ) → has k (keys_in cut.strands i) ≡ true
         → (above : List ℕ) × (keys_up_to k (keys_in cut.strands i) ≡ above ++ k ∷ []) × RunsDown (is start.register) start above run.entry
 
-    -- on each branch with `key`, `front` is one of its keys, and true runs that fit are stored down
-    -- to it; or `front` is `None`
+    -- on each branch with `key`, `front` is one of the branch's keys, and true runs that fit are
+    -- stored from the first down to it; if `front` is `None`, nothing is required
     abbrev pub IsKnown : ℕ → Option ℕ → Type 0
     IsKnown key front = (i : ℕ) → has key (keys_in cut.strands i) ≡ true → HasClimbedTo (keys_in cut.strands i) front × RunsTo front (keys_in cut.strands i)
 
--- on each branch with `key`, `left` are the keys after `last` down to `key`; `last` is `front`, or
--- `None` if they begin with the branch's first key
+-- on each branch with `key`, `left` are the keys below `last` down to `key`, or all keys down to
+-- `key` if `last` is `None`; and `last` is `front` or `None`
 abbrev pub AreKeysAfter : {T : Type 0} → Cut T → ℕ → Option ℕ → Option ℕ → List ℕ → Type 0
 AreKeysAfter cut key front last left =
     ((last ≡ front) ⊎ (last ≡ None))
     × ((i : ℕ) → has key (keys_in cut.strands i) ≡ true → HasClimbedTo (keys_in cut.strands i) last × (keys_up_to key (keys_in cut.strands i) ≡ keys_to (keys_in cut.strands i) last ++ left))
 
--- `key` is the last of these keys; the cells of the segments before it, and `count` cells of its
--- own, are `place` cells in all
+-- `key` is the last of these keys; all cells of the segments before it and `count` cells of its own
+-- are `place` cells together
 pub record EndsIn {T : Type 0} (cut : Cut T) (key count place : ℕ) (keys : List ℕ) : Type 0 where
   pub front : List ℕ
   pub is : keys ≡ front ++ key ∷ []
   pub sum : length (line (piece_at cut.pieces) front) + count ≡ place
 
--- the first `place` cells of a branch end with the first `count` cells of the segment at `key`
+-- the first `place` cells of branch i end with the first `count` cells, at least one, of the
+-- segment `key`
 pub record IsPlaceIn {T : Type 0} (cut : Cut T) (key count place i : ℕ) : Type 0 where
   pub there : has key (keys_in cut.strands i) ≡ true
   pub ends : EndsIn cut key count place (keys_up_to key (keys_in cut.strands i))
   pub some : 0 < count
   pub few : count ≤ length (slots_of (piece_at cut.pieces key))
 
--- `left` are the segments of a branch after `front` down to `key`, and true runs that fit are
--- stored down to `front`
+-- on branch i, true runs that fit are stored from the first segment down to `front`, and `left` are
+-- the segments below `front` down to `key`; the branch's first `place` cells end with `count` cells
+-- of `key`, and its steps fit the register
 pub record IsRest {R P : Type 0} (E : R → R → Bool) (is : R → Behaviour P) (cut : Cut (StoredRun R P)) (start : Configuration R P) (front : Option ℕ) (left : List ℕ) (key count place i : ℕ) : Type 0 where
   pub lies : IsPlaceIn cut key count place i
   pub reached : HasClimbedTo (keys_in cut.strands i) front
@@ -96,28 +102,31 @@ pub record IsRest {R P : Type 0} (E : R → R → Bool) (is : R → Behaviour P)
   pub path : keys_up_to key (keys_in cut.strands i) ≡ keys_to (keys_in cut.strands i) front ++ left
   pub fits : AllFit (is start.register) (map step_of (line (piece_at cut.pieces) (keys_in cut.strands i)))
 
--- on a branch, stored runs hang from the run at `hung` down to `key`, or the two keys are the same
+-- true runs are stored at all keys of branch i below `hung` down to `key`, and each fits at the
+-- exit of the run right above it; there are no such keys if `hung` is `key`
 pub record IsHung {R P : Type 0} (E : R → R → Bool) (is : R → Behaviour P) (cut : Cut (StoredRun R P)) (hung key i : ℕ) : Type 0 where
   pub there : has hung (keys_in cut.strands i) ≡ true
   pub below : List ℕ
   pub path : keys_up_to key (keys_in cut.strands i) ≡ keys_up_to hung (keys_in cut.strands i) ++ below
   pub hangs : (start : Configuration R P) → Hangs E is cut (exit_or_start cut start (Some hung)) below
 
--- what is left of a branch down to `key`: the segments `left`, then those whose runs hang from the
--- run at `hung`
+-- what is left to settle of branch i below `front` down to `key`: the segments `left`, down to
+-- `hung`, and then those below `hung`, each of which has a run that begins at the exit of the run
+-- right above it
 pub record IsLeft {R P : Type 0} (E : R → R → Bool) (is : R → Behaviour P) (cut : Cut (StoredRun R P)) (start : Configuration R P) (front : Option ℕ) (left : List ℕ) (hung key count place i : ℕ) : Type 0 where
   pub hanging : IsHung E is cut hung key i
   pub rest : IsRest E is cut start front (left ++ hanging.below) key count place i
 
--- the last of these parts is the run stored at a key, with `count` of its steps
+-- the last of these parts is the run stored in the segment `key`, of which `count` steps count
 pub record EndsWith {R P : Type 0} (cut : Cut (StoredRun R P)) (key count : ℕ) (parts : List (RunPart R P)) : Type 0 where
   pub before : List (RunPart R P)
   pub stored : StoredRun R P
   pub noted : note_of (piece_at cut.pieces key) ≡ Some stored
   pub is : parts ≡ before ++ record { run = stored.run; count = count } ∷ []
 
--- a settle of the first `place` cells of a branch replays n steps; the cells end in the segment at
--- `key`
+-- a settle of the first `place` cells of branch i replays n steps; its last part is the run now
+-- stored in the segment `key`, of which `count` steps count; and true runs that fit are now stored
+-- from the branch's first segment down to `key`
 pub record SettlesTo {R P : Type 0} (E : R → R → Bool) (is : R → Behaviour P) (old new : Cut (StoredRun R P)) (start : Configuration R P) (key count place i n : ℕ) : Type 0 where
   pub parts : List (RunPart R P)
   pub settles : Settles E (is start.register) old new start place (reached old place (keys_in old.strands i)) parts n

@@ -31,8 +31,8 @@ use std::marker::Model;
 use std::sync::Arc;
 
 /// The branches of a schedule on a register, and the configuration before their first steps. Each
-/// segment has a stored run or none. If a segment is marked, stored runs are known to fit all
-/// segments down to it, on each branch that has it.
+/// segment has a stored run or none. At most one segment is marked: on each branch that has it,
+/// stored runs are known to fit all segments from the first down to it.
 #[derive(Drop)]
 pub struct Chart<R: Register> {
     trie: Trie<Stored<R>>,
@@ -53,8 +53,10 @@ impl<R: Register> Model for Chart<R> {
 }
 
 impl<R: Register> Chart<R> {
-    /// A chart with one branch, `main`, which has these steps. It begins from the initial
-    /// configuration of `register` with the value `value`. No run is stored.
+    /// A chart with the limits `limits` and one branch, `main`, which has these steps; they must
+    /// fit the register. The branch begins from the initial configuration of `register`, in which
+    /// the register holds `value`, one of its values. No run is stored. The limits have to be in
+    /// the ranges that `Limits` gives.
     ///
     /// # Errors
     ///
@@ -82,7 +84,7 @@ impl<R: Register> Chart<R> {
         Ok(Chart::over(alloc, trie, register, value)?)
     }
 
-    /// A chart of the branches of `trie`, which has no notes. It begins from the initial
+    /// A chart of the branches of `trie`, in which no run is stored. It begins from the initial
     /// configuration of `register` with the value `value`.
     fn over(
         alloc: Global,
@@ -109,7 +111,8 @@ impl<R: Register> Chart<R> {
         })
     }
 
-    /// The configuration before each branch's first step.
+    /// The configuration before each branch's first step: the chart's register holds its initial
+    /// value, nothing is pending, and no process has stopped.
     pub fn initial(&self) -> &Config<R>
         ensures start { result.now ≡ self.now.start }
         ensures initial { result.now ≡ initial_configuration
@@ -118,7 +121,7 @@ impl<R: Register> Chart<R> {
         &self.start
     }
 
-    /// The register's initial value.
+    /// The register's initial value, which is one of its values.
     pub fn value(&self) -> u32
         ensures value { result ≡ self.now.value }
         ensures within { result < (R.behaviour self.now.start.register).values }
@@ -126,8 +129,8 @@ impl<R: Register> Chart<R> {
         self.value
     }
 
-    /// Does nothing. Its contract guarantees that each step of each branch fits, and that the
-    /// initial value is one of the register's values.
+    /// Does nothing. Its contract guarantees that each step of each branch fits the chart's
+    /// register, and that the initial value is one of the register's values.
     pub fn steps_fit(&self)
         ensures fit { StepsFit (R.behaviour self.now.start.register) (forest self.now.cut) }
         ensures within { self.now.value < (R.behaviour self.now.start.register).values }
@@ -135,7 +138,7 @@ impl<R: Register> Chart<R> {
         let _start = &self.start;
     }
 
-    /// The number of cells ever made.
+    /// The number of cells ever made, including those that are no longer on any branch.
     pub fn made(&self) -> u32
         ensures { result ≡ (forest self.now.cut).made }
     {
@@ -150,8 +153,10 @@ impl<R: Register> Chart<R> {
         self.trie.branches()
     }
 
-    /// Does nothing. Its contract states what a chart's type guarantees: the branches are a forest
-    /// that is cut into segments, and they begin from the initial configuration.
+    /// Does nothing. Its contract states what a chart's type guarantees. The branches are a forest:
+    /// their names differ, branches with a common cell have the same cells up to it, and each
+    /// cell's number is below the number of cells ever made. The forest is cut into segments, and
+    /// each branch begins from the initial configuration.
     pub fn held(&self)
         ensures forest { IsForest (forest self.now.cut) }
         ensures cut { IsCut self.now.cut }
@@ -169,14 +174,15 @@ impl<R: Register> Chart<R> {
         self.trie.name_at(index)
     }
 
-    /// The number of a branch's cells; `None` if there is no such branch.
+    /// How many cells a branch has; `None` if there is no such branch.
     pub fn len(&self, branch: &Name) -> Option<u32>
         ensures { result ≡ len_of (forest self.now.cut) branch.now }
     {
         self.trie.len(branch)
     }
 
-    /// The number of the cell at `place` of a branch; `None` if there is no such branch or cell.
+    /// The number that identifies the cell at `place` of a branch; `None` if there is no such
+    /// branch or cell.
     pub fn cell_at(&self, branch: &Name, place: u32) -> Option<u32>
         ensures { result ≡ cell_on_branch (forest self.now.cut) branch.now place }
     {
@@ -204,13 +210,16 @@ impl<R: Register> Chart<R> {
         self.trie.path(alloc, branch)
     }
 
-    /// Settles a branch's first `place` cells, and returns their stored runs, which fit. A segment
-    /// that no stored run fits is replayed whole, and the new run is stored.
+    /// Settles a branch's first `place` cells: replays the whole of each segment that has one of
+    /// these cells and no stored run that fits, and stores the new run. Returns, for all segments
+    /// that have one of these cells, the runs now stored there, which fit, each with how many of
+    /// its steps are steps of these cells. Also returns how many steps were replayed in all.
+    /// Nothing else changes.
     ///
     /// # Errors
     ///
-    /// NoBranch; NoPlace if the branch has fewer than `place` cells; Memory. Even then the forest
-    /// doesn't change, but new runs that fit may have been stored.
+    /// NoBranch; NoPlace if the branch has fewer than `place` cells; Memory. On an error, some of
+    /// the new runs, which fit, may have been stored; nothing else changes.
     pub fn settle(&mut self, alloc: Global, branch: &Name, place: u32) -> Result<Spot<R>, Refusal>
         ensures ok { IfOk result
             (λ spot. IsSettled R.PartialEq.eq (R.behaviour self.old.start.register) self.old
@@ -239,9 +248,10 @@ impl<R: Register> Chart<R> {
         Ok(spot)
     }
 
-    /// For each branch, a job for its first segment that no stored run fits. The named branch comes
-    /// first, then all in the order they were made; no segment has two jobs. There are no jobs if
-    /// stored runs fit all segments.
+    /// For each branch, a job for its first segment that no stored run fits: the segment's key, the
+    /// configuration that replay reaches at its start, and its steps. The job of the named branch
+    /// comes first, then those of all branches in the order they were made; no segment has two
+    /// jobs. There are no jobs if stored runs fit all segments.
     ///
     /// # Errors
     ///
@@ -261,8 +271,9 @@ impl<R: Register> Chart<R> {
         Ok(jobs)
     }
 
-    /// Stores a run made elsewhere in the segment `key`, if the run fits there and stored runs fit
-    /// all segments above. Never allocates. If the result is Stale or Gone, nothing changes.
+    /// Stores `run`, which was made outside the chart, in the segment `key`, and returns Installed,
+    /// if the run fits there and stored runs fit all segments above. Otherwise changes nothing, and
+    /// returns Gone if there is no such segment, else Stale. Never allocates.
     pub fn install(&mut self, key: SegKey, run: Arc<Run<R>>) -> Installation
         ensures { Installs R.PartialEq.eq (R.behaviour self.old.start.register) self.old self.new
             key
@@ -282,8 +293,8 @@ impl<R: Register> Chart<R> {
     }
 }
 
-/// The index of a branch, in the order the branches were made, and its length, which is at least
-/// `place`.
+/// The index of a branch, in the order the branches were made, and the branch's length, which is at
+/// least `place`.
 ///
 /// # Errors
 ///

@@ -1,5 +1,5 @@
-//! A climb of a branch, which finds whether stored runs lead down to a configuration. It changes
-//! nothing.
+//! A climb up a branch, from one of its segments to the first. It finds whether stored runs fit all
+//! these segments, and whether the last of them ends at a given configuration. It changes nothing.
 
 ghost use Rattle.std.specs.Prelude.{◌≡◌, ◌≤◌, ◌+◌, ℕ, None, true, length};
 ghost use Rattle.schedule_trie.specs.Cut.{keys_in, line, piece_at, IsCut};
@@ -14,9 +14,11 @@ use frames::config::Config;
 use frames::register::Register;
 use schedule_trie::trie::{SegKey, Trie};
 
-/// Whether stored runs fit all segments from a branch's first down to `last`, and lead to `config`;
-/// if `last` is `None`, whether `config` is the start. Climbs from run to run, at most up to the
-/// mark, and compares each run's exit with the entry of the run below. Never allocates.
+/// Whether stored runs fit all segments from a branch's first down to `last`, and the run in `last`
+/// ends at `config`; if `last` is `None`, whether `config` equals `start`. Climbs from `last` at
+/// most up to the marked segment, down to which stored runs are known to fit. Compares each run's
+/// exit with the entry of the run below it, and the lowest run's exit with `config`. Never
+/// allocates.
 pub(crate) fn comes_down<R: Register>(
     trie: &Trie<Stored<R>>,
     start: &Config<R>,
@@ -37,7 +39,7 @@ pub(crate) fn comes_down<R: Register>(
     let mut entry = config;
     let mut link = None;
     let mut at = last;
-    // a branch never has more segments than cells were made
+    // a branch has at most one segment for each cell ever made
     for _ in 0..trie.made() {
         let Some(key) = at else {
             break;

@@ -1,4 +1,4 @@
-//! Installing: whether a run made elsewhere fits a segment.
+//! Installing a run that was made outside the chart: tests whether it fits a segment.
 
 ghost use Rattle.std.specs.Prelude.{◌≡◌, ℕ, None, Some, IsSome, true, false, map};
 ghost use Rattle.std.specs.Bool.{Decides};
@@ -21,7 +21,7 @@ use frames::types::Step;
 use schedule_trie::slot::Slot;
 use schedule_trie::trie::{SegKey, Trie};
 
-/// The result of an install.
+/// The result of an attempt to store a run that was made outside the chart.
 #[derive(Clone, Copy, Debug, PartialEq, Eq)]
 pub enum Installation {
     /// The run fits, and is stored.
@@ -32,9 +32,9 @@ pub enum Installation {
     Gone,
 }
 
-/// Whether `run` fits the segment `key`, and stored runs fit all segments above. Down to the mark,
-/// stored runs are already known to fit. If all fit, also returns the number of the run right
-/// above, if it has one.
+/// Whether `run` fits the segment `key`, and stored runs fit all segments above. Down to the marked
+/// segment, stored runs are known to fit. If all fit, also returns the number of the run stored
+/// right above `key`, if there is such a run and it has a number.
 pub(crate) fn fits_down<R: Register>(
     trie: &Trie<Stored<R>>,
     start: &Config<R>,
@@ -113,8 +113,8 @@ fn are_steps(slots: &[Slot], steps: &[Step]) -> bool
 }
 
 /// Whether two steps are the same. Most steps are bit actions (`Go`), so these are tested first,
-/// without a jump table. Two numbers are compared as one word of memory, which the derived
-/// comparison does in two comparisons.
+/// without a jump table. A step's two numbers are compared at once, as one word of memory; the
+/// derived comparison compares them one by one.
 #[inline(always)]
 fn is_same(a: &Step, b: &Step) -> bool
     ensures { Decides result (a.now ≡ b.now) }

@@ -1,5 +1,5 @@
-//! The last stored run of a branch's first cells. Segments that stored runs are known to fit aren't
-//! visited again.
+//! Settling a branch's first cells, if only the last of their stored runs is needed. Segments that
+//! stored runs are already known to fit aren't visited.
 
 ghost use Rattle.std.specs.Prelude.{◌≡◌, ◌≤◌, ℕ, None, Some, true, IfOk, OnOk, OnErr, length};
 ghost use Rattle.std.specs.Arc.{arc_value};
@@ -22,9 +22,9 @@ use schedule_trie::trie::{SegKey, Trie};
 use std::alloc::{AllocError, Global};
 use std::sync::Arc;
 
-/// The result of a settle that returns only the last run: the branch's length; the last of the
-/// stored runs of its first cells, if there are any, with how many of its steps count; and how many
-/// steps were replayed.
+/// The result of settling a branch's first cells, if only the last of their stored runs is needed.
+/// `len` is the branch's length. `part` is that last run, with how many of its steps are steps of
+/// these cells; `None` if no cell was settled. `replayed` is how many steps were replayed.
 #[derive(Drop)]
 pub struct Last<R: Register> {
     pub len: u32,
@@ -48,8 +48,8 @@ fn run_named<R: Register>(
     }
 }
 
-/// The exit of the run stored in a segment, and the run's number, if it has one. If there is no
-/// segment or no run, the initial configuration without a number.
+/// The exit of the run stored in the segment `key`, and the run's number, if it has one. If `key`
+/// is `None`, or no run is stored there, returns `start` and `None`.
 pub(crate) fn exit_named<'a, R: Register>(
     trie: &'a Trie<Stored<R>>,
     start: &'a Config<R>,
@@ -88,9 +88,9 @@ fn exit_or<R: Register>(
     Ok(exit)
 }
 
-/// Whether the segment `key` is already settled: its stored run fits at the exit of the run stored
-/// in the segment `above`, and keeps its link. If there is no run above, it has to fit at the
-/// start.
+/// Whether settling the segment `key` would change nothing: its stored run fits at the exit of the
+/// run stored in the segment `above`, or at the start if there is no run above, and its link needs
+/// no change.
 fn is_known_after<R: Register>(
     trie: &Trie<Stored<R>>,
     start: &Config<R>,
@@ -115,7 +115,7 @@ fn is_known_after<R: Register>(
 }
 
 /// Settles the segment `key` at the exit of the run stored in the segment `above`, or at the start
-/// if there is no run above. Returns how many steps were replayed.
+/// if there is no run above. Returns how many steps were replayed. On an error no segment changes.
 fn settle_after<R: Register>(
     alloc: Global,
     trie: &mut Trie<Stored<R>>,
@@ -147,9 +147,9 @@ fn settle_after<R: Register>(
     Ok(settled.replayed())
 }
 
-/// Settles `rest`, the part of a branch that is left down to the segment `key`. If the run at
-/// `rest.hung` isn't replayed, the runs that hang from it still fit, and aren't visited. Returns
-/// how many steps were replayed.
+/// Settles the segments `rest.keys`, and then those below `rest.hung` down to `key`. Stops as soon
+/// as `rest.hung` or a segment below it isn't replayed: the runs that hang from it then still fit.
+/// Returns how many steps were replayed.
 fn settle_rest<R: Register>(
     alloc: Global,
     trie: &mut Trie<Stored<R>>,
@@ -199,8 +199,9 @@ fn settle_rest<R: Register>(
     Ok(replayed)
 }
 
-/// Settles the segments of a branch down to the segment `key`. Down to the mark, stored runs are
-/// already known to fit. Returns the run of that segment, and how many steps were replayed.
+/// Settles the segments of a branch from the first down to `key`: replays each that no stored run
+/// fits, and stores the new run. Down to the marked segment, stored runs are known to fit. Returns
+/// the run now stored in the segment `key`, and how many steps were replayed.
 pub(crate) fn settle_to<R: Register>(
     alloc: Global,
     trie: &mut Trie<Stored<R>>,

@@ -1,13 +1,14 @@
-//! The law of early cutoff. Every settle obeys it by definition.
+//! The law of early cutoff, which follows from the definition of settling (`Settles`).
 
 ghost use Rattle.cutoff.specs.EarlyCutoff.{StopsEarly};
 
 use crate::chart::Chart;
 use frames::register::Register;
 
-/// Early cutoff: if stored runs fitted some segments from a configuration before an edit, the edit
-/// left their cells and runs unchanged, and a settle reaches that configuration again right above
-/// them, then the settle replays none of them.
+/// Early cutoff. Suppose that stored runs fitted some consecutive segments, of which the first
+/// began at a configuration c; that an edit then left the cells and runs of these segments
+/// unchanged; and that a settle after the edit reaches c right above them. Then the settle replays
+/// none of these segments.
 pub fn early_cutoff<R: Register>(chart: &Chart<R>)
     ensures { StopsEarly R.PartialEq.eq (R.behaviour chart.now.start.register) }
 {}

@@ -1,8 +1,10 @@
-//! Charts: a schedule's branches with stored runs of their segments, so that reaching a place of a
-//! branch replays only what an edit changed.
+//! Charts: a schedule's branches, cut into segments, with stored runs. A run of a segment is its
+//! replay: its steps, the configurations before and after them, and their events. So reaching a
+//! place of a branch replays only segments that have no stored run, or whose steps or entry an edit
+//! changed.
 //!
-//! An edit discards no run except that of the segment that it touches. Whether a stored run still
-//! fits is tested only when the run is needed.
+//! An edit keeps the stored run of each segment that it doesn't change, cut or drop. Whether a
+//! stored run still fits is tested only when the run is needed.
 #![tactic(auto)]
 
 pub mod chart;

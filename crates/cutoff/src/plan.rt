@@ -26,7 +26,7 @@ use std::alloc::{AllocError, Global};
 use std::marker::Model;
 
 /// A segment to be replayed: its key, the configuration that replay reaches at its start, and its
-/// steps. By the type of a job, the steps fit.
+/// steps. The type guarantees that each step fits the register.
 #[derive(Drop)]
 pub struct Job<R: Register> {
     pub key: SegKey,
@@ -52,8 +52,10 @@ struct Planning<R: Register> {
     seen: Vec<Sight>,
 }
 
-/// The job of the branch at `index`, then those of all branches. Visits each segment at most once.
-/// On a branch with the marked segment, it visits only segments below that one.
+/// For each branch, a job for its first segment that no stored run fits: first that of the branch
+/// at `index`, then those of all branches in order; no segment has two jobs. Each segment is
+/// visited at most once. On a branch that has the marked segment, only segments below that one are
+/// visited.
 pub(crate) fn plan_all<R: Register>(
     alloc: Global,
     trie: &Trie<Stored<R>>,
@@ -115,9 +117,9 @@ fn plan_branch<R: Register>(
     Ok(())
 }
 
-/// The keys of a branch's segments below the lowest one that is marked or that a plan has visited,
-/// in order; and whether stored runs fit down to that one. If there is no such segment, all keys of
-/// the branch, and true.
+/// Climbs from the end of a branch to the first segment that is marked or was visited. Returns
+/// whether stored runs fit down to that segment, and the keys of the branch's segments below it, in
+/// order. If there is no such segment, returns true and all keys of the branch.
 fn unseen_keys<R: Register>(
     alloc: Global,
     trie: &Trie<Stored<R>>,
@@ -143,9 +145,9 @@ fn unseen_keys<R: Register>(
     Ok((true, keys))
 }
 
-/// Visits the segment `key`, and returns whether stored runs fit down to it. `above_fits` is
-/// whether they fit down to the segment right above. If this is the first that no run fits, adds
-/// its job.
+/// Visits the segment `key`, and returns whether stored runs fit down to it. `above_fits` says
+/// whether they fit down to the segment right above. If they do, but no stored run fits this
+/// segment, adds its job.
 fn visit<R: Register>(
     alloc: Global,
     trie: &Trie<Stored<R>>,
@@ -187,8 +189,8 @@ fn visit<R: Register>(
     Ok(fits)
 }
 
-/// Whether a stored run fits the segment `key` at the exit of the run above. If none does, adds the
-/// segment's job.
+/// Whether the run stored in the segment `key` fits at the exit of the run stored in the segment
+/// `above`, or at the start if there is none. If not, adds the segment's job.
 fn look_below<R: Register>(
     alloc: Global,
     trie: &Trie<Stored<R>>,
@@ -213,7 +215,7 @@ fn look_below<R: Register>(
     Ok(false)
 }
 
-/// The job of the segment `key`, at whose start a walk has reached `config`.
+/// The job of the segment `key`, at whose start replay reaches `config`.
 fn job_at<R: Register>(
     alloc: Global,
     trie: &Trie<Stored<R>>,

@@ -1,5 +1,6 @@
-//! The part of a branch that stored runs are known to
-//! fit, found by climbing from one of its segments.
+//! The first segments of a branch, those that stored runs are known to fit, found by a climb from
+//! one of its segments. A run hangs from the run right above it if its link is that run's number:
+//! it then begins at that run's exit.
 
 ghost use Rattle.std.specs.Prelude.{◌≡◌, ℕ, None, Some, true, IfOk};
 ghost use Rattle.std.specs.Bool.{Decides};
@@ -16,10 +17,11 @@ use frames::register::Register;
 use schedule_trie::trie::{SegKey, Trie};
 use std::alloc::{AllocError, Global};
 
-/// What is left to settle of a branch down to one of its segments. Stored runs hang from the
-/// segment `hung` down to that one. `keys` are, in order, the segments down to `hung` that stored
-/// runs aren't known to fit. `front` is the segment right above `keys`, or `None` if they begin
-/// with the branch's first segment.
+/// What is left to settle of a branch down to one of its segments, the target. Stored runs are
+/// known to fit from the first segment down to `front`; if `front` is `None`, no run is known to
+/// fit. `keys` are, in order, the segments below `front` (if `front` is `None`, from the branch's
+/// first one on) down to `hung`. Below `hung`, down to the target, each run hangs from the one
+/// right above it: it begins at that run's exit.
 #[derive(Drop)]
 pub(crate) struct Rest {
     pub(crate) front: Option<SegKey>,
@@ -27,9 +29,9 @@ pub(crate) struct Rest {
     pub(crate) hung: SegKey,
 }
 
-/// The lowest segment, at `key` or above, down to which stored runs are known to fit. This is known
-/// by the mark, by the runs' numbers, and by a comparison of the first run's entry with the start.
-/// `None` if no run is known to fit.
+/// The lowest segment, at `key` or above, down to which stored runs are known to fit. `None` if no
+/// run is known to fit. Uses the mark, the runs' numbers, and a comparison of the first run's entry
+/// with the start.
 fn known_prefix<R: Register>(
     trie: &Trie<Stored<R>>,
     start: &Config<R>,
@@ -44,7 +46,7 @@ fn known_prefix<R: Register>(
     ensures { IsKnown R.PartialEq.eq R.behaviour trie.now start.now key result }
 {
     let mut front = key;
-    // a branch never has more segments than cells were made
+    // a branch has at most one segment for each cell ever made
     for _ in 0..trie.made() {
         let top = hung_from(trie, mark, front);
         if is_marked(mark, top) {
@@ -61,9 +63,9 @@ fn known_prefix<R: Register>(
     None
 }
 
-/// The highest segment from which stored runs hang down to `key`, or `key` itself. A run hangs from
-/// the run right above it if its link is that run's number, so that it begins at that run's exit.
-/// Climbs by these numbers alone, at most up to the mark.
+/// The highest segment such that each run below it, down to `key`, hangs from the one right above
+/// it; `key` itself if its run hangs from none. Compares only numbers, and climbs at most up to the
+/// mark.
 fn hung_from<R: Register>(trie: &Trie<Stored<R>>, mark: Option<SegKey>, key: SegKey) -> SegKey
     requires linked { (start : Configuration R R.Pending) × (next : ℕ)
         × IsLinked R.PartialEq.eq start.register next None (without_register start) trie.now }
@@ -80,7 +82,7 @@ fn hung_from<R: Register>(trie: &Trie<Stored<R>>, mark: Option<SegKey>, key: Seg
     let mut hung = key;
     let mut link = stored.link();
     let mut at = above;
-    // a branch never has more segments than cells were made
+    // a branch has at most one segment for each cell ever made
     for _ in 0..trie.made() {
         if is_marked(mark, hung) {
             break;
@@ -103,7 +105,7 @@ fn hung_from<R: Register>(trie: &Trie<Stored<R>>, mark: Option<SegKey>, key: Seg
     hung
 }
 
-/// Whether the segment `key` is the marked one.
+/// Whether the segment `key` is the marked one; false if none is marked.
 pub(crate) fn is_marked(mark: Option<SegKey>, key: SegKey) -> bool
     ensures { Decides result (mark ≡ Some key) }
 {
@@ -113,7 +115,8 @@ pub(crate) fn is_marked(mark: Option<SegKey>, key: SegKey) -> bool
     }
 }
 
-/// What is left to settle of a branch down to the segment `key`.
+/// What is left to settle down to the segment `key`, on each branch that has this segment; all
+/// these branches have the same segments above it.
 pub(crate) fn rest_to<R: Register>(
     alloc: Global,
     trie: &Trie<Stored<R>>,
@@ -137,8 +140,9 @@ pub(crate) fn rest_to<R: Register>(
     Ok(Rest { front, keys, hung })
 }
 
-/// The keys of a branch's segments down to `key`, in order, from right after `front`, or from the
-/// branch's first if `front` is neither `key` nor above it. Also the key right above them, if any.
+/// For a branch with the segment `key`, returns `front`, and the keys of the branch's segments
+/// below `front` down to `key`, in order. If `front` is neither `key` nor a segment above it,
+/// returns `None`, and all keys of the branch down to `key`.
 pub(crate) fn keys_down_to<T: Drop>(
     alloc: Global,
     trie: &Trie<T>,

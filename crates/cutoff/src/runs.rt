@@ -1,4 +1,4 @@
-//! Stored runs, one after the other.
+//! Lists of the stored runs of a branch's first cells.
 
 ghost use Rattle.std.specs.Prelude.{◌≡◌, map};
 ghost use Rattle.cutoff.specs.Fitting.{part_of};
@@ -8,8 +8,9 @@ use frames::register::Register;
 use std::marker::Model;
 use std::sync::Arc;
 
-/// Stored runs, in order, each with how many of its steps count. Contracts see them as a list of
-/// values, and don't see the vector's capacity.
+/// The stored runs of a branch's first cells, in order, each with how many of its steps are steps
+/// of these cells: all, unless it is the last run. Contracts see a list of values, and don't see
+/// the vector's capacity.
 #[derive(Drop)]
 pub struct Runs<R: Register> {
     items: Vec<(Arc<Run<R>>, u32)>,
@@ -25,14 +26,15 @@ impl<R: Register> Model for Runs<R> {
 }
 
 impl<R: Register> Runs<R> {
-    /// A list of these runs. Never allocates.
+    /// The list of these runs, each with how many of its steps count, in this order. Never
+    /// allocates.
     pub fn new(items: Vec<(Arc<Run<R>>, u32)>) -> Runs<R>
         ensures { result ≡ map part_of items.items }
     {
         Runs { items }
     }
 
-    /// The runs, in order.
+    /// The runs, in order, each with how many of its steps count.
     pub fn as_slice(&self) -> &[(Arc<Run<R>>, u32)]
         ensures { map part_of result.now ≡ self.now }
     {

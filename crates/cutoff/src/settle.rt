@@ -1,5 +1,6 @@
-//! Settling: a place of a branch is reached by stored runs that fit. Missing ones are made and
-//! stored.
+//! Settling. To settle a segment at a configuration, replay it from there and store the new run,
+//! unless its stored run fits there already. To settle a branch's first cells, settle its segments
+//! in order: the first at the start, each other one at the exit of the run above.
 
 ghost use Rattle.std.specs.Prelude.{◌≡◌, ◌≤◌, ◌⊎◌, ℕ, None, Some, IfOk, OnErr, MatchOption, length, map, ◌+◌};
 ghost use Rattle.std.specs.Arc.{arc_value};
@@ -19,15 +20,16 @@ use schedule_trie::trie::{SegKey, Trie};
 use std::alloc::{AllocError, Global};
 use std::sync::Arc;
 
-/// The stored runs of a branch's first cells, and how many steps were replayed to make missing
-/// ones.
+/// The result of settling a branch's first cells: their stored runs, and how many steps were
+/// replayed to make the new ones among them.
 #[derive(Drop)]
 pub struct Spot<R: Register> {
     pub runs: Runs<R>,
     pub replayed: u32,
 }
 
-/// The run of a settled segment, the run's number if it has one, and how many steps were replayed.
+/// The result of settling a segment: its run, the run's number if it has one, and how many steps
+/// were replayed.
 #[derive(Drop)]
 pub(crate) struct Settled<R: Register> {
     run: Arc<Run<R>>,
@@ -43,7 +45,7 @@ impl<R: Register> Settled<R> {
         &self.run
     }
 
-    /// How many steps were replayed.
+    /// How many steps were replayed to settle the segment: all of its steps, or none.
     pub(crate) fn replayed(&self) -> u32
         ensures { result ≡ self.now.replayed }
     {
@@ -51,8 +53,8 @@ impl<R: Register> Settled<R> {
     }
 }
 
-/// The stored run of the segment `key`, if it fits at `config`, which a walk has reached there.
-/// `above` is the number of the run whose exit `config` is, if that run has a number.
+/// The run stored in the segment `key`, if it fits at `config`; else `None`. `above` is `None`, or
+/// the number of a run with the exit `config`.
 pub(crate) fn fitting<'a, R: Register>(
     trie: &'a Trie<Stored<R>>,
     key: SegKey,
@@ -83,7 +85,8 @@ pub(crate) fn segment_cells<R: Register>(trie: &Trie<Stored<R>>, key: SegKey) ->
     }
 }
 
-/// The next number for a run, if one is left.
+/// Returns the next number for a run, and adds 1 to `next`. If all numbers are used, returns
+/// `None`, and changes nothing.
 pub(crate) fn take_number(next: &mut u64) -> Option<u64>
     ensures { ((result ≡ None) × (next.new ≡ next.old))
         ⊎ ((result ≡ Some next.old) × (next.new ≡ next.old + 1)) }
@@ -96,7 +99,8 @@ pub(crate) fn take_number(next: &mut u64) -> Option<u64>
     Some(number)
 }
 
-/// Replays the segment `key`, which no stored run fits at `config`, and stores the new run.
+/// Replays the segment `key`, which no stored run fits at `config`, from `config`, and stores the
+/// new run. On an error nothing changes.
 fn replay_segment<R: Register>(
     alloc: Global,
     trie: &mut Trie<Stored<R>>,
@@ -127,8 +131,9 @@ fn replay_segment<R: Register>(
     Ok(Settled { run, id, replayed })
 }
 
-/// Settles the segment `key` at `config`, which a walk has reached there. `above` is the number of
-/// the run whose exit `config` is, if that run has a number.
+/// Settles the segment `key` at `config`: if no stored run fits there, replays the segment and
+/// stores the new run. Returns the run now stored, its number, and how many steps were replayed.
+/// `above` is `None`, or the number of a run with the exit `config`. On an error nothing changes.
 pub(crate) fn settle_segment<R: Register>(
     alloc: Global,
     trie: &mut Trie<Stored<R>>,
@@ -185,8 +190,9 @@ fn exit_or_start<R: Register>(
     Ok(exit)
 }
 
-/// Settles the segments with these keys, in order, until they have `place` cells. Returns their
-/// runs, each with how many of its steps count, and how many steps were replayed.
+/// Settles the segments of a branch in order, until its first `place` cells are settled. `keys` are
+/// all the branch's keys. Returns the runs of these segments, each with how many of its steps are
+/// steps of these cells. Also returns how many steps were replayed in all.
 pub(crate) fn settle_along<R: Register>(
     alloc: Global,
     trie: &mut Trie<Stored<R>>,

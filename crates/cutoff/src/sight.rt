@@ -1,4 +1,5 @@
-//! What a plan has found at segments.
+//! What a plan has found at each segment. Stored runs fit down to a segment if they fit all
+//! segments of its branch from the first one to it.
 
 ghost use Rattle.std.specs.Prelude.{◌≡◌, ◌⊎◌, ℕ, Some, true, OnOk, MatchOption};
 ghost use Rattle.cutoff.specs.Sights as spec;
@@ -7,8 +8,8 @@ use crate::prefix::is_marked;
 use schedule_trie::trie::SegKey;
 use std::alloc::AllocError;
 
-/// What a plan has found at a segment: it wasn't visited yet, stored runs fit down to it, or they
-/// don't.
+/// What a plan has found at a segment. `Unseen`: the plan hasn't visited it; `Fit`: stored runs fit
+/// down to it; `Unfit`: they don't.
 #[derive(Clone, Copy, Debug, PartialEq, Eq)]
 pub(crate) enum Sight {
     Unseen,
@@ -16,14 +17,14 @@ pub(crate) enum Sight {
     Unfit,
 }
 
-/// What a visit has found: whether stored runs fit down to the segment.
+/// `Fit` if `fits`, else `Unfit`.
 fn sight_of(fits: bool) -> Sight
     ensures { result ≡ spec.sight_of fits }
 {
     if fits { Sight::Fit } else { Sight::Unfit }
 }
 
-/// What a plan has found at the segment with this key.
+/// What a plan has found at the segment with this key; `Unseen` if nothing is recorded there.
 fn sight_at(seen: &[Sight], key: SegKey) -> Sight
     ensures { result ≡ spec.sight_at seen.now key }
 {
@@ -34,8 +35,8 @@ fn sight_at(seen: &[Sight], key: SegKey) -> Sight
     }
 }
 
-/// Whether stored runs fit down to the segment `key`: known if it is marked or was visited, else
-/// `None`.
+/// Whether stored runs fit down to the segment `key`: true if it is marked, else what the plan has
+/// found there; `None` if it isn't marked and the plan hasn't visited it.
 pub(crate) fn known(mark: Option<SegKey>, seen: &[Sight], key: SegKey) -> Option<bool>
     ensures { MatchOption result (spec.sight_at seen.now key ≡ spec.unseen)
         (λ fits. spec.IsKnownAt mark seen.now (Some key) fits) }
@@ -50,7 +51,7 @@ pub(crate) fn known(mark: Option<SegKey>, seen: &[Sight], key: SegKey) -> Option
     }
 }
 
-/// Records whether stored runs fit down to the segment `key`.
+/// Records whether stored runs fit down to the segment `key`, and changes no other key's record.
 pub(crate) fn see(seen: &mut Vec<Sight>, key: SegKey, fits: bool) -> Result<(), AllocError>
     ensures here { OnOk result (spec.sight_at seen.new.items key ≡ spec.sight_of fits) }
     ensures others { OnOk result ((k : ℕ) → (k ≡ key → ⊥)

@@ -15,13 +15,15 @@ use std::alloc::AllocError;
 use std::marker::Model;
 use std::sync::Arc;
 
-/// A run's number and its link, if it has them. As one enum they make a segment a word smaller than
-/// as two options, and a climb then finds a segment with one multiplication.
+/// A run's number, and its link (the number of the run at whose exit it begins), if it has them.
+/// `Own` has the number alone, `Linked` the link alone. Two fields of type `Option` would make a
+/// segment a word larger in memory; at the present size a climb finds a segment with one
+/// multiplication.
 #[derive(Clone, Copy)]
 pub(crate) enum Numbers {
     Neither,
     Own(u64),
-    Behind(u64),
+    Linked(u64),
     Both(u64, u64),
 }
 
@@ -61,7 +63,7 @@ impl<R: Register> Stored<R> {
         &self.run
     }
 
-    /// The configuration after the run.
+    /// The configuration after the run's steps.
     pub(crate) fn exit(&self) -> &Config<R>
         ensures exit { result.now ≡ self.now.run.exit }
         ensures kept { IsRun (R.behaviour self.now.run.entry.register) self.now.run }
@@ -69,7 +71,7 @@ impl<R: Register> Stored<R> {
         self.run.exit()
     }
 
-    /// The configuration before the run.
+    /// The configuration before the run's steps.
     pub(crate) fn entry(&self) -> &Config<R>
         ensures entry { result.now ≡ self.now.run.entry }
         ensures kept { IsRun (R.behaviour self.now.run.entry.register) self.now.run }
@@ -92,8 +94,8 @@ impl<R: Register> Stored<R> {
         link_number(self.numbers)
     }
 
-    /// The same run, linked to the run with the number `above`. If `above` is `None`, it keeps its
-    /// link.
+    /// The same run, linked to the run with the number `above`. If `above` is `None`, the run keeps
+    /// its link.
     pub(crate) fn following(&self, above: Option<u64>) -> Result<Stored<R>, AllocError>
         ensures run { IfOk result (λ s. s.run ≡ self.now.run) }
         ensures id { IfOk result (λ s. s.id ≡ self.now.id) }
@@ -104,15 +106,15 @@ impl<R: Register> Stored<R> {
         Ok(Stored::new(run, self.id(), link))
     }
 
-    /// Whether `following(above)` would change nothing, since `above` is `None` or the run's link.
+    /// Whether the run needs no new link: `above` is `None`, or is the run's link already.
     pub(crate) fn is_as_found(&self, above: Option<u64>) -> bool
         ensures { result ≡ true → (above ≡ None) ⊎ (self.now.link ≡ above) }
     {
         above.is_none() || is_linked(self.link(), above)
     }
 
-    /// Whether the run begins at `config`, the exit of a run whose number is `above`, if it has
-    /// one. If the run's link is that number, nothing is compared.
+    /// Whether the run begins at `config`. `above` is `None`, or the number of a run with the exit
+    /// `config`. If this run's link is that number, no configurations are compared.
     pub(crate) fn begins(&self, config: &Config<R>, above: Option<u64>) -> bool
         requires linked { (a : ℕ) → self.now.link ≡ Some a → above ≡ Some a
             → SameConfiguration R.PartialEq.eq self.now.run.entry config.now }
@@ -121,15 +123,16 @@ impl<R: Register> Stored<R> {
         is_linked(self.link(), above) || *self.run.entry() == *config
     }
 
-    /// Whether `link` is this run's number.
+    /// Whether `link`, the link of another run, is this run's number: the other run then begins at
+    /// this run's exit.
     pub(crate) fn is_before(&self, link: Option<u64>) -> bool
         ensures { Decides result ((a : ℕ) × (link ≡ Some a) × (self.now.id ≡ Some a)) }
     {
         is_linked(link, self.id())
     }
 
-    /// Whether the run's exit is `config`, at which a run with the link `link` begins. If that link
-    /// is this run's number, nothing is compared.
+    /// Whether the run's exit is `config`. `link` is `None`, or the link of a run that begins at
+    /// `config`. If `link` is this run's number, no configurations are compared.
     pub(crate) fn ends(&self, config: &Config<R>, link: Option<u64>) -> bool
         requires linked { (a : ℕ) → link ≡ Some a → self.now.id ≡ Some a
             → (without_register config.now ≡ without_register self.now.run.exit)
@@ -149,7 +152,7 @@ fn numbers_of(id: Option<u64>, link: Option<u64>) -> Numbers
     match (id, link) {
         (None, None) => Numbers::Neither,
         (Some(id), None) => Numbers::Own(id),
-        (None, Some(link)) => Numbers::Behind(link),
+        (None, Some(link)) => Numbers::Linked(link),
         (Some(id), Some(link)) => Numbers::Both(id, link),
     }
 }
@@ -161,7 +164,7 @@ fn own_number(numbers: Numbers) -> Option<u64>
 {
     match numbers {
         Numbers::Own(id) | Numbers::Both(id, _) => Some(id),
-        Numbers::Neither | Numbers::Behind(_) => None,
+        Numbers::Neither | Numbers::Linked(_) => None,
     }
 }
 
@@ -171,7 +174,7 @@ fn link_number(numbers: Numbers) -> Option<u64>
     ensures { result ≡ link_number numbers }
 {
     match numbers {
-        Numbers::Behind(link) | Numbers::Both(_, link) => Some(link),
+        Numbers::Linked(link) | Numbers::Both(_, link) => Some(link),
         Numbers::Neither | Numbers::Own(_) => None,
     }
 }

@@ -1,4 +1,5 @@
--- Chairs of a desk, and what its calls do to their views.
+-- Chairs of a desk, and how each call of the desk changes a chair's view, which is what the chair
+-- knows of the desk's history.
 use Rattle.std.specs.Prelude.{ℕ, ◌+◌, ◌<◌, ◌≡◌, ◌≤◌, ◌⊎◌, List, Option, Result, length}
 use Rattle.frames.specs.Behaviour.{Behaviour}
 use Rattle.schedule_trie.specs.declared.refusal.Refusal.{Refusal}
@@ -26,25 +27,26 @@ use Rattle.desk.specs.Histories.{IsHistory, seen, own_calls}
 use Rattle.desk.specs.Works.{IsAnswer, IsSaving, NeedsBranch}
 
 module _ {R P : Type 0} where
-  -- the book of a desk at its opening
+  -- the book as it was when the desk opened
   abbrev pub book_at_first : Desk R P → Held R P
   book_at_first desk = desk.first.value
 
-  -- a chair of a desk: it belongs to the desk's turn, and has seen a history that is legal from the
-  -- desk's opening
+  -- the chair is one of this desk: it belongs to the desk's turn, and has seen a history that is
+  -- legal from the desk's opening
   abbrev pub IsChairOf : {g : _} → (R → Behaviour P) → Desk R P → Chair (List (Item R P)) (Item R P) g → Type 0
   IsChairOf is desk chair = IsOf desk.turn chair × IsHistory is (book_at_first desk) (view chair).seen
 
-  -- The history that a chair finds when it takes the turn. It begins with what the chair had seen,
-  -- is exactly that if the chair has every share, and is at least as long as any length that the
-  -- chair has read.
+  -- `found` is the history that a chair with the view v finds when it takes the turn. It begins
+  -- with what v has seen, is at least as long as any length that v has read, and is exactly what v
+  -- has seen if v has every share. (Lengths read also count the opening, hence the 1.)
   pub record Finds (v : View (Item R P)) (found : List Entry) : Type 0 where
     pub begins : StartsWith found (seen v)
     pub whole : HasAll v.shares → found ≡ seen v
     pub reported : v.reported ≤ length found + 1
 
-  -- A chair keeps its shares and what it had seen, and makes no call. Unless it has every share, it
-  -- may have seen more by then.
+  -- From the view v to a later view w, a chair keeps its shares and the history that it has seen,
+  -- makes no call, and reads no length. In w it may have seen more calls than in v, unless it has
+  -- every share.
   pub record KeepsSeen (v w : View (Item R P)) : Type 0 where
     pub begins : StartsWith (seen w) (seen v)
     pub whole : HasAll v.shares → seen w ≡ seen v
@@ -53,11 +55,12 @@ module _ {R P : Type 0} where
     pub reported : w.reported ≡ v.reported
 
   module _ (is : R → Behaviour P) (first : Held R P) where
-    -- A command leaves a legal history: the one that it found and, if the reply is logged, this
-    -- call with its reply under the chair's number. The chair has then seen this history, and the
-    -- call is one of its own. The reply is what the world after the found history gives, or Memory.
-    -- LogFull is the reply only if the found history is as long as the limit, and Memory only if
-    -- that history is shorter.
+    -- A command changes a chair's view from v to w. It leaves a legal history: the history found,
+    -- followed, if the reply is logged, by this call with its reply under the chair's number. In w
+    -- the chair has seen the history left, whose length the receipt has, and the call is its own.
+    -- The reply is what the command gets in the world after the history found, or Memory. It is
+    -- LogFull only if the history found is as long as the limit, and Memory only if that history is
+    -- shorter.
     pub record Received (who : ℕ) (guard : Option ℕ) (command : Command) (v w : View (Item R P)) (receipt : Receipt) : Type 0 where
       pub found : List Entry
       pub finds : Finds v found
@@ -72,27 +75,31 @@ module _ {R P : Type 0} where
       pub shares : w.shares ≡ v.shares
       pub reported : w.reported ≡ v.reported
 
-    -- A reading's answer depends on the length of the history that it finds and on the world after
-    -- it. The chair has then seen this history, and has made no call.
-    pub record Reads (tells : ℕ → World P → Type 0) (v w : View (Item R P)) : Type 0 where
+    -- A reading is a call that changes no history; it changes a chair's view from v to w. It finds
+    -- a legal history; `says`, which is about the answer, holds of this history's length and the
+    -- world after it. In w the chair has seen this history; it has made no call.
+    pub record Reads (says : ℕ → World P → Type 0) (v w : View (Item R P)) : Type 0 where
       pub found : List Entry
       pub finds : Finds v found
       pub legal : IsLegal (opening_of is first) found
-      pub answers : tells (length found) (world_after (opening_of is first) found)
+      pub answers : says (length found) (world_after (opening_of is first) found)
       pub sees : seen w ≡ found
       pub calls : w.calls ≡ v.calls
       pub shares : w.shares ≡ v.shares
       pub reported : w.reported ≡ v.reported
 
-    -- a look answers from the world after the history it finds, and reports that history's length
+    -- a look is a reading: it answers from the world after the history that it finds, and reports
+    -- that history's length
     abbrev pub Looked : Query → View (Item R P) → View (Item R P) → Answer → Type 0
     Looked query v w answer = Reads (λ n world. (answer.at ≡ n) × IsAnswer world query answer.result) v w
 
-    -- a save lists the limbs of the world after the history it finds, and reports that history's
-    -- length
+    -- a save is a reading: it describes by limbs the branches of the world after the history that
+    -- it finds, and reports that history's length; or it is refused as Memory
     abbrev pub SavedFrom : View (Item R P) → View (Item R P) → Result Saved Refusal → Type 0
     SavedFrom v w result = Reads (λ n world. IsSaving n world result) v w
 
-    -- a fill first reads whether its branch is there, and then keeps what it has seen
+    -- A fill changes a chair's view from v to w. First a reading, which leads from v to a view u,
+    -- finds out whether the branch is there. From u to w the chair keeps its shares and the history
+    -- that it has seen, and makes no call.
     abbrev pub Filled : List ℕ → View (Item R P) → View (Item R P) → Result Report Refusal → Type 0
     Filled branch v w result = (u : View (Item R P)) × Reads (λ n world. NeedsBranch branch world result) v u × KeepsSeen u w

@@ -1,4 +1,4 @@
--- Histories: the calls since a desk's opening, each with the reply that it gets there.
+-- Histories: the logged calls since a desk's opening, each with its reply.
 use Rattle.std.specs.Prelude.{◌≡◌, List}
 use Rattle.frames.specs.Behaviour.{Behaviour}
 use Rattle.turn.specs.declared.view.View.{View}
@@ -17,7 +17,8 @@ module _ {R P : Type 0} where
   abbrev pub own_calls : View (Item R P) → List Entry
   own_calls v = calls_in v.calls
 
-  -- a list is a book's opening, followed by a history that is legal from there
+  -- `list` is the opening with the book `first`, followed by calls that are legal from there: each
+  -- reply is the one that its command gets after the calls before it
   pub record IsHistory (is : R → Behaviour P) (first : Held R P) (list : List (Item R P)) : Type 0 where
     pub whole : list ≡ items first (calls_in list)
     pub legal : IsLegal (opening_of is first) (calls_in list)

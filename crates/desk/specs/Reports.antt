@@ -1,19 +1,19 @@
--- Reports of fills.
+-- Reports of fills: how many jobs were planned, and how they ended.
 use Rattle.std.specs.Prelude.{◌≡◌, ◌+◌, Option, Some, None}
 use Rattle.cutoff.specs.declared.install.Installation.{Installation}
 use Rattle.cutoff.specs.declared.install.Installation.TheVariants.{Installed, Stale, Gone}
 use Rattle.desk.specs.declared.report.Report.{Report}
 
--- the number of planned jobs is the sum of the other counts
+-- a report's number of planned jobs is the sum of its other counts
 abbrev pub IsSum : Report → Type 0
 IsSum r = r.planned ≡ r.installed + r.stale + r.gone + r.memory
 
--- the report of no jobs
+-- the report of a fill that has no jobs: all counts are 0
 abbrev pub no_jobs : Report
 no_jobs = record { planned = 0; installed = 0; stale = 0; gone = 0; memory = 0 }
 
--- a report with one more job, counted by what became of its run; `None` if the job ran out of
--- memory
+-- the report r with one more planned job, whose run was installed, stale or gone; `None` if the job
+-- ran out of memory
 abbrev pub report_with : Option Installation → Report → Report
 report_with (Some Installed) r = record { planned = r.planned + 1; installed = r.installed + 1; stale = r.stale; gone = r.gone; memory = r.memory }
 report_with (Some Stale) r = record { planned = r.planned + 1; installed = r.installed; stale = r.stale + 1; gone = r.gone; memory = r.memory }
@@ -31,6 +31,6 @@ both a b =
       memory = a.memory + b.memory;
     }
 
--- no job ran: there was none, or each ran out of memory
+-- no job gave a run: there was no job, or each job ran out of memory
 abbrev pub IsIdle : Report → Type 0
 IsIdle r = r.memory ≡ r.planned

@@ -1,4 +1,5 @@
--- What each work under a desk's turn promises about its answer, and the list before and after it.
+-- What each kind of work that a chair does while it has a desk's turn guarantees of its answer, and
+-- of the journal's list before and after the work.
 use Rattle.std.specs.Prelude.{ℕ, ◌<◌, ◌≡◌, ◌⊎◌, List, Option, Some, IsSome, Result, Ok, Err, IfOk, length}
 use Rattle.frames.specs.Behaviour.{Behaviour}
 use Rattle.schedule_trie.specs.declared.refusal.Refusal.{Refusal}
@@ -22,40 +23,45 @@ use Rattle.desk.specs.declared.receipt.Receipt.{Receipt}
 use Rattle.desk.specs.declared.receipt.Saved.{Saved}
 use Rattle.desk.specs.Items.{items}
 
--- the answer to a look at a world: its page, the first refusal, or Memory
+-- a possible answer to a look at the world w: the page that the query asks for; or why the look is
+-- refused; or Memory, if there is no reason to refuse it
 abbrev pub IsAnswer : {P : Type 0} → World P → Query → Result Page Refusal → Type 0
 IsAnswer w query (Ok page) = (looked_in w query ≡ Ok w.forest) × (Some page ≡ shown_in w query)
 IsAnswer w query (Err r) = IsRefused (looked_in w query) r
 
--- on a regular or an atomic register, the answer shows no stray read
+-- if the world's register is regular or atomic, and the answer is a page, then the page shows no
+-- stray read
 abbrev pub ShowsNoStrayOf : {P : Type 0} → World P → Result Page Refusal → Type 0
 ShowsNoStrayOf w answer = IsRegularOrAtomic w.tower → IfOk answer ShowsNoStray
 
--- the answer that a slip determines
+-- the answer that a look has determined: the page of its slip (what the look found), or why the
+-- look is refused
 abbrev pub answer_by : {R : Type 0} → Result (Slipped R) Refusal → Result Page Refusal
 answer_by (Ok slip) = Ok slip.page
 answer_by (Err r) = Err r
 
--- what becomes of a slip: its page is made, or is refused as Memory; a refused look stays refused
+-- what can result from making the page of a look: the page, or Memory; if the look was refused, the
+-- same refusal
 abbrev pub IsPaged : Result Page Refusal → Result Page Refusal → Type 0
 IsPaged (Ok page) result = (result ≡ Ok page) ⊎ (result ≡ Err Memory)
 IsPaged (Err r) result = result ≡ Err r
 
--- work that needs a branch succeeds only if the branch is there; it is refused as Memory if the
--- branch is there, and as NoBranch if it isn't
+-- Work that needs a branch succeeds only if the branch is there. If the work is refused, the
+-- refusal is Memory if the branch is there, and NoBranch if it isn't.
 abbrev pub NeedsBranch : {P A : Type 0} → List ℕ → World P → Result A Refusal → Type 0
 NeedsBranch branch w (Ok x) = IsSome (index_of w.forest.branches branch)
 NeedsBranch branch w (Err r) = if_lacks (index_of w.forest.branches branch) ≡ r
 
--- a save of a world after `n` calls, or the refusal Memory
+-- a possible result of a save of the world w after n calls: limbs that describe the branches of w,
+-- and n; or the refusal Memory
 abbrev pub IsSaving : {P : Type 0} → ℕ → World P → Result Saved Refusal → Type 0
 IsSaving n w (Ok saved) = (saved.at ≡ n) × IsSaved w saved.limbs
 IsSaving n w (Err r) = r ≡ Memory
 
 module _ {R P : Type 0} (is : R → Behaviour P) where
-  -- A command of some chair finds a history, and adds the call to its end, if the reply is logged.
-  -- The new history is legal, and has the reported length. The reply is LogFull only if the found
-  -- history is as long as the limit, and Memory only if it is shorter.
+  -- The work of a command finds a history, and adds the call with its reply to the end, if the
+  -- reply is logged. The new history is legal, and the receipt has its length. The reply is LogFull
+  -- only if the history found is as long as the limit, and Memory only if that history is shorter.
   pub record IsAct (who : ℕ) (guard : Option ℕ) (command : Command) (before after : List (Item R P)) (receipt : Receipt) : Type 0 where
     pub first : Held R P
     pub found : List Entry
@@ -67,17 +73,17 @@ module _ {R P : Type 0} (is : R → Behaviour P) where
     pub full : receipt.reply ≡ No LogFull → length found ≡ (opening_of is first).limits.log
     pub room : receipt.reply ≡ No Memory → length found < (opening_of is first).limits.log
 
-  -- A reading finds a legal history and leaves it as it is. The answer depends on the history's
-  -- length and on the world after the history.
-  pub record IsReading (tells : ℕ → World P → Type 0) (before after : List (Item R P)) : Type 0 where
+  -- Work that only reads finds a legal history, and leaves it unchanged. `says`, which is about
+  -- the answer, holds of the history's length and the world after the history.
+  pub record IsReading (says : ℕ → World P → Type 0) (before after : List (Item R P)) : Type 0 where
     pub first : Held R P
     pub found : List Entry
     pub finds : before ≡ items first found
     pub leaves : after ≡ before
     pub legal : IsLegal (opening_of is first) found
-    pub answers : tells (length found) (world_after (opening_of is first) found)
+    pub answers : says (length found) (world_after (opening_of is first) found)
 
-  -- a look reports the length of the history and answers from the world after it; on a regular or
-  -- an atomic register it shows no stray read
+  -- a look only reads: it reports the history's length as `at`, and answers from the world after
+  -- the history; if the register is regular or atomic, it shows no stray read
   abbrev pub IsLook : Query → List (Item R P) → List (Item R P) → ℕ → Result Page Refusal → Type 0
   IsLook query before after at answer = IsReading (λ n w. (at ≡ n) × IsAnswer w query answer × ShowsNoStrayOf w answer) before after

@@ -1,4 +1,5 @@
-//! A command as work under the turn.
+//! A session's command, as work that a chair does on the journal while it has the turn, which is
+//! the desk's lock.
 
 use crate::journal::Journal;
 use crate::receipt::Receipt;
@@ -7,7 +8,7 @@ use sessions::command::Command;
 use std::alloc::Global;
 use turn::Work;
 
-/// Answers a session's command.
+/// The work that answers one command of session `who`.
 #[derive(Drop)]
 pub(crate) struct Act<'a> {
     pub(crate) alloc: Global,

@@ -1,4 +1,4 @@
-//! The desk and its calls.
+//! A desk (a book guarded by a lock), and its calls.
 
 ghost use Rattle.std.specs.Prelude.{◌≡◌, ◌≤◌, ◌<◌, ◌+◌, [], Ok, OnOk, IfOk, IfErr, MatchResult, length};
 ghost use Rattle.frames.specs.Recorded.{AllFit};
@@ -41,11 +41,13 @@ use views::page::Page;
 use views::query::Query;
 use views::slip::Slip;
 
-/// Some of a desk's 16 shares, and what their holder knows of the desk's history.
+/// One caller's part of a desk: some of the desk's 16 shares, and, for contracts alone, what the
+/// chair knows of the desk's history.
 pub type Chair<R> = turn::Chair<Journal<R>>;
 
-/// A book guarded by one turn. Chairs share the desk by reference. Proofs also see the book that
-/// the desk opened with.
+/// A book (what commands see and change, and their log) guarded by one lock, the turn. Callers
+/// share the desk by reference; each has a chair. For proofs, the desk also has the book that it
+/// opened with.
 #[derive(Drop)]
 pub struct Desk<R: Register> {
     pub(crate) turn: Turn<Journal<R>>,
@@ -53,12 +55,14 @@ pub struct Desk<R: Register> {
 }
 
 impl<R: Register> Desk<R> {
-    /// Opens a desk, with one chair that holds all 16 shares. The desk's one branch has these
-    /// steps, which have to fit the register; `value` is the register's initial value.
+    /// Opens a desk, with one chair that holds all 16 shares; its history is empty. The desk's one
+    /// branch, `main`, has these steps, each of which has to fit the register. The register's
+    /// initial value is `value`, which has to be one of its values. The limits have to be in their
+    /// ranges.
     ///
     /// # Errors
     ///
-    /// Full if there are more steps than the limits allow cells; Memory.
+    /// Full if there are more steps than the limits allow cells; Memory if memory runs out.
     pub fn open(
         alloc: Global,
         register: R,
@@ -97,12 +101,18 @@ impl<R: Register> Desk<R> {
         Ok((Desk { turn, first }, chair))
     }
 
-    /// Opens a desk, with one chair that holds all 16 shares. The desk has the branches of these
-    /// limbs, at least one; `value` is the register's initial value.
+    /// Opens a desk, with one chair that holds all 16 shares; its history is empty. Each limb
+    /// describes a branch of the desk: its name, how many cells it shares with which earlier
+    /// branch, and its own steps. There has to be at least one limb. The limbs have to be lawful:
+    /// the names are well-formed and all different, and a limb shares no cells, or the first cells
+    /// of an earlier branch, the last of which is one of that branch's own. The steps have to fit
+    /// the register. The register's initial value is `value`, which has to be one of its values.
+    /// The limits have to be in their ranges.
     ///
     /// # Errors
     ///
-    /// Full if the limbs have more cells than the limits allow; TooManyBranches; Memory.
+    /// Full if the limbs have more cells than the limits allow; TooManyBranches if there are more
+    /// limbs than the limits allow branches; Memory if memory runs out.
     pub fn open_limbs(
         alloc: Global,
         register: R,
@@ -127,9 +137,13 @@ impl<R: Register> Desk<R> {
         Desk::over(alloc, book)
     }
 
-    /// Waits for the turn, and answers a command of session `who`, which is logged under the
-    /// chair's number. If a guard `if_at` is given and differs from the edit count, the command is
-    /// refused.
+    /// Waits for the turn, and answers a command of session `who`. The history that it finds begins
+    /// with what the chair had seen. The reply is the one that the command gets after this history,
+    /// or Memory; if a guard `if_at` is given and differs from the edit count, the command is
+    /// refused. The command is logged with its reply under the chair's number, unless the reply is
+    /// LogFull (the log is as long as the limit) or Memory; then neither the log nor what commands
+    /// see is changed. Afterwards the chair has seen the history found, followed by this call if it
+    /// was logged.
     pub fn act<W: Wait>(
         &self,
         rt: &W,
@@ -154,9 +168,12 @@ impl<R: Register> Desk<R> {
         self.turn.with(rt, chair, &mut act)
     }
 
-    /// Waits for the turn and looks. The page is made once the turn is free again, but shows what
-    /// was there at the time of the look, whatever the lens holds. On a regular or an atomic
-    /// register it shows no stray read.
+    /// Waits for the turn and looks. The answer is the page that the query asks for, or why the
+    /// look is refused (there is no such branch or place, or the session whose cursor it asks for
+    /// doesn't exist or hasn't joined), or Memory; and how long the history is. The page is made
+    /// once the turn is free again, but shows what the look found, whatever the lens (a cache)
+    /// holds. On a regular or an atomic register the page shows no stray read. Afterwards the chair
+    /// has seen the history that the look found; the look adds no call to it.
     pub fn look<W: Wait>(
         &self,
         rt: &W,
@@ -179,7 +196,9 @@ impl<R: Register> Desk<R> {
         Answer { at, result }
     }
 
-    /// The length of the history by now. Never waits.
+    /// Reads how long the history is now, without waiting. The length is at least that of what the
+    /// chair has seen, and at least each length that the chair has read before. The chair has seen
+    /// no more of the history than before.
     pub fn news(&self, chair: &mut Chair<R>) -> u64
         requires { IsChairOf R.behaviour self.now chair.old }
         ensures chair { IsChairOf R.behaviour self.now chair.new }
@@ -190,8 +209,10 @@ impl<R: Register> Desk<R> {
         self.turn.news(chair) - 1
     }
 
-    /// Gives a new chair `shares` of this chair's shares, the least ones after its number, with the
-    /// calls made under them. Both chairs have then seen what this one had.
+    /// Makes a new chair of this desk. It gets `shares` of the shares of `chair` (at least one, and
+    /// fewer than `chair` has), and the calls made under them. `chair` keeps its least share, which
+    /// is its number, and gives the next least ones. Both chairs have then seen what `chair` had
+    /// seen.
     pub fn split(&self, chair: &mut Chair<R>, shares: u32) -> Chair<R>
         requires desk { IsChairOf R.behaviour self.now chair.old }
         requires some { 0 < shares }
@@ -208,8 +229,9 @@ impl<R: Register> Desk<R> {
         self.turn.split(chair, shares)
     }
 
-    /// Takes over another chair's shares and calls. What one of the two chairs had seen is a prefix
-    /// of what the other had seen; this chair has then seen the longer one.
+    /// Takes over the shares and calls of another chair of this desk, and reads the history's
+    /// length. Of the histories that the two chairs had seen, one is a prefix of the other; this
+    /// chair has then seen the longer.
     pub fn join(&self, chair: &mut Chair<R>, other: Chair<R>)
         requires { IsChairOf R.behaviour self.now chair.old × IsChairOf R.behaviour self.now other }
         ensures chair { IsChairOf R.behaviour self.now chair.new }
@@ -219,8 +241,10 @@ impl<R: Register> Desk<R> {
         self.turn.join(chair, other);
     }
 
-    /// Closes the desk and returns its log, if the chair holds all 16 shares and so has seen the
-    /// whole history. A chair that lacks a share is refused, and gets desk and chair back.
+    /// Closes the desk and returns its log, if the chair holds all 16 shares. The log is the
+    /// history that the chair has seen, and it is legal: each reply is the one that its command
+    /// gets after the entries before it. If the chair lacks a share, the call is refused, and the
+    /// error returns the desk and the chair unchanged.
     pub fn close(self, chair: Chair<R>) -> Result<Log, (ChairsOut, Desk<R>, Chair<R>)>
         requires { IsChairOf R.behaviour self chair }
         ensures { MatchResult result (λ log. HasAll (view chair).shares × (log ≡ seen (view chair))
@@ -235,7 +259,8 @@ impl<R: Register> Desk<R> {
     }
 }
 
-/// Makes the page of a slip, once the turn is free.
+/// Makes the page of a slip (what a look found), once the turn is free. If the look is refused,
+/// returns that refusal; if memory runs out, Memory.
 fn paged<R: Register>(
     alloc: Global,
     lens: &mut Lens<R>,
@@ -244,7 +269,7 @@ fn paged<R: Register>(
     ensures { IsPaged (answer_by slip) result }
 {
     let slip = slip?;
-    let Ok(page) = slip.page(alloc, lens) else {
+    let Ok(page) = slip.into_page(alloc, lens) else {
         return Err(Refusal::Memory);
     };
     Ok(page)

@@ -1,4 +1,5 @@
-//! Fills: segments that no stored run fits are replayed while the turn is free.
+//! Fills: several threads replay segments that no stored run fits, while the desk's lock is free,
+//! and the runs are stored before looks need them.
 
 ghost use Rattle.std.specs.Prelude.{◌≡◌, ◌≤◌, IfOk};
 ghost use Rattle.turn.specs.Histories.{OwnsItsCalls};
@@ -26,14 +27,15 @@ use workers::Crew;
 use workers::gate::{Gate, NoGate};
 use workers::job::{Done, JobOutcome};
 
-/// The most rounds of a fill.
+/// The most rounds that a fill has.
 const MOST_ROUNDS: u32 = 64;
 
 /// The outcome of a job of a plan.
 type Ran<R> = Done<SegKey, Arc<Run<R>>>;
 
-/// What a fill works with: threads and memory, the branch to plan first, and how many thieves and
-/// which gate its crew has.
+/// What a fill works with: threads and memory; the branch to plan first; and, for its crew, the
+/// number of thieves (threads that take jobs from the caller) and the gate, to which each job is
+/// offered before it runs.
 #[derive(Drop)]
 struct Filling<'a, W, G> {
     rt: &'a W,
@@ -47,16 +49,18 @@ impl<R: Register + Send + Sync> Desk<R>
 where
     R::Pending: Send + Sync,
 {
-    /// Stores runs for segments that no stored run fits, in at most 64 rounds. In each round a plan
-    /// lists the jobs, beginning with `branch`; the caller and up to `thieves` thieves run these
-    /// jobs while the turn is free; then their runs are installed. The fill ends early when a plan
-    /// has no job, when all jobs of a round run out of memory, or when the branch is gone. Adds no
-    /// call to the history.
+    /// Stores runs (replayed segments) for segments that no stored run fits, in at most 64 rounds.
+    /// A round has three parts: a plan lists jobs, each of which is a segment to replay, beginning
+    /// with that of `branch`; the caller and up to `thieves` other threads (at most 4) run the jobs
+    /// while the turn is free; then the runs are installed. The fill ends early if a plan has no
+    /// job, if all jobs of a round run out of memory, or if a later plan finds no such branch. It
+    /// adds no call to the history. Afterwards the chair has seen at least the history that the
+    /// first plan found. The report counts how the jobs ended.
     ///
     /// # Errors
     ///
-    /// NoBranch if there is no such branch at the first plan; Memory if a plan or the crew runs out
-    /// of memory. Runs that were already installed stay.
+    /// NoBranch if there is no such branch at the first plan; Memory if a plan runs out of memory,
+    /// or the crew (the threads that run the jobs) does. Runs that were already installed stay.
     pub fn fill<W: Threads + Wait + Sync>(
         &self,
         rt: &W,
@@ -76,12 +80,16 @@ where
         self.fill_with(rt, alloc, chair, branch, thieves, &NoGate)
     }
 
-    /// Like `fill`, but the thread that is about to run a job first offers it to the gate, while
-    /// the turn is free. The gate may wait, and may take the turn with another chair.
+    /// Stores runs for segments that no stored run fits, as `fill` does: in rounds, each of which
+    /// plans jobs (segments to replay), runs them while the turn is free, and installs their runs.
+    /// Here the thread that is about to run a job first offers it to the gate, while the turn is
+    /// free. The gate may wait, and may take the turn with another chair. The fill adds no call to
+    /// the history. The report counts how the jobs ended.
     ///
     /// # Errors
     ///
-    /// Those of `fill`.
+    /// NoBranch if there is no such branch at the first plan; Memory if a plan runs out of memory,
+    /// or the crew (the threads that run the jobs) does. Runs that were already installed stay.
     pub fn fill_with<W: Threads + Wait + Sync, G: Gate<W> + Sync>(
         &self,
         rt: &W,

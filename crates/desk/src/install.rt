@@ -1,4 +1,5 @@
-//! An install as work under the turn.
+//! The install of a job's run, as work that a chair does on the journal while it has the turn,
+//! which is the desk's lock.
 
 ghost use Rattle.std.specs.Prelude.{◌≡◌};
 ghost use Rattle.std.specs.Arc.{arc_value};
@@ -14,7 +15,9 @@ use sessions::book::Book;
 use std::sync::Arc;
 use turn::Work;
 
-/// Offers a job's run to the segment with this key; `run` is `None` if the job ran out of memory.
+/// The work that installs a job's run: it stores the run, if the job's segment, which has this key,
+/// is still there, the run fits it, and stored runs fit all segments above. `run` is `None` if the
+/// job ran out of memory; then nothing is done.
 #[derive(Drop)]
 pub(crate) struct Install<R: Register> {
     pub(crate) key: SegKey,
@@ -38,7 +41,7 @@ impl<R: Register> Work<Journal<R>> for Install<R> {
     }
 }
 
-/// Offers a run to the segment of the book with this key.
+/// Stores a run in a book, as `Book::install` does. World and log are unchanged.
 fn offer<R: Register>(book: &mut Book<R>, key: SegKey, run: Arc<Run<R>>) -> Installation
     ensures installs { let old = book.old.now.chart in
         Installs R.PartialEq.eq (R.behaviour old.start.register) old book.new.now.chart key

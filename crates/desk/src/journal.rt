@@ -1,4 +1,4 @@
-//! The journal: the value that a desk's turn guards.
+//! The journal: the value that a desk's turn (its lock) guards.
 
 ghost use Rattle.std.specs.Prelude.{◌≡◌, ◌+◌, [], length, ◌↔◌, IfOk};
 ghost use Rattle.sessions.specs.Logs.{IsLegal};
@@ -14,9 +14,9 @@ use std::marker::Model;
 use std::snapshot::Snapshot;
 use turn::Counted;
 
-/// A book, and for proofs the book that the journal opened with. In contracts a journal is a list:
-/// the opening, then the logged calls. The book is boxed, since whoever takes the turn moves the
-/// journal out and back.
+/// A desk's book, and for proofs the book that the desk opened with. In contracts a journal is a
+/// list: the opening, then the logged calls. The book is boxed, because a chair that takes the turn
+/// moves the journal out of the turn, and later back.
 #[derive(Drop)]
 pub struct Journal<R: Register> {
     first: Snapshot<Book<R>>,
@@ -37,7 +37,7 @@ impl<R: Register> Model for Journal<R> {
 }
 
 impl<R: Register> Journal<R> {
-    /// A journal that opens with this book.
+    /// A journal that opens with this book, and has the calls in the book's log.
     pub(crate) fn new(alloc: Global, book: Book<R>) -> Result<Journal<R>, AllocError>
         ensures { IfOk result (λ journal. journal ≡ items book book.log) }
     {
@@ -46,7 +46,7 @@ impl<R: Register> Journal<R> {
         Ok(Journal { first, book })
     }
 
-    /// The log of the journal's book.
+    /// The log of the journal's book, which has the journal's calls.
     pub(crate) fn into_log(self) -> Log
         ensures { result ≡ calls_in self }
     {

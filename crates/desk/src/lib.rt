@@ -1,9 +1,10 @@
-//! The desk: one book guarded by one turn, and chairs that bring it their sessions' commands and
-//! looks.
+//! A desk: one book guarded by one lock (the turn). Its callers have chairs, with which they give
+//! sessions' commands, and look.
 //!
-//! The calls of all chairs make one history, which is legal from the desk's opening. What a chair
-//! has seen is a prefix of this history; a chair with all 16 shares has seen all of it. Pages are
-//! made while the turn is free.
+//! The logged commands of all chairs make one history, which is legal from the desk's opening (each
+//! reply is the one that its command gets after the calls before it). What a chair has seen is a
+//! prefix of this history. The chairs divide the turn's 16 shares, and a chair with all of them has
+//! seen the whole history. Pages are made while the turn is free.
 #![tactic(auto)]
 
 mod act;

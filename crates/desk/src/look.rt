@@ -1,4 +1,5 @@
-//! A look as work under the turn.
+//! A look, as work that a chair does on the journal while it has the turn, which is the desk's
+//! lock.
 
 use crate::journal::Journal;
 use frames::register::Register;
@@ -8,7 +9,8 @@ use turn::Work;
 use views::query::Query;
 use views::slip::Slip;
 
-/// A look. The page is made later, from the slip.
+/// The work that looks. It returns the history's length, and either a slip (what the look found,
+/// from which the page is made once the turn is free) or why the look is refused.
 #[derive(Drop)]
 pub(crate) struct Look {
     pub(crate) alloc: Global,

@@ -1,4 +1,5 @@
-//! A plan as work under the turn.
+//! The plan of a fill's round, as work that a chair does on the journal while it has the turn,
+//! which is the desk's lock.
 
 ghost use Rattle.std.specs.Prelude.{◌≡◌, IsSome, IfOk, IfErr, OnOk};
 ghost use Rattle.schedule_trie.specs.Forest.{index_of};
@@ -14,7 +15,8 @@ use sessions::book::Book;
 use std::alloc::Global;
 use turn::Work;
 
-/// Plans the jobs of a round: first that of `branch`, then those of the other branches.
+/// The work that lists the jobs of a fill's round, which are segments to replay: first the job of
+/// `branch`, then those of other branches.
 #[derive(Drop)]
 pub(crate) struct Plan<'a> {
     pub(crate) alloc: Global,
@@ -35,8 +37,8 @@ impl<R: Register> Work<Journal<R>> for Plan<'_> {
     }
 }
 
-/// For each branch of a book, its first segment that no stored run fits, as a job. The branch
-/// called `branch` comes first, and no segment appears twice.
+/// For each branch of a book, a job for its first segment that no stored run fits. The branch
+/// called `branch` comes first, and no segment has two jobs.
 fn jobs_left<R: Register>(
     alloc: Global,
     book: &Book<R>,

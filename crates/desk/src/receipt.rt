@@ -1,11 +1,12 @@
-//! What a desk's calls return.
+//! The answers of a desk to commands, looks and saves.
 
 use schedule_trie::Limbs;
 use schedule_trie::refusal::Refusal;
 use sessions::reply::Reply;
 use views::page::Page;
 
-/// The answer to a command. `at` is the length of the history when the turn was given back.
+/// The answer to a command: its reply, and as `at` the length of the history when the turn was
+/// given back, which counts the command if it was logged.
 #[derive(Clone, Copy, Debug, PartialEq, Eq)]
 pub struct Receipt {
     pub at: u64,
@@ -20,8 +21,8 @@ pub struct Answer {
     pub result: Result<Page, Refusal>,
 }
 
-/// What a save gives: the limbs of the branches, in the order the branches were made. `at` is the
-/// length of the history when the turn was given back.
+/// The result of a save: the limbs, each of which describes a branch, in the order in which the
+/// branches were made. `at` is the length of the history when the turn was given back.
 #[derive(Debug, Drop)]
 pub struct Saved {
     pub at: u64,

@@ -1,4 +1,4 @@
-//! The report of a fill.
+//! The report of a fill: how its jobs, which are segments to replay, ended.
 
 ghost use Rattle.std.specs.Prelude.{◌≡◌, ◌<◌, ◌≤◌, ◌+◌, ◌^◌, MatchOption};
 ghost use Rattle.std.specs.Bool.{Decides};
@@ -6,23 +6,24 @@ ghost use Rattle.desk.specs.Reports.{IsIdle, IsSum, both, report_with, no_jobs};
 
 use cutoff::install::Installation;
 
-/// How the jobs of a fill ended.
+/// How many jobs (segments to replay) a fill planned, and how they ended.
 #[derive(Clone, Copy, Debug, PartialEq, Eq)]
 pub struct Report {
-    /// How many jobs were planned: the sum of the other counts.
+    /// How many jobs were planned: the sum of the four other counts.
     pub planned: u64,
-    /// How many runs were installed.
+    /// How many jobs gave a run that was installed.
     pub installed: u64,
-    /// How many runs no longer fitted their segments.
+    /// How many runs weren't installed because they didn't fit, or because no stored run fitted
+    /// some segment above theirs.
     pub stale: u64,
-    /// How many runs were of segments that no longer existed.
+    /// How many runs weren't installed because their segment no longer existed.
     pub gone: u64,
-    /// How many jobs ran out of memory.
+    /// How many jobs ran out of memory, and so gave no run.
     pub memory: u64,
 }
 
 impl Report {
-    /// A report of no jobs.
+    /// The report of a fill that has no jobs: all its counts are 0.
     pub(crate) fn new() -> Report
         ensures { result ≡ no_jobs }
     {
@@ -35,14 +36,15 @@ impl Report {
         }
     }
 
-    /// Whether no job ran: there was none, or each ran out of memory.
+    /// Whether no job gave a run: there was no job, or each job ran out of memory.
     pub(crate) fn is_idle(&self) -> bool
         ensures { Decides result (IsIdle self.now) }
     {
         self.memory == self.planned
     }
 
-    /// Counts one more job by what became of its run; `None` means that the job ran out of memory.
+    /// Counts one more planned job, and counts its run as installed, stale or gone, as `answer`
+    /// says. If `answer` is `None`, the job is counted as out of memory.
     pub(crate) fn count(&mut self, answer: Option<Installation>)
         requires sum { IsSum self.old }
         requires room { self.old.planned + 1 < 2 ^ 64 }
@@ -57,7 +59,8 @@ impl Report {
         }
     }
 
-    /// The sum of two reports; `None` if the number of planned jobs overflows 64 bits.
+    /// The sum of two reports, count by count; `None` if the number of planned jobs overflows 64
+    /// bits.
     pub(crate) fn plus(self, other: Report) -> Option<Report>
         requires { IsSum self × IsSum other }
         ensures { MatchOption result (2 ^ 64 ≤ self.planned + other.planned)

@@ -1,4 +1,4 @@
-//! A save: the limbs of a desk's branches.
+//! A save: the desk's branches as limbs, from which a desk can be opened again.
 
 ghost use Rattle.turn.specs.Histories.{OwnsItsCalls};
 ghost use Rattle.turn.specs.Chairs.{view};
@@ -15,7 +15,7 @@ use std::alloc::Global;
 use std::sync::Wait;
 use turn::Work;
 
-/// Lists the limbs of the branches.
+/// The work that describes each branch by a limb.
 #[derive(Drop)]
 struct Save {
     alloc: Global,
@@ -38,12 +38,14 @@ impl<R: Register> Work<Journal<R>> for Save {
 }
 
 impl<R: Register> Desk<R> {
-    /// Waits for the turn and lists the limbs of the branches. `open_limbs` opens a desk with such
-    /// limbs.
+    /// Waits for the turn, and returns the desk's branches as limbs, with the length of the
+    /// history. Each limb has a branch's name, how many cells it shares with which branch, and its
+    /// own steps. From these limbs, `open_limbs` can open a desk with the same branches. The chair
+    /// has then seen the history that the save found; the save adds no call to it.
     ///
     /// # Errors
     ///
-    /// Memory.
+    /// Memory if memory runs out.
     pub fn limbs<W: Wait>(
         &self,
         rt: &W,

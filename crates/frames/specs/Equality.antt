@@ -14,14 +14,15 @@ use Rattle.frames.specs.declared.types.Op.TheVariants as op
 use Rattle.frames.specs.declared.running.Running.{Running}
 use Rattle.frames.specs.Configuration.{Configuration}
 
--- two configurations are equal; the test E compares their registers
+-- two configurations are equal: the test E finds their registers equal, and they have the same
+-- memory, pending operations and stop marks
 pub record SameConfiguration {R P : Type 0} (E : R → R → Bool) (a b : Configuration R P) : Type 0 where
   pub register : E a.register b.register ≡ true
   pub memory : a.memory ≡ b.memory
   pub running : a.running ≡ b.running
   pub stopped : a.stopped ≡ b.stopped
 
--- compares two operations
+-- whether two operations are equal
 abbrev pub op_eq : Op → Op → Bool
 op_eq (op.Write v) (op.Write w) = nat_eq v w
 op_eq op.Read op.Read = true
@@ -33,7 +34,7 @@ op_decides op.Read op.Read = (λ h. refl, λ h. refl)
 op_decides (op.Write v) op.Read = (λ h. cc, λ h. cc)
 op_decides op.Read (op.Write w) = (λ h. cc, λ h. cc)
 
--- compares two pending operations; the test F compares their points
+-- whether two pending operations are equal; the test F compares their points
 abbrev pub running_eq : {P : Type 0} → (P → P → Bool) → Running P → Running P → Bool
 running_eq F a b = op_eq a.op b.op && F a.point b.point
 
@@ -42,7 +43,8 @@ running_decides F d a b =
     Decides-like (running_eq F a b) (λ p. λ i. record { op = p.0 i; point = p.1 i }) (λ p. (ap (λ r. r.op) p, ap (λ r. r.point) p))
     (Decides-and (op_eq a.op b.op) (F a.point b.point) (op_decides a.op b.op) (d a.point b.point))
 
--- compares two configurations; E compares their registers, and F compares points
+-- whether two configurations are equal; the test E compares their registers, and the test F
+-- compares the points of pending operations
 abbrev pub configuration_eq : {R P : Type 0} → (R → R → Bool) → (P → P → Bool) → Configuration R P → Configuration R P → Bool
 configuration_eq E F = eq_of_both (on (λ c. c.register) E) (eq_of_both (on (λ c. c.memory) memory_eq) (eq_of_both (on (λ c. c.running) (pointwise (option_eq (running_eq F)))) (on (λ c. c.stopped) (pointwise beq))))
 

@@ -1,5 +1,5 @@
 -- Which steps fit a register. This depends on the number of processes, and on the operations that
--- fit each.
+-- fit each process.
 use Rattle.std.specs.Prelude.{ℕ, Bool, ◌&&◌, nat_lt}
 use Rattle.frames.specs.declared.types.Op.{Op}
 use Rattle.frames.specs.declared.types.Op.TheVariants as op
@@ -7,12 +7,12 @@ use Rattle.frames.specs.declared.types.Step.{Step}
 use Rattle.frames.specs.declared.types.Step.TheVariants as step
 use Rattle.frames.specs.Behaviour.{Behaviour}
 
--- the number of processes, and which operations fit each
+-- what decides which steps fit: the number of processes, and which operations fit each process
 pub record Roles : Type 0 where
   pub processes : ℕ
   pub suits : ℕ → Op → Bool
 
--- the roles of a register
+-- a register's number of processes, and which operations fit each process
 abbrev pub roles_of : {P : Type 0} → Behaviour P → Roles
 roles_of b = record { processes = b.processes; suits = b.suits }
 
@@ -23,8 +23,9 @@ process_of (step.Read p) = p
 process_of (step.Go p c) = p
 process_of (step.Stop p) = p
 
--- Whether a step fits. An invocation fits if its operation fits its process. A bit action fits if
--- its process exists and the choice is 0 or 1. A stop fits if its process exists.
+-- Whether a step fits a register with these roles. An invocation fits if its process may do its
+-- operation (for a write, with its value). A bit action fits if its process exists and the choice
+-- is 0 or 1. A stop fits if its process exists.
 abbrev pub step_fits : Roles → Step → Bool
 step_fits roles (step.Write p v) = roles.suits p (op.Write v)
 step_fits roles (step.Read p) = roles.suits p op.Read

@@ -1,4 +1,5 @@
--- The invariant of a configuration.
+-- What always holds of a configuration, whose processes are stored as stacks of frames and stop
+-- marks.
 use Rattle.std.specs.Prelude.{◌≡◌, ℕ, Bool, false, List, [], length, map, slice_index_or, Option, MatchOption, ⊤}
 use Rattle.safe_bit.specs.Memory.{Memory}
 use Rattle.frames.specs.declared.types.Op.{Op}
@@ -12,26 +13,29 @@ use Rattle.frames.specs.Flat.{running_from, stack_of}
 abbrev pub idle : Parked
 idle = record { stack = []; stopped = false }
 
--- the processes' stacks, and their stop marks
+-- each process's stack of frames
 abbrev pub stacks_of : List Parked → List (List Frame)
 stacks_of = map (λ p. p.stack)
 
+-- each process's stop mark: whether the process has stopped
 abbrev pub marks_of : List Parked → List Bool
 marks_of = map (λ p. p.stopped)
 
--- the configuration of a register, a memory, stacks and stop marks; `find` reads points from stacks
+-- the configuration with this register and memory, whose processes have these stacks of frames and
+-- stop marks; `find` gives the point of a process's pending operation from its stack
 abbrev pub parked_configuration : {R P : Type 0} → (ℕ → List Frame → Option P) → R → Memory → List (List Frame) → List Bool → Configuration R P
 parked_configuration find r m stacks stopped = record { register = r; memory = m; running = running_from find 0 stacks; stopped = stopped }
 
--- the register's memory satisfies `Holds`; each process has a stop mark, and is idle or at a point
--- that it can reach
+-- The register's memory satisfies `Holds`. For each process there is a mark that says whether it
+-- has stopped, and each process is idle or has an operation pending at a point that it can reach.
 pub record IsConfiguration {R P : Type 0} (b : Behaviour P) (Holds : Memory → Type 0) (Reaches : ℕ → Op → P → Type 0) (c : Configuration R P) : Type 0 where
   pub holds : Holds c.memory
   pub each : length c.running ≡ b.processes
   pub each_mark : length c.stopped ≡ b.processes
   pub reached : (p : ℕ) → MatchOption (running_at p c) ⊤ (λ r. Reaches p r.op r.point)
 
--- a configuration in which each process's stack has just the frames of its pending operation
+-- c satisfies `IsConfiguration`, and each process's stack has just the frames of its pending
+-- operation (none if the process is idle)
 pub record IsFlat {R P : Type 0} (b : Behaviour P) (Holds : Memory → Type 0) (Reaches : ℕ → Op → P → Type 0) (c : Configuration R P) (stacks : List (List Frame)) : Type 0 where
   pub configuration : IsConfiguration b Holds Reaches c
   pub flat : (p : ℕ) → slice_index_or stacks p [] ≡ stack_of b (running_at p c)

@@ -11,7 +11,7 @@ use Rattle.frames.specs.OneWriter.{HasOneWriter}
 use Rattle.frames.specs.Recorded.{AllFit, recorded}
 use Rattle.frames.specs.Verdicts.{Known, accepted, initially, after, reading, judged}
 
--- whether an event is a refusal, and that no event of a history is one
+-- whether an event is the refusal of an operation
 abbrev pub is_refusal : Event → Bool
 is_refusal (Refused p layer) = true
 is_refusal (Invoke p o) = false
@@ -21,21 +21,23 @@ is_refusal (Void p reason) = false
 is_refusal (Stop p) = false
 is_refusal (Chosen p bit v) = false
 
+-- no event of the list is a refusal
 abbrev pub NoneRefused : List (ℕ × Event) → Type 0
 NoneRefused events = list_any (λ e. is_refusal e.1) events ≡ false
 
--- the value of the write in progress, if there is one
+-- the value of the write in progress, as a list of one item; an empty list if there is no such
+-- write
 abbrev pub in_progress : Option ℕ → List ℕ
 in_progress None = []
 in_progress (Some v) = v ∷ []
 
--- the values of the writes that process p's read overlaps: the writes that have returned since its
--- invocation, and the write in progress
+-- the values of the writes that overlap process p's read if it returns now: those that have
+-- returned since its invocation, and the one in progress
 abbrev pub overlapped : ℕ → Known → List ℕ
 overlapped p k = drop (reading p k).since k.returned ++ in_progress k.writing
 
--- `Says` holds of the read that an event returns, if it returns one, or of each returned read of a
--- history; `Says` is given what is known as the read returns, its process and its value
+-- If a read returns in this event, `Says` holds of it. `Says` is given what is known as the read
+-- returns, the read's process, and its value.
 abbrev pub OnReturn : (Known → ℕ → ℕ → Type 0) → Known → Event → Type 0
 OnReturn Says k (Got p v) = Says k p v
 OnReturn Says k (Invoke p o) = ⊤
@@ -45,55 +47,76 @@ OnReturn Says k (Void p reason) = ⊤
 OnReturn Says k (Stop p) = ⊤
 OnReturn Says k (Chosen p bit v) = ⊤
 
+-- `Says` holds of each read that returns in these events; k is what is known before them
 abbrev pub EachRead : (Known → ℕ → ℕ → Type 0) → Known → List (ℕ × Event) → Type 0
 EachRead Says k [] = ⊤
 EachRead Says k (e ∷ es) = OnReturn Says k e.1 × EachRead Says (after k e.1) es
 
--- two claims about a read: it is fresh if it overlaps no write; and it isn't stray
+-- if process p's read, which returns v now, overlaps no write, v is the value of the last write
+-- that had returned when the read was invoked (or the initial value, if none had)
 abbrev pub FreshAlone : Known → ℕ → ℕ → Type 0
 FreshAlone k p v = overlapped p k ≡ [] → judged k p v ≡ Fresh
 
+-- process p's read, which returns v now, isn't stray: v is the value of the last write that had
+-- returned when the read was invoked (or the initial value, if none had), or of a write that
+-- overlaps the read
 abbrev pub NotStray : Known → ℕ → ℕ → Type 0
 NotStray k p v = judged k p v ≢ Stray
 
--- a register of one writer that refuses no operation and whose returned reads all satisfy `Says`,
--- on every list of fitting steps, from every initial value
+-- Only process 0 writes, and only the others read. On every list of fitting steps, from every
+-- initial value, no operation is refused, and each returned read satisfies `Says`, which is given
+-- what is known as the read returns, the read's process, and its value.
 pub record AlwaysReads {P : Type 0} (b : Behaviour P) (Says : Known → ℕ → ℕ → Type 0) : Type 0 where
   pub one_writer : HasOneWriter b
   pub refuses_none : (value : ℕ) (steps : List Step) → value < b.values → AllFit b steps → NoneRefused (recorded b value steps)
   pub each_read : (value : ℕ) (steps : List Step) → value < b.values → AllFit b steps → EachRead Says (initially value) (accepted (recorded b value steps))
 
--- safe: a returned read that no write overlaps gives the value of the last write before it
+-- Safe: only process 0 writes. On every list of fitting steps, from every initial value, no
+-- operation is refused, and each returned read that overlaps no write gives the value of the last
+-- write that returned before it (or the initial value, if none did).
 abbrev pub IsSafe : {P : Type 0} → Behaviour P → Type 0
 IsSafe b = AlwaysReads b FreshAlone
 
--- regular: a returned read gives the value of the last write before it, or of one that it overlaps
+-- Regular: only process 0 writes. On every list of fitting steps, from every initial value, no
+-- operation is refused, and each returned read gives the value of the last write that returned
+-- before the read was invoked (or the initial value, if none did), or of a write that overlaps the
+-- read.
 abbrev pub IsRegular : {P : Type 0} → Behaviour P → Type 0
 IsRegular b = AlwaysReads b NotStray
 
--- the values of the writes so far, in order; number 0 is the initial value
+-- the values of the writes invoked so far, by number: item n is the value of the n-th write, and
+-- item 0 is the initial value
 abbrev pub by_number : ℕ → Known → List ℕ
 by_number value k = value ∷ (k.returned ++ in_progress k.writing)
 
--- a read that returns v can have number n: write n has this value and was invoked before the read
--- returns, and no later write had returned when the read was invoked
+-- Process p's read, which returns v now, can be assigned write number n: write n has been invoked
+-- and has value v (or n is 0, and v is the initial value); and when the read was invoked, no write
+-- with a number above n had returned.
 pub record IsNumber (value : ℕ) (k : Known) (p v n : ℕ) : Type 0 where
   pub low : (reading p k).since ≤ n
   pub high : n < length (by_number value k)
   pub value_of : slice_index_or (by_number value k) n value ≡ v
 
--- the returned reads can be given numbers that never fall; the first number is at least `floor`
+-- Each read that returns in these events can be assigned the number of a write, as `IsNumber` says.
+-- Each number is at least `floor`, and at least that of each read that returns earlier in these
+-- events. k is what is known before the events.
 abbrev pub Numbered : ℕ → ℕ → Known → List (ℕ × Event) → Type 0
 Numbered value floor k [] = ⊤
 Numbered value floor k (e ∷ es) = (n : ℕ) × ((floor ≤ n) × (OnReturn (λ k p v. IsNumber value k p v n) k e.1 × Numbered value n (after k e.1) es))
 
--- atomic: one writer and one reader, whose returned reads can be given numbers, on every list of
--- fitting steps, from every initial value
+-- Atomic: only process 0 writes, and only process 1 reads. On every list of fitting steps, from
+-- every initial value, the writes that aren't refused have the numbers 1, 2, .. in order, and the
+-- initial value has number 0. Each returned read can be assigned one of these numbers: the read
+-- gives the value with that number; the write with that number (if it isn't 0) was invoked before
+-- the read returned, and no write with a greater number had returned when the read was invoked; and
+-- no read that returned earlier has a greater number.
 pub record IsAtomic {P : Type 0} (b : Behaviour P) : Type 0 where
   pub one_writer : HasOneWriter b
   pub one_reader : b.processes ≡ 2
   pub numbered : (value : ℕ) (steps : List Step) → value < b.values → AllFit b steps → Numbered value 0 (initially value) (accepted (recorded b value steps))
 
--- on every list of fitting steps, from every initial value, no returned read is stray
+-- On every list of fitting steps, from every initial value, no returned read is stray: each gives
+-- the value of the last write that returned before the read was invoked (or the initial value, if
+-- none did), or of a write that overlaps the read.
 abbrev pub NeverStray : {P : Type 0} → Behaviour P → Type 0
 NeverStray b = (value : ℕ) (steps : List Step) → value < b.values → AllFit b steps → EachRead NotStray (initially value) (accepted (recorded b value steps))

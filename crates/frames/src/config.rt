@@ -106,8 +106,8 @@ impl<R: Register> PartialEq for Config<R> {
 }
 
 impl<R: Register> Config<R> {
-    /// The initial configuration: the register holds `value`, no process has an operation pending,
-    /// and none has stopped.
+    /// The initial configuration: the register holds `value`, which is below its number of values;
+    /// no process has an operation pending, and none has stopped. `AllocError` if memory runs out.
     pub fn initial(alloc: Global, register: R, value: u32) -> Result<Config<R>, AllocError>
         requires { value < (R.behaviour register).values }
         ensures { IfOk result
@@ -122,7 +122,7 @@ impl<R: Register> Config<R> {
         })
     }
 
-    /// An equal copy, with its own cells and words.
+    /// An equal copy, with its own cells and words. `AllocError` if memory runs out.
     pub fn copy(&self, alloc: Global) -> Result<Config<R>, AllocError>
         ensures { IfOk result (λ c. c ≡ self.now) }
     {
@@ -133,14 +133,14 @@ impl<R: Register> Config<R> {
         })
     }
 
-    /// The register.
+    /// The register whose configuration this is.
     pub fn register(&self) -> R
         ensures { result ≡ self.now.register }
     {
         self.register
     }
 
-    /// The cells and words.
+    /// The configuration's cells and words.
     pub fn store(&self) -> &Store
         ensures { result.now ≡ self.now.memory }
     {
@@ -163,7 +163,7 @@ impl<R: Register> Config<R> {
     }
 
     /// The frames of process `p`'s pending operation, outermost first; `None` if `p` is idle or
-    /// doesn't exist. Never allocates.
+    /// doesn't exist. The stack has its inline capacity of 8 frames, so nothing is allocated.
     pub fn stack(&self, alloc: Global, p: u32) -> Option<Stack>
         ensures frames { option_map (λ s. s.items) result
             ≡ option_map (λ r. (R.behaviour self.now.register).frames r.point)
@@ -177,14 +177,15 @@ impl<R: Register> Config<R> {
         Some(frames.to_stack(alloc))
     }
 
-    /// The next bit action of process `p`; `None` if `p` is idle or doesn't exist.
+    /// The next bit action of process `p`, and its cell's number in the store; `None` if `p` is
+    /// idle or doesn't exist.
     pub fn action(&self, p: u32) -> Option<Action>
         ensures { result ≡ option_map (λ r. (R.behaviour self.now.register).acts r.point)
             (running_at p self.now) }
     {
         let frames = self.frames(p)?;
-        let stack = frames.to_stack(self.store.allocator());
-        let point = self.register.pending(&stack, 0, p)?;
+        let alloc = self.store.allocator();
+        let point = self.register.pending_on(alloc, frames, 0, p)?;
         Some(self.register.action(&point, ORIGIN))
     }
 
@@ -198,8 +199,8 @@ impl<R: Register> Config<R> {
         }
     }
 
-    /// The frames of process `p`'s pending operation, none if `p` is idle; `None` if `p` doesn't
-    /// exist.
+    /// The frames of process `p`'s pending operation; an empty stack if `p` is idle, and `None` if
+    /// `p` doesn't exist.
     fn frames(&self, p: u32) -> Option<&FlatStack>
         ensures there { IfSome result
             (λ s. s.now ≡ stack_of (R.behaviour self.now.register) (running_at p self.now)) }
@@ -210,7 +211,8 @@ impl<R: Register> Config<R> {
         Some(&self.processes.get(p as usize)?.stack)
     }
 
-    /// Makes the step, and returns its events, at most two.
+    /// Makes a step that fits the register, and returns its events, at most two. If the step isn't
+    /// enabled, its one event is a `Void`, and nothing changes.
     #[inline(always)]
     pub fn step(&mut self, step: Step) -> StepEvents
         requires { fits_step (R.behaviour self.old.register) step ≡ true }
@@ -233,7 +235,7 @@ impl<R: Register> Config<R> {
         self.processes[who as usize].stopped
     }
 
-    /// Makes the step, whose process hasn't stopped.
+    /// Makes the step, without a test whether its process has stopped.
     #[inline(always)]
     fn act(&mut self, step: Step) -> StepEvents
         requires { fits_step (R.behaviour self.old.register) step ≡ true }
@@ -260,7 +262,8 @@ impl<R: Register> Config<R> {
         alone(Event::Stop(who))
     }
 
-    /// Process `who` invokes `op`; its step is void if it has an operation pending.
+    /// Process `who` invokes `op`. If the process has an operation pending already, the step is
+    /// void.
     #[inline(always)]
     fn invoke(&mut self, who: u32, op: Op) -> StepEvents
         requires { (R.behaviour self.old.register).suits who op ≡ true }
@@ -271,7 +274,8 @@ impl<R: Register> Config<R> {
         invoke(&self.register, &mut self.store, who, op, stack)
     }
 
-    /// Process `who` makes its next bit action; its step is void if it has nothing pending.
+    /// Process `who` makes its next bit action. If the process has no operation pending, the step
+    /// is void.
     #[inline(always)]
     fn proceed(&mut self, who: u32, choice: bool) -> StepEvents
         requires { who < (R.behaviour self.old.register).processes }

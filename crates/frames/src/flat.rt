@@ -10,7 +10,8 @@ use smallvec::SmallVec;
 use std::alloc::Global;
 use std::marker::Model;
 
-/// The frame at `index`; index 0 is the outermost frame.
+/// The frame of `stack` at `index`, which is below the number of frames; index 0 is the outermost
+/// frame.
 pub fn frame_at(stack: &Stack, index: usize) -> Frame
     requires { index < length stack.now.items }
     ensures { drop index stack.now.items ≡ result ∷ drop (index + 1) stack.now.items }
@@ -95,7 +96,7 @@ impl FlatStack {
         self.count == 0
     }
 
-    /// The frames, outermost first.
+    /// The frames, outermost first; there are at most 8.
     pub fn as_slice(&self) -> &[Frame]
         ensures items { result.now ≡ self.now }
         ensures few { length self.now ≤ STACK_FRAMES }
@@ -103,7 +104,7 @@ impl FlatStack {
         &self.frames[..self.count]
     }
 
-    /// A `Stack` with the same frames. Never allocates.
+    /// A `Stack` with the same frames. It has its inline capacity of 8, so nothing is allocated.
     pub fn to_stack(&self, alloc: Global) -> Stack
         ensures items { result.items ≡ self.now }
         ensures inline { result.capacity ≡ 8 }
@@ -121,7 +122,7 @@ impl FlatStack {
         Some(self.frames[0].op)
     }
 
-    /// The frame at `index`; index 0 is the outermost frame.
+    /// The frame at `index`, which is below the number of frames; index 0 is the outermost frame.
     #[inline(always)]
     pub fn frame(&self, index: usize) -> Frame
         requires { index < length self.now }
@@ -131,7 +132,7 @@ impl FlatStack {
         self.frames[index]
     }
 
-    /// Replaces the frame at `index`.
+    /// Replaces the frame at `index`, which is below the number of frames, by `frame`.
     #[inline(always)]
     pub fn set(&mut self, index: usize, frame: Frame)
         requires { index < length self.old }
@@ -141,7 +142,7 @@ impl FlatStack {
         self.frames[index] = frame;
     }
 
-    /// Pushes a frame after the others.
+    /// Pushes `frame` after the others, of which there are fewer than 8.
     #[inline(always)]
     pub fn push(&mut self, frame: Frame)
         requires { length self.old < STACK_FRAMES }
@@ -153,7 +154,7 @@ impl FlatStack {
         self.count = count + 1;
     }
 
-    /// Pushes `frames` after the others, in order.
+    /// Pushes `frames` after the others, in order; these and the others must be at most 8 together.
     pub fn extend(&mut self, frames: &[Frame])
         requires { length self.old + length frames.now ≤ STACK_FRAMES }
         ensures { self.new ≡ self.old ++ frames.now }
@@ -163,13 +164,14 @@ impl FlatStack {
         }
     }
 
-    /// Keeps the first `count` frames and drops the rest.
+    /// Keeps the first `count` frames and drops the rest; `count` is at most the number of frames.
     #[inline(always)]
     pub fn leave(&mut self, count: usize)
         requires { count ≤ length self.old }
         ensures { self.new ≡ take count self.old }
     {
-        // no test at run time: so the compiler can merge the cuts of several layers into one store
+        // no test at run time: if several layers drop their frames in one action, the compiler can
+        // then set the count just once
         prove!(count <= self.count);
         self.count = count;
     }

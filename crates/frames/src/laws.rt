@@ -21,7 +21,8 @@ pub fn void_unless_enabled<R: Register>(register: &R)
         → IsVoid (R.behaviour register.now) c s }
 {}
 
-/// A process that has stopped stays stopped in all later steps, and keeps its pending operation.
+/// A process that has stopped is still stopped after any later steps, and then has the same
+/// operation pending as before those steps, or none if it had none.
 pub fn stopped_for_good<R: Register>(register: &R)
     ensures { (p : ℕ) (c : Configuration R R.Pending) (steps : List Step) → is_stopped p c ≡ true
         → StaysStopped p c (replayed (R.behaviour register.now) c steps) }
@@ -60,12 +61,15 @@ pub fn leaves_others<R: Register>(register: &R)
         (part at (R.behaviour register.now).size m)).memory m) }
 {}
 
-/// The safe bit is safe.
+/// The register of one safe bit is safe: no operation is refused, and a returned read that overlaps
+/// no write gives the value of the last write before it (or the initial value, if there is none).
 pub fn safe(register: &Safe)
     ensures { IsSafe (⟦<Safe as Behaves>⟧.behaviour register.now) }
 {}
 
-/// No returned read of a regular register is stray, and no returned read of an atomic register is.
+/// If a register is regular or atomic, none of its returned reads is stray: each gives the value of
+/// the last write that returned before the read was invoked (or the initial value, if none did), or
+/// of a write that overlaps the read.
 pub fn never_stray<R: Register>(register: &R)
     ensures regular { IsRegular (R.behaviour register.now) → NeverStray (R.behaviour register.now) }
     ensures atomic { IsAtomic (R.behaviour register.now) → NeverStray (R.behaviour register.now) }

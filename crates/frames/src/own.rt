@@ -16,7 +16,8 @@ use std::alloc::{AllocError, Global};
 /// The first place in a store: cell 0 and word 0.
 pub const ORIGIN: Place = Place { cell: 0, word: 0 };
 
-/// A new store for the register alone, which holds the initial value `value`.
+/// A new store with just the cells and words of `register`, which holds the initial value `value`,
+/// one of its values. `AllocError` if memory runs out.
 pub fn store_of<R: Register>(alloc: Global, register: &R, value: u32) -> Result<Store, AllocError>
     requires { value < (R.behaviour register.now).values }
     ensures { IfOk result (λ store. store ≡ (R.behaviour register.now).initial value) }
@@ -27,7 +28,9 @@ pub fn store_of<R: Register>(alloc: Global, register: &R, value: u32) -> Result<
     Ok(store)
 }
 
-/// `begin_on` in the register's own store, for a process that has no operation pending.
+/// Process `who`, which is idle, invokes `op`, which fits it, on a register that has the store to
+/// itself. If the operation ends at once, returns its outcome, and the stack stays empty; else
+/// returns `None`, and the stack then has the operation's frames.
 #[inline(always)]
 pub fn begin_own<R: Register>(
     register: &R,
@@ -46,7 +49,11 @@ pub fn begin_own<R: Register>(
     register.begin_on(store, ORIGIN, who, op, stack)
 }
 
-/// `go_on` in the register's own store: the stack has the frames of process `who`'s operation.
+/// Process `who` makes its next bit action on a register that has the store to itself. Before the
+/// call the stack has just the frames of `who`'s pending operation; afterwards it has the new
+/// frames, or none if the operation has ended. `choice` is what a hit read of a bit gives. Returns
+/// the outcome if the operation has ended; and, if the action ended a hit read, its bit and the
+/// value that it gave.
 #[inline(always)]
 pub fn go_own<R: Register>(
     register: &R,
@@ -71,7 +78,9 @@ pub fn go_own<R: Register>(
     register.go_on(store, ORIGIN, who, stack, 0, choice)
 }
 
-/// Process `who` invokes `op`; its step is void if it has an operation pending.
+/// Process `who` invokes `op`, which fits it, on a register that has the store to itself; the stack
+/// has just the frames of `who`'s pending operation, before and after. Returns the step's events.
+/// If the process has an operation pending already, the step is void and nothing changes.
 #[inline(always)]
 pub fn invoke<R: Register>(
     register: &R,
@@ -98,7 +107,10 @@ pub fn invoke<R: Register>(
     }
 }
 
-/// Process `who` makes its next bit action; its step is void if it has nothing pending.
+/// Process `who` makes its next bit action on a register that has the store to itself; the stack
+/// has just the frames of `who`'s pending operation, before and after. A hit read of a bit gives
+/// `choice`. Returns the step's events. If the process has no operation pending, the step is void
+/// and nothing changes.
 #[inline(always)]
 pub fn proceed<R: Register>(
     register: &R,
@@ -140,7 +152,7 @@ fn end_of(who: u32, end: Option<Outcome>) -> Option<Event>
     }
 }
 
-/// The events of a step that records one event.
+/// The events of a step that records `event` and nothing else.
 #[inline(always)]
 pub fn alone(event: Event) -> StepEvents
     ensures { result ≡ spec.in_order (Some event) None }

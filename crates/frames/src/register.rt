@@ -23,7 +23,8 @@ pub const MOST_CELLS: u32 = 4096;
 /// The most words that a register can have.
 pub const MOST_WORDS: u32 = 65_536;
 
-/// Only a register's behaviour, without its calls. A type over registers needs no more than this.
+/// A register's behaviour, without its calls. A type that is generic over registers needs only
+/// this.
 pub trait Behaves {
     /// A point that a pending operation is at, between two bit actions.
     type Pending: Copy + PartialEq;
@@ -32,10 +33,10 @@ pub trait Behaves {
     ghost behaviour: { Self → Behaviour Self.Pending };
 }
 
-/// A register, generic over the registers that it is built from. Its operations read and change
-/// only its own cells and words, in the same way at every place.
+/// A register. Its operations read and change only its own cells and words, in the same way at
+/// every place.
 pub trait Register: Behaves + Copy + Eq {
-    // What always holds of the register's own memory: its size is right, its words are in range.
+    // What always holds of the register's own memory: the right size, and each word in range.
     ghost Holds: { Self → Memory → Type 0 };
 
     // The points that a process can reach in an operation.
@@ -64,13 +65,15 @@ pub trait Register: Behaves + Copy + Eq {
     fn fits(&self, who: u32, op: Op) -> bool
         ensures { result ≡ (Self.behaviour self.now).suits who op };
 
-    /// Sets the register's own memory to its initial contents, in which the register holds `value`.
+    /// Sets the register's own memory, at place `at`, so that the register holds the initial value
+    /// `value`.
     fn init(&self, store: &mut Store, at: Place, value: u32)
         requires inside { LiesIn at (Self.behaviour self.now).size store.old }
         requires value { value < (Self.behaviour self.now).values }
         ensures { store.new ≡ with_part at ((Self.behaviour self.now).initial value) store.old };
 
-    /// Process `who` invokes operation `op` on the register at place `at`.
+    /// Process `who` invokes operation `op` on the register at place `at`. Gives the point at which
+    /// the operation is then pending, or its outcome if it ends at once.
     fn begin(&self, store: &mut Store, at: Place, who: u32, op: Op) -> Next<Self::Pending>
         requires inside { LiesIn at (Self.behaviour self.now).size store.old }
         requires holds { Holds self.now (part at (Self.behaviour self.now).size store.old) }
@@ -81,6 +84,8 @@ pub trait Register: Behaves + Copy + Eq {
             (part at (Self.behaviour self.now).size store.old)).memory store.old };
 
     /// A pending operation makes its next bit action; `choice` is what a hit read of a bit gives.
+    /// Returns the operation's state after the action; and, if a hit read has ended, its bit,
+    /// numbered in the store, and the value that it gave.
     fn go(
         &self,
         store: &mut Store,
@@ -118,8 +123,9 @@ pub trait Register: Behaves + Copy + Eq {
         ensures { IsPointByFrames (Self.behaviour self.now).frames (Reaches self.now) who
             (drop first stack.now.items) result };
 
-    /// `begin` in place. Gives the outcome if the operation ends at once; else gives `None`, and
-    /// pushes the operation's frames onto the stack.
+    /// Process `who` invokes operation `op` on the register at place `at`. If the operation ends at
+    /// once, returns its outcome; else returns `None`, and pushes the operation's frames onto the
+    /// stack.
     fn begin_on(
         &self,
         store: &mut Store,
@@ -147,8 +153,11 @@ pub trait Register: Behaves + Copy + Eq {
         }
     }
 
-    /// `go` in place, of the operation whose frames are those from index `first` on. They are
-    /// replaced by the operation's new frames, or dropped if it ends.
+    /// Process `who`'s pending operation, whose frames are those of the stack from index `first`
+    /// on, makes its next bit action; `choice` is what a hit read of a bit gives. The frames are
+    /// replaced by the operation's new frames, or dropped if it ends. Returns its outcome if it
+    /// ends; and, if a hit read has ended, its bit, numbered in the store, and the value that it
+    /// gave.
     fn go_on(
         &self,
         store: &mut Store,
@@ -197,6 +206,21 @@ pub trait Register: Behaves + Copy + Eq {
         }
     }
 
+    /// The point of process `who`'s pending operation, read from the stack's frames from index
+    /// `first` on; `None` if `who` can't have an operation with these frames pending.
+    fn pending_on(
+        &self,
+        alloc: Global,
+        stack: &FlatStack,
+        first: usize,
+        who: u32,
+    ) -> Option<Self::Pending>
+        ensures { IsPointByFrames (Self.behaviour self.now).frames (Reaches self.now) who
+            (drop first stack.now) result }
+    {
+        self.pending(&stack.to_stack(alloc), first, who)
+    }
+
     /// Pushes the frames of a pending operation onto the stack.
     fn lay(&self, alloc: Global, pending: &Self::Pending, stack: &mut FlatStack)
         requires reached { (who : ℕ) × ((op : Op) × Reaches self.now who op pending.now) }
@@ -206,8 +230,8 @@ pub trait Register: Behaves + Copy + Eq {
         stack.extend(self.stack(alloc, pending).as_slice());
     }
 
-    /// The state of process `who`'s operation: its end if `end` has an outcome, else the point that
-    /// the frames on the stack describe.
+    /// The state of process `who`'s operation: done if `end` has an outcome, else pending at the
+    /// point that the frames on the stack describe.
     fn reached_next(
         &self,
         alloc: Global,

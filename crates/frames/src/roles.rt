@@ -1,5 +1,5 @@
 //! Which steps fit a register. This depends on the number of processes, and on the operations that
-//! fit each.
+//! fit each process.
 
 ghost use Rattle.std.specs.Prelude.{◌≡◌};
 ghost use Rattle.frames.specs.Fitting.{Roles, step_fits};
@@ -7,9 +7,10 @@ ghost use Rattle.frames.specs.Fitting.{Roles, step_fits};
 use crate::register::Register;
 use crate::types::{Op, Step};
 
-/// A register or a description of one, with a number of processes and the operations that fit each.
+/// A register, or a description of a register, that has a number of processes and says which
+/// operations fit each process.
 pub trait HasRoles {
-    // The number of processes, and which operations fit each.
+    // The number of processes, and which operations fit each process.
     ghost roles: { Self → Roles };
 
     /// The number of processes. The processes are 0 to one less than this number.
@@ -35,8 +36,9 @@ impl<R: Register> HasRoles for R {
     }
 }
 
-/// Whether a step fits. An invocation fits if its operation fits its process. A bit action fits if
-/// its process exists and the choice is 0 or 1. A stop fits if its process exists.
+/// Whether a step fits a register that has the roles of `whose`. An invocation fits if its process
+/// may do its operation (for a write, with its value). A bit action fits if its process exists and
+/// the choice is 0 or 1. A stop fits if its process exists.
 pub fn step_fits<T: HasRoles>(whose: &T, step: Step) -> bool
     ensures { result ≡ step_fits (T.roles whose.now) step }
 {

@@ -1,10 +1,11 @@
 //! The register of one safe bit.
 
-ghost use Rattle.std.specs.Prelude.{◌≡◌, ℕ, ◌<◌, ◌+◌, true, Bool, None, Option};
+ghost use Rattle.std.specs.Prelude.{◌≡◌, ℕ, ◌<◌, ◌+◌, [], ◌∷◌, true, Bool, None, Option};
 ghost use Rattle.std.specs.Bool.{Decides};
 ghost use Rattle.safe_bit.specs.Memory.{Memory};
 ghost use Rattle.safe_bit.specs.Parts.{HasSize, LiesIn, IsPlaced, part, with_part};
 ghost use Rattle.frames.specs.declared.types.Op.{Op};
+ghost use Rattle.frames.specs.Flat.{IsPointByFrames};
 ghost use Rattle.frames.specs.SafeBit.{safe_behaviour, SafeReaches, safe_frame, point_at, safe_point, bit_of, value_of};
 
 use crate::flat::{FlatStack, frame_at};
@@ -15,7 +16,8 @@ use crate::types::{
 use safe_bit::{Place, Store};
 use std::alloc::Global;
 
-/// The point of an operation on a safe bit: its next bit action, and the bit that a write writes.
+/// The point that an operation on a safe bit is at: its next bit action, and for a write the bit to
+/// be written.
 #[derive(Clone, Copy, Debug, PartialEq, Eq)]
 pub enum SafePoint {
     WriteStart(bool),
@@ -27,6 +29,21 @@ pub enum SafePoint {
 /// The register of one safe bit: process 0 writes, process 1 reads (Lamport 1986).
 #[derive(Clone, Copy, Debug, PartialEq, Eq)]
 pub struct Safe;
+
+impl Safe {
+    /// The point that process `who` can reach in an operation and whose only frame is `frame`;
+    /// `None` if there is no such point.
+    fn point_in(&self, frame: Frame, who: u32) -> Option<SafePoint>
+        ensures { IsPointByFrames safe_behaviour.frames SafeReaches who (frame ∷ []) result }
+    {
+        let point = point_of(frame);
+        if self.fits(who, frame.op) && frame.is(frame_of(point)) {
+            Some(point)
+        } else {
+            None
+        }
+    }
+}
 
 impl Behaves for Safe {
     type Pending = SafePoint;
@@ -137,10 +154,18 @@ impl Register for Safe {
         if first >= stack.len() || stack.len() - first != 1 {
             return None;
         }
-        let frame = frame_at(stack, first);
-        let point = point_of(frame);
-        if self.fits(who, frame.op) && frame.is(frame_of(point)) {
-            Some(point)
+        self.point_in(frame_at(stack, first), who)
+    }
+
+    fn pending_on(
+        &self,
+        _alloc: Global,
+        stack: &FlatStack,
+        first: usize,
+        who: u32,
+    ) -> Option<SafePoint> {
+        if stack.len().saturating_sub(first) == 1 {
+            self.point_in(stack.frame(first), who)
         } else {
             None
         }
@@ -223,7 +248,7 @@ impl Register for Safe {
     ghost same_pending = { point_decides ⟦<SafePoint as PartialEq>⟧.eq (elim [ WriteStart _ ↦ elim [ WriteStart _ ↦ refl | WriteEnd _ ↦ refl | ReadStart ↦ refl | ReadEnd ↦ refl ] | WriteEnd _ ↦ elim [ WriteStart _ ↦ refl | WriteEnd _ ↦ refl | ReadStart ↦ refl | ReadEnd ↦ refl ] | ReadStart ↦ elim [ WriteStart _ ↦ refl | WriteEnd _ ↦ refl | ReadStart ↦ refl | ReadEnd ↦ refl ] | ReadEnd ↦ elim [ WriteStart _ ↦ refl | WriteEnd _ ↦ refl | ReadStart ↦ refl | ReadEnd ↦ refl ] ]) };
 }
 
-/// The result of an action after which the operation is at `next`, and in which no hit read ended.
+/// The result of an action that ended no hit read; `next` is the operation's state after it.
 fn unchosen(next: Next<SafePoint>) -> Turned<SafePoint>
     ensures next { result.next ≡ next }
     ensures chosen { result.chosen ≡ None }

@@ -32,8 +32,8 @@ pub enum Step {
     Write { p: u32, v: u32 },
     /// Process `p` invokes a read.
     Read { p: u32 },
-    /// Process `p` makes its next bit action; a hit read of a bit that ends in it gives `c`, 0 or
-    /// 1.
+    /// Process `p` makes its next bit action. If this ends a hit read of a bit, the read gives `c`,
+    /// which is 0 or 1.
     Go { p: u32, c: u32 },
     /// Process `p` stops for good: it makes no further step.
     Stop { p: u32 },
@@ -50,7 +50,7 @@ impl Step {
     }
 }
 
-/// A step, or an item of a schedule that holds one.
+/// A step, or an item of a schedule that holds a step.
 pub trait HasStep: Copy {
     ghost use Rattle.frames.specs.declared.types.Step.{Step};
 
@@ -89,23 +89,23 @@ pub enum Outcome {
     Spent(Layer),
 }
 
-/// The state of an operation after a step: still pending, at a point, or done, with its outcome.
+/// The state of an operation after a step: it is pending at a point, or done with an outcome.
 #[derive(Clone, Copy, Debug, PartialEq, Eq)]
 pub enum Next<P> {
     Pending(P),
     Done(Outcome),
 }
 
-/// The result of a bit action: `end` is the operation's outcome, if the operation has ended;
-/// `chosen` is the bit of a hit read, if one has ended, and the value that the read gave.
+/// The result of a bit action: `end` is the operation's outcome, or `None` if it is still pending;
+/// `chosen` is the bit and the value given if the action ended a hit read, and else `None`.
 #[derive(Clone, Copy, Debug, PartialEq, Eq)]
 pub struct Progress {
     pub end: Option<Outcome>,
     pub chosen: Option<(u32, bool)>,
 }
 
-/// The result of a bit action: `next` is the state of the operation after it; `chosen` is the bit
-/// of a hit read, if one has ended, and the value that the read gave.
+/// The result of a bit action: `next` is the operation's state after it; `chosen` is the bit and
+/// the value given if the action ended a hit read of a bit, and else `None`.
 #[derive(Clone, Copy, Debug, PartialEq, Eq)]
 pub struct Turned<P> {
     pub next: Next<P>,
@@ -142,7 +142,7 @@ pub enum Event {
     Chosen(u32, u32, bool),
 }
 
-/// The events of one step, in order; there is no second without a first.
+/// The events of one step, in order. If there is only one event, it is `first`.
 #[derive(Clone, Copy, Debug, PartialEq, Eq)]
 pub struct StepEvents {
     pub first: Option<Event>,
@@ -165,7 +165,8 @@ pub struct Action {
     pub cell: u32,
 }
 
-/// The layer of a frame. The matrix has two: one for each phase of its operations.
+/// The layer that a frame belongs to. A matrix has two frame layers: one while it reads a column,
+/// one while it writes a row.
 #[derive(Clone, Copy, Debug, PartialEq, Eq, Default)]
 pub enum FrameLayer {
     #[default]
@@ -178,8 +179,9 @@ pub enum FrameLayer {
     MatrixWrite,
 }
 
-/// One layer's part of a pending operation: `op` is the layer's own operation, `i` is the index of
-/// the part at work, and `x` is the code. `i` or `x` is 0 in a layer that has no such number.
+/// One layer's share of a pending operation. `op` is the operation on that layer. `i` says which
+/// part (a register that the layer uses) is at work; for a safe bit, it is 0 before the start
+/// action and 1 after it. `x` is a code. Each of `i` and `x` is 0 if the layer doesn't need it.
 #[derive(Clone, Copy, Debug, PartialEq, Eq, Default)]
 pub struct Frame {
     pub layer: FrameLayer,

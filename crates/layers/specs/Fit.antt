@@ -1,4 +1,4 @@
--- Which registers a layer can be built on, and why not.
+-- Whether a layer can be built on a register, and if not, why.
 use Rattle.std.specs.Prelude.{ℕ, ◌+◌, ◌*◌, Bool, ◌&&◌, ◌==◌, nat_le, nat_lt, Option, Some, None, if◌then◌else◌}
 use Rattle.layers.specs.declared.fit.LayerError.{LayerError}
 use Rattle.layers.specs.declared.fit.LayerError.TheVariants.{BadSize, TooManyBits}
@@ -12,20 +12,21 @@ use Rattle.layers.specs.Nested.{Table}
 abbrev pub limits_hold : {Task : Type 0} → Table Task → Bool
 limits_hold t = nat_le LEAST_VALUES t.values && (nat_le LEAST_PROCESSES t.processes && nat_le t.processes MOST_PROCESSES)
 
--- the register below has the values and processes that the parts need, and its depth leaves a frame
--- for the layer
+-- the register below has the values and processes that the parts need, and its depth (the most
+-- frames that its operations have) is below 8, so that the layer can add a frame of its own
 abbrev pub kind_fits : {Task P : Type 0} → Table Task → Behaviour P → Bool
 kind_fits t b = b.values == t.inner_values && (b.processes == t.inner_processes && nat_lt b.depth STACK_FRAMES)
 
--- the layer has at most as many cells and words as a register can have
+-- the layer over register b has at most 4,096 cells and 65,536 words, as each register must
 abbrev pub size_fits : {Task P : Type 0} → Table Task → Behaviour P → Bool
 size_fits t b = nat_le (t.parts * b.size.cell) MOST_CELLS && nat_le (t.parts * b.size.word + t.words) MOST_WORDS
 
--- the first reason why the layer can't be built on the register; `None` if it can
+-- why the layer can't be built on register b: `BadSize` if `limits_hold` or `kind_fits` is false,
+-- otherwise `TooManyBits` if `size_fits` is false; `None` if it can
 abbrev pub refusal_below : {Task P : Type 0} → Table Task → Behaviour P → Option LayerError
 refusal_below t b = if limits_hold t && kind_fits t b then (if size_fits t b then None else Some TooManyBits) else Some BadSize
 
--- the number of a refusal
+-- the number of each refusal: 1 for `BadSize`, 2 for `TooManyBits`
 abbrev pub layer_error_number : LayerError → ℕ
 layer_error_number BadSize = 1
 layer_error_number TooManyBits = 2

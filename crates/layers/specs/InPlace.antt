@@ -1,4 +1,4 @@
--- A layer at a place in a store: how its parts and its own words are read there, and put back.
+-- What it means that a layer lies at a place in a store, and what its own memory there is.
 use Rattle.safe_bit.specs.declared.Place.{Place}
 use Rattle.safe_bit.specs.Memory.{Memory}
 use Rattle.safe_bit.specs.Parts.{LiesIn, IsPlaced, part}
@@ -6,7 +6,7 @@ use Rattle.frames.specs.Behaviour.{Behaviour}
 use Rattle.layers.specs.Nested.{Table, layer_size}
 use Rattle.layers.specs.Sound.{LayerHolds}
 
--- the layer's own memory, at a place in a store
+-- the part of memory m that is the layer's, if the layer lies at place `at`
 abbrev pub own : {Task P : Type 0} → Table Task → Behaviour P → Place → Memory → Memory
 own t b at m = part at (layer_size t b.size) m
 

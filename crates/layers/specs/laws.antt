@@ -1,4 +1,4 @@
--- What follows from the definitions.
+-- What follows from the definitions of layers, one subject in each module.
 pub mod Over
 pub mod OneWriter
 pub mod Nested

@@ -1,4 +1,5 @@
-//! A construction: its parts, its own words, and its programs over the registers below it.
+//! What a construction provides: its parts, which are registers below it, its own words of memory,
+//! and the programs of its operations.
 
 ghost use Rattle.std.specs.Prelude.{◌≡◌, ℕ, ◌<◌, ◌≤◌, ◌+◌, ◌^◌, Bool, true, length};
 ghost use Rattle.std.specs.Bool.{Decides};
@@ -13,8 +14,8 @@ use crate::nested::{Ask, Continuation};
 use frames::types::{Frame, Op, Outcome};
 use safe_bit::Store;
 
-/// How many parts, own words, values and processes a construction has; and how many values and
-/// processes the register below has to have.
+/// The sizes of a construction: its numbers of parts, own words, values and processes, and the
+/// numbers of values and processes (`inner_`) that each part, a register below, has to have.
 #[derive(Clone, Copy, Debug, PartialEq, Eq)]
 pub struct Shape {
     pub parts: u32,
@@ -25,7 +26,9 @@ pub struct Shape {
     pub inner_processes: u32,
 }
 
-/// Only the programs of a construction, without its calls. A type over constructions needs no more.
+/// What contracts need of a construction: the type of its tasks, and its table, which is its rules:
+/// its parts, own words and programs. The type `Layered` requires only this trait; the calls of
+/// `Layered` require `Construction`.
 pub trait Rules {
     /// A task: a point in a program at which a part works on an operation.
     type Task: Copy + PartialEq;
@@ -34,8 +37,9 @@ pub trait Rules {
     ghost table: { Self → Table Self.Task };
 }
 
-/// A construction of a register from registers below it, whichever these are. Its calls read and
-/// set only the construction's own words.
+/// A construction of a register from registers below it, whichever these are. The calls of this
+/// trait run its programs between two operations of parts; of a store, they read and set only the
+/// construction's own words.
 pub trait Construction: Rules + Copy + Eq {
     // Which tasks a process can be in during an operation.
     ghost MayBeAt: { Self → ℕ → Op → Self.Task → Type 0 };
@@ -43,7 +47,8 @@ pub trait Construction: Rules + Copy + Eq {
     // An upper bound on the number of tasks that can follow a task.
     ghost left: { Self → Self.Task → ℕ };
 
-    /// The numbers of the construction, and those that the register below has to have.
+    /// How many parts, own words, values and processes the construction has; and how many values
+    /// and processes the register below has to have.
     fn shape(&self) -> Shape
         ensures parts { result.parts ≡ (Self.table self.now).parts }
         ensures words { result.words ≡ (Self.table self.now).words }
@@ -68,8 +73,8 @@ pub trait Construction: Rules + Copy + Eq {
         requires word { word < (Self.table self.now).words }
         ensures { result ≡ (Self.table self.now).first_word value word };
 
-    /// Runs the program of process `who`'s operation `op` to its first task or its end. The layer's
-    /// own words begin at word `base`.
+    /// Runs the program of process `who`'s operation `op`, and returns its first task or its end.
+    /// The layer's own words begin at word `base`.
     fn start(&self, store: &mut Store, base: u32, who: u32, op: Op) -> Continuation<Self::Task>
         requires inside { base + (Self.table self.now).words ≤ length store.old.words }
         requires bounded { WordsHold (Self.table self.now) base store.old }
@@ -79,7 +84,8 @@ pub trait Construction: Rules + Copy + Eq {
         ensures memory { store.new
             ≡ (settled base ((Self.table self.now).program who op) store.old).memory };
 
-    /// Runs the program on to its next task or its end, after task `task` has ended with `outcome`.
+    /// Runs the program on after task `task` has ended with `outcome`, and returns its next task or
+    /// its end.
     fn after(
         &self,
         store: &mut Store,
@@ -108,7 +114,8 @@ pub trait Construction: Rules + Copy + Eq {
         requires may_be_at { (who : ℕ) × ((op : Op) × MayBeAt self.now who op task) }
         ensures { result ≡ (Self.table self.now).frame task };
 
-    /// The task that process `who` is in, by the layer's own frame; any task if `who` is in none.
+    /// The task that process `who` is in, if this is the layer's own frame of its operation; if the
+    /// process can't have this frame, any task.
     fn find(&self, who: u32, frame: Frame) -> Self::Task
         ensures { result ≡ (Self.table self.now).find who frame };
 
@@ -125,8 +132,9 @@ pub trait Construction: Rules + Copy + Eq {
     ghost same_task: { (a b : Self.Task) → Decides (Self.Task.PartialEq.eq a b) (a ≡ b) };
 }
 
-/// Whether operation `op` fits process `who` of a register with one writer: process 0 writes each
-/// value below `values`, and each other process reads.
+/// Whether process `who` may make operation `op` on a register with one writer: process 0 may write
+/// each value below `values`, and each process from 1 to `processes - 1` may read. If `processes`
+/// is 0, no process may make any operation.
 pub fn one_writer(values: u32, processes: u32, who: u32, op: Op) -> bool
     ensures { result ≡ spec.one_writer values processes who op }
 {

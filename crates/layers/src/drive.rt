@@ -1,4 +1,5 @@
-//! Runs a layer in place: each call runs the layer's program, part by part.
+//! Runs a layer's programs in place: in the layer's own part of a store, and on a flat stack of
+//! frames.
 
 ghost use Rattle.std.specs.Prelude.{◌≡◌, ℕ, ◌++◌, ◌<◌, ◌≤◌, ◌+◌, true, false, Option, IfSome, length, take, drop};
 ghost use Rattle.safe_bit.specs.Parts.{place_after, with_part, IsPlaced, LiesIn};
@@ -23,9 +24,9 @@ use frames::types::{Frame, Op, Outcome, Progress, Stack};
 use safe_bit::{Place, Store};
 use std::alloc::Global;
 
-/// The pending operation of process `who`, read from the frames from index `first` on: the first of
-/// them gives the task, and the others give the point of the task's part. `None` if `who` can't
-/// have an operation with these frames pending.
+/// The pending operation of process `who` whose frames are those of `stack` from index `first` on:
+/// the frame at `first` gives the task, and the later frames give the point of the task's part.
+/// `None` if `who` can't have an operation with these frames pending.
 pub(crate) fn pending<L: Construction, S: Register>(
     layer: &L,
     below: &S,
@@ -47,6 +48,33 @@ pub(crate) fn pending<L: Construction, S: Register>(
         return None;
     }
     let point = below.pending(stack, first + 1, ask.who)?;
+    Some(Nested { task, below: point })
+}
+
+/// The pending operation of process `who` whose frames are those of a `FlatStack` from index
+/// `first` on. `None` if `who` can't have an operation with these frames pending.
+pub(crate) fn pending_on<L: Construction, S: Register>(
+    layer: &L,
+    below: &S,
+    alloc: Global,
+    stack: &FlatStack,
+    first: usize,
+    who: u32,
+) -> Option<Nested<L::Task, S::Pending>>
+    requires fit { FitsBelow (L.table layer.now) (S.behaviour below.now) }
+    ensures { IsPointByFrames (layered (L.table layer.now) (S.behaviour below.now)).frames
+        (LayerReaches (L.table layer.now) (L.MayBeAt layer.now) (S.Reaches below.now)) who
+        (drop first stack.now) result }
+{
+    if stack.len().saturating_sub(first) < 2 {
+        return None;
+    }
+    let task = task_at(layer, who, stack.frame(first))?;
+    let ask = layer.asks(task);
+    if !stack.frame(first + 1).op.is(ask.op) {
+        return None;
+    }
+    let point = below.pending_on(alloc, stack, first + 1, ask.who)?;
     Some(Nested { task, below: point })
 }
 
@@ -96,7 +124,8 @@ impl<L: Construction, S: Register> Layered<L, S> {
         }
     }
 
-    /// Sets the layer's own words, which begin at word `base`, to their initial values.
+    /// Sets the layer's own words, which begin at word `base` of the store, to their initial
+    /// values, given the layer's initial value `value`.
     pub(crate) fn init_words(&self, store: &mut Store, base: u32, value: u32)
         requires inside { base + (table_of self.now).words ≤ length store.old.words }
         requires value { value < (behaviour self.now).values }
@@ -109,7 +138,8 @@ impl<L: Construction, S: Register> Layered<L, S> {
         }
     }
 
-    /// Does nothing. Its contract states that the layer's cells and words end below 2^32.
+    /// Does nothing. Its contract states that the layer's cells and words, if they begin at `at`
+    /// and lie inside the store, end below 2^32.
     #[inline]
     pub(crate) fn placed(&self, store: &Store, at: Place)
         requires inside { LiesIn at (behaviour self.now).size store.now }
@@ -118,8 +148,8 @@ impl<L: Construction, S: Register> Layered<L, S> {
         store.numbered();
     }
 
-    /// Does nothing. Its contract states that the layer lies at `at`, if its memory there satisfies
-    /// `Holds`.
+    /// Does nothing. Its contract states `Lies` at `at`: the layer's memory there, which is inside
+    /// the store and satisfies `Holds`, also ends below 2^32.
     #[inline]
     pub(crate) fn lies(&self, store: &Store, at: Place)
         requires inside { LiesIn at (behaviour self.now).size store.now }
@@ -130,7 +160,8 @@ impl<L: Construction, S: Register> Layered<L, S> {
         self.placed(store, at);
     }
 
-    /// The place of part `part`, if the layer lies at `at`.
+    /// The place in the store of the layer's part number `part`, if the layer's memory begins at
+    /// `at`.
     #[inline]
     pub(crate) fn part_place(&self, at: Place, part: u32) -> Place
         requires placed { IsPlaced at (behaviour self.now).size }
@@ -144,7 +175,7 @@ impl<L: Construction, S: Register> Layered<L, S> {
         }
     }
 
-    /// The index of the layer's first own word in the store, if the layer lies at `at`.
+    /// The index in the store of the layer's first own word, if the layer's memory begins at `at`.
     #[inline]
     pub(crate) fn words_at(&self, at: Place) -> u32
         requires placed { IsPlaced at (behaviour self.now).size }
@@ -153,8 +184,9 @@ impl<L: Construction, S: Register> Layered<L, S> {
         at.word + self.layer.shape().parts * self.below.size().word
     }
 
-    /// Invokes the task's operation on the task's part. While it is pending, the layer's own frame
-    /// and then the part's are on the stack; if it has ended, the stack is as before.
+    /// Invokes the task's operation on the task's part. If it ends at once, returns its outcome,
+    /// and the stack is as before; otherwise returns `None`, and pushes the layer's own frame and
+    /// then the part's frames onto the stack.
     #[inline(always)]
     fn ask(
         &self,
@@ -180,8 +212,9 @@ impl<L: Construction, S: Register> Layered<L, S> {
         end
     }
 
-    /// The task's part makes its next bit action. The layer's own frame is at index `first`, and
-    /// the part's frames follow it. The own frame stays even if the part's operation ends.
+    /// Makes the next bit action of the task's part. On the stack the layer's own frame is at index
+    /// `first`, and the part's frames follow it. If the part's operation ends, the part's frames
+    /// are dropped, but the layer's own frame stays.
     #[inline(always)]
     pub(crate) fn push(
         &self,
@@ -213,7 +246,8 @@ impl<L: Construction, S: Register> Layered<L, S> {
             .go_on(store, place, ask.who, stack, first + 1, choice)
     }
 
-    /// Runs the program of process `who`'s operation `op` to its first task or its end.
+    /// Runs the program of process `who`'s operation `op` from its beginning to its first task or
+    /// its end, and returns this.
     #[inline(always)]
     pub(crate) fn start(
         &self,
@@ -257,7 +291,9 @@ impl<L: Construction, S: Register> Layered<L, S> {
         self.layer.after(store, base, task, outcome)
     }
 
-    /// Runs the layer's operation on from a continuation, until it waits for a bit action or ends.
+    /// Runs the layer's operation on from `continuation`, a task to be begun or an end. Returns the
+    /// operation's outcome if it ends; if it waits for a bit action, pushes its frames onto the
+    /// stack, and returns `None`.
     #[inline(always)]
     pub(crate) fn run(
         &self,
@@ -287,7 +323,9 @@ impl<L: Construction, S: Register> Layered<L, S> {
         }
     }
 
-    /// Runs the layer's operation on, after its part's operation has ended with `outcome`.
+    /// Runs the layer's operation on, after the part of `task` has ended its own operation with
+    /// `outcome`. Returns the layer's outcome if its operation ends; if it waits for a bit action,
+    /// pushes its frames onto the stack, and returns `None`.
     #[inline(always)]
     pub(crate) fn follow(
         &self,
@@ -313,7 +351,7 @@ impl<L: Construction, S: Register> Layered<L, S> {
     }
 }
 
-/// Drops the frames from index `first` on, if a part's operation has ended, as `end` says.
+/// Drops the frames from index `first` on, if `end` says that a part's operation has ended.
 #[inline]
 fn close(stack: &mut FlatStack, first: usize, end: Option<Outcome>)
     requires { first ≤ length stack.old }

@@ -10,7 +10,7 @@ use frames::register::{MOST_CELLS, MOST_WORDS, Register};
 use frames::types::STACK_FRAMES;
 use thiserror::Error;
 
-/// Why a layer can't be built.
+/// Why a layer can't be built on the register below.
 #[derive(Clone, Copy, Debug, PartialEq, Eq, Error)]
 pub enum LayerError {
     /// A limit is broken, or the register below doesn't have the processes, the values or the depth
@@ -23,7 +23,7 @@ pub enum LayerError {
 }
 
 impl LayerError {
-    /// The number of the refusal.
+    /// The refusal's number: 1 for `BadSize`, 2 for `TooManyBits`.
     pub fn number(self) -> u32
         ensures { result ≡ layer_error_number self }
     {
@@ -34,7 +34,10 @@ impl LayerError {
     }
 }
 
-/// Whether the layer can be built on the register below, and if not, why.
+/// `Ok` if the layer can be built on the register below. Refused as `BadSize` if the layer has
+/// fewer than 2 values or doesn't have 2 to 5 processes, or if the register below has depth 8 or
+/// doesn't have the values and processes that the layer's parts need; otherwise refused as
+/// `TooManyBits` if the layer would have more than 4,096 cells or 65,536 words.
 pub fn fits_below<L: Construction, S: Register>(layer: &L, below: &S) -> Result<(), LayerError>
     ensures refusal { MatchResult result
         (λ _. refusal_below (L.table layer.now) (S.behaviour below.now)

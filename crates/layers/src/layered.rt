@@ -15,10 +15,11 @@ use frames::types::{Action, Next, Op, Outcome, Progress, Stack, Turned};
 use safe_bit::{Place, Store};
 use std::alloc::{AllocError, Global};
 
-/// A construction over the register below. Each of its parts is that register, at its own place.
+/// A register made by the construction `layer` from registers like `below`: each part is one such
+/// register, at a place of its own.
 #[derive(Debug, PartialEq, Eq)]
 pub struct Layered<L: Rules, S: Behaves> {
-    /// The register below. Each part is this register.
+    /// The register below. Each part is one such register, at a place of its own.
     pub below: S,
     /// The construction's own rules.
     pub layer: L,
@@ -40,10 +41,11 @@ impl<L: Rules + Copy, S: Behaves + Copy> Clone for Layered<L, S> {
 impl<L: Rules + Copy, S: Behaves + Copy> Copy for Layered<L, S> {}
 
 impl<L: Construction, S: Register> Layered<L, S> {
-    /// The construction over the register below. Refused as `BadSize` if the layer has fewer than 2
-    /// values or not 2 to 5 processes, or if the register below has depth 8, or not the values and
-    /// processes that the parts need; else as `TooManyBits` if there would be more than 4,096 cells
-    /// or 65,536 words.
+    /// Makes a layer: the construction `layer` over parts that are registers like `below`. Its
+    /// field `below` is this register, and it behaves as the definition `layered` says. Refused as
+    /// `BadSize` if the layer has fewer than 2 values or doesn't have 2 to 5 processes, or if the
+    /// register below has depth 8 or doesn't have the values and processes that the parts need;
+    /// otherwise refused as `TooManyBits` if there would be more than 4,096 cells or 65,536 words.
     pub fn over(below: S, layer: L) -> Result<Layered<L, S>, LayerError>
         ensures refused { MatchResult result (λ _. refusal_below (L.table layer) (S.behaviour below)
             ≡ None) (λ e. refusal_below (L.table layer) (S.behaviour below) ≡ Some e) }
@@ -55,7 +57,8 @@ impl<L: Construction, S: Register> Layered<L, S> {
         Ok(Layered { below, layer })
     }
 
-    /// The register below.
+    /// The register that the layer is built on. Each part is one such register, at a place of its
+    /// own.
     pub fn below(&self) -> S
         ensures { result ≡ self.now.below }
     {
@@ -153,6 +156,16 @@ impl<L: Construction, S: Register> Register for Layered<L, S> {
 
     fn pending(&self, stack: &Stack, first: usize, who: u32) -> Option<Self::Pending> {
         drive::pending(&self.layer, &self.below, stack, first, who)
+    }
+
+    fn pending_on(
+        &self,
+        alloc: Global,
+        stack: &FlatStack,
+        first: usize,
+        who: u32,
+    ) -> Option<Self::Pending> {
+        drive::pending_on(&self.layer, &self.below, alloc, stack, first, who)
     }
 
     #[inline]

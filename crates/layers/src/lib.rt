@@ -1,5 +1,5 @@
-//! Constructions of registers from registers. Their operations run part by part, and one register
-//! type serves every construction over any register.
+//! Constructions of registers from registers. An operation calls its parts (the registers below it)
+//! one after another. One register type, `Layered`, serves every construction over any register.
 #![tactic(auto)]
 
 pub mod construction;

@@ -1,9 +1,10 @@
-//! Nested operations: an operation of a layer is in one task of its program. The part that the task
-//! asks is then in an operation too.
+//! Nested operations: while an operation of a layer is in one task of its program, the part that
+//! the task asks is in an operation of its own.
 
 use frames::types::{Op, Outcome};
 
-/// What a task asks for: an operation of a part, by one of the part's processes.
+/// What a task asks for: operation `op` of part number `part`, by process `who`. Here `who` is the
+/// process's number in the part, not in the layer.
 #[derive(Clone, Copy, Debug, PartialEq, Eq)]
 pub struct Ask {
     pub part: u32,
@@ -18,7 +19,8 @@ pub enum Continuation<T> {
     Ends(Outcome),
 }
 
-/// A pending operation of a layer: the task that it is in, and the point of the task's part.
+/// A pending operation of a layer: the task that it is in, and the point that the operation which
+/// this task asked of its part has reached.
 #[derive(Clone, Copy, Debug, PartialEq, Eq)]
 pub struct Nested<T, P> {
     pub task: T,

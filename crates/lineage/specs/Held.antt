@@ -1,4 +1,4 @@
--- The meaning of a lineage's fields.
+-- The fields of a lineage (nodes and tips), and the items and paths that they represent.
 use Rattle.std.specs.Prelude.{[], ◌∷◌, ◌++◌, ◌⊎◌, ◌≡◌, ℕ, ◌+◌, ◌-◌, ◌<◌, ◌^◌, Bool, true, false, nat_eq, nat_le, if◌then◌else◌, List, Option, Some, None, is_some, map, reverse, length, slice_index_or}
 use Rattle.std.specs.List.{count_by}
 use Rattle.lineage.specs.declared.node.Node.{Node}
@@ -6,20 +6,23 @@ use Rattle.lineage.specs.declared.lineage.Lineage.TheInside.{Inside}
 use Rattle.lineage.specs.Family.{Family, has}
 use Rattle.lineage.specs.Climbs.{IsClimb, climb, Ends}
 
--- the tip of the path at an index
+-- the tip (last key) of the path at an index; None if it has no key, or if there is no such path
 abbrev pub tip_at : List (Option ℕ) → ℕ → Option ℕ
 tip_at tips i = slice_index_or tips i None
 
--- whether a link is to key k; and whether a key's link, if the key has an item, is to key k
+-- whether a link is to key k; None is a link to no key
 abbrev pub is_key : ℕ → Option ℕ → Bool
 is_key k None = false
 is_key k (Some j) = nat_eq k j
 
+-- whether a key has an item and its link is to key k; the second argument is that link, or None if
+-- the key has no item
 abbrev pub is_above : ℕ → Option (Option ℕ) → Bool
 is_above k None = false
 is_above k (Some next) = is_key k next
 
--- the link that replaces this one when `key` is skipped; `above` is the key above `key`
+-- what a link becomes when `key` is taken out: `above`, the link of `key`, if it was to `key`;
+-- otherwise it stays
 abbrev pub past : ℕ → Option ℕ → Option ℕ → Option ℕ
 past key above None = None
 past key above (Some k) = if nat_eq key k then above else Some k
@@ -32,19 +35,22 @@ module _ {X : Type 0} where
   abbrev pub node_at : List (Option (Node X)) → ℕ → Option (Node X)
   node_at s k = slice_index_or s k None
 
+  -- the item of a node, if there is a node
   abbrev pub item_in : Option (Node X) → Option X
   item_in None = None
   item_in (Some n) = Some n.item
 
+  -- the link of a node, if there is a node; the link is None if it is to no key
   abbrev pub above_in : Option (Node X) → Option (Option ℕ)
   above_in None = None
   above_in (Some n) = Some n.above
 
-  -- the link of a key, if the key has an item
+  -- the link of the node at key k, if there is a node
   abbrev pub above_node : List (Option (Node X)) → ℕ → Option (Option ℕ)
   above_node s k = above_in (node_at s k)
 
-  -- the keys from `at` up
+  -- the key `at`, the key that it links to, and so on: at most as many keys as s is long, and no
+  -- key without a node
   abbrev pub keys_up : List (Option (Node X)) → Option ℕ → List ℕ
   keys_up s at = climb (above_node s) (length s) at
 
@@ -52,11 +58,11 @@ module _ {X : Type 0} where
   abbrev pub path_to : List (Option (Node X)) → Option ℕ → List ℕ
   path_to s at = reverse (keys_up s at)
 
-  -- whether a node links to a key
+  -- whether there is a node and it links to key k
   abbrev pub links_to_key : ℕ → Option (Node X) → Bool
   links_to_key k o = is_above k (above_in o)
 
-  -- the number of tips and nodes that link to a key
+  -- the number of tips (last keys of paths) and nodes that link to key k
   abbrev pub holders_of : List (Option (Node X)) → List (Option ℕ) → ℕ → ℕ
   holders_of s tips k = count_by (is_key k) tips + count_by (links_to_key k) s
 
@@ -66,11 +72,13 @@ module _ {X : Type 0} where
   with_holder false (Some n) = Some n
   with_holder true (Some n) = Some (node n.item n.above (n.holders + 1))
 
-  -- the new node that is put right above a node; and that node, linked to the new node's key
+  -- the node of a new item that is put right above a node: it gets that node's link, and has one
+  -- holder
   abbrev pub node_over : X → Option (Node X) → Option (Node X)
   node_over item None = None
   node_over item (Some n) = Some (node item n.above 1)
 
+  -- a node once it links to `key`, the key of a new node right above it
   abbrev pub node_under : ℕ → Option (Node X) → Option (Node X)
   node_under key None = None
   node_under key (Some n) = Some (node n.item (Some key) n.holders)
@@ -80,44 +88,50 @@ module _ {X : Type 0} where
   less_one None = None
   less_one (Some n) = if nat_le n.holders 1 then None else Some (node n.item n.above (n.holders - 1))
 
-  -- the key above a node that `less_one` drops; its node then also loses a holder
+  -- the key whose node loses a holder next, after a node lost one: the link of the node if that was
+  -- its last holder, so that the node is dropped; otherwise None
   abbrev pub next_up : Option (Node X) → Option ℕ
   next_up None = None
   next_up (Some n) = if nat_le n.holders 1 then n.above else None
 
-  -- a node whose link skips `key`
+  -- a node once `key` is taken out: if it linked to `key`, it now has the link of `key`, which is
+  -- `above`
   abbrev pub past_node : ℕ → Option ℕ → Option (Node X) → Option (Node X)
   past_node key above None = None
   past_node key above (Some n) = Some (node n.item (past key above n.above) n.holders)
 
-  -- a node; if the first argument is true, the node below it is skipped, and the holders of that
-  -- node hold this one instead
+  -- a node; if the first argument is true, a node that links to it is taken out: it loses this
+  -- holder, and gets the `others` holders of the node taken out
   abbrev pub passed_on : Bool → ℕ → Option (Node X) → Option (Node X)
   passed_on b others None = None
   passed_on false others (Some n) = Some n
   passed_on true others (Some n) = Some (node n.item n.above (n.holders - 1 + others))
 
-  -- each node that is left has the item and the link that it had
+  -- each node in `new` is in `old` at the same key, with the same item and the same link
   abbrev pub Stays : List (Option (Node X)) → List (Option (Node X)) → Type 0
   Stays old new =
       (k : ℕ) (n : Node X) → node_at new k ≡ Some n → (m : Node X) × ((node_at old k ≡ Some m) × ((n.item ≡ m.item) × (n.above ≡ m.above)))
 
-  -- a key is on a path
+  -- key k is on a path: `up` are the keys of this path from the last one up, and k is one of them
   pub record IsOn (s : List (Option (Node X))) (tips : List (Option ℕ)) (k : ℕ) : Type 0 where
     pub path : ℕ
     pub up : List ℕ
     pub is : IsClimb (above_node s) (tip_at tips path) up
     pub on : has k up ≡ true
 
-  -- each path's climb ends; each node is on a path, and has the right number of holders
+  -- the invariant of nodes and tips: from each tip, links lead up to a key that links to none; each
+  -- node is on a path, and its number of holders is that of the tips and nodes that link to it; and
+  -- there are fewer than 2^64 tips and nodes together, so that a word can count holders
   pub record IsSoundFamily (s : List (Option (Node X))) (tips : List (Option ℕ)) : Type 0 where
     pub ends : (i : ℕ) → Ends (above_node s) (tip_at tips i)
     pub live : (k : ℕ) (n : Node X) → node_at s k ≡ Some n → IsOn s tips k
     pub counted : (k : ℕ) (n : Node X) → node_at s k ≡ Some n → n.holders ≡ holders_of s tips k
     pub few : length tips + count_by is_some s < 2 ^ 64
 
-  -- The climb from `at` is being released. Its first key counts one holder too many, and its keys
-  -- may be on no path. Each node that is left has the item and the link that it had at first.
+  -- The state while nodes of a dropped path are released, the next of which is the one at `at`.
+  -- That node counts one holder too many, and it and the nodes above it may be on no path.
+  -- Otherwise nodes and tips are as `IsSoundFamily` says. Each node that is left has the item and
+  -- the link that it had at first.
   pub record IsReleasing (first s : List (Option (Node X))) (tips : List (Option ℕ)) (at : Option ℕ) : Type 0 where
     pub ends : (i : ℕ) → Ends (above_node s) (tip_at tips i)
     pub going : Ends (above_node s) at
@@ -126,7 +140,8 @@ module _ {X : Type 0} where
     pub few : length tips + count_by is_some s < 2 ^ 64
     pub stays : Stays first s
 
-  -- a path of these items is added last, and all other nodes and paths are unchanged
+  -- a path of new nodes with these items is added last, and all other nodes and paths are
+  -- unchanged; s and t are the nodes before and after, `tips` and `new` the tips
   pub record IsPutLast (s t : List (Option (Node X))) (tips new : List (Option ℕ)) (items : List X) : Type 0 where
     pub sound : IsSoundFamily t new
     pub tip : Option ℕ
@@ -137,11 +152,14 @@ module _ {X : Type 0} where
     pub kept : (k : ℕ) (n : Node X) → node_at s k ≡ Some n → node_at t k ≡ Some n
     pub old : (k : ℕ) → has k (path_to t tip) ≡ false → node_at t k ≡ node_at s k
 
+  -- what nodes and tips represent: the item of each node, and the path that ends with each tip
   abbrev pub family_on : List (Option (Node X)) → List (Option ℕ) → Family X
   family_on s tips = record { items = map item_in s; paths = map (path_to s) tips }
 
+  -- the items and paths that contracts see of a lineage with these fields
   abbrev pub family_of : Inside X → Family X
   family_of t = family_on t.nodes.slots t.tips.items
 
+  -- the invariant of a lineage's fields: their nodes and tips are as `IsSoundFamily` says
   abbrev pub IsHeldFamily : Inside X → Type 0
   IsHeldFamily t = IsSoundFamily t.nodes.slots t.tips.items

@@ -1,4 +1,4 @@
-//! Paths of items, first to last.
+//! Paths, which are lists of items. Several paths can have the same beginning.
 
 ghost use Rattle.std.specs.Prelude.{ℕ, ◌≡◌, ◌≤◌, List, ◌++◌, length, [], ◌∷◌, map, Some, None, IfOk, IfSome, IfNone, IsSome, slice_set, true, false};
 ghost use Rattle.std.specs.Option.{option_copied, option_map};
@@ -20,7 +20,9 @@ use std::alloc::{AllocError, Global};
 use std::marker::Model;
 use std::mem;
 
-/// Paths of items that share their beginnings.
+/// Paths, which are lists of items. Several paths can have the same beginning. The key of an item
+/// is the number that identifies it. The item above an item is the one right before it in its
+/// paths.
 #[derive(Drop)]
 pub struct Lineage<X> {
     nodes: Slab<Node<X>>,
@@ -62,7 +64,8 @@ impl<X: Drop> Lineage<X> {
         self.tips.len()
     }
 
-    /// The number of items that memory is reserved for. The key of each item is below this number.
+    /// How many items there is memory for, counting those that exist. The key of each item is less
+    /// than this number.
     pub fn room(&self) -> usize
         ensures { (k : ℕ) → result ≤ k → item_at self.now k ≡ None }
     {
@@ -85,14 +88,16 @@ impl<X: Drop> Lineage<X> {
         self.tip(path).get()
     }
 
-    /// The same key as `last` gives, as the start of a climb.
+    /// The last key of the path at an index, in the form that `climb` takes; no key if there is no
+    /// such path, or if the path has no item.
     pub fn tip(&self, path: usize) -> Above
         ensures { result ≡ last_of (path_in self.now path) }
     {
         tip_at(&self.tips, path)
     }
 
-    /// Replaces the item at a key, and returns the old one. Never allocates.
+    /// Replaces the item at a key, which has to have one, and returns the old item. Nothing else
+    /// changes. Never allocates.
     pub fn replace(&mut self, key: Key, item: X) -> X
         requires { IsSome (item_at self.old key) }
         ensures was { item_at self.old key ≡ Some result }
@@ -102,7 +107,8 @@ impl<X: Drop> Lineage<X> {
         mem::replace(&mut self.nodes[key].item, item)
     }
 
-    /// A mutable borrow of the item at a key.
+    /// A mutable borrow of the item at a key, which has to have one. Writing to it changes that
+    /// item alone.
     pub fn item_mut(&mut self, key: Key) -> &mut X
         requires { IsSome (item_at self.old key) }
         ensures* writes_back { sem 𝓛
@@ -113,8 +119,8 @@ impl<X: Drop> Lineage<X> {
         &mut node.item
     }
 
-    /// Whether no other path has the last item of the
-    /// path at an index; false if the path has no item.
+    /// Whether the last item of the path at an index is on that path alone; false if there is no
+    /// such path, or if the path has no item.
     pub fn ends_alone(&self, path: usize) -> bool
         ensures yes { result ≡ true → EndsAlone self.now path }
         ensures no { result ≡ false → EndsAlone self.now path → ⊥ }
@@ -125,15 +131,17 @@ impl<X: Drop> Lineage<X> {
         self.nodes[key].holders == 1
     }
 
-    /// Does nothing. Its contract states what the type guarantees.
+    /// Does nothing. Its contract states what the type guarantees: each key on a path has an item,
+    /// each item is on a path, and paths that share a key have the same keys before it (so no key
+    /// is twice in a path).
     pub fn held(&self)
         ensures { IsFamily self.now }
     {
         let _count = self.tips.len();
     }
 
-    /// The key above `key`, which is the same in each path that has `key`. `None` if `key` is the
-    /// first of a path, or if it has no item.
+    /// The key right before `key`, which is the same in each path that has `key`. `None` if `key`
+    /// is the first of a path, or has no item.
     pub fn above(&self, key: Key) -> Option<Key>
         ensures each { (i : ℕ) (front back : List ℕ) → path_in self.now i ≡ front ++ key ∷ back
             → result ≡ last_of front }
@@ -142,7 +150,8 @@ impl<X: Drop> Lineage<X> {
         self.nodes.get(key)?.above.get()
     }
 
-    /// The item at `key`, and the key above it as `above` gives it. `None` if `key` has no item.
+    /// The item at `key`, and the key right before `key` in each path that has `key`, which is
+    /// `None` if `key` is the first of a path. The whole result is `None` if `key` has no item.
     #[inline(always)]
     pub fn step_up(&self, key: Key) -> Option<(&X, Option<Key>)>
         ensures item { option_map (λ s. s.0.now) result ≡ item_at self.now key }
@@ -153,7 +162,8 @@ impl<X: Drop> Lineage<X> {
         Some((&node.item, node.above.get()))
     }
 
-    /// The item at `key`, and the key above `key`, as `step_up` gives them. The item has to exist.
+    /// The item at `key`, which has to exist, and the key right before `key` in each path that has
+    /// `key`, or no key if `key` is the first of a path.
     #[inline(always)]
     pub fn step_up_from(&self, key: Key) -> (&X, Above)
         requires { IsSome (item_at self.now key) }
@@ -165,8 +175,9 @@ impl<X: Drop> Lineage<X> {
         (&node.item, node.above)
     }
 
-    /// One step of a climb: a key, its item, and the rest of the climb. The rest is the same in
-    /// each path that has the key. `None` if the climb has ended, or if the key has no item.
+    /// One step of a walk up a path, from each key to the one before it: the key `at`, its item,
+    /// and the key right before `at` in each path that has `at`, or no key if `at` is the first.
+    /// `None` if `at` is no key (the walk has ended), or has no item.
     #[inline(always)]
     pub fn climb(&self, at: Above) -> Option<(Key, &X, Above)>
         ensures key { IfSome result (λ s. at ≡ Some s.0) }
@@ -175,13 +186,17 @@ impl<X: Drop> Lineage<X> {
             → path_in self.now i ≡ front ++ s.0 ∷ back → s.2 ≡ last_of front) }
         ensures end { IfNone result ((k : ℕ) → at ≡ Some k → item_at self.now k ≡ None) }
     {
-        // for the proof: there are fewer than 2^64 slots, so no key has the word that means `None`
+        // for the proof: there are fewer than 2^64 slots, so no key is the word that means `None`
         let _most = self.nodes.capacity();
         let node = self.nodes.get(at.word)?;
         Some((at.word, &node.item, node.above))
     }
 
     /// The keys of the path at an index, in order; no keys if there is no such path.
+    ///
+    /// # Errors
+    ///
+    /// If there is no memory for the keys.
     pub fn keys(&self, alloc: Global, path: usize) -> Result<Vec<Key>, AllocError>
         ensures { IfOk result (λ keys. keys.items ≡ path_in self.now path) }
     {
@@ -200,7 +215,7 @@ fn tip_at(tips: &[Above], path: usize) -> Above
     }
 }
 
-/// The keys of the path that ends with `tip`, from the first down.
+/// The keys of the path that ends with `tip`, first to last; no keys if `tip` is `None`.
 fn keys_down_to<X>(
     alloc: Global,
     nodes: &Slab<Node<X>>,

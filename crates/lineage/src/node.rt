@@ -1,17 +1,18 @@
-//! Items, each with its link.
+//! Nodes: items, each with a link, which is the key of the item above it (right before it in a
+//! path).
 
 ghost use Rattle.std.specs.Prelude.{◌≡◌, ◌<◌, ◌-◌, ◌^◌, Some, None};
 
 use std::alloc::AllocError;
 use std::marker::Model;
 
-/// The key of an item.
+/// The number that identifies an item of a lineage.
 pub type Key = usize;
 
-/// A key or no key, in one word. Contracts see an option of a key.
+/// A key or no key, stored in one word. In contracts it is an option of a key.
 #[derive(Debug, Drop)]
 pub struct Above {
-    // `usize::MAX` means no key: no slab has enough slots to use it as a key
+    // `usize::MAX` means no key: no slab has enough slots for such a key
     pub(crate) word: usize,
 }
 
@@ -38,7 +39,7 @@ impl Clone for Above {
 }
 
 impl Above {
-    /// No key.
+    /// No key, in one word.
     #[inline(always)]
     pub(crate) fn none() -> Above
         ensures { result ≡ None }
@@ -46,7 +47,7 @@ impl Above {
         Above { word: usize::MAX }
     }
 
-    /// This key.
+    /// This key, in one word. The key has to be less than the greatest word, which means no key.
     #[inline(always)]
     pub(crate) fn of(key: Key) -> Above
         requires { key < 2 ^ 64 - 1 }
@@ -55,7 +56,7 @@ impl Above {
         Above { word: key }
     }
 
-    /// The key, or `None`.
+    /// The key as an option; `None` if there is no key.
     #[inline(always)]
     pub fn get(self) -> Option<Key>
         ensures { result ≡ self }
@@ -68,7 +69,8 @@ impl Above {
     }
 }
 
-/// An item, its link, and the number of its holders: the items and tips that link to it.
+/// An item; its link, which is the key of the item above it, if any; and the number of its holders,
+/// which are the nodes and the tips (last keys of paths) that link to it.
 #[derive(Debug, Drop)]
 pub(crate) struct Node<X> {
     pub(crate) item: X,

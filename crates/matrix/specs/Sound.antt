@@ -1,4 +1,5 @@
--- The matrix's table is sound, and the test of two tasks decides whether they are equal.
+-- The matrix's rules meet the laws that every layer's rules must meet; and its equality test on
+-- tasks (points at which a part is read or written) is right.
 use Rattle.std.proofs.Common.{◌≡◌, ◌≢◌, ℕ, zero, suc, ◌+◌, ◌-◌, ◌*◌, ◌<◌, ◌≤◌, Bool, true, false, refl, sym, ap, subst, arith, nat_eq}
 use Rattle.std.specs.Bool.{Decides}
 use Rattle.std.specs.Prelude.{◌==◌, ◌&&◌, if◌then◌else◌}
@@ -21,13 +22,14 @@ use Rattle.matrix.specs.declared.task.MatrixTask.TheVariants.{Column, Row}
 use Rattle.matrix.specs.Program.{matrix_code_count, code_of, tag_of, greater, row_outcome, row_from, after_column, column_from, matrix_program, matrix_rest, matrix_asks, matrix_frame, matrix_find, matrix_suits, matrix_table, ValueFits, InWork, RowFits, MatrixMayBeAt}
 use Rattle.matrix.specs.Bounds.{matrix_code_fits, matrix_value_fits, tag_fits}
 
--- how many parts at most are still to be read or written after a task
+-- an upper bound on the number of reads and writes of parts that can follow a task in its operation
 abbrev pub matrix_left : ℕ → MatrixTask → ℕ
 matrix_left n (Column who o j greatest) = n - (j + 1) + n
 matrix_left n (Row who o j code) = n - (j + 1)
 
 module _ (n values last : ℕ) (some : LEAST_PROCESSES ≤ n) (some_values : LEAST_VALUES ≤ values) where
-  -- the programs that a process may run in an operation
+  -- program p is sound for process `who` in operation o: it next reaches a task that `who` can be
+  -- in, and goes on after it as the matrix's rules say; or it ends with an outcome that suits o
   abbrev Sound : ℕ → Op → Program MatrixTask → Type 0
   Sound who o p = IsSound (matrix_table n values last) (MatrixMayBeAt n values last who o) (Answers values o) p
 
@@ -132,7 +134,7 @@ module _ (n values last : ℕ) (some : LEAST_PROCESSES ≤ n) (some_values : LEA
   frame_tells who o (Column p q j greatest) stands = (ap (λ r. Column r q j greatest) (sym stands.own), stands.same)
   frame_tells who o (Row p q j code) stands = (ap (λ r. Row r q j code) (sym stands.0.own), stands.0.same)
 
-  -- the matrix's table is sound
+  -- the matrix's rules meet the laws that every layer's rules must meet
   pub matrix_sound : IsSoundTable (matrix_table n values last) (MatrixMayBeAt n values last) (matrix_left n)
   matrix_sound = record {
     may_be_at_suits = stands_suits;
@@ -155,14 +157,16 @@ module _ (n values last : ℕ) (some : LEAST_PROCESSES ≤ n) (some_values : LEA
       others_read : (who : ℕ) → who < n → matrix_suits n values who op.Read ≡ true
       others_read who below = grind (arith, nat_tests)
 
--- the equality test of two tasks; E is the test of two operations
+-- whether two tasks are equal: both read a column or both write a row, and all their fields are
+-- equal; E is the test by which their operations are compared
 abbrev pub matrix_task_eq : (Op → Op → Bool) → MatrixTask → MatrixTask → Bool
 matrix_task_eq E (Column p q j x) (Column p' q' j' x') = nat_eq p p' && (E q q' && (nat_eq j j' && nat_eq x x'))
 matrix_task_eq E (Row p q j x) (Row p' q' j' x') = nat_eq p p' && (E q q' && (nat_eq j j' && nat_eq x x'))
 matrix_task_eq E (Column p q j x) (Row p' q' j' x') = false
 matrix_task_eq E (Row p q j x) (Column p' q' j' x') = false
 
--- the test of two tasks decides whether they are equal
+-- `matrix_task_eq` is true exactly if the two tasks are equal, provided that E is the equality test
+-- of operations
 pub matrix_task_decides : (E : Op → Op → Bool) → ((a b : Op) → E a b ≡ op_eq a b) → (a b : MatrixTask) → Decides (matrix_task_eq E a b) (a ≡ b)
 matrix_task_decides E same (Column p q j x) (Column p' q' j' x') =
     Decides-like (nat_eq p p' && (E q q' && (nat_eq j j' && nat_eq x x'))) (λ e. λ i. Column (e.0 i) (e.1.0 i) (e.1.1.0 i) (e.1.1.1 i)) (λ e. (cc, (cc, (cc, cc))))
@@ -173,7 +177,7 @@ matrix_task_decides E same (Row p q j x) (Row p' q' j' x') =
 matrix_task_decides E same (Column p q j x) (Row p' q' j' x') = (λ h. cc, λ h. cc)
 matrix_task_decides E same (Row p q j x) (Column p' q' j' x') = (λ h. cc, λ h. cc)
 
--- matrices of equally many processes and values and equal last tags have equal tables
+-- matrices with the same numbers of processes and values and the same last tag have the same rules
 pub matrix_table_alike : (n n' v v' l l' : ℕ) → (nat_eq n n' && (nat_eq v v' && nat_eq l l')) ≡ true → matrix_table n v l ≡ matrix_table n' v' l'
 matrix_table_alike n n' v v' l l' h =
     let first = both_true (nat_eq n n') (nat_eq v v' && nat_eq l l') h in

@@ -1,4 +1,5 @@
-//! The rules of a matrix, over any register.
+//! The rules of a matrix, whichever register is below it: each operation reads a column and writes
+//! a row.
 
 ghost use Rattle.std.specs.Prelude.{◌≡◌, ℕ, ◌+◌, ◌-◌, ◌*◌, ◌<◌, ◌≤◌, ◌^◌, MatchResult, IfOk, Some, None};
 ghost use Rattle.frames.specs.declared.limits.TheConstants.{LEAST_PROCESSES, LEAST_VALUES, MOST_VALUES, MOST_WRITERS};
@@ -16,20 +17,23 @@ use layers::layered::Layered;
 use layers::nested::{Ask, Continuation};
 use safe_bit::Store;
 
-/// A register that each of n processes writes and reads, over n * n registers of tagged codes. In
-/// each operation a process reads its column and then writes its row. A read writes the greatest
-/// code that it has read; a write writes a code of its own value, with a greater tag. The
+/// A register that each of n processes writes and reads, made of n * n registers in a square.
+/// Process i alone writes row i, and process j alone reads column j. Each register of the square
+/// holds a code: one number for a tag, a writer and a value. In each operation a process first
+/// reads its whole column and then writes one code to its whole row. A write writes the code of its
+/// own value, with the tag after the greatest that it has read; it is spent if there is no such
+/// tag. A read writes the greatest code that it has read, and returns the value of that code. The
 /// construction is this project's own, after an idea of Vitanyi and Awerbuch (1986).
 pub type Matrix<S> = Layered<MatrixRules, S>;
 
-/// The rules of a matrix.
+/// A matrix's own numbers, within their limits. They determine its rules.
 #[derive(Debug, PartialEq, Eq)]
 pub struct MatrixRules {
-    /// The number of processes, and of rows and columns.
+    /// The number of processes, which is also the number of rows and of columns.
     pub n: u32,
-    /// The number of values.
+    /// The number of values that the matrix can hold.
     pub values: u32,
-    /// The last tag.
+    /// The greatest tag. A write that reads a code with this tag is spent.
     pub last: u32,
     ghost some: { LEAST_PROCESSES ≤ n },
     ghost few: { n ≤ MOST_WRITERS },
@@ -47,7 +51,7 @@ impl Clone for MatrixRules {
 
 impl Copy for MatrixRules {}
 
-/// The trait of `Matrix::new`. It has to be in scope in each module that calls `Matrix::new`.
+/// The trait that declares `Matrix::new`. Import it to call `Matrix::new`.
 pub trait NewMatrix<S: Register>: Sized {
     /// The matrix of `n` processes and `values` values, with tags up to `last_tag`, over registers
     /// like `below`. `n` is 2 to 4, `values` is 2 to 512, and `last_tag` is at most 511. The

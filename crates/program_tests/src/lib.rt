@@ -1,5 +1,5 @@
-//! Tests of the crates that the program calls. This crate is above those, so that none of them is
-//! proved again for its tests.
+//! Tests of the crates that the program calls. This crate is above the crates that it tests, so
+//! that none of them is proved again for its tests.
 #![tactic(auto)]
 
 #[cfg(test)]

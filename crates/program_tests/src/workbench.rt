@@ -25,7 +25,7 @@ fn options() -> Options
 }
 
 /// A reader that gives its bytes one by one, each after `interruptions` interrupted reads. After
-/// the last byte one read fails with `fault`, if there is one; later reads are at the end.
+/// the last byte, one read fails if there is a `fault`; later reads give no bytes.
 #[derive(Drop)]
 struct Slow<'a> {
     bytes: &'a [u8],

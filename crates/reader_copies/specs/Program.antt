@@ -1,5 +1,6 @@
--- Copies of a register of one reader, one for each reader (Lamport 1986, construction 1; Herlihy
--- and Shavit, chapter 4). Writing the copies in the readers' order is this project's own.
+-- A register of several readers: for each of them it has a copy of a register of one reader
+-- (Lamport 1986, construction 1; Herlihy and Shavit, chapter 4). It is this project's own choice
+-- that the copies are written in the order of their readers.
 use Rattle.std.specs.Prelude.{◌≡◌, ℕ, zero, suc, ◌+◌, ◌-◌, ◌<◌, ◌≤◌, ◌&&◌, nat_le, Option, Some, if◌then◌else◌}
 use Rattle.frames.specs.declared.types.Op.{Op}
 use Rattle.frames.specs.declared.types.Op.TheVariants as op
@@ -18,38 +19,43 @@ use Rattle.layers.specs.OneWriter.{one_writer}
 use Rattle.reader_copies.specs.declared.task.CopiesTask.{CopiesTask}
 use Rattle.reader_copies.specs.declared.task.CopiesTask.TheVariants.{Writing, Reading}
 
--- the write of v to the remaining copies, one after the other, that of `reader` first; the last
--- number is how many remain
+-- the rest of a write of v, which writes v to the remaining copies one after the other, beginning
+-- with the copy of `reader`; the last argument is the number of copies that remain
 abbrev pub write_from : ℕ → ℕ → ℕ → Program CopiesTask
 write_from v reader zero = Ends Written
 write_from v reader (suc behind) = Asks (Writing v reader) (λ o. write_from v (reader + 1) behind)
 
--- a write writes the copies of readers 1 to `readers`; a reader reads its own copy
+-- the program of an operation: a write writes the copies of readers 1 to `readers`, in this order;
+-- a read by process `who` reads the copy of `who`
 abbrev pub copies_program : ℕ → ℕ → Op → Program CopiesTask
 copies_program readers who (op.Write v) = write_from v 1 readers
 copies_program readers who op.Read = Asks (Reading who) Ends
 
--- after one reader's copy, a write goes on to the copies of the next readers; a read ends
+-- the rest of an operation's program, after the copy of `reader` has ended the task with outcome o:
+-- a write goes on with the copies of the next readers; a read ends with o
 abbrev pub copies_rest : ℕ → CopiesTask → Outcome → Program CopiesTask
 copies_rest readers (Writing v reader) o = write_from v (reader + 1) (readers - reader)
 copies_rest readers (Reading reader) o = Ends o
 
--- the copy of reader 1 is the first part; in each copy process 0 writes and process 1 reads
+-- what a task asks for: a write of the copy of `reader` by the copy's process 0, or a read of it by
+-- the copy's process 1; the copy of reader 1 is part 0, and so on
 abbrev pub copies_asks : CopiesTask → Ask
 copies_asks (Writing v reader) = record { part = reader - 1; who = 0; op = op.Write v }
 copies_asks (Reading reader) = record { part = reader - 1; who = 1; op = op.Read }
 
--- the frame of a task
+-- the frame that records a task on the stack of a pending operation: the operation, and the reader
+-- whose copy is at work
 abbrev pub copies_frame : CopiesTask → Frame
 copies_frame (Writing v reader) = record { layer = layer.Copies; op = op.Write v; i = reader; x = 0 }
 copies_frame (Reading reader) = record { layer = layer.Copies; op = op.Read; i = reader; x = 0 }
 
--- the task of a frame: the frame's operation is the write or the read, and its index is the copy's
--- reader
+-- the task that process `who` is in, if f is its frame: the frame's operation is the write or read
+-- of the copy, and the frame's index i is the reader whose copy this is
 abbrev pub copies_find : ℕ → Frame → CopiesTask
 copies_find who f = elim (f.op) [ op.Write v ↦ Writing v f.i | op.Read ↦ Reading f.i ]
 
--- the layer for `readers` readers, over a register of `values` values
+-- The rules of a register made of copies of a register of `values` values for `readers` readers. At
+-- first each copy holds the initial value.
 abbrev pub copies_table : ℕ → ℕ → Table CopiesTask
 copies_table readers values = record {
   values = values;
@@ -69,14 +75,15 @@ copies_table readers values = record {
   find = copies_find;
 }
 
--- process 0 is writing its value to some reader's copy, or a reader is reading its own copy
+-- process `who` can be in this task during the operation: process 0, in a write of w, writes w to
+-- some reader's copy; a reader, in a read, reads its own copy
 abbrev pub CopiesMayBeAt : ℕ → ℕ → ℕ → Op → CopiesTask → Type 0
 CopiesMayBeAt readers values who (op.Write w) (Writing v reader) = (who ≡ 0) × (v ≡ w) × (v < values) × (1 ≤ reader) × (reader ≤ readers)
 CopiesMayBeAt readers values who op.Read (Reading reader) = (reader ≡ who) × (1 ≤ reader) × (reader ≤ readers)
 CopiesMayBeAt readers values who (op.Write w) (Reading reader) = ⊥
 CopiesMayBeAt readers values who op.Read (Writing v reader) = ⊥
 
--- why copies of register b for `readers` readers are refused, or `None` if they aren't; there may
--- be 1 to 4 readers
+-- why copies of register b can't make a register for `readers` readers, which may be 1 to 4; `None`
+-- if they can
 abbrev pub copies_refusal : {P : Type 0} → ℕ → Behaviour P → Option LayerError
 copies_refusal readers b = if nat_le 1 readers && nat_le readers MOST_READERS then refusal_below (copies_table readers b.values) b else Some BadSize

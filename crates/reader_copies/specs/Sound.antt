@@ -1,4 +1,5 @@
--- The table of copies is sound, and the test of two tasks decides whether they are equal.
+-- The rules of copies meet the laws that every layer's rules must meet; and the equality test on
+-- tasks (points at which a copy is written or read) is right.
 use Rattle.std.proofs.Common.{◌≡◌, ℕ, zero, suc, ◌+◌, ◌-◌, ◌<◌, ◌≤◌, Bool, true, false, refl, ap, arith, nat_eq}
 use mathlib.Core.Bool.{◌&&◌}
 use Rattle.std.specs.Bool.{Decides}
@@ -19,24 +20,27 @@ use Rattle.reader_copies.specs.declared.task.CopiesTask.{CopiesTask}
 use Rattle.reader_copies.specs.declared.task.CopiesTask.TheVariants.{Writing, Reading}
 use Rattle.reader_copies.specs.Program.{write_from, copies_program, copies_rest, copies_table, copies_asks, copies_frame, copies_find, CopiesMayBeAt}
 
--- how many copies are still to be written after a task
+-- the number of copies that the task's operation still has to write after the task
 abbrev pub copies_left : ℕ → CopiesTask → ℕ
 copies_left readers (Writing v reader) = readers - reader
 copies_left readers (Reading reader) = 0
 
--- the next task is the first copy still to be written; if there is none, the write is done
+-- the rest of a write that has copies left to write reaches a task next: to write the copy of
+-- `reader`; it changes no memory before that
 pub settled_more : (base v reader copies : ℕ) (m : Memory) → 0 < copies
     → settled base (write_from v reader copies) m ≡ record { continuation = continuation.Asks (Writing v reader); memory = m }
 settled_more base v reader zero m some = absurd (omega arith)
 settled_more base v reader (suc behind) m some = refl
 
+-- if a write has no copies left to write, its rest ends at once and changes no memory
 pub settled_none : (base v reader copies : ℕ) (m : Memory) → copies ≡ 0
     → settled base (write_from v reader copies) m ≡ record { continuation = continuation.Ends Written; memory = m }
 settled_none base v reader zero m none = refl
 settled_none base v reader (suc behind) m none = absurd (omega arith)
 
 module _ (readers values : ℕ) (some : 1 ≤ readers) (few : readers ≤ MOST_READERS) where
-  -- the rest of a write, which still has to write the copies from that of `reader` on
+  -- the rest of a write is sound (it next reaches a task that the writer can be in, or it ends), if
+  -- it writes the copies of `reader` and of all readers after it
   write_sound : (who w v reader copies : ℕ) → who ≡ 0 → v ≡ w → v < values → 1 ≤ reader → reader + copies ≡ readers + 1
       → IsSound (copies_table readers values) (CopiesMayBeAt readers values who (op.Write w)) (Answers values (op.Write w)) (write_from v reader copies)
   write_sound who w v reader zero writer same lt first all = tt
@@ -91,20 +95,21 @@ module _ (readers values : ℕ) (some : 1 ≤ readers) (few : readers ≤ MOST_R
   frame_tells who (op.Write w) (Reading reader) stands = absurd stands
   frame_tells who op.Read (Writing v reader) stands = absurd stands
 
-  -- the table of copies is sound
+  -- the rules of copies meet the laws that every layer's rules must meet
   pub copies_sound : IsSoundTable (copies_table readers values) (CopiesMayBeAt readers values) (copies_left readers)
   copies_sound = writer.one_writer_sound (copies_table readers values) (CopiesMayBeAt readers values) (copies_left readers) (λ who o. refl) (omega arith)
       (λ v j lt below. lt) (λ v k lt below. absurd (omega arith))
       asks_fit stands_suits frame_tells begins_sound rest_sound rest_falls
 
--- the equality test of two tasks
+-- whether two tasks are equal: both are writes of one value to one reader's copy, or both are reads
+-- by one reader
 abbrev pub copies_task_eq : CopiesTask → CopiesTask → Bool
 copies_task_eq (Writing v p) (Writing w q) = nat_eq v w && nat_eq p q
 copies_task_eq (Reading p) (Reading q) = nat_eq p q
 copies_task_eq (Writing v p) (Reading q) = false
 copies_task_eq (Reading p) (Writing w q) = false
 
--- the test of two tasks decides whether they are equal
+-- `copies_task_eq` is true exactly if the two tasks are equal
 pub copies_task_decides : (a b : CopiesTask) → Decides (copies_task_eq a b) (a ≡ b)
 copies_task_decides (Writing v p) (Writing w q) =
     Decides-like (nat_eq v w && nat_eq p q) (λ e. λ i. Writing (e.0 i) (e.1 i)) (λ e. (cc, cc)) (Decides-and (nat_eq v w) (nat_eq p q) (Decides-eqb v w) (Decides-eqb p q))
@@ -112,11 +117,13 @@ copies_task_decides (Reading p) (Reading q) = Decides-like (nat_eq p q) (λ e. a
 copies_task_decides (Writing v p) (Reading q) = (λ h. cc, λ h. cc)
 copies_task_decides (Reading p) (Writing w q) = (λ h. cc, λ h. cc)
 
--- the equality test of two layers
+-- whether two registers made of copies have the same number of readers and the same number of
+-- values
 abbrev pub copies_layer_eq : ℕ → ℕ → ℕ → ℕ → Bool
 copies_layer_eq readers readers' values values' = nat_eq readers readers' && nat_eq values values'
 
--- equal layers have equal tables
+-- registers made of copies have the same rules if their numbers of readers and of values are the
+-- same
 pub layers_alike : (p q v w : ℕ) → copies_layer_eq p q v w ≡ true → copies_table p v ≡ copies_table q w
 layers_alike p q v w h =
     let both = (Decides-and (nat_eq p q) (nat_eq v w) (Decides-eqb p q) (Decides-eqb v w)).0 h in

@@ -1,4 +1,4 @@
-//! The rules of copies, over any register.
+//! The rules of a register made of copies, whichever register is copied.
 
 ghost use Rattle.std.specs.Prelude.{◌≡◌, ℕ, ◌<◌, ◌≤◌, ◌^◌, MatchResult, IfOk, Some, None};
 ghost use Rattle.frames.specs.declared.limits.TheConstants.{MOST_READERS};
@@ -16,17 +16,17 @@ use layers::layered::Layered;
 use layers::nested::{Ask, Continuation};
 use safe_bit::Store;
 
-/// A register of several readers, made of copies of a register of one reader, one for each reader.
-/// A write writes the copies one after the other, that of reader 1 first. A reader reads its own
-/// copy (Lamport 1986; Herlihy and Shavit, chapter 4).
+/// A register of several readers: for each of them it has a copy of a register of one reader. A
+/// write writes the copies one after the other, beginning with the copy of reader 1. A reader reads
+/// its own copy (Lamport 1986; Herlihy and Shavit, chapter 4).
 pub type Copies<S> = Layered<CopiesRules, S>;
 
-/// The rules of copies.
+/// The two numbers that the rules of a register made of copies depend on.
 #[derive(Debug, PartialEq, Eq)]
 pub struct CopiesRules {
     /// The number of readers, each with its own copy.
     pub readers: u32,
-    /// The number of values of each copy.
+    /// The number of values of each copy, and so of the register made of them.
     pub values: u32,
     ghost some: { 1 ≤ readers },
     ghost few: { readers ≤ MOST_READERS },
@@ -40,7 +40,7 @@ impl Clone for CopiesRules {
 
 impl Copy for CopiesRules {}
 
-/// The trait of `Copies::new`. It has to be in scope in each module that calls `Copies::new`.
+/// The trait that declares `Copies::new`. Import it to call `Copies::new`.
 pub trait NewCopies<S: Register>: Sized {
     /// Copies of the register below for `readers` readers, 1 to 4. Refused as BadSize for any other
     /// number of readers, or if the register below has fewer than 2 values, doesn't have 2

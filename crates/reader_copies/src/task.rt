@@ -1,6 +1,6 @@
-//! The points of the programs of copies.
+//! The tasks of a register made of copies: the points of its programs at which one copy is at work.
 
-/// An operation of a copy.
+/// A task: the write or read of one copy that a pending operation is making.
 #[derive(Clone, Copy, Debug, PartialEq, Eq)]
 pub enum CopiesTask {
     /// A write of `v` to the copy of reader `reader`.

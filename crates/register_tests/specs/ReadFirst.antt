@@ -1,5 +1,5 @@
 -- A register of 8 values that has to be read before it can be written. Tests build a matrix of such
--- registers, in which a write is spent at the second part of its row.
+-- registers, in which a write is refused because the second part of its row is spent.
 use Rattle.std.proofs.Common.{◌≡◌, ℕ, ◌<◌, Bool, true, false, refl, sym, ap, arith}
 use Rattle.std.specs.Prelude.{◌==◌, if◌then◌else◌}
 use Rattle.frames.specs.declared.types.Op.{Op}
@@ -15,7 +15,7 @@ use Rattle.layers.specs.Sound.{IsSound, IsSoundTable, IsNotSpent, FitsPart}
 use Rattle.layers.specs.OneWriter.{one_writer}
 use Rattle.layers.specs.laws.OneWriter as writer
 
--- the task is the operation itself; word 0 is 1 once the register has been read
+-- the task of an operation is the operation itself; word 0 is 1 once the register has been read
 abbrev pub read_first_program : ℕ → Op → Program Op
 read_first_program who (op.Write v) = Reads 0 (λ read. if read == 0 then Ends (Spent Stamped) else Asks (op.Write v) Ends)
 read_first_program who op.Read = Sets 0 1 (Asks op.Read Ends)

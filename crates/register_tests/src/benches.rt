@@ -12,8 +12,8 @@ use tower_file::{FaultKind, laws, parse_bench};
 const THREE_BRANCHES: &[u8] = b"bench 1\nsafe 0\nbranch main 0 0\nr 1\nw 0 1\n\
     branch a 0 1\ng 1 0\nbranch b 1 2\ng 1 1\n";
 
-/// The same file as a sample. It has 9 lines; the tower's name has 4 bytes, and the second line has
-/// 7.
+/// `THREE_BRANCHES` as a sample. The file has 9 lines; the tower's name has 4 bytes, and the second
+/// line has 7 bytes.
 pub(crate) const SAMPLE: Sample = Sample {
     file: Kind::Bench,
     bytes: THREE_BRANCHES,

@@ -118,7 +118,7 @@ fn stopped_writer(rt: HostRuntime) -> Result<(), Fail> {
 }
 
 #[test]
-fn copy_stands_alone(rt: HostRuntime) -> Result<(), Fail> {
+fn copy_is_independent(rt: HostRuntime) -> Result<(), Fail> {
     let mut config = Config::initial(rt.alloc(), Safe, 1)?;
     let copy = config.copy(rt.alloc())?;
     assert!(rt; copy == config);

@@ -2,7 +2,7 @@
 
 use crate::spelling::{
     Kind, Refused, Sample, assert_all_same, assert_fault, assert_faults, assert_same,
-    assert_same_behind, assert_texts, fault_of,
+    assert_same_after, assert_texts, fault_of,
 };
 use frames::types::Step;
 use std::alloc::{AllocError, Global};
@@ -14,8 +14,8 @@ use tower_file::{FaultKind, TowerFile, TowerSpec, Version, laws, parse, print};
 const STAMPED_BEST: &[u8] = b"tower 1\nstamped 2 1\nw 0 1\ng 0 0\ng 0 0\ng 0 0\n\
     r 1\ng 1 0\ng 1 0\ng 1 0\ng 1 0\ng 1 0\ng 1 0\ng 1 0\ng 1 0\nr 1\ng 1 0\ng 1 1\n";
 
-/// The same file as a sample. It has 18 lines; the tower's name has 7 bytes, and the second line
-/// has 12.
+/// `STAMPED_BEST` as a sample. The file has 18 lines; the tower's name has 7 bytes, and the second
+/// line has 12 bytes.
 pub(crate) const SAMPLE: Sample = Sample {
     file: Kind::Tower,
     bytes: STAMPED_BEST,
@@ -24,7 +24,7 @@ pub(crate) const SAMPLE: Sample = Sample {
     lines: 18,
 };
 
-/// The first lines of a file, followed by the lines `more`, repeated `times` times.
+/// The first lines of a file, followed by `times` copies of the lines `more`.
 fn repeated(alloc: Global, lines: &[u8], more: &[u8], times: usize) -> Result<Vec<u8>, AllocError> {
     let mut bytes = Vec::from_slice(alloc, lines)?;
     for _ in 0..times {
@@ -109,7 +109,7 @@ const BEYOND_THE_LIMITS: [Refused; 2] = [
 
 #[test]
 fn sizes(rt: HostRuntime) -> Result<(), Fail> {
-    assert_same_behind(&rt, Kind::Tower, b"tower 1\n", AT_THE_LIMITS)?;
+    assert_same_after(&rt, Kind::Tower, b"tower 1\n", AT_THE_LIMITS)?;
     assert_faults(&rt, Kind::Tower, &BEYOND_THE_LIMITS)
 }
 
@@ -135,8 +135,8 @@ fn printed_again(rt: HostRuntime) -> Result<(), Fail> {
 /// A file with a schedule in which the writer stops in the middle of a write.
 const STOPPED: &[u8] = b"tower 2\nsafe 0\nw 0 1\ng 0 0\nx 0\ng 0 0\nr 1\ng 1 0\ng 1 1\n";
 
-/// Files with a bad stop: any stop in version 1; and in version 2 a stop of a process that isn't
-/// there, and a stop with a choice.
+/// Files with a bad stop: in version 1, any stop; in version 2, a stop of a process that the tower
+/// doesn't have, and a stop with a choice.
 const UNSTOPPED: [Refused; 2] = [
     (
         b"tower 1\nsafe 0\nw 0 1\ng 0 0\n",

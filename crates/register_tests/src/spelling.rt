@@ -14,7 +14,7 @@ pub(crate) enum Kind {
     Bench,
 }
 
-/// Why bytes aren't a file of this kind; `None` if they are.
+/// Why bytes aren't a file of this kind; `None` if they are such a file.
 pub(crate) fn fault_of(alloc: Global, kind: Kind, bytes: &[u8]) -> Option<FileFault> {
     match kind {
         Kind::Tower => parse(alloc, bytes).err(),
@@ -78,9 +78,9 @@ fn joined(alloc: Global, before: &[u8], text: &[u8]) -> Result<Vec<u8>, AllocErr
     Ok(bytes)
 }
 
-/// Asserts that each of the texts, which bars separate, makes a file with the prefix `before`, and
-/// that this is printed as it was read.
-pub(crate) fn assert_same_behind(
+/// Asserts that `before`, followed by any of the texts, which bars separate, is a file, and is
+/// printed as it was read.
+pub(crate) fn assert_same_after(
     rt: &(impl Abort + AllocGlobal),
     file: Kind,
     before: &[u8],
@@ -92,12 +92,12 @@ pub(crate) fn assert_same_behind(
     Ok(())
 }
 
-/// A prefix, texts that may follow it, separated by bars, and the fault that the prefix has with
-/// each of them: its kind and its line.
+/// The beginning of a file; texts that may follow it, which bars separate; and the kind and line of
+/// the fault that the file has with each of these texts.
 pub(crate) type Refused = (&'static [u8], &'static [u8], FaultKind, u64);
 
-/// Asserts the fault of each text after its prefix; if the text ends a line, also with more lines
-/// after it.
+/// Asserts the fault of each beginning with each of its texts; if the text ends a line, also with
+/// more lines after the text.
 pub(crate) fn assert_faults(
     rt: &(impl Abort + AllocGlobal),
     file: Kind,
@@ -116,8 +116,8 @@ pub(crate) fn assert_faults(
     Ok(())
 }
 
-/// The fault of a file that is cut within a line after the second one, given what is left of that
-/// line; `None` if the file has no fault without the line.
+/// The fault of a file that is cut within a line after the second, given what is left of that line.
+/// `None` if nothing is left of the line, and the lines before it are a file.
 fn fault_of_cut(file: Kind, line: u64, text: &[u8]) -> Option<FaultKind> {
     match file {
         Kind::Bench if line == 3 || text.starts_with(b"branch") => Some(FaultKind::BadBranch),
@@ -136,7 +136,8 @@ pub(crate) struct Sample {
     pub(crate) lines: u64,
 }
 
-/// Cuts a file before each of its bytes in turn, and asserts the fault, or that the rest is a file.
+/// Cuts a file before each of its bytes in turn, and asserts the fault of the bytes before the cut,
+/// or that these are a file.
 fn assert_cut_anywhere(rt: &(impl Abort + AllocGlobal), sample: &Sample) -> Result<(), Fail> {
     let file = sample.file;
     let mut line = 1;
@@ -164,8 +165,8 @@ fn assert_cut_anywhere(rt: &(impl Abort + AllocGlobal), sample: &Sample) -> Resu
     assert_same(rt, file, sample.bytes)
 }
 
-/// Replaces each byte in turn by one outside ASCII, and asserts that this is the fault, on the
-/// byte's line.
+/// Replaces each byte in turn by one outside ASCII, and asserts the fault NotAscii on the line of
+/// that byte.
 fn assert_broken_anywhere(rt: &(impl Abort + AllocGlobal), sample: &Sample) -> Result<(), Fail> {
     let mut line = 1;
     for (at, byte) in sample.bytes.iter().enumerate() {
@@ -181,8 +182,8 @@ fn assert_broken_anywhere(rt: &(impl Abort + AllocGlobal), sample: &Sample) -> R
     Ok(())
 }
 
-/// Asserts the number and the name of a kind of fault, the text of the kind, and the text of such a
-/// fault on line 4.
+/// Asserts the number, the name and the text of a kind of fault, and the text of a fault of this
+/// kind on line 4.
 pub(crate) fn assert_texts(
     rt: &(impl Abort + AllocGlobal),
     kind: FaultKind,

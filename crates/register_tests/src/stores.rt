@@ -20,7 +20,7 @@ fn new_is_blank(rt: HostRuntime) -> Result<(), Fail> {
 }
 
 #[test]
-fn copy_stands_alone(rt: HostRuntime) -> Result<(), Fail> {
+fn copy_is_independent(rt: HostRuntime) -> Result<(), Fail> {
     let mut store = Store::new(rt.alloc(), 2, 1)?;
     store.set_value(1, true);
     store.set_word(0, 7);

@@ -1,4 +1,5 @@
--- The regular bit's table is sound, and the test of two tasks decides whether they are equal.
+-- The regular bit's rules meet the laws that every layer's rules must meet; and its equality test
+-- on tasks (points at which the register below is written or read) is right.
 use Rattle.std.proofs.Common.{◌≡◌, ℕ, ◌<◌, Bool, true, false, refl, sym, ap, arith, nat_eq}
 use Rattle.std.specs.Bool.{Decides}
 use Rattle.std.specs.Prelude.{if◌then◌else◌}
@@ -54,26 +55,26 @@ module _ (processes : ℕ) (some : 0 < processes) where
   frame_tells who (op.Write w) (Reading reader) stands = absurd stands
   frame_tells who op.Read (Writing v) stands = absurd stands
 
-  -- the regular bit's table is sound
+  -- the regular bit's rules meet the laws that every layer's rules must meet
   pub regular_sound : IsSoundTable (regular_table processes) (RegularMayBeAt processes) (λ _. 0)
   regular_sound = writer.one_writer_sound (regular_table processes) (RegularMayBeAt processes) (λ _. 0) (λ who o. refl) (some)
       (λ v j lt below. lt) (λ v k lt below. omega (arith, lt))
       asks_fit stands_suits frame_tells begins_sound rest_sound (λ who o task outcome stands answers on. tt)
 
--- the equality test of two tasks
+-- whether two tasks are equal: both are writes of one value, or both are reads by one process
 abbrev pub regular_task_eq : RegularTask → RegularTask → Bool
 regular_task_eq (Writing v) (Writing w) = nat_eq v w
 regular_task_eq (Reading p) (Reading q) = nat_eq p q
 regular_task_eq (Writing v) (Reading q) = false
 regular_task_eq (Reading p) (Writing w) = false
 
--- the test of two tasks decides whether they are equal
+-- `regular_task_eq` is true exactly if the two tasks are equal
 pub regular_task_decides : (a b : RegularTask) → Decides (regular_task_eq a b) (a ≡ b)
 regular_task_decides (Writing v) (Writing w) = Decides-like (nat_eq v w) (λ p. ap Writing p) (λ p. cc) (Decides-eqb v w)
 regular_task_decides (Reading p) (Reading q) = Decides-like (nat_eq p q) (λ e. ap Reading e) (λ e. cc) (Decides-eqb p q)
 regular_task_decides (Writing v) (Reading q) = (λ h. cc, λ h. cc)
 regular_task_decides (Reading p) (Writing w) = (λ h. cc, λ h. cc)
 
--- regular bits of equally many processes have equal tables
+-- regular bits with the same number of processes have the same rules
 pub regular_table_alike : (p q : ℕ) → nat_eq p q ≡ true → regular_table p ≡ regular_table q
 regular_table_alike p q h = ap regular_table ((Decides-eqb p q).0 h)

@@ -1,4 +1,4 @@
-//! The rules of a regular bit, over any register.
+//! The rules of a regular bit, whichever register of two values is below it.
 
 ghost use Rattle.std.specs.Prelude.{◌≡◌, ℕ, ◌<◌, ◌≤◌, ◌^◌, MatchResult, IfOk, Some, None};
 ghost use Rattle.layers.specs.OneWriter.{one_writer};
@@ -15,15 +15,15 @@ use layers::layered::Layered;
 use layers::nested::{Ask, Continuation};
 use safe_bit::Store;
 
-/// A regular bit over a register of two values. A write of the value written last is done at once;
-/// any other write writes the register below. A read reads the register below (Lamport 1986;
-/// Herlihy and Shavit, chapter 4).
+/// A bit over a register of two values. A write of the value that was written last ends at once,
+/// without a write of the register below; any other write writes the register below. A read reads
+/// the register below (Lamport 1986; Herlihy and Shavit, chapter 4).
 pub type RegularBit<S> = Layered<RegularBitRules, S>;
 
-/// The rules of a regular bit.
+/// The only number that a regular bit's rules depend on.
 #[derive(Debug, PartialEq, Eq)]
 pub struct RegularBitRules {
-    /// The number of processes: one writes, the others read.
+    /// The number of processes: process 0 writes, the others read.
     pub processes: u32,
     ghost some: { 0 < processes },
 }
@@ -36,8 +36,7 @@ impl Clone for RegularBitRules {
 
 impl Copy for RegularBitRules {}
 
-/// The trait of `RegularBit::new`. It has to be in scope in each module that calls
-/// `RegularBit::new`.
+/// The trait that declares `RegularBit::new`. Import it to call `RegularBit::new`.
 pub trait NewRegularBit<S: Register>: Sized {
     /// The regular bit over a register of two values and 2 to 5 processes, which are the bit's
     /// processes too. Refused as BadSize if the register below doesn't have two values, doesn't

@@ -1,6 +1,6 @@
-//! The points of a regular bit's programs.
+//! The tasks of a regular bit: the points of its programs at which the register below is at work.
 
-/// An operation of the register below.
+/// A task: the write or read of the register below that a pending operation is making.
 #[derive(Clone, Copy, Debug, PartialEq, Eq)]
 pub enum RegularTask {
     /// A write of this value.

@@ -1,5 +1,5 @@
 -- A safe bit and its four actions (Lamport, "On Interprocess Communication", 1986, safe registers).
--- That a write takes two actions, and a read two, is this project's own choice.
+-- It is this project's own choice that a write takes two actions, and a read two.
 use Rattle.std.specs.Prelude.{Bool, false, true, Some, None, ◌||◌, is_some, if◌then◌else◌, unwrap_or}
 use Rattle.safe_bit.specs.declared.Cell.{Cell}
 
@@ -7,19 +7,19 @@ use Rattle.safe_bit.specs.declared.Cell.{Cell}
 abbrev pub idle_cell : Bool → Cell
 idle_cell v = record { value = v; writing = None; reading = false; hit = false }
 
--- start write v: the value being written is v, and a read in progress is now hit
+-- a write of v starts: v is now the value being written, and a read in progress is hit
 abbrev pub start_write : Bool → Cell → Cell
 start_write v c = record c { writing = Some v; hit = c.hit || c.reading }
 
--- end write: the cell takes the value being written; if there is none, nothing changes
+-- a write ends: the cell takes the value being written; if there is none, nothing changes
 abbrev pub end_write : Cell → Cell
 end_write c = record c { value = unwrap_or c.writing c.value; writing = None }
 
--- start read: the cell is being read, and the read is hit if a write is in progress
+-- a read starts: the cell is being read, and the read is hit if a write is in progress
 abbrev pub start_read : Cell → Cell
 start_read c = record c { reading = true; hit = is_some c.writing }
 
--- end read: no read is in progress any more, and none is hit
+-- a read ends: no read is in progress any more, and none is hit
 abbrev pub end_read : Cell → Cell
 end_read c = record c { reading = false; hit = false }
 

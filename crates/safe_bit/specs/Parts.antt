@@ -19,7 +19,7 @@ pub record Within (q s size : Place) : Type 0 where
   pub cells : q.cell + s.cell ≤ size.cell
   pub words : q.word + s.word ≤ size.word
 
--- the part ends below 2^32, in cells and in words
+-- the part of this size at place `at` ends below 2^32, in cells and in words
 pub record IsPlaced (at size : Place) : Type 0 where
   pub cells : at.cell + size.cell < 2 ^ 32
   pub words : at.word + size.word < 2 ^ 32
@@ -36,7 +36,7 @@ place_after at q = record { cell = at.cell + q.cell; word = at.word + q.word }
 abbrev pub part : Place → Place → Memory → Memory
 part at size m = record { cells = window at.cell size.cell m.cells; words = window at.word size.word m.words }
 
--- the memory after `inner` has replaced the part at this place, and nothing else has changed
+-- memory m with the part at place `at` replaced by `inner`, and nothing else changed
 abbrev pub with_part : Place → Memory → Memory → Memory
 with_part at inner m = record { cells = splice at.cell inner.cells m.cells; words = splice at.word inner.words m.words }
 

@@ -5,6 +5,6 @@ use Rattle.std.proofs.Common.{ℕ, ◌+◌, ◌-◌, List, ◌++◌, length, tak
 abbrev pub window : {A : Type 0} → ℕ → ℕ → List A → List A
 window i n xs = take n (drop i xs)
 
--- the list xs after ys has replaced the same number of its items, from index i on
+-- the list xs with `length ys` of its items, from index i on, replaced by ys
 abbrev pub splice : {A : Type 0} → ℕ → List A → List A → List A
 splice i ys xs = take i xs ++ ys ++ drop (i + length ys) xs

@@ -1,5 +1,5 @@
-//! Safe bits: each is a cell of shared memory, and its writes and its reads take two actions each.
-//! The same store has words, which a layer above keeps for itself.
+//! Shared memory: cells and words. Each cell is a safe bit; a write of it takes two actions, and so
+//! does a read. Each word is a number that a layer above keeps for itself.
 //!
 //! The four actions make a cell Lamport's safe register ("On Interprocess Communication", 1986): a
 //! read that overlaps a write may give either value; any other read gives the value last written.
@@ -79,7 +79,8 @@ impl Cell {
 }
 
 impl Store {
-    /// A store of `cells` idle cells and `words` words, all of them 0.
+    /// A new store. It has `cells` idle cells, whose value is 0, and `words` words, which are 0.
+    /// `AllocError` if memory runs out.
     pub fn new(alloc: Global, cells: u32, words: u32) -> Result<Store, AllocError>
         ensures { IfOk result (λ store. store ≡ blank cells words) }
     {
@@ -93,7 +94,7 @@ impl Store {
         })
     }
 
-    /// A store with the same cells and words.
+    /// A store with the same cells and words. `AllocError` if memory runs out.
     pub fn copy(&self, alloc: Global) -> Result<Store, AllocError>
         ensures { IfOk result (λ store. store ≡ self.now) }
     {
@@ -107,8 +108,8 @@ impl Store {
         *self.cells.allocator()
     }
 
-    /// Does nothing. Its contract states that there are fewer than 2^32 cells and fewer than 2^32
-    /// words.
+    /// Does nothing. Callers use its contract, which states that the store has fewer than 2^32
+    /// cells and fewer than 2^32 words.
     pub fn numbered(&self)
         ensures { IsNumbered self.now }
     {
@@ -129,7 +130,7 @@ impl Store {
         &self.words
     }
 
-    /// Cell `i`.
+    /// Cell `i`, which exists.
     pub fn cell(&self, i: u32) -> Cell
         requires { i < length self.now.cells }
         ensures { result ≡ cell_at i self.now }
@@ -137,7 +138,7 @@ impl Store {
         self.cells[i as usize]
     }
 
-    /// Word `i`.
+    /// Word `i`, which exists.
     pub fn word(&self, i: u32) -> u32
         requires { i < length self.now.words }
         ensures { result ≡ word_at i self.now }
@@ -145,7 +146,7 @@ impl Store {
         self.words[i as usize]
     }
 
-    /// Sets word `i` to `x`.
+    /// Sets word `i`, which exists, to `x`, and changes nothing else.
     pub fn set_word(&mut self, i: u32, x: u32)
         requires { i < length self.old.words }
         ensures { self.new ≡ with_word i x self.old }
@@ -153,7 +154,7 @@ impl Store {
         self.words[i as usize] = x;
     }
 
-    /// Sets cell `i` to `value`, and leaves it idle.
+    /// Makes cell `i` hold `value`, with no write and no read in progress.
     pub fn set_value(&mut self, i: u32, value: bool)
         requires { i < length self.old.cells }
         ensures { self.new ≡ on_cell i (λ _. idle_cell value) self.old }
@@ -165,7 +166,7 @@ impl Store {
         };
     }
 
-    /// Starts a write of `value` to cell `i`; a read of the cell that is in progress is now hit.
+    /// Starts a write of `value` to cell `i`. If a read of the cell is in progress, it is now hit.
     pub fn start_write(&mut self, i: u32, value: bool)
         requires { i < length self.old.cells }
         ensures { self.new ≡ on_cell i (start_write value) self.old }
@@ -175,7 +176,8 @@ impl Store {
         cell.hit = cell.hit || cell.reading;
     }
 
-    /// Ends the write of cell `i`; if none is in progress, nothing changes.
+    /// Ends the write of cell `i`: the cell takes the value being written. If no write is in
+    /// progress, nothing changes.
     pub fn end_write(&mut self, i: u32)
         requires { i < length self.old.cells }
         ensures { self.new ≡ on_cell i end_write self.old }
@@ -194,7 +196,8 @@ impl Store {
         cell.hit = cell.writing.is_some();
     }
 
-    /// Ends the read of cell `i`, and gives `choice` if the read was hit, else the cell's value.
+    /// Ends the read of cell `i`, so that no read of it is in progress. Returns `choice` if the
+    /// read was hit, and else the cell's value.
     pub fn end_read(&mut self, i: u32, choice: bool) -> bool
         requires { i < length self.old.cells }
         ensures value { result ≡ read_gives choice (cell_at i self.old) }

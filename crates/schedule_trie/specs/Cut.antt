@@ -10,7 +10,7 @@ use Rattle.schedule_trie.specs.declared.limits.Limits.{Limits}
 use Rattle.schedule_trie.specs.Forest.{Forest, Branch, branch, cell_of, cell_on_branch, len_of, index_of, slot, slots_in, replaced, without, everywhere, only_in, put_last, put_all, numbered, put_before, inserted}
 use Rattle.schedule_trie.specs.declared.limits.TheConstants.{MOST_CELLS_MADE}
 
--- a segment: its cells, and its note
+-- a segment: its cells in order, and its note, if it has one
 pub record Piece (T : Type 0) : Type 0 where
   pub slots : List Slot
   pub note : Option T
@@ -20,57 +20,63 @@ pub record Strand : Type 0 where
   pub name : List ℕ
   pub keys : List ℕ
 
--- the branches in the order they were made, the segment at each key that has one, the number of
--- cells ever made, and the limits
+-- a forest cut into segments: its branches in the order they were made, the segment at each key
+-- (None if no segment has the key), the number of cells ever made, and the limits
 pub record Cut (T : Type 0) : Type 0 where
   pub strands : List Strand
   pub pieces : List (Option (Piece T))
   pub made : ℕ
   pub limits : Limits
 
+-- the branch with this name and these keys
 abbrev pub strand : List ℕ → List ℕ → Strand
 strand name keys = record { name = name; keys = keys }
 
--- the keys of the branch at an index; no keys if there is no such branch
+-- the keys of the segments of the branch at an index; no keys if there is no such branch
 abbrev pub keys_in : List Strand → ℕ → List ℕ
 keys_in [] i = []
 keys_in (s ∷ ss) zero = s.keys
 keys_in (s ∷ ss) (suc i) = keys_in ss i
 
--- the branches, with other keys for the branch at an index
+-- these branches, except that the branch at an index has the given keys
 abbrev pub set_keys : List Strand → ℕ → List ℕ → List Strand
 set_keys [] i keys = []
 set_keys (s ∷ ss) zero keys = strand s.name keys ∷ ss
 set_keys (s ∷ ss) (suc i) keys = s ∷ set_keys ss i keys
 
 module _ {T : Type 0} where
+  -- the segment with these cells and this note
   abbrev pub piece : List Slot → Option T → Piece T
   piece slots note = record { slots = slots; note = note }
 
-  -- the segment at a key, if there is one
+  -- the segment at a key; None if no segment has the key
   abbrev pub piece_at : List (Option (Piece T)) → ℕ → Option (Piece T)
   piece_at pieces k = slice_index_or pieces k None
 
+  -- the cells of a segment; no cells if there is no segment
   abbrev pub slots_of : Option (Piece T) → List Slot
   slots_of None = []
   slots_of (Some p) = p.slots
 
-  -- the cells of segments, one segment after the other
+  -- the cells of the segments at these keys, one segment after the other
   abbrev pub line : (ℕ → Option (Piece T)) → List ℕ → List Slot
   line at [] = []
   line at (k ∷ ks) = slots_of (at k) ++ line at ks
 
+  -- a branch with its cells, which are those of the segments at its keys
   abbrev pub branch_on : (ℕ → Option (Piece T)) → Strand → Branch
   branch_on at s = branch s.name (line at s.keys)
 
+  -- these branches with their cells, which are those of the segments at their keys
   abbrev pub branches_on : (ℕ → Option (Piece T)) → List Strand → List Branch
   branches_on at strands = map (branch_on at) strands
 
-  -- the forest that is cut
+  -- the forest that a cut divides into segments: all branches with their cells, and the number of
+  -- cells ever made
   abbrev pub forest : Cut T → Forest
   forest c = record { branches = branches_on (piece_at c.pieces) c.strands; made = c.made }
 
--- no number is twice in a list
+-- no number is twice in the list
 abbrev pub Once : List ℕ → Type 0
 Once [] = Unit {0}
 Once (x ∷ xs) = (has x xs ≡ false) × Once xs
@@ -79,24 +85,28 @@ Once (x ∷ xs) = (has x xs ≡ false) × Once xs
 abbrev pub has_cell : ℕ → List Slot → Bool
 has_cell x slots = has x (map cell_of slots)
 
--- each key follows the one above it, and the first follows `up`
+-- for each key of a list, `above` gives the key right before it in the list; for the first key it
+-- gives `up`
 abbrev pub Linked : (ℕ → Option ℕ) → Option ℕ → List ℕ → Type 0
 Linked above up [] = Unit {0}
 Linked above up (k ∷ ks) = (above k ≡ up) × Linked above (Some k) ks
 
--- branches that share a segment share all segments above it
+-- the key right above a segment is the same on each branch that has the segment; so branches that
+-- share a segment share all segments above it
 pub record SharesAbove (strands : List Strand) : Type 0 where
   pub above : ℕ → Option ℕ
   pub linked : (i : ℕ) → Linked above None (keys_in strands i)
 
--- a segment has 1 to 128 cells, no two of them have the same number, and each number was given out
+-- a segment has 1 to 128 cells, no two cells have the same number, and each number is below `made`
 pub record IsSegment {T : Type 0} (made : ℕ) (p : Piece T) : Type 0 where
   pub some : 0 < length p.slots
   pub few : length p.slots ≤ 128
   pub once : Once (map cell_of p.slots)
   pub given : (x : ℕ) → has_cell x p.slots ≡ true → x < made
 
--- these segments and branches cut a forest correctly
+-- a correct cut: there is a segment at each key of a branch, and each segment is on a branch; a
+-- segment has 1 to 128 cells, with numbers below `made`; no cell is twice in the segments; and
+-- branches that share a segment share all segments above it
 pub record IsSoundCut {T : Type 0} (at : ℕ → Option (Piece T)) (strands : List Strand) (made : ℕ) : Type 0 where
   pub held : (i k : ℕ) → has k (keys_in strands i) ≡ true → IsSome (at k)
   pub segments : (k : ℕ) → IfSome (at k) (IsSegment made)
@@ -104,6 +114,8 @@ pub record IsSoundCut {T : Type 0} (at : ℕ → Option (Piece T)) (strands : Li
   pub live : (k : ℕ) → IsSome (at k) → (i : ℕ) × (has k (keys_in strands i) ≡ true)
   pub shares : SharesAbove strands
 
+-- `made`, the number of cells ever made, is at most the limit of cells; the number of branches is 1
+-- to the limit of branches; and these limits are at most 2^28 cells and 1,024 branches
 pub record IsWithin (l : Limits) (made branches : ℕ) : Type 0 where
   pub cells : made ≤ l.cells
   pub branches_fit : branches ≤ l.branches
@@ -111,12 +123,15 @@ pub record IsWithin (l : Limits) (made branches : ℕ) : Type 0 where
   pub most_cells : l.cells ≤ MOST_CELLS_MADE
   pub most_branches : l.branches ≤ 1024
 
--- a correct cut, within its limits
+-- a correct cut (each segment has 1 to 128 cells, which no other segment has, and is on a branch;
+-- branches that share a segment share all segments above it), with at least one branch, and within
+-- its limits of cells and branches
 pub record IsWhole {T : Type 0} (c : Cut T) : Type 0 where
   pub sound : IsSoundCut (piece_at c.pieces) c.strands c.made
   pub within : IsWithin c.limits c.made (length c.strands)
 
--- the limits are in their ranges
+-- the limits are in their ranges: 1 to 2^28 cells, 1 to 1,024 branches, and 1 to 2^20 logged
+-- commands
 pub record AreLimits (l : Limits) : Type 0 where
   pub some_cells : 0 < l.cells
   pub most_cells : l.cells ≤ MOST_CELLS_MADE
@@ -125,14 +140,15 @@ pub record AreLimits (l : Limits) : Type 0 where
   pub some_log : 0 < l.log
   pub most_log : l.log ≤ 1048576
 
--- a place in a path: `spot` is the key of the segment that has the cell there, and the cell's
--- offset in that segment
+-- `spot` is a key of a path and an offset in the key's segment, and the cell at this offset is the
+-- cell at `place` of the path
 pub record IsSpotInPath {T : Type 0} (at : ℕ → Option (Piece T)) (keys : List ℕ) (place : ℕ) (spot : ℕ × ℕ) : Type 0 where
   pub member : has spot.0 keys ≡ true
   pub within : spot.1 < length (slots_of (at spot.0))
   pub same : slice_get (slots_of (at spot.0)) spot.1 ≡ slice_get (line at keys) place
 
--- the same place, by the keys before the segment's key and after it
+-- `spot` is a key of a path and an offset in the key's segment, and this offset plus the number of
+-- cells in the path's earlier segments is `place`
 pub record LiesInPath {T : Type 0} (at : ℕ → Option (Piece T)) (keys : List ℕ) (place : ℕ) (spot : ℕ × ℕ) : Type 0 where
   pub front : List ℕ
   pub back : List ℕ
@@ -141,15 +157,15 @@ pub record LiesInPath {T : Type 0} (at : ℕ → Option (Piece T)) (keys : List 
   pub before : length (line at front) + spot.1 ≡ place
   pub within : spot.1 < length (slots_of (at spot.0))
 
--- how segments are cut: each has 1 to 128 cells and is on a branch, and branches that share a
--- segment share all segments above it
+-- how a forest is cut into segments: there is a segment at each key of a branch, each segment has 1
+-- to 128 cells and is on a branch, and branches that share a segment share all segments above it
 pub record IsCut {T : Type 0} (c : Cut T) : Type 0 where
   pub held : (i k : ℕ) → has k (keys_in c.strands i) ≡ true → IsSome (piece_at c.pieces k)
   pub sizes : (k : ℕ) → IfSome (piece_at c.pieces k) (λ p. (0 < length p.slots) × (length p.slots ≤ 128))
   pub live : (k : ℕ) → IsSome (piece_at c.pieces k) → (i : ℕ) × (has k (keys_in c.strands i) ≡ true)
   pub shares : SharesAbove c.strands
 
--- the note of a segment, if there is a segment and it has one
+-- the note of a segment; None if there is no segment, or if it has no note
 abbrev pub note_of : {T : Type 0} → Option (Piece T) → Option T
 note_of None = None
 note_of (Some p) = p.note
@@ -158,25 +174,26 @@ note_of (Some p) = p.note
 abbrev pub IsBlank : {T : Type 0} → Cut T → Type 0
 IsBlank c = (k : ℕ) → note_of (piece_at c.pieces k) ≡ None
 
--- the cells of a segment, if there is one
+-- the cells of a segment; None if there is no segment
 abbrev pub slots_by : {T : Type 0} → Option (Piece T) → Option (List Slot)
 slots_by o = option_map (λ p. p.slots) o
 
--- a segment whose cells don't change keeps its note
+-- from cut `old` to cut `new`, each segment whose cells don't change keeps its note
 abbrev pub KeepsUnchanged : {T : Type 0} → Cut T → Cut T → Type 0
 KeepsUnchanged old new =
     (k : ℕ) → slots_by (piece_at new.pieces k) ≡ slots_by (piece_at old.pieces k) → piece_at new.pieces k ≡ piece_at old.pieces k
 
--- a segment has other cells than before
+-- the segment at `key` has other cells in cut `new` than it had in cut `old`
 abbrev pub HasChanged : {T : Type 0} → Cut T → Cut T → ℕ → Type 0
 HasChanged old new key = slots_of (piece_at new.pieces key) ≡ slots_of (piece_at old.pieces key) → ⊥
 
--- none of these cells is on a branch any more
+-- none of these cells is on a branch of cut `new`
 abbrev pub AreGone : {T : Type 0} → Cut T → List Slot → Type 0
 AreGone new slots = (i x : ℕ) → has_cell x slots ≡ true → has_cell x (slots_in (forest new).branches i) ≡ false
 
--- An edit touches at most one existing segment, and clears that segment's note. Each other segment
--- keeps its cells and its note, or is gone with its cells. New segments have no note.
+-- From cut `old` to cut `new`, at most one segment of `old` is touched (its cells may change), and
+-- it has no note in `new`. Each other segment of `old` keeps its cells and its note; or it is gone,
+-- and none of its cells is on a branch of `new`. Segments that only `new` has have no note.
 pub record KeepsNotes {T : Type 0} (old new : Cut T) : Type 0 where
   pub touched : Option ℕ
   pub kept : (k : ℕ) → (touched ≡ Some k → ⊥) → IsSome (piece_at old.pieces k)
@@ -184,48 +201,53 @@ pub record KeepsNotes {T : Type 0} (old new : Cut T) : Type 0 where
   pub cleared : (k : ℕ) → touched ≡ Some k → note_of (piece_at new.pieces k) ≡ None
   pub fresh : (k : ℕ) → piece_at old.pieces k ≡ None → note_of (piece_at new.pieces k) ≡ None
 
--- the same; and the edit touches each segment that satisfies `Must`, and only segments that satisfy
--- `May`
+-- from cut `old` to cut `new`, notes are kept as `KeepsNotes` says, which lets one segment be
+-- touched and lose its note; each segment that satisfies `Must` is touched, and a touched segment
+-- satisfies `May`
 pub record KeepsNotesBut {T : Type 0} (old new : Cut T) (Must May : ℕ → Type 0) : Type 0 where
   pub notes : KeepsNotes old new
   pub each : (k : ℕ) → Must k → notes.touched ≡ Some k
   pub only : (k : ℕ) → notes.touched ≡ Some k → May k
 
--- the same; and the edit touches exactly the segments that satisfy `Is`
+-- from cut `old` to cut `new`, notes are kept as `KeepsNotes` says, which lets one segment be
+-- touched and lose its note; a segment is touched exactly if it satisfies `Is`
 abbrev pub KeepsNotesOff : {T : Type 0} → Cut T → Cut T → (ℕ → Type 0) → Type 0
 KeepsNotesOff old new Is = KeepsNotesBut old new Is Is
 
--- a condition that no segment satisfies
+-- the condition that no segment satisfies
 abbrev pub Nowhere : ℕ → Type 0
 Nowhere k = ⊥
 
--- a segment has the cell at a place of the named branch
+-- the segment at `key` has the cell that is at `place` of the branch with this name
 pub record HoldsCellAt {T : Type 0} (c : Cut T) (name : List ℕ) (place key : ℕ) : Type 0 where
   pub cell : ℕ
   pub there : cell_on_branch (forest c) name place ≡ Some cell
   pub held : has_cell cell (slots_of (piece_at c.pieces key)) ≡ true
 
--- a segment has the cell right before a place
+-- the segment at `key` has the cell that is right before `place` of the branch with this name
 pub record HoldsCellBefore {T : Type 0} (c : Cut T) (name : List ℕ) (place key : ℕ) : Type 0 where
   pub before : ℕ
   pub next : before + 1 ≡ place
   pub holds : HoldsCellAt c name before key
 
--- a segment has the cells on both sides of a place, so that a fork there cuts it
+-- the segment at `key` has the cell at `place` of the branch with this name, and also the cell
+-- right before it; so a fork at `place` cuts the segment
 pub record IsParted {T : Type 0} (c : Cut T) (name : List ℕ) (place key : ℕ) : Type 0 where
   pub above : HoldsCellBefore c name place key
   pub below : HoldsCellAt c name place key
 
--- a segment that may receive a new cell at a place: it has the cell there; or the place is the
--- branch's length, and the segment has the branch's last cell
+-- the segment at `key` may receive a new cell at `place` of the branch with this name: it has the
+-- cell there; or `place` is the branch's length, and it has the branch's last cell
 abbrev pub CanGrowAt : {T : Type 0} → Cut T → List ℕ → ℕ → ℕ → Type 0
 CanGrowAt c name place key = HoldsCellAt c name place key ⊎ ((len_of (forest c) name ≡ Some place) × HoldsCellBefore c name place key)
 
--- an edit touches no existing segment
+-- from cut `old` to cut `new`, each segment of `old` keeps its cells and its note; or it is gone,
+-- and none of its cells is on a branch of `new`. Segments that only `new` has have no note
 abbrev pub KeepsAllNotes : {T : Type 0} → Cut T → Cut T → Type 0
 KeepsAllNotes old new = (notes : KeepsNotes old new) × (notes.touched ≡ None)
 
--- the cell at an offset of a segment has another step, in each branch that has the cell
+-- from cut `old` to cut `new`, the cell at `offset` of the segment at `key` gets the step `step`,
+-- in each branch that has the cell; this segment has no note in `new`, and the others keep theirs
 pub record IsStepSet {T : Type 0} (old new : Cut T) (key offset : ℕ) (step : Step) : Type 0 where
   pub everywhere_set : (s : Slot) → slice_get (slots_of (piece_at old.pieces key)) offset ≡ Some s
       → (forest new).branches ≡ everywhere (replaced s.cell step) (forest old).branches
@@ -234,7 +256,8 @@ pub record IsStepSet {T : Type 0} (old new : Cut T) (key offset : ℕ) (step : S
   pub notes : KeepsNotesOff old new (λ k. k ≡ key)
   pub cut : IsCut new
 
--- the cell at an offset of a segment is removed from each branch
+-- from cut `old` to cut `new`, the cell at `offset` of the segment at `key` is removed from each
+-- branch; this segment has no note in `new`, and the others keep theirs
 pub record IsRemoved {T : Type 0} (old new : Cut T) (key offset : ℕ) : Type 0 where
   pub everywhere_gone : (s : Slot) → slice_get (slots_of (piece_at old.pieces key)) offset ≡ Some s
       → (forest new).branches ≡ everywhere (without s.cell) (forest old).branches
@@ -243,28 +266,32 @@ pub record IsRemoved {T : Type 0} (old new : Cut T) (key offset : ℕ) : Type 0 
   pub notes : KeepsNotesOff old new (λ k. k ≡ key)
   pub cut : IsCut new
 
--- no branch but the one at an index has the segment
+-- no branch has the segment at `key`, except perhaps the branch at `index`
 abbrev pub LackedByOthers : List Strand → ℕ → ℕ → Type 0
 LackedByOthers strands index key = (j : ℕ) → (j ≡ index → ⊥) → has key (keys_in strands j) ≡ false
 
--- the last segment of the branch at an index; no other branch has this segment, and it isn't full
+-- the segment at `key` is the last of the branch at `index`, no other branch has it, and it has
+-- fewer than 128 cells
 pub record IsOwnEnd {T : Type 0} (c : Cut T) (index key : ℕ) : Type 0 where
   pub front : List ℕ
   pub last : keys_in c.strands index ≡ front ++ key ∷ []
   pub own : LackedByOthers c.strands index key
   pub room : length (slots_of (piece_at c.pieces key)) < 128
 
--- the last segment of the branch at an index; the segment has cells
+-- the segment at `key` is the last of the branch at `index`, and it has cells
 pub record IsEnd {T : Type 0} (c : Cut T) (index key : ℕ) : Type 0 where
   pub front : List ℕ
   pub last : keys_in c.strands index ≡ front ++ key ∷ []
   pub some : 0 < length (slots_of (piece_at c.pieces key))
 
--- the last segment of the branch at an index has other cells than before
+-- the segment at `key` is the last of the branch at `index` in cut `old`, and has other cells in
+-- cut `new`
 abbrev pub IsChangedEnd : {T : Type 0} → Cut T → Cut T → ℕ → ℕ → Type 0
 IsChangedEnd old new index key = IsEnd old index key × HasChanged old new key
 
--- a step is added at the end of the branch at an index, as a new cell
+-- from cut `old` to cut `new`, a new cell with this step is added at the end of the branch at
+-- `index`, in that branch alone; only the segment that was this branch's last may lose its note,
+-- and only if its cells change
 pub record IsPushed {T : Type 0} (old new : Cut T) (index : ℕ) (step : Step) : Type 0 where
   pub branches : (forest new).branches ≡ only_in index (put_last (slot old.made step)) (forest old).branches
   pub made : new.made ≡ old.made + 1
@@ -273,7 +300,9 @@ pub record IsPushed {T : Type 0} (old new : Cut T) (index : ℕ) (step : Step) :
   pub notes : KeepsNotesBut old new Nowhere (IsChangedEnd old new index)
   pub cut : IsCut new
 
--- steps are added at the end of the branch at an index, as new cells
+-- from cut `old` to cut `new`, new cells with these steps are added at the end of the branch at
+-- `index`, in that branch alone; if `old` has no note, `new` has none; if `old` is cut as `IsCut`
+-- says, so is `new`
 pub record ArePushed {T : Type 0} (old new : Cut T) (index : ℕ) (steps : List Step) : Type 0 where
   pub branches : (forest new).branches ≡ only_in index (put_all (numbered old.made steps)) (forest old).branches
   pub made : new.made ≡ old.made + length steps
@@ -282,8 +311,9 @@ pub record ArePushed {T : Type 0} (old new : Cut T) (index : ℕ) (steps : List 
   pub blank : IsBlank old → IsBlank new
   pub cut : IsCut old → IsCut new
 
--- a new cell is inserted before the cell at an offset of a segment, in each branch that has that
--- cell
+-- from cut `old` to cut `new`, a new cell with this step is inserted before the cell at `offset` of
+-- the segment at `key`, in each branch that has that cell; the cells at `key` change, and this
+-- segment alone loses its note
 pub record IsPutBefore {T : Type 0} (old new : Cut T) (key offset : ℕ) (step : Step) : Type 0 where
   pub everywhere_put : (s : Slot) → slice_get (slots_of (piece_at old.pieces key)) offset ≡ Some s
       → (forest new).branches ≡ everywhere (put_before s.cell (slot old.made step)) (forest old).branches
@@ -293,7 +323,10 @@ pub record IsPutBefore {T : Type 0} (old new : Cut T) (key offset : ℕ) (step :
   pub changed : HasChanged old new key
   pub cut : IsCut new
 
--- a new cell is inserted at a place of the branch at an index
+-- from cut `old` to cut `new`, a new cell with this step is inserted at `place` of the branch at
+-- `index`. The segment with the cell at `place` loses its note. If `place` is the branch's length,
+-- the segment with the last cell may lose its note, but only if its cells change. Other segments
+-- keep their notes.
 pub record IsInserted {T : Type 0} (old new : Cut T) (index place : ℕ) (step : Step) : Type 0 where
   pub forest_is : forest new ≡ inserted (forest old) index place step
   pub limits : new.limits ≡ old.limits
@@ -301,20 +334,23 @@ pub record IsInserted {T : Type 0} (old new : Cut T) (index place : ℕ) (step :
   pub unchanged : KeepsUnchanged old new
   pub cut : IsCut new
 
--- the keys of the branch at an index, if there is one
+-- the keys of the segments of the branch at the given index; None if no index is given
 abbrev pub keys_by : Option ℕ → List Strand → Option (List ℕ)
 keys_by None strands = None
 keys_by (Some i) strands = Some (keys_in strands i)
 
--- why a query whose result is an option is refused: NoBranch if that is None, else Memory
+-- why a query is refused, given its specified result: NoBranch if that is None, since no branch has
+-- the name; else Memory
 abbrev pub if_lacks : {X : Type 0} → Option X → Refusal
 if_lacks None = NoBranch
 if_lacks (Some x) = Memory
 
+-- a segment with the given note in place of its own; with none if None is given
 abbrev pub with_note : {T : Type 0} → Option T → Piece T → Piece T
 with_note note p = piece p.slots note
 
--- the segment at a key, if there is one, has this note; nothing else changes
+-- from cut `old` to cut `new`, the segment at `key`, if there is one, gets this note, or has none
+-- if `note` is None; nothing else changes
 pub record IsNoted {T : Type 0} (old new : Cut T) (key : ℕ) (note : Option T) : Type 0 where
   pub here : piece_at new.pieces key ≡ option_map (with_note note) (piece_at old.pieces key)
   pub others : (j : ℕ) → (j ≡ key → ⊥) → piece_at new.pieces j ≡ piece_at old.pieces j
@@ -327,14 +363,16 @@ abbrev pub before_key : ℕ → Option ℕ → List ℕ → Option ℕ
 before_key key up [] = None
 before_key key up (k ∷ ks) = if nat_eq key k then up else before_key key (Some k) ks
 
--- the key of the segment right above a segment, on the first branch that has the segment; None if
--- the segment is the first of that branch, or if no branch has it
+-- the key right above `key` on the first branch that has `key`; None if `key` is the first key of
+-- that branch, or if no branch has it
 abbrev pub above_of : List Strand → ℕ → Option ℕ
 above_of [] key = None
 above_of (s ∷ ss) key = if has key s.keys then before_key key None s.keys else above_of ss key
 
+-- a branch in which the key `new` is put right above `key`; the same branch if it lacks `key`
 abbrev pub divided_strand : ℕ → ℕ → Strand → Strand
 divided_strand key new s = strand s.name (divided_keys key new s.keys)
 
+-- a branch without `key`
 abbrev pub strand_without : ℕ → Strand → Strand
 strand_without key s = strand s.name (keys_without key s.keys)

@@ -6,9 +6,9 @@ use Rattle.schedule_trie.specs.declared.limits.Limits.{Limits}
 use Rattle.schedule_trie.specs.Forest.{Forest, insert, remove_cell, replace_step, fork, detach, drop_branch, IsRefused}
 use Rattle.schedule_trie.specs.Cut.{Cut, forest, IsCut, KeepsNotesBut, KeepsNotesOff, KeepsUnchanged, KeepsAllNotes, HoldsCellAt, CanGrowAt, IsParted}
 
--- an edit of a named branch: insert a new cell at a place; remove the cell there, or replace its
--- step; add a branch that shares the cells before a place; replace all cells by new ones; or drop
--- the branch
+-- an edit of the branch with the first name. `Insert` a new cell at a place; `Remove` the cell at a
+-- place; `Replace` the step of that cell; `Fork`: add a branch, with the second name, that shares
+-- the cells before a place; `Detach`: replace all cells by new ones; or `Drop` the branch
 pub data Edit : Type 0 where
   Insert : List ℕ → ℕ → Step → Edit
   Remove : List ℕ → ℕ → Edit
@@ -17,7 +17,7 @@ pub data Edit : Type 0 where
   Detach : List ℕ → Edit
   Drop : List ℕ → Edit
 
--- the forest after an edit, or the first reason to refuse it
+-- the forest after an edit, or the first reason to refuse the edit
 abbrev pub edited : Limits → Forest → Edit → Result Forest Refusal
 edited limits f (Insert name place step) = insert limits f name place step
 edited limits f (Remove name place) = remove_cell f name place
@@ -26,9 +26,10 @@ edited limits f (Fork name place new) = fork limits f name place new
 edited limits f (Detach name) = detach limits f name
 edited limits f (Drop name) = drop_branch f name
 
--- An edit touches at most one existing segment: the one with the cell at the edit's place, or the
--- one that a fork cuts. An insert at the branch's length may touch the branch's last segment. No
--- insert touches a segment whose cells don't change. Detach and drop touch no segment.
+-- An edit touches at most one segment, which has no note afterwards: the one with the cell at the
+-- edit's place, or the one that a fork cuts. An insert at the branch's length may touch the
+-- branch's last segment. No insert touches a segment whose cells don't change. Detach and drop
+-- touch no segment. The other segments that remain keep their notes, and new ones have none.
 abbrev pub KeepsNotesBy : {T : Type 0} → Edit → Cut T → Cut T → Type 0
 KeepsNotesBy (Insert name place step) old new = KeepsNotesBut old new (HoldsCellAt old name place) (CanGrowAt old name place) × KeepsUnchanged old new
 KeepsNotesBy (Remove name place) old new = KeepsNotesOff old new (HoldsCellAt old name place)
@@ -37,15 +38,18 @@ KeepsNotesBy (Fork name place made) old new = KeepsNotesOff old new (IsParted ol
 KeepsNotesBy (Detach name) old new = KeepsAllNotes old new
 KeepsNotesBy (Drop name) old new = KeepsAllNotes old new
 
--- an edit is made, not refused
+-- An edit is made, not refused: from cut `old` to cut `new`, the forest changes as `edited` says.
+-- Of the segments that remain, at most one loses its note (in a chart, its stored run): the one
+-- that the edit touches (`KeepsNotesBy`). `new` is cut into segments as `IsCut` says, and the
+-- limits don't change.
 pub record IsEdited {T : Type 0} (old new : Cut T) (edit : Edit) : Type 0 where
   pub forest : edited old.limits (forest old) edit ≡ Ok (forest new)
   pub notes : KeepsNotesBy edit old new
   pub cut : IsCut new
   pub limits : new.limits ≡ old.limits
 
--- why an edit is refused: the first reason that holds; or,
--- if the edit allocates and no other reason holds, Memory
+-- `e` is why an edit is refused: the error of its model, which is the first reason that holds; or,
+-- if the edit allocates (insert, fork, detach) and no reason holds, Memory
 abbrev pub WhyRefused : Edit → Result Forest Refusal → Refusal → Type 0
 WhyRefused (Insert name place step) model e = IsRefused model e
 WhyRefused (Remove name place) model e = model ≡ Err e
@@ -54,7 +58,8 @@ WhyRefused (Fork name place new) model e = IsRefused model e
 WhyRefused (Detach name) model e = IsRefused model e
 WhyRefused (Drop name) model e = model ≡ Err e
 
--- an edit is refused, and nothing changes
+-- an edit is refused, and nothing changes: `e` is the first reason that holds; or, if the edit
+-- allocates and no reason holds, Memory
 pub record IsUnedited {T : Type 0} (old new : Cut T) (edit : Edit) (e : Refusal) : Type 0 where
   pub why : WhyRefused edit (edited old.limits (forest old) edit) e
   pub unchanged : new ≡ old

@@ -3,7 +3,7 @@ use Rattle.std.specs.Prelude.{ℕ, List, codes}
 use Rattle.schedule_trie.specs.declared.refusal.Refusal.{Refusal}
 use Rattle.schedule_trie.specs.declared.refusal.Refusal.TheVariants.{NoBranch, NameTaken, BadName, NoPlace, Full, LastBranch, TooManyBranches, BadStep, Occupied, NoBreak, NoSession, Newer, LogFull, BadLine, Memory}
 
--- each refusal's number and name
+-- a refusal's number, and its name, which is spelled like the variant
 abbrev pub number_and_name : Refusal → ℕ × List ℕ
 number_and_name NoBranch = (20, codes "NoBranch")
 number_and_name NameTaken = (21, codes "NameTaken")
@@ -21,8 +21,10 @@ number_and_name LogFull = (35, codes "LogFull")
 number_and_name BadLine = (36, codes "BadLine")
 number_and_name Memory = (40, codes "Memory")
 
+-- a refusal's number
 abbrev pub refusal_number : Refusal → ℕ
 refusal_number r = (number_and_name r).0
 
+-- a refusal's name, which is spelled like the variant
 abbrev pub refusal_name : Refusal → List ℕ
 refusal_name r = (number_and_name r).1

@@ -3,7 +3,8 @@ use Rattle.std.specs.Prelude.{◌≡◌, ℕ}
 use Rattle.std.specs.List.{remove}
 use Rattle.schedule_trie.specs.Cut.{Cut, forest, IsCut, KeepsAllNotes}
 
--- the branch at an index is gone, and so are the segments that no other branch had
+-- from cut `old` to cut `new`, the branch at `index` is dropped, and so are the segments that no
+-- other branch has; all other segments keep their cells and notes
 pub record IsDropped {T : Type 0} (old new : Cut T) (index : ℕ) : Type 0 where
   pub branches : (forest new).branches ≡ remove (forest old).branches index
   pub made : new.made ≡ old.made

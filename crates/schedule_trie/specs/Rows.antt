@@ -1,4 +1,4 @@
--- Worked rows, computed by the definitions.
+-- Worked rows: commands on a forest, computed by the definitions.
 use Rattle.std.specs.Prelude.{ℕ, List, [], ◌∷◌, Result, Ok, Err, codes, ◌≡◌, refl}
 use Rattle.frames.specs.declared.types.Step.{Step}
 use Rattle.frames.specs.declared.types.Step.TheVariants.{Read, Write, Go}
@@ -55,10 +55,11 @@ remove-insert : after (remove_cell (opening_forest (write ∷ go ∷ go ∷ []))
     ≡ Ok (record { branches = branch main (slot 0 write ∷ slot 3 go ∷ slot 2 go ∷ []) ∷ []; made = 4 })
 remove-insert = refl
 
--- a fifth cell exceeds the limit, and a detach makes new cells too
+-- a detach makes new cells, which may exceed the limit: here 2, with 4 made and a limit of 4
 cells-full : after (fork four (opening_forest (read ∷ read ∷ read ∷ read ∷ [])) main 2 a) (λ f. detach four f a) ≡ Err Full
 cells-full = refl
 
+-- an insert of a fifth cell exceeds the limit of 4
 fifth-cell : insert four (opening_forest (read ∷ read ∷ read ∷ read ∷ [])) main 0 read ≡ Err Full
 fifth-cell = refl
 

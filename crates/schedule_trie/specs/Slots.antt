@@ -4,7 +4,7 @@ use Rattle.frames.specs.declared.types.Step.{Step}
 use Rattle.schedule_trie.specs.declared.slot.Slot.{Slot}
 use Rattle.schedule_trie.specs.Forest.{slot}
 
--- the cells, with another step in the cell at an index
+-- these cells, with the given step in the cell at an index
 abbrev pub set_step : List Slot → ℕ → Step → List Slot
 set_step [] i step = []
 set_step (s ∷ ss) zero step = slot s.cell step ∷ ss

@@ -1,7 +1,8 @@
 //! Branches of a schedule that share their steps.
 //!
-//! A branch is a list of cells. Each cell has a step and a number. Numbers are counted up from 0
-//! and never used again. Two branches with a common cell have the same cells up to that cell.
+//! A branch is a list of cells, each of which has a number and holds one step. New cells are
+//! numbered in the order in which they are made, from 0 on; no number is ever given out again. Two
+//! branches with a common cell have the same cells up to that cell.
 #![tactic(auto)]
 
 pub mod limb;

@@ -1,4 +1,4 @@
-//! Limbs: what a file stores of a branch.
+//! Limbs: branches as a file stores them.
 
 ghost use Rattle.std.specs.Prelude.{◌≡◌, ◌∷◌, [], ◌++◌, OnOk, IfErr, nat_lt};
 ghost use Rattle.schedule_trie.specs.Limbs as spec;
@@ -31,7 +31,7 @@ impl Steps {
         Steps { items }
     }
 
-    /// Adds a step at the end.
+    /// Adds a step at the end. If memory runs out, nothing changes.
     pub fn push(&mut self, step: Step) -> Result<(), AllocError>
         ensures pushed { OnOk result (self.new ≡ self.old ++ step ∷ []) }
         ensures kept { IfErr result (λ _. self.new ≡ self.old) }
@@ -48,8 +48,9 @@ impl Steps {
     }
 }
 
-/// A branch as a file stores it: its name; the index `from` of the branch with which it shares its
-/// first `shared` cells; and the steps of its own cells, which follow these.
+/// A branch as a file stores it: its name; the number `shared` of its first cells that it shares
+/// with an earlier branch, and the index `from` of that branch in the file (both are 0 if it shares
+/// none); and the steps of its own cells, which follow the shared ones.
 #[derive(Debug, Drop)]
 pub struct Limb {
     pub name: Name,
@@ -58,8 +59,9 @@ pub struct Limb {
     pub steps: Steps,
 }
 
-/// Whether `limb` may follow `limbs`, by what it shares: `from` and `shared` are 0, or the last
-/// shared cell is one of the own cells of the branch at `from`.
+/// Whether `limb` may follow `limbs`, judged by the cells that it shares: its `from` and `shared`
+/// are 0; or the last cell that it shares is one of the own cells (not shared in turn) of the limb
+/// at index `from`.
 pub fn may_share(limbs: &[Limb], limb: &Limb) -> bool
     ensures { result ≡ spec.may_share limbs.now limb.now }
 {
@@ -73,7 +75,8 @@ pub fn may_share(limbs: &[Limb], limb: &Limb) -> bool
         && (limb.shared - parent.shared) as usize <= parent.steps.as_slice().len()
 }
 
-/// Whether these limbs have more than `most` own cells in total.
+/// Whether these limbs have more than `most` own cells in total. A limb has an own cell for each of
+/// its steps.
 pub(crate) fn bring_more(limbs: &[Limb], most: u32) -> bool
     ensures { result ≡ nat_lt most (spec.cells_of limbs.now) }
 {

@@ -1,4 +1,4 @@
-//! Lists of limbs.
+//! A list of limbs, which are branches as a file stores them.
 
 ghost use Rattle.std.specs.Prelude.{◌≡◌};
 

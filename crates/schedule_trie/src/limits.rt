@@ -1,10 +1,10 @@
 //! The limits of a trie, and of the list of logged commands.
 
-/// The greatest value that `cells` may have in a trie's limits.
+/// The greatest value that `Limits::cells` may have.
 pub const MOST_CELLS_MADE: u32 = 1 << 28;
 
 /// At most `cells` cells are ever made, there are at most `branches` branches, and at most `log`
-/// commands are logged. The ranges are 1 to 2^28, 1 to 1,024, and 1 to 2^20.
+/// commands are logged. `cells` is 1 to 2^28, `branches` 1 to 1,024, and `log` 1 to 2^20.
 #[derive(Clone, Copy, Debug, PartialEq, Eq)]
 pub struct Limits {
     pub cells: u32,

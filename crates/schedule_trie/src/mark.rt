@@ -1,4 +1,4 @@
-//! Marks of segments, used while limbs are listed.
+//! Marks of segments, by which `Trie::limbs` finds with which earlier branch a branch shares cells.
 
 /// The mark of a segment: `branch` is the index of the first branch that has the segment, and
 /// `cells` the number of that branch's cells down to the segment's end.

@@ -73,7 +73,7 @@ impl Hash for Name {
 }
 
 impl Name {
-    /// The name `main`, of the branch that `Trie::new` makes.
+    /// The name `main`, which is that of the one branch of a trie made by `Trie::new`.
     pub fn main() -> Name
         ensures { result ≡ codes "main" }
     {
@@ -98,7 +98,7 @@ impl Name {
         })
     }
 
-    /// Its bytes.
+    /// The name's bytes, of which there are at most 16.
     pub fn as_bytes(&self) -> &[u8]
         ensures bytes { result.now ≡ self.now }
         ensures short { length self.now ≤ 16 }
@@ -106,8 +106,8 @@ impl Name {
         &self.bytes[..self.len]
     }
 
-    /// Whether the name is a lower-case letter, followed by lower-case letters or digits. A new
-    /// branch has to have such a name.
+    /// Whether the name is a lower-case letter, followed by lower-case letters or digits only. A
+    /// new branch's name has to have this form.
     pub fn is_well_formed(&self) -> bool
         ensures { result ≡ is_well_formed self.now }
     {

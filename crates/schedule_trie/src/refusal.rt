@@ -16,7 +16,8 @@ pub enum Refusal {
     NameTaken,
     /// The new name isn't a lower-case letter followed by at most 15 lower-case letters or digits.
     BadName,
-    /// The branch is shorter than the place; or it has no cell there to remove or to replace.
+    /// The place is greater than the branch's length; or a cell is to be removed or replaced, and
+    /// the branch has no cell at the place.
     NoPlace,
     /// The number of cells ever made would exceed its limit.
     Full,
@@ -33,7 +34,7 @@ pub enum Refusal {
     NoBreak,
     /// There is no such session, or it hasn't joined.
     NoSession,
-    /// The command's guard differs from the edit count, which is the number here.
+    /// The command's guard isn't the number of edits so far. The field is the number of edits.
     Newer(u64),
     /// The number of logged commands is at its limit.
     LogFull,
@@ -44,21 +45,21 @@ pub enum Refusal {
 }
 
 impl Refusal {
-    /// Its number.
+    /// The refusal's number, which no other variant has.
     pub fn number(self) -> u32
         ensures { result ≡ spec.refusal_number self }
     {
         self.reported().0
     }
 
-    /// Its name.
+    /// The refusal's name, which is spelled like the variant.
     pub fn name(self) -> &'static str
         ensures { result.now ≡ spec.refusal_name self }
     {
         self.reported().1
     }
 
-    /// Its number and its name.
+    /// The refusal's number and its name.
     fn reported(self) -> (u32, &'static str)
         ensures number { result.0 ≡ spec.refusal_number self }
         ensures name { result.1.now ≡ spec.refusal_name self }

@@ -12,10 +12,11 @@ use std::alloc::{AllocError, Global};
 /// The greatest number of cells in a segment.
 pub(crate) const MOST_SLOTS: usize = 128;
 
-/// The key of a segment.
+/// The key of a segment: the number by which a trie finds the segment.
 pub type SegKey = usize;
 
-/// Consecutive cells of a branch, and the segment's note, if it has one.
+/// Consecutive cells of a branch, and the segment's note (a value that the trie's owner has set for
+/// these cells), if it has one.
 #[derive(Debug, Drop)]
 pub(crate) struct Segment<T> {
     pub(crate) slots: Vec<Slot>,
@@ -33,7 +34,8 @@ impl<T: Drop> Segment<T> {
         Ok(Segment { slots, note: None })
     }
 
-    /// A segment of new cells, numbered from `first` on, with the steps of `slots`, and no note.
+    /// A segment of new cells, numbered from `first` on, with the steps of `slots` in order. It has
+    /// no note.
     pub(crate) fn renumbered(
         alloc: Global,
         slots: &[Slot],
@@ -58,7 +60,7 @@ impl<T: Drop> Segment<T> {
         })
     }
 
-    /// Adds a cell at the end, and clears the note.
+    /// Adds a cell at the end, and clears the note. If memory runs out, nothing changes.
     pub(crate) fn push(&mut self, slot: Slot) -> Result<(), AllocError>
         ensures slots { OnOk result (self.new.slots.items ≡ self.old.slots.items ++ slot ∷ []) }
         ensures note { OnOk result (self.new.note ≡ None) }
@@ -70,7 +72,7 @@ impl<T: Drop> Segment<T> {
         Ok(())
     }
 
-    /// Inserts a cell at an offset, and clears the note.
+    /// Inserts a cell at an offset, and clears the note. If memory runs out, nothing changes.
     pub(crate) fn insert(&mut self, offset: usize, slot: Slot) -> Result<(), AllocError>
         requires { offset ≤ length self.old.slots.items }
         ensures slots { OnOk result (self.new.slots.items
@@ -93,7 +95,7 @@ impl<T: Drop> Segment<T> {
         self.clear_note();
     }
 
-    /// Replaces a cell's step, and clears the note.
+    /// Replaces the step of the cell at an offset, and clears the note.
     pub(crate) fn set_step(&mut self, offset: usize, step: Step)
         requires { offset < length self.old.slots.items }
         ensures slots { self.new.slots.items ≡ set_step self.old.slots.items offset step }
@@ -103,7 +105,7 @@ impl<T: Drop> Segment<T> {
         self.clear_note();
     }
 
-    /// Removes a cell, and clears the note.
+    /// Removes the cell at an offset, and clears the note.
     pub(crate) fn remove(&mut self, offset: usize)
         requires { offset < length self.old.slots.items }
         ensures slots { self.new.slots.items ≡ remove self.old.slots.items offset }

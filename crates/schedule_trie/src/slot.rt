@@ -1,8 +1,8 @@
-//! A cell with its step.
+//! Cells, each with its step.
 
 use frames::types::{HasStep, Step};
 
-/// A cell's number, and its step.
+/// A cell: its number and its step.
 #[derive(Clone, Copy, Debug, PartialEq, Eq)]
 pub struct Slot {
     pub cell: u32,

@@ -1,4 +1,4 @@
-//! The trie: segments that branches share.
+//! The trie: segments that branches share. On a branch, a segment is above those that follow it.
 
 ghost use Rattle.std.specs.Prelude.{ℕ, List, ◌∷◌, ◌<◌, ◌≤◌, length, IfSome, IfNone, Ok, Err, OnOk, IfErr, OnErr, IfOk, IsSome, true, false, [], Some, None, map, slice_get, ◌++◌, ◌≡◌};
 ghost use Rattle.std.specs.Option.{option_map, option_copied};
@@ -33,7 +33,9 @@ use lineage::lineage::Lineage;
 use std::alloc::{AllocError, Global};
 use std::marker::Model;
 
-/// Branches of a schedule that share their steps. Each segment may have a note of type `T`.
+/// Branches of a schedule that share their steps. They are cut into segments: 1 to 128 cells, which
+/// branches share as a whole. Each segment has a key, and may have a note: a value of type `T` that
+/// `set_note` sets, and that an edit of the segment clears.
 #[derive(Drop)]
 pub struct Trie<T> {
     segments: Lineage<Segment<T>>,
@@ -55,11 +57,12 @@ impl<T> Model for Trie<T> {
 }
 
 impl<T: Drop> Trie<T> {
-    /// A trie with one branch, `main`, which has these steps.
+    /// A trie with these limits and one branch, `main`, which has these steps, in cells numbered
+    /// from 0 on. No segment has a note. The limits have to be in the ranges that `Limits` gives.
     ///
     /// # Errors
     ///
-    /// Full if there are more steps than `limits.cells`; Memory.
+    /// Full if there are more steps than `limits.cells`; Memory if memory runs out.
     pub fn new(alloc: Global, limits: Limits, steps: &[Step]) -> Result<Trie<T>, Refusal>
         requires { AreLimits limits }
         ensures ok { IfOk result (λ t. opened limits steps.now ≡ Ok (forest t)) }
@@ -74,7 +77,8 @@ impl<T: Drop> Trie<T> {
         Ok(Trie::with_steps(alloc, limits, Name::main(), steps)?)
     }
 
-    /// A trie with one branch, which has this name and these steps. The steps are within the limit.
+    /// A trie with one branch, which has this name and these steps. There are at most
+    /// `limits.cells` steps.
     fn with_steps(
         alloc: Global,
         limits: Limits,
@@ -117,7 +121,8 @@ impl<T: Drop> Trie<T> {
         })
     }
 
-    /// The number of cells ever made. No branch has more segments than this.
+    /// The number of cells ever made, including those that are on no branch any more. No branch has
+    /// more segments than this number.
     pub fn made(&self) -> u32
         ensures made { result ≡ (forest self.now).made }
         ensures few { (i : ℕ) → length (keys_in self.now.strands i) ≤ result }
@@ -125,7 +130,7 @@ impl<T: Drop> Trie<T> {
         self.made
     }
 
-    /// The number of branches, at least one. No two have the same name.
+    /// The number of branches, which is at least 1. No two branches have the same name.
     pub fn branches(&self) -> u32
         ensures count { result ≡ length (forest self.now).branches }
         ensures some { 0 < result }
@@ -134,8 +139,10 @@ impl<T: Drop> Trie<T> {
         self.branches.len() as u32
     }
 
-    /// Does nothing. Its contract states what the type guarantees: the branches are a forest, their
-    /// names are well-formed, and the trie is within its limits.
+    /// Does nothing. Its contract states what holds of each trie: branches have different,
+    /// well-formed names; two branches with a common cell have the same cells up to that cell; each
+    /// segment has 1 to 128 cells, and branches that share one share all segments above it; and the
+    /// numbers of branches and of cells made are within the limits.
     pub fn held(&self)
         ensures forest { IsForest (forest self.now) }
         ensures names { HaveNames (forest self.now).branches }
@@ -145,7 +152,7 @@ impl<T: Drop> Trie<T> {
     }
 
     /// The name of the branch at `index`; `None` if there is no such branch. Branches have indices
-    /// from 0 in the order they were made.
+    /// from 0, in the order in which they were made.
     pub fn name_at(&self, index: u32) -> Option<Name>
         ensures { result ≡ name_in (forest self.now).branches index }
     {
@@ -153,7 +160,7 @@ impl<T: Drop> Trie<T> {
         Some(*name)
     }
 
-    /// The number of a branch's cells; `None` if there is no such branch.
+    /// The number of cells of the branch with this name; `None` if there is no such branch.
     pub fn len(&self, branch: &Name) -> Option<u32>
         ensures { result ≡ len_of (forest self.now) branch.now }
     {
@@ -161,7 +168,8 @@ impl<T: Drop> Trie<T> {
         Some(self.len_at(index))
     }
 
-    /// The number of the cell at a place of a branch; `None` if there is no such branch or cell.
+    /// The number of the cell at a place of a branch, whose first cell is at place 0; `None` if
+    /// there is no such branch or cell.
     pub fn cell_at(&self, branch: &Name, place: u32) -> Option<u32>
         ensures { result ≡ cell_on_branch (forest self.now) branch.now place }
     {
@@ -171,8 +179,8 @@ impl<T: Drop> Trie<T> {
         Some(slot.cell)
     }
 
-    /// The place on a branch of the cell with this number; `None` if there is no such branch, or if
-    /// the branch doesn't have the cell.
+    /// The place at which a branch has the cell with this number (0 for its first cell); `None` if
+    /// there is no such branch, or if the branch doesn't have the cell.
     pub fn place_of(&self, branch: &Name, cell: u32) -> Option<u32>
         ensures { result ≡ place_of (forest self.now) branch.now cell }
     {
@@ -184,7 +192,7 @@ impl<T: Drop> Trie<T> {
     ///
     /// # Errors
     ///
-    /// NoBranch; Memory.
+    /// NoBranch if there is no such branch; Memory if memory runs out.
     pub fn path(&self, alloc: Global, branch: &Name) -> Result<Vec<Step>, Refusal>
         ensures ok { IfOk result (λ steps. path_of (forest self.now) branch.now
             ≡ Some steps.items) }
@@ -221,7 +229,7 @@ impl<T: Drop> Trie<T> {
     ///
     /// # Errors
     ///
-    /// NoBranch; Memory.
+    /// NoBranch if there is no such branch; Memory if memory runs out.
     pub fn segments(&self, alloc: Global, branch: &Name) -> Result<Vec<SegKey>, Refusal>
         ensures ok { IfOk result
             (λ keys. keys_by (index_of (forest self.now).branches branch.now) self.now.strands
@@ -236,8 +244,9 @@ impl<T: Drop> Trie<T> {
         Ok(self.keys_at(alloc, index)?)
     }
 
-    /// The key of the segment right above the one with this key. It is the same on each branch.
-    /// `None` if the segment is the first of a branch, or if no segment has the key.
+    /// The key of the segment right above the segment at `key`: the same key on each branch that
+    /// has this segment. `None` if the segment is the first of its branches, or if no segment has
+    /// `key`.
     pub fn above(&self, key: SegKey) -> Option<SegKey>
         ensures first { result ≡ above_of self.now.strands key }
         ensures each { (i : ℕ) (front back : List ℕ)
@@ -262,7 +271,9 @@ impl<T: Drop> Trie<T> {
         self.segments.item(key)?.note.as_ref()
     }
 
-    /// The results of `note` and `above`, found with one access to the segment.
+    /// The note of the segment at `key`, `None` if it has none; and the key of the segment right
+    /// above it, `None` if it is the first of its branches. Both are `None` if no segment has
+    /// `key`. Same as `note` and `above`, but finds the segment only once.
     #[inline(always)]
     pub fn step_up(&self, key: SegKey) -> (Option<&T>, Option<SegKey>)
         ensures note { option_copied result.0 ≡ note_of (piece_at self.now.pieces key) }
@@ -276,7 +287,8 @@ impl<T: Drop> Trie<T> {
         }
     }
 
-    /// The same as `step_up`, for a segment that exists.
+    /// The note of the segment at `key`, `None` if it has none; and the key of the segment right
+    /// above it, `None` if it is the first of its branches. There has to be a segment at `key`.
     #[inline(always)]
     pub fn step_up_from(&self, key: SegKey) -> (Option<&T>, Option<SegKey>)
         requires { IsSome (piece_at self.now.pieces key) }
@@ -289,8 +301,8 @@ impl<T: Drop> Trie<T> {
         (segment.note.as_ref(), above.get())
     }
 
-    /// Sets the note of a segment, or clears it if `note` is `None`. If no segment has the key,
-    /// nothing changes. Never allocates.
+    /// Sets the note of a segment, or clears it if `note` is `None`; nothing else changes. If no
+    /// segment has the key, nothing changes at all. Never allocates.
     pub fn set_note(&mut self, key: SegKey, note: Option<T>)
         ensures { IsNoted self.old self.new key note }
     {
@@ -301,11 +313,13 @@ impl<T: Drop> Trie<T> {
     }
 
     /// Replaces the step of the cell at a place of a branch, in each branch that has the cell. The
-    /// cell keeps its number. Never allocates.
+    /// cell keeps its number. Clears the note of the cell's segment, and no other note. Never
+    /// allocates.
     ///
     /// # Errors
     ///
-    /// NoBranch; NoPlace if the branch has no cell there. Then nothing changes.
+    /// NoBranch if there is no such branch; NoPlace if the branch has no cell there. After an error
+    /// nothing has changed.
     pub fn replace(&mut self, branch: &Name, place: u32, step: Step) -> Result<(), Refusal>
         ensures ok { OnOk result (IsEdited self.old self.new (Replace branch.now place step)) }
         ensures err { IfErr result (IsUnedited self.old self.new (Replace branch.now place step)) }
@@ -321,7 +335,8 @@ impl<T: Drop> Trie<T> {
         Ok(())
     }
 
-    /// The index of the branch with this name; `None` if there is no such branch.
+    /// The index of the branch with this name, which is below the number of branches; `None` if
+    /// there is no such branch.
     pub fn index(&self, branch: &Name) -> Option<usize>
         ensures index { result ≡ index_of (forest self.now).branches branch.now }
         ensures within { IfSome result (λ i. i < length self.now.strands) }
@@ -337,8 +352,13 @@ impl<T: Drop> Trie<T> {
         self.segments.last(index)
     }
 
-    /// The keys of the segments of the branch at an index, in order; empty if there is no such
-    /// branch.
+    /// The keys of the segments of the branch at an index, in order; no keys if there is no such
+    /// branch. These segments have at most as many cells in total as were ever made, and at most
+    /// 2^28 cells were ever made.
+    ///
+    /// # Errors
+    ///
+    /// If memory runs out.
     pub fn keys_at(&self, alloc: Global, index: usize) -> Result<Vec<SegKey>, AllocError>
         ensures keys { IfOk result (λ keys. keys.items ≡ keys_in self.now.strands index) }
         ensures short { IfOk result
@@ -358,7 +378,7 @@ impl<T: Drop> Trie<T> {
         }
     }
 
-    /// Replaces the step of a cell of a segment, and clears the segment's note.
+    /// Replaces the step of the cell at an offset of a segment, and clears the segment's note.
     fn set_step(&mut self, key: SegKey, offset: usize, step: Step)
         requires { offset < length (slots_of (piece_at self.old.pieces key)) }
         ensures { IsStepSet self.old self.new key offset step }

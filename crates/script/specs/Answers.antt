@@ -1,4 +1,4 @@
--- What a line of a script answers, and the world after it.
+-- The answer to a line of a script, and the world after the line.
 use Rattle.std.specs.Prelude.{ℕ, Bool, true, false, List, [], Option, Some, None, Result, Ok, Err}
 use Rattle.schedule_trie.specs.declared.refusal.Refusal.{Refusal}
 use Rattle.schedule_trie.specs.declared.refusal.Refusal.TheVariants.{NoBranch, Memory}
@@ -24,50 +24,55 @@ abbrev pub text_of : ℕ → Option Page → List ℕ
 text_of session None = []
 text_of session (Some page) = page_text session page
 
--- the text of a look's page, or nothing if the look is refused
+-- the text of the page that a look shows in world w; nothing if the look is refused
 abbrev pub page_or_refusal : {P : Type 0} → ℕ → Query → World P → List ℕ
 page_or_refusal session query w = text_of session (shown_in w query)
 
--- this page, or the refusal of the look
+-- the answer to a look, given whether the look is refused: `page`, the text of its page, if it
+-- isn't; the text of the refusal if it is
 abbrev pub page_unless : Result Forest Refusal → ℕ → List ℕ → List ℕ
 page_unless (Ok f) session page = page
 page_unless (Err r) session page = answer_text session (No r)
 
--- the answer to a look: its page or its refusal, or Memory if memory ran out
+-- the answer to a look, given whether memory ran out: if so, the refusal Memory; otherwise the text
+-- of its page, or of its own refusal
 abbrev pub look_text : Bool → ℕ → Result Forest Refusal → List ℕ → List ℕ
 look_text false session looked_in page = page_unless looked_in session page
 look_text true session looked_in page = answer_text session (No Memory)
 
--- the answer to a fill, given the index of its branch, if there is one: that the fill is done, or
--- NoBranch, or Memory if memory ran out
+-- the answer to a fill, given whether memory ran out and the index of the fill's branch, if that
+-- branch exists: the refusal Memory if memory ran out; otherwise `filled`, or the refusal NoBranch
 abbrev pub fill_text : Bool → ℕ → Option ℕ → List ℕ
 fill_text false session None = answer_text session (No NoBranch)
 fill_text false session (Some index) = filled_text session
 fill_text true session index = answer_text session (No Memory)
 
--- the world after a command, and its reply as a text
+-- the result of a session's command as an answer: the world after the command, and the line with
+-- its reply
 abbrev pub replied : {P : Type 0} → ℕ → CommandResult P → Answered (World P)
 replied session a = record { world = a.world; text = answer_text session a.reply }
 
--- a command leaves its world and answers with its reply; a look answers with its page or its
--- refusal, and a fill says whether its branch is there
+-- the answer to a request and the world after it, if memory doesn't run out: a command is answered
+-- by its reply, a look by its page or its refusal, and a fill by `filled` or NoBranch
 abbrev pub performed : {P : Type 0} → ℕ → Request → World P → Answered (World P)
 performed session (Act guard command) w = replied session (command_result session guard command w)
 performed session (Look query) w = record { world = w; text = page_unless (looked_in w query) session (page_or_refusal session query w) }
 performed session (Fill branch) w = record { world = w; text = fill_text false session (index_of w.forest.branches branch) }
 
--- the answer to a call; if memory ran out, the world is unchanged
+-- the answer to a call and the world after it, given whether memory ran out. If it did, the answer
+-- is the refusal Memory, and the world is unchanged.
 abbrev pub answer_call : {P : Type 0} → Bool → Call → World P → Answered (World P)
 answer_call false c w = performed c.session c.request w
 answer_call true c w = record { world = w; text = answer_text c.session (No Memory) }
 
--- the answer to line `n`, by what the line says
+-- the answer to line `n` and the world after it, given what the line says, and whether memory ran
+-- out (`memory`)
 abbrev pub answer_to : {P : Type 0} → Bool → ℕ → Line → World P → Answered (World P)
 answer_to memory n line.Blank w = record { world = w; text = [] }
 answer_to memory n line.Bad w = record { world = w; text = bad_line_text n }
 answer_to memory n (line.Call c) w = answer_call memory c w
 
--- the answer to a line and the world after it, given the line's number and text; `memory` says
--- whether memory ran out
+-- the answer to line `n` of a script and the world after it, given the line's text, and whether
+-- memory ran out (`memory`)
 abbrev pub answer_line : {P : Type 0} → Bool → ℕ → List ℕ → World P → Answered (World P)
 answer_line memory n text w = answer_to memory n (read_line text) w

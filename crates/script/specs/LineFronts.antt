@@ -1,4 +1,5 @@
--- Only the front of a line is kept, and the line is read and answered by its front.
+-- Of each line, only its front (the first `KEPT_BYTES` bytes) is kept in memory. By these laws the
+-- front and the whole line are read and answered alike.
 use Rattle.std.proofs.Common.{◌≡◌, ℕ, ◌<◌, Bool, false, cond, ◌&&◌, nat_le, ◌==◌, List, [], ◌∷◌, length, take, refl, sym, ap, ◌∙◌, arith, inl, inr}
 use Rattle.std.proofs.lemmas.List.{take_all, length-take}
 use Rattle.std.proofs.lemmas.Bool.{cases_lt}
@@ -23,11 +24,11 @@ called-front b bs = elim (cases_lt (length bs) 255) [
   | inr long ↦ called_long (b ∷ take 255 bs) (omega (arith, length-take 255 bs)) ∙ sym (called_long (b ∷ bs) (omega arith))
 ]
 
--- a line is read by its front
+-- `read_line` gives the same result for the front of a line as for the whole line
 pub read_line-front : (text : List ℕ) → read_line (take KEPT_BYTES text) ≡ read_line text
 read_line-front [] = refl
 read_line-front (b ∷ bs) = ap (λ l. cond (b == 35) line.Blank l) (called-front b bs)
 
--- a line is answered by its front
+-- `answer_line` gives the same result for the front of a line as for the whole line
 pub answer_line-front : {P : Type 0} (memory : Bool) (n : ℕ) (text : List ℕ) (w : World P) → answer_line memory n (take KEPT_BYTES text) w ≡ answer_line memory n text w
 answer_line-front memory n text w = ap (λ l. answer_to memory n l w) (read_line-front text)

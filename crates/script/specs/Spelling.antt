@@ -1,4 +1,4 @@
--- The one text of each call, and what a line says by these texts.
+-- The one text that spells each call, and what a line says, by these texts.
 use Rattle.std.specs.Prelude.{ℕ, ◌≡◌, ◌^◌, Bool, true, ◌&&◌, nat_lt, nat_le, List, [], ◌∷◌, ◌++◌, Some, None, ⊤, length, map, codes, decimal}
 use Rattle.std.specs.List.{list_all, join_with_byte}
 use Rattle.frames.specs.declared.types.Step.{Step}
@@ -42,7 +42,7 @@ break_words break.Chosen = Text (codes "chosen") ∷ []
 break_words break.Void = Text (codes "void") ∷ []
 break_words break.Refused = Text (codes "refused") ∷ []
 
--- the words of a place of a branch
+-- the words of a place of a branch: the branch's name and the place's number
 abbrev pub place_words : List ℕ → ℕ → List Word
 place_words branch place = Text branch ∷ Number place ∷ []
 
@@ -89,23 +89,25 @@ call_words c = Number c.session ∷ request_words c.request
 abbrev pub call_text : Call → List ℕ
 call_text c = join_with_byte 32 (map spelled (call_words c))
 
--- a byte of a word: 0x21 to 0x7E
+-- whether a word may have this byte, one of 0x21 to 0x7E: any byte of a call but the space
 abbrev pub is_visible : ℕ → Bool
 is_visible b = nat_le 33 b && nat_le b 126
 
--- a text has 1 to 16 visible bytes; a number and a guard have at most 9 digits
+-- whether a word is sound (one that a line may have): a text has 1 to 16 bytes from 0x21 to 0x7E,
+-- and a number or a guard has at most 9 digits
 abbrev pub is_sound : Word → Bool
 is_sound (Text t) = (nat_le 1 (length t) && nat_le (length t) 16) && list_all is_visible t
 is_sound (Number n) = nat_lt n (10 ^ 9)
 is_sound (Guard n) = nat_lt n (10 ^ 9)
 
--- a session looks only at its own cursor
+-- if a session's request is a look at a cursor, the cursor is that session's own
 abbrev pub IsOwn : ℕ → Request → Type 0
 IsOwn session (Look (Cursor who)) = who ≡ session
 IsOwn session r = ⊤
 
--- a text spells a call: it is the call's text, its words are sound, and a cursor that is looked at
--- is the session's own
+-- A text spells a call: it is the call's text; the call's words are sound (each text has 1 to 16
+-- visible bytes, each number at most 9 digits); and if the call is a look at a cursor, that cursor
+-- is the session's own.
 pub record SpellsCall (text : List ℕ) (c : Call) : Type 0 where
   pub own : IsOwn c.session c.request
   pub sound : list_all is_sound (call_words c) ≡ true
@@ -116,8 +118,8 @@ abbrev pub IsBlankLine : List ℕ → Type 0
 IsBlankLine [] = ⊤
 IsBlankLine (b ∷ bs) = b ≡ 35
 
--- What a line says: nothing, or the call that it spells. A line that isn't blank and spells no call
--- is bad.
+-- A line says nothing if it is blank (it is empty or begins with `#`). It says a call if it spells
+-- that call. It says that it is bad if it isn't blank and spells no call.
 abbrev pub LineSays : List ℕ → Line → Type 0
 LineSays text line.Blank = IsBlankLine text
 LineSays text line.Bad = (IsBlankLine text → ⊥) × ((c : Call) → SpellsCall text c → ⊥)

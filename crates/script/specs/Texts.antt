@@ -8,20 +8,20 @@ use Rattle.sessions.specs.declared.reply.Reply.{Reply}
 use Rattle.sessions.specs.declared.reply.Reply.TheVariants.{Joined, Left, Edited, Moved, NoHit, BreakSet, BreakCleared, No}
 use Rattle.views.specs.page.Head.{line_end}
 
--- what follows a refusal's name: for Newer, the edit count
+-- the text after a refusal's name: for Newer, a space and the edit count; otherwise nothing
 abbrev pub refusal_detail : Refusal → List ℕ
 refusal_detail (Newer edits) = codes " " ++ decimal edits
 refusal_detail r = []
 
--- a refusal: its number, its name and, for Newer, the edit count
+-- the text of a refusal: `refused`, the refusal's number and name, and for Newer the edit count
 abbrev pub refusal_text : Refusal → List ℕ
 refusal_text r = codes "refused " ++ decimal (refusal_number r) ++ codes " " ++ refusal_name r ++ refusal_detail r
 
--- the place of a cursor that has moved
+-- the text of the reply that a cursor has moved to this place of this branch
 abbrev pub place_text : List ℕ → ℕ → List ℕ
 place_text branch place = codes "at " ++ branch ++ codes " " ++ decimal place
 
--- a reply, without the session's number
+-- the text of a reply, without the session's number that begins its line
 abbrev pub reply_text : Reply → List ℕ
 reply_text Joined = codes "joined"
 reply_text Left = codes "left"
@@ -32,14 +32,14 @@ reply_text BreakSet = codes "break set"
 reply_text BreakCleared = codes "break cleared"
 reply_text (No r) = refusal_text r
 
--- the line that answers a session with a reply
+-- the line that answers a session's call with a reply: the session's number, and the reply
 abbrev pub answer_text : ℕ → Reply → List ℕ
 answer_text session reply = decimal session ++ codes ": " ++ reply_text reply ++ line_end
 
--- the answer to a fill that wasn't refused
+-- the line that answers a session's fill if the fill isn't refused
 abbrev pub filled_text : ℕ → List ℕ
 filled_text session = decimal session ++ codes ": filled" ++ line_end
 
--- the answer to a bad line, given the line's number
+-- the line that answers a bad line: the bad line's number, and the refusal BadLine
 abbrev pub bad_line_text : ℕ → List ℕ
 bad_line_text line = codes "line " ++ decimal line ++ codes ": " ++ refusal_text BadLine ++ line_end

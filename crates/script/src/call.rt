@@ -19,7 +19,7 @@ pub enum Request {
     Fill(Name),
 }
 
-/// A session's number, and its request.
+/// A call, which is what a line asks for: the number of a session, and that session's request.
 #[derive(Clone, Copy, Debug, PartialEq, Eq)]
 pub struct Call {
     pub session: u32,

@@ -6,8 +6,9 @@ ghost use Rattle.script.specs.declared.call.Line.{Line};
 ghost use Rattle.script.specs.Lines.{read_line};
 ghost use Rattle.script.specs.Spelling.{SpellsCall, LineSays};
 
-/// A call has at most one text. `read_line` reads a line by these texts: it is blank, it spells a
-/// call, or else it is bad.
+/// Each call is spelled by at most one text. `read_line` returns `said` exactly if the line says
+/// that: that it is blank (it is empty or begins with `#`); or the call that it spells; or that it
+/// is bad, because it isn't blank and spells no call.
 pub fn one_text()
     ensures text { (a b : List ℕ) (c : Call) → SpellsCall a c → SpellsCall b c → a ≡ b }
     ensures reading { (line : List ℕ) (said : Line) → (read_line line ≡ said) ↔ LineSays line said }

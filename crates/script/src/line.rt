@@ -1,4 +1,5 @@
-//! Reading a line of a script.
+//! Reading a line of a script. A function that reads words returns `None` if they don't have the
+//! form that its comment gives.
 
 ghost use Rattle.std.specs.Prelude.{◌≡◌};
 ghost use Rattle.std.specs.List.{list_all};
@@ -19,10 +20,11 @@ use words::step::{is, step_of};
 /// The most bytes of a call.
 const MOST_BYTES: usize = 255;
 
-/// Reads a line.
+/// What a line says: nothing if it is empty or begins with `#`; otherwise the call that it spells;
+/// or that it is bad, if it spells no call.
 pub fn read_line(line: &[u8]) -> Line
     ensures read { result ≡ spec.read_line line.now }
-    // The result is what the line says by the texts of calls, and a line says only one thing.
+    // By the definition of each call's text, the line says what is returned, and nothing else.
     ensures says { LineSays line.now result }
     ensures only { (said : Line) → LineSays line.now said → result ≡ said }
 {
@@ -56,7 +58,7 @@ fn called(line: &[u8]) -> Line
 fn all_plain(line: &[u8]) -> bool
     ensures { result ≡ list_all spec.is_call_byte line.now }
 {
-    // Without an early exit, so that many bytes are tested at once.
+    // There is no early exit, so that many bytes are tested at once.
     let mut plain = true;
     for byte in line {
         plain &= 0x20 <= *byte && *byte <= 0x7e;
@@ -208,7 +210,7 @@ fn break_of(words: &mut Parts<'_>) -> Option<Break>
     if words.is_end() { kind_of(word) } else { None }
 }
 
-/// The break that consists of this word alone.
+/// The break that is spelled by this word alone.
 fn kind_of(word: &[u8]) -> Option<Break>
     ensures { result ≡ spec.kind_of word.now }
 {

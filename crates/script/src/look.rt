@@ -1,4 +1,5 @@
-//! Reading a look, and the branches and places of a line.
+//! Reading a look, and the branches and places of a line. A function that reads words returns
+//! `None` if they don't have the form that its comment gives.
 
 ghost use Rattle.std.specs.Prelude.{◌≡◌};
 ghost use Rattle.script.specs.Lines as spec;
@@ -9,7 +10,7 @@ use words::number::number;
 use words::parts::Parts;
 use words::step::is;
 
-/// Whether this word begins a look.
+/// Whether `word` is the first word of a look.
 pub(crate) fn is_look(word: &[u8]) -> bool
     ensures { result ≡ spec.is_look word.now }
 {
@@ -31,7 +32,7 @@ fn is_place_look(word: &[u8]) -> bool
         || is(word, "verdict")
 }
 
-/// Reads a session's look that begins with this word.
+/// Reads a session's look, given its first word, from the other words of the line.
 pub(crate) fn look_of(session: u32, word: &[u8], words: &mut Parts<'_>) -> Option<Query>
     ensures { result ≡ spec.look_of session word.now words.old }
 {
@@ -53,7 +54,7 @@ pub(crate) fn look_of(session: u32, word: &[u8], words: &mut Parts<'_>) -> Optio
     query_at(word, b, k)
 }
 
-/// The look with this word, at place `k` of branch `b`.
+/// The look with this word, at place `k` of branch `b`; `None` if the word is another.
 fn query_at(word: &[u8], b: Name, k: u32) -> Option<Query>
     ensures { result ≡ spec.query_at word.now b k }
 {
@@ -72,7 +73,7 @@ fn query_at(word: &[u8], b: Name, k: u32) -> Option<Query>
     }
 }
 
-/// Reads a branch, after which the line has to end.
+/// Reads the name of a branch, which must be the last word of the line.
 pub(crate) fn branch_of(words: &mut Parts<'_>) -> Option<Name>
     ensures { result ≡ spec.only_branch words.old }
 {
@@ -80,7 +81,7 @@ pub(crate) fn branch_of(words: &mut Parts<'_>) -> Option<Name>
     words.is_end().then_some(branch)
 }
 
-/// Reads a branch and a place, after which the line has to end.
+/// Reads the name of a branch and a place, which must be the last two words of the line.
 pub(crate) fn place_of(words: &mut Parts<'_>) -> Option<(Name, u32)>
     ensures { result ≡ spec.branch_and_place words.old }
 {
@@ -99,7 +100,7 @@ fn process_at(words: &mut Parts<'_>) -> Option<(Name, u32, u32)>
     words.is_end().then_some((branch, place, process))
 }
 
-/// Reads the name of a branch, which has 1 to 16 bytes.
+/// The name of a branch that has these bytes; `None` unless there are 1 to 16.
 pub(crate) fn branch(word: &[u8]) -> Option<Name>
     ensures { result ≡ spec.branch_word word.now }
 {

@@ -8,7 +8,8 @@ use schedule_trie::refusal::Refusal;
 use sessions::reply::Reply;
 use words::text::{Pushed, push_bytes, push_labelled, push_number, push_text, push_word};
 
-/// Adds the line that answers a session with a reply.
+/// Adds, at the end of `out`, the line that answers a session's call with a reply: the session's
+/// number and the reply's text. Fails only if memory runs out.
 pub fn push_reply(out: &mut Vec<u8>, session: u32, reply: &Reply) -> Pushed
     ensures { OnOk result (out.new.items ≡ out.old.items ++ spec.answer_text session reply.now) }
 {
@@ -18,7 +19,8 @@ pub fn push_reply(out: &mut Vec<u8>, session: u32, reply: &Reply) -> Pushed
     push_text(out, "\n")
 }
 
-/// Adds the answer to a fill that wasn't refused.
+/// Adds, at the end of `out`, the line that answers a session's fill if the fill isn't refused.
+/// Fails only if memory runs out.
 pub fn push_filled(out: &mut Vec<u8>, session: u32) -> Pushed
     ensures { OnOk result (out.new.items ≡ out.old.items ++ spec.filled_text session) }
 {
@@ -27,7 +29,8 @@ pub fn push_filled(out: &mut Vec<u8>, session: u32) -> Pushed
     push_text(out, ": filled\n")
 }
 
-/// Adds the answer to a bad line, given the line's number.
+/// Adds, at the end of `out`, the answer to a bad line: a line with the bad line's number and the
+/// refusal BadLine. Fails only if memory runs out.
 pub fn push_bad_line(out: &mut Vec<u8>, line: u32) -> Pushed
     ensures { OnOk result (out.new.items ≡ out.old.items ++ spec.bad_line_text line) }
 {

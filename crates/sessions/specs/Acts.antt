@@ -1,4 +1,6 @@
 -- What a command does: the reason why it is refused, or else its reply and the world after it.
+-- Early reasons are tested before the command's branch is looked up. The late reasons follow: that
+-- there is no such branch, and others.
 use Rattle.std.specs.Prelude.{ℕ, ◌+◌, Bool, true, false, not, ◌==◌, ◌&&◌, ◌||◌, nat_le, nat_lt, List, [], ◌∷◌, ◌++◌, Option, Some, None, Result, Ok, Err, is_none, slice_set, option_and_then, if◌then◌else◌}
 use Rattle.std.specs.Option.{option_map}
 use Rattle.frames.specs.Behaviour.{Behaviour}
@@ -33,7 +35,8 @@ needs_session (command.Break break) = true
 needs_session (command.Clear break) = true
 needs_session c = false
 
--- whether there is no such session, or the session hasn't joined and the command needs it to
+-- whether there is no session `who`, or this session hasn't joined and the command needs it to have
+-- joined
 abbrev pub lacks_session : ℕ → Command → List (Option Cursor) → Bool
 lacks_session who c cursors = nat_lt 15 who || (needs_session c && is_none (cursor_at cursors who))
 
@@ -48,26 +51,27 @@ fits_command b (command.Insert branch place step) = fits_step b step
 fits_command b (command.Replace branch place step) = fits_step b step
 fits_command b c = true
 
--- the branches, unchanged; or the refusal of a go to a place that isn't there
+-- if the command is a `go` to a place that doesn't exist, why it is refused; otherwise Ok with the
+-- branches, which it leaves unchanged
 abbrev pub looked_by : Forest → Command → Result Forest Refusal
 looked_by f (command.Go branch place) = look f branch place
 looked_by f c = Ok f
 
--- whether a command clears a break that isn't there
+-- whether a command clears a break that its session hasn't set
 abbrev pub lacks_break : ℕ → Command → List (List Break) → Bool
 lacks_break who (command.Clear break) breaks = not (has_break break (breaks_at breaks who))
 lacks_break who c breaks = false
 
--- this refusal, if the condition holds
+-- the refusal r if the condition is true, else `None`
 abbrev pub refused_if : Bool → Refusal → Option Refusal
 refused_if condition r = if condition then Some r else None
 
--- the refusal of a result, or `None` if the result is a forest
+-- the refusal of a result; `None` if the result is a forest (the branches)
 abbrev pub refusal_in : Result Forest Refusal → Option Refusal
 refusal_in (Ok f) = None
 refusal_in (Err r) = Some r
 
--- the first refusal of a list, if any
+-- the first refusal in a list of refusals and `None`s; `None` if it has no refusal
 abbrev pub first_refusal : List (Option Refusal) → Option Refusal
 first_refusal [] = None
 first_refusal (None ∷ rs) = first_refusal rs
@@ -78,7 +82,8 @@ module _ {P : Type 0} where
   abbrev pub is_full : World P → Bool
   is_full w = nat_le w.limits.log w.logged
 
-  -- the reasons to refuse a command before its branch is looked up, in order
+  -- the reasons to refuse a command that are tested before its branch is looked up, in the order
+  -- they are tested; `None` for each that doesn't apply
   abbrev pub early_refusals : ℕ → Option ℕ → Command → World P → List (Option Refusal)
   early_refusals who guard c w =
       refused_if (is_full w) LogFull
@@ -87,47 +92,57 @@ module _ {P : Type 0} where
       ∷ refused_if (not (fits_command w.tower c)) BadStep
       ∷ []
 
-  -- the reasons to refuse an edit after that, in order
+  -- the reasons to refuse an edit that are tested after those of `early_refusals`, in the order
+  -- they are tested: why the branches or the limits don't allow it, and that it drops a branch with
+  -- a cursor on it
   abbrev pub edit_refusals : Edit → World P → List (Option Refusal)
   edit_refusals edit w =
       refusal_in (edited w.limits w.forest edit)
       ∷ refused_if (drops_occupied edit w.cursors) Occupied
       ∷ []
 
-  -- the reasons to refuse another command after that, in order
+  -- the reasons to refuse a command that isn't an edit, of those tested after `early_refusals`, in
+  -- the order they are tested: a `go` to a place that doesn't exist, and a `clear` of a break that
+  -- isn't set
   abbrev pub other_refusals : ℕ → Command → World P → List (Option Refusal)
   other_refusals who c w =
       refusal_in (looked_by w.forest c)
       ∷ refused_if (lacks_break who c w.breaks) NoBreak
       ∷ []
 
-  -- the reasons to refuse any command after that, given its edit, if it is one
+  -- the reasons to refuse the command c that are tested after those of `early_refusals`, in order;
+  -- the first argument is c's edit, or `None` if c isn't an edit
   abbrev pub late_by : Option Edit → ℕ → Command → World P → List (Option Refusal)
   late_by (Some edit) who c w = edit_refusals edit w
   late_by None who c w = other_refusals who c w
 
-  -- the reasons to refuse a command once its branch is looked up, in order
+  -- the reasons to refuse a command that are tested after those of `early_refusals`, in the order
+  -- they are tested
   abbrev pub late_refusals : ℕ → Command → World P → List (Option Refusal)
   late_refusals who c w = late_by (edit_of c) who c w
 
-  -- all reasons to refuse a command, in order
+  -- all reasons to refuse a command, in the order they are tested; `None` for each that doesn't
+  -- apply
   abbrev pub refusals : ℕ → Option ℕ → Command → World P → List (Option Refusal)
   refusals who guard c w = early_refusals who guard c w ++ late_refusals who c w
 
-  -- a cursor at the next hit of a seek from the cursor `c`, if there is a hit
+  -- what a seek in this direction moves the cursor `c` to: the nearest place, other than c's, at
+  -- which one of these breaks is met; `None` if there is no such place
   abbrev pub hit_from : Way → World P → List Break → Cursor → Option Cursor
   hit_from towards w breaks c = option_map (cursor c.branch) (next_place towards c.place (hits w.tower w.value (steps_in w.forest c.branch) breaks))
 
-  -- the same for a seek from a session's cursor
+  -- what a seek moves the cursor of session `who` to; `None` if no break of the session is met in
+  -- this direction, or if the session hasn't joined
   abbrev pub hit_of : Way → World P → ℕ → Option Cursor
   hit_of towards w who = option_and_then (hit_from towards w (breaks_at w.breaks who)) (cursor_at w.cursors who)
 
--- the cursors after a seek of session `who`, whose cursor moves to the hit, if there is one
+-- the cursors after a seek of session `who` that found this hit; if it found none (`None`), no
+-- cursor moves
 abbrev pub put_cursor : ℕ → Option Cursor → List (Option Cursor) → List (Option Cursor)
 put_cursor who None cursors = cursors
 put_cursor who (Some c) cursors = slice_set cursors who (Some c)
 
--- the cursors after a command that isn't an edit and isn't refused
+-- the cursors after a command of session `who` that isn't an edit and isn't refused
 abbrev pub cursors_after : {P : Type 0} → ℕ → Command → World P → List (Option Cursor)
 cursors_after who command.Join w = slice_set w.cursors who (first_cursor w.forest)
 cursors_after who command.Leave w = slice_set w.cursors who None
@@ -136,7 +151,7 @@ cursors_after who command.Seek w = put_cursor who (hit_of way.Forth w who) w.cur
 cursors_after who command.Back w = put_cursor who (hit_of way.Back w who) w.cursors
 cursors_after who c w = w.cursors
 
--- the breaks after a command that isn't refused
+-- the breaks of all sessions after a command of session `who` that isn't refused
 abbrev pub breaks_after : ℕ → Command → List (List Break) → List (List Break)
 breaks_after who command.Join breaks = slice_set breaks who []
 breaks_after who command.Leave breaks = slice_set breaks who []
@@ -144,7 +159,7 @@ breaks_after who (command.Break break) breaks = slice_set breaks who (with_break
 breaks_after who (command.Clear break) breaks = slice_set breaks who (without_break break (breaks_at breaks who))
 breaks_after who c breaks = breaks
 
--- the reply to a seek
+-- the reply to a seek: Moved to the hit that it found, or NoHit if it found none
 abbrev pub hit_reply : Option Cursor → Reply
 hit_reply None = NoHit
 hit_reply (Some c) = Moved c.branch c.place
@@ -165,7 +180,7 @@ abbrev pub kept_or : Result Forest Refusal → Forest → Forest
 kept_or (Ok new) f = new
 kept_or (Err r) f = f
 
--- the world with one more command counted
+-- the world with one more command counted as logged
 abbrev pub with_one_logged : {P : Type 0} → World P → World P
 with_one_logged w = record w { logged = w.logged + 1 }
 
@@ -188,16 +203,18 @@ moved_world who c w =
       logged = w.logged + 1;
     }
 
--- the world after a command that isn't refused, given its edit, if it is one
+-- the world after the command c of session `who`, which isn't refused; the first argument is c's
+-- edit, or `None` if c isn't an edit
 abbrev pub left_by : {P : Type 0} → Option Edit → ℕ → Command → World P → World P
 left_by (Some edit) who c w = edited_world edit w
 left_by None who c w = moved_world who c w
 
--- the world after a command that isn't refused
+-- the world that a command of session `who` leaves if it isn't refused
 abbrev pub left : {P : Type 0} → ℕ → Command → World P → World P
 left who c w = left_by (edit_of c) who c w
 
--- a refused command is counted and changes nothing else; it isn't counted if the log is full
+-- the world after a refused command, which counts as logged unless the refusal is LogFull, and
+-- changes nothing else
 abbrev pub refused : {P : Type 0} → Refusal → World P → World P
 refused LogFull w = w
 refused r w = with_one_logged w
@@ -207,11 +224,13 @@ pub record CommandResult (P : Type 0) : Type 0 where
   pub world : World P
   pub reply : Reply
 
--- what a command does, given its first refusal, if any
+-- the world and the reply after the command c of session `who`; the first argument is the first
+-- reason to refuse c, or `None` if there is none
 abbrev pub answered : {P : Type 0} → Option Refusal → ℕ → Command → World P → CommandResult P
 answered None who c w = record { world = left who c w; reply = reply_to who c w }
 answered (Some r) who c w = record { world = refused r w; reply = No r }
 
--- what a session's command with its guard does
+-- the world and the reply after the command c of session `who` in the world w; `guard` is `None` if
+-- no guard is given
 abbrev pub command_result : {P : Type 0} → ℕ → Option ℕ → Command → World P → CommandResult P
 command_result who guard c w = answered (first_refusal (refusals who guard c w)) who c w

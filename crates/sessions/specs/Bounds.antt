@@ -1,11 +1,11 @@
--- Bounds that commands and seeks keep within.
+-- Bounds on places, and on the number of logged commands.
 use Rattle.std.specs.Prelude.{ℕ, ◌<◌, ◌≤◌, ◌^◌, List, Option, IfSome}
 use Rattle.sessions.specs.declared.cursor.Cursor.{Cursor}
 use Rattle.sessions.specs.Cursors.{cursor_at}
 use Rattle.sessions.specs.Held.{Staged}
 use Rattle.schedule_trie.specs.declared.limits.TheConstants.{MOST_CELLS_MADE}
 
--- another command can be logged
+-- one more command can be logged: the number of logged commands is below its limit
 abbrev pub CanLog : {R P : Type 0} → Staged R P → Type 0
 CanLog s = s.logged < s.limits.log
 

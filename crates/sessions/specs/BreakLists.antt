@@ -17,18 +17,18 @@ is_same Chosen other = false
 is_same Void other = false
 is_same Refused other = false
 
--- the breaks of one session
+-- the breaks of session `who`; none if there is no such session
 abbrev pub breaks_at : List (List Break) → ℕ → List Break
 breaks_at breaks who = slice_index_or breaks who []
 
--- whether a break is one of these
+-- whether a break is one of these breaks
 abbrev pub has_break : Break → List Break → Bool
 has_break break breaks = list_any (is_same break) breaks
 
--- these breaks with one more at the end, unless it is already one of them
+-- these breaks with `break` added at the end, unless it is already one of them
 abbrev pub with_break : Break → List Break → List Break
 with_break break breaks = if has_break break breaks then breaks else breaks ++ break ∷ []
 
--- these breaks except one
+-- these breaks without `break`
 abbrev pub without_break : Break → List Break → List Break
 without_break break breaks = filter (λ other. not (is_same break other)) breaks

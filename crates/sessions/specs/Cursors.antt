@@ -17,34 +17,39 @@ cursor branch place = record { branch = branch; place = place }
 abbrev pub cursor_at : List (Option Cursor) → ℕ → Option Cursor
 cursor_at cursors who = slice_index_or cursors who None
 
--- the cursor of a session that joins: at the beginning of the first branch; `None` if there is none
+-- the cursor of a session that joins, at the beginning of the first branch; `None` if there is no
+-- branch
 abbrev pub first_cursor : Forest → Option Cursor
 first_cursor f = option_map (λ name. cursor name 0) (name_in f.branches 0)
 
--- whether an edit of a branch changes another one: an edit of a cell changes each branch that has
--- the cell; an edit at the end of a branch changes that branch alone
+-- whether an insert or a remove on `branch` changes the branch `other`: at a cell (the first
+-- argument) it changes each branch that has the cell; at the end of `branch` (`None`) it changes
+-- `branch` alone
 abbrev pub acts_in : Option ℕ → Forest → List ℕ → List ℕ → Bool
 acts_in None f branch other = pointwise nat_eq branch other
 acts_in (Some cell) f branch other = is_some (place_of f other cell)
 
--- whether a cursor is after the place of an insert or a remove, on a branch that the edit changes
+-- whether an insert or a remove at `place` of `branch` moves the cursor c: c is on a branch that
+-- the edit changes, and is after `place`; f are the branches before the edit
 abbrev pub is_shifted_by : Forest → List ℕ → ℕ → Cursor → Bool
 is_shifted_by f branch place c = acts_in (cell_on_branch f branch place) f branch c.branch && nat_lt place c.place
 
--- the place of a cursor that is moved: an insert adds one, a remove subtracts one
+-- the new place of a cursor that an edit moves: one more for an insert (Up), one less for a remove
+-- (Down)
 abbrev pub shifted_place : Shift → ℕ → ℕ
 shifted_place Up place = place + 1
 shifted_place Down place = place - 1
 
--- the new position of a cursor after an edit at a place of a branch
+-- the cursor c after an insert (Up) or a remove (Down) at `place` of `branch`; f are the branches
+-- before the edit
 abbrev pub shifted : Shift → Forest → List ℕ → ℕ → Cursor → Cursor
 shifted shift f branch place c = if is_shifted_by f branch place c then cursor c.branch (shifted_place shift c.place) else c
 
--- the cursors, each of them changed
+-- the cursors after `change` is applied to each; `None` stays `None`
 abbrev pub each_cursor : (Cursor → Cursor) → List (Option Cursor) → List (Option Cursor)
 each_cursor change cursors = map (option_map change) cursors
 
--- whether there is a cursor and it is after a place, on any branch
+-- whether there is a cursor and its place, on whatever branch, is after `place`
 abbrev pub is_after_place : ℕ → Option Cursor → Bool
 is_after_place place None = false
 is_after_place place (Some c) = nat_lt place c.place
@@ -58,7 +63,7 @@ is_on_branch branch (Some c) = pointwise nat_eq branch c.branch
 abbrev pub is_occupied : List ℕ → List (Option Cursor) → Bool
 is_occupied branch cursors = list_any (is_on_branch branch) cursors
 
--- a cursor is at a place that exists: on a branch, at most at its end
+-- a cursor is at a place that exists: its branch exists, and isn't shorter than the cursor's place
 abbrev pub IsAtPlace : Forest → Cursor → Type 0
 IsAtPlace f c = look f c.branch c.place ≡ Ok f
 

@@ -9,7 +9,7 @@ use Rattle.sessions.specs.declared.command.Command.{Command}
 use Rattle.sessions.specs.declared.command.Command.TheVariants as command
 use Rattle.sessions.specs.Cursors.{shifted, each_cursor, is_occupied}
 
--- the edit of a command, if it is one
+-- the edit that a command makes; `None` if the command isn't an edit
 abbrev pub edit_of : Command → Option Edit
 edit_of (command.Insert branch place step) = Some (Insert branch place step)
 edit_of (command.Remove branch place) = Some (Remove branch place)
@@ -19,7 +19,7 @@ edit_of (command.Detach branch) = Some (Detach branch)
 edit_of (command.Drop branch) = Some (Drop branch)
 edit_of c = None
 
--- the cursors after an edit
+-- the cursors after an edit of the branches f; only an insert or a remove moves cursors
 abbrev pub moved_by : Edit → Forest → List (Option Cursor) → List (Option Cursor)
 moved_by (Insert branch place step) f cursors = each_cursor (shifted shift.Up f branch place) cursors
 moved_by (Remove branch place) f cursors = each_cursor (shifted shift.Down f branch place) cursors
@@ -30,17 +30,19 @@ abbrev pub drops_occupied : Edit → List (Option Cursor) → Bool
 drops_occupied (Drop branch) cursors = is_occupied branch cursors
 drops_occupied edit cursors = false
 
--- whether an edit is a drop that only a cursor prevents
+-- whether a drop is refused only because of a cursor: its branch exists and isn't the only one, but
+-- has a cursor on it; false without an edit, or for another edit
 abbrev pub is_held_up : Option Edit → Forest → List (Option Cursor) → Bool
 is_held_up (Some (Drop branch)) f cursors = is_some (len_of f branch) && (nat_lt 1 (length f.branches) && is_occupied branch cursors)
 is_held_up edit f cursors = false
 
--- the cursors after an edit; without an edit no cursor moves
+-- the cursors after an edit of the branches f; without an edit (`None`) no cursor moves
 abbrev pub moved_if : Option Edit → Forest → List (Option Cursor) → List (Option Cursor)
 moved_if (Some edit) f cursors = moved_by edit f cursors
 moved_if None f cursors = cursors
 
--- an edit moves cursors by this branch, place and direction; `None` means that it moves no cursor
+-- the second argument says how an edit moves cursors, whatever the branches are: it is a branch, a
+-- place, and the direction in which the cursors after that place move, or `None` if no cursor moves
 abbrev pub IsShift : Option Edit → Option (List ℕ × ℕ × Shift) → Type 0
 IsShift edit None = (f : Forest) (cursors : List (Option Cursor)) → moved_if edit f cursors ≡ cursors
 IsShift edit (Some at) = (f : Forest) (cursors : List (Option Cursor)) → moved_if edit f cursors ≡ each_cursor (shifted at.2 f at.0 at.1) cursors

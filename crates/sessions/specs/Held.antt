@@ -1,4 +1,4 @@
--- What a book guarantees by its type.
+-- What a book guarantees by its type. `is` gives the behaviour of a register.
 use Rattle.std.specs.Prelude.{ℕ, ◌≡◌, ◌≤◌, ◌⊎◌, false, List, Option, Some, None, Result, Ok, Err, length}
 use Rattle.frames.specs.Behaviour.{Behaviour}
 use Rattle.frames.specs.Configuration.{initial_configuration}
@@ -23,7 +23,7 @@ use Rattle.sessions.specs.World.{World, opening}
 use Rattle.sessions.specs.Acts.{command_result, first_refusal, refusals, late_refusals, is_full, left, reply_to}
 use Rattle.sessions.specs.Logs.{IsLegal, world_after, logged}
 
--- a world with its chart; in what follows, `is` gives the behaviour of a register
+-- a stage: a world whose branches are kept in a chart, with stored runs that commands don't see
 pub record Staged (R P : Type 0) : Type 0 where
   pub chart : Charted R P
   pub limits : Limits
@@ -32,7 +32,7 @@ pub record Staged (R P : Type 0) : Type 0 where
   pub edits : ℕ
   pub logged : ℕ
 
--- the world of a stage, as commands see it
+-- the world of a stage, which is what commands see: all but the stored runs
 abbrev pub world_of : {R P : Type 0} → (R → Behaviour P) → Staged R P → World P
 world_of is s =
     record {
@@ -46,9 +46,10 @@ world_of is s =
       logged = s.logged;
     }
 
--- what a stage guarantees by its type: its limits are those of its chart, and are in their ranges;
--- it has sixteen sessions, whose cursors are at places that exist; each edit is a logged command;
--- and the limits allow the cells that were made and the commands that were logged
+-- the invariant of a stage: its limits are in their ranges, and equal those of its chart; the
+-- numbers of cells ever made and of logged commands are within these limits; it has sixteen
+-- sessions, whose cursors are at places that exist; and the number of edits is at most that of
+-- logged commands
 pub record IsStaged {R P : Type 0} (s : Staged R P) : Type 0 where
   pub same_limits : s.chart.cut.limits ≡ s.limits
   pub in_range : AreLimits s.limits
@@ -59,8 +60,8 @@ pub record IsStaged {R P : Type 0} (s : Staged R P) : Type 0 where
   pub few_edits : s.edits ≤ s.logged
   pub few_logged : s.logged ≤ s.limits.log
 
--- a book: the chart that it opened with, its world now, the log in between, and how many further
--- entries have memory reserved
+-- a book: the chart that it opened with, its present stage, its log, and the number of further
+-- entries that the log has memory reserved for
 pub record Held (R P : Type 0) : Type 0 where
   pub first : Charted R P
   pub now : Staged R P
@@ -71,17 +72,20 @@ pub record Held (R P : Type 0) : Type 0 where
 abbrev pub opening_of : {R P : Type 0} → (R → Behaviour P) → Held R P → World P
 opening_of is h = opening (is h.first.start.register) h.first.value h.now.limits (forest h.first.cut)
 
--- a book's chart begins from the initial configuration of the opening's register and value
+-- the configuration from which a book's branches are replayed is the initial one of the register
+-- and the value that the book opened with
 abbrev pub BeginsAtOpening : {R P : Type 0} → (R → Behaviour P) → Held R P → Type 0
 BeginsAtOpening is h =
     h.now.chart.start ≡ initial_configuration (opening_of is h).tower h.now.chart.start.register (opening_of is h).value
 
--- the world of a chart within these limits, before the first command
+-- the world before the first command, with these limits, and with the register, the initial value
+-- and the branches of a chart
 abbrev pub opening_over : {R P : Type 0} → (R → Behaviour P) → Charted R P → Limits → World P
 opening_over is chart limits = opening (is chart.start.register) chart.value limits (forest chart.cut)
 
--- a book's log is legal from the opening, leads to the present world, and is as long as that world
--- counts; this count is within its limit
+-- the invariant of a book. Its log is legal (each reply is the one that its command gets), and
+-- leads from the opening to the present world. This world counts as many logged commands as the log
+-- has entries. The count is within its limit, which is at most 1048576.
 pub record IsHeld {R P : Type 0} (is : R → Behaviour P) (h : Held R P) : Type 0 where
   pub legal : IsLegal (opening_of is h) h.log
   pub after : world_of is h.now ≡ world_after (opening_of is h) h.log
@@ -89,13 +93,14 @@ pub record IsHeld {R P : Type 0} (is : R → Behaviour P) (h : Held R P) : Type 
   pub few : h.now.logged ≤ h.now.limits.log
   pub most_log : h.now.limits.log ≤ 1048576
 
--- a command acts on a book: its reply and the new world are those that the old world gives, and it
--- is logged unless the log is full
+-- a book answers the command of the entry e: the reply in e and the new world are those that
+-- `command_result` gives in the old world; e is added to the log, unless the reply is LogFull or
+-- Memory
 pub record ActsOnBook {R P : Type 0} (is : R → Behaviour P) (old new : Held R P) (e : Entry) : Type 0 where
   pub acts : command_result e.who e.if_at e.command (world_of is old.now) ≡ record { world = world_of is new.now; reply = e.reply }
   pub logs : new.log ≡ logged e old.log
 
--- memory runs out for a command: neither world nor log is changed
+-- memory runs out for a command: the reply is Memory, and neither world nor log is changed
 pub record LacksMemory {R P : Type 0} (is : R → Behaviour P) (old new : Held R P) (reply : Reply) : Type 0 where
   pub replies : reply ≡ No Memory
   pub world : world_of is new.now ≡ world_of is old.now
@@ -105,48 +110,55 @@ pub record LacksMemory {R P : Type 0} (is : R → Behaviour P) (old new : Held R
 abbrev pub NoneDue : {P : Type 0} → ℕ → Option ℕ → Command → World P → Type 0
 NoneDue who guard c w = first_refusal (refusals who guard c w) ≡ None
 
--- `late_refusals` has no reason to refuse a command
+-- `late_refusals` gives no reason to refuse a command (`early_refusals` may give one)
 abbrev pub NoneDueLate : {P : Type 0} → ℕ → Command → World P → Type 0
 NoneDueLate who c w = first_refusal (late_refusals who c w) ≡ None
 
--- memory can run out for a command: the log isn't full, and either no memory is reserved for one
--- more entry, or there is no reason to refuse the command
+-- the reply to a command may be Memory: the log isn't full, and either, before the command, the log
+-- has no memory reserved for one more entry, or there is no other reason to refuse the command
 pub record MayLackMemory {R P : Type 0} (is : R → Behaviour P) (h : Held R P) (who : ℕ) (guard : Option ℕ) (c : Command) : Type 0 where
   pub first : is_full (world_of is h.now) ≡ false
   pub last : (h.room ≡ 0) ⊎ NoneDue who guard c (world_of is h.now)
 
--- the reply is Memory only if memory can run out for the command
+-- if the reply to a command is Memory, then the log wasn't full, and either, before the command,
+-- the log had no memory reserved for one more entry, or there is no other reason to refuse the
+-- command
 abbrev pub RefusesMemoryLast : {R P : Type 0} → (R → Behaviour P) → Held R P → ℕ → Option ℕ → Command → Reply → Type 0
 RefusesMemoryLast is h who guard c reply = reply ≡ No Memory → MayLackMemory is h who guard c
 
--- why a command that has no early refusal isn't carried out: its first late refusal, or Memory if
--- it has none
+-- r is why a command for which `early_refusals` has no reason isn't carried out: the first reason
+-- that `late_refusals` gives, or Memory if it gives none
 abbrev pub IsLate : {P : Type 0} → ℕ → Command → World P → Refusal → Type 0
 IsLate who c w r = (first_refusal (late_refusals who c w) ≡ Some r) ⊎ ((r ≡ Memory) × NoneDueLate who c w)
 
--- an edit changes the chart or is refused; without an edit the chart is unchanged
+-- what a command's edit does to a chart. If the result is Ok, the edit is made, and branches begin
+-- from the same configuration and value as before. If not, the edit is refused, and the chart is
+-- unchanged. If the command has no edit, the chart is unchanged.
 abbrev pub Changes : {R P : Type 0} → Option Edit → Charted R P → Charted R P → Result (Unit {0}) Refusal → Type 0
 Changes (Some edit) old new (Ok done) = IsEdited old.cut new.cut edit × KeepsBeginning old new
 Changes (Some edit) old new (Err e) = IsUneditedChart old new edit e
 Changes None old new result = new ≡ old
 
--- a command is carried out: it has no late refusal, and `left` and `reply_to` give world and reply
+-- a command is carried out: `late_refusals` gives no reason to refuse it, and its new world and its
+-- reply are those that `left` and `reply_to` give
 pub record IsCarriedOut {R P : Type 0} (is : R → Behaviour P) (who : ℕ) (c : Command) (old new : Staged R P) (reply : Reply) : Type 0 where
   pub fine : first_refusal (late_refusals who c (world_of is old)) ≡ None
   pub leaves : left who c (world_of is old) ≡ world_of is new
   pub replies : reply_to who c (world_of is old) ≡ reply
 
--- a command isn't carried out, for such a reason, and the world is unchanged
+-- a command isn't carried out: r is the first reason that `late_refusals` gives, or Memory if it
+-- gives none, and the world is unchanged
 pub record Undone {R P : Type 0} (is : R → Behaviour P) (who : ℕ) (c : Command) (old new : Staged R P) (r : Refusal) : Type 0 where
   pub why : IsLate who c (world_of is old) r
   pub same : world_of is new ≡ world_of is old
 
--- a command that has no early refusal is carried out, or isn't
+-- the result of a command that `early_refusals` doesn't refuse: Ok with its reply if it is carried
+-- out; otherwise the reason why not, with the world unchanged
 abbrev pub Does : {R P : Type 0} → (R → Behaviour P) → ℕ → Command → Staged R P → Staged R P → Result Reply Refusal → Type 0
 Does is who c old new (Ok reply) = IsCarriedOut is who c old new reply
 Does is who c old new (Err r) = Undone is who c old new r
 
--- the command that seeks in a direction
+-- the command that seeks in this direction
 abbrev pub seek_command : Way → Command
 seek_command Forth = command.Seek
 seek_command Back = command.Back

@@ -12,22 +12,22 @@ use Rattle.sessions.specs.Acts.{CommandResult, command_result}
 abbrev pub entry : ℕ → ℕ → Option ℕ → Command → Reply → Entry
 entry chair who guard c reply = record { chair = chair; who = who; if_at = guard; command = c; reply = reply }
 
--- every reply except LogFull and Memory is logged
+-- whether a reply is logged: every reply is, except LogFull and Memory
 abbrev pub is_logged : Reply → Bool
 is_logged (No LogFull) = false
 is_logged (No Memory) = false
 is_logged reply = true
 
--- a log with one more entry, if its reply is logged
+-- the log with the entry e added at its end, unless the reply in e is LogFull or Memory
 abbrev pub logged : Entry → List Entry → List Entry
 logged e log = if is_logged e.reply then log ++ e ∷ [] else log
 
 module _ {P : Type 0} where
-  -- what an entry's command does
+  -- the world and the reply after the command of the entry e in the world w
   abbrev pub acted_by : Entry → World P → CommandResult P
   acted_by e w = command_result e.who e.if_at e.command w
 
-  -- the world after the commands of these entries
+  -- the world that the commands of these entries lead to from the world w
   abbrev pub world_after : World P → List Entry → World P
   world_after w [] = w
   world_after w (e ∷ log) = world_after (acted_by e w).world log

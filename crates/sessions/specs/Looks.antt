@@ -25,13 +25,13 @@ abbrev pub lacks_cursor : ℕ → List (Option declared.Cursor) → Bool
 lacks_cursor who cursors = nat_lt 15 who || is_none (cursor_at cursors who)
 
 module _ {P : Type 0} where
-  -- the branches, which a look leaves unchanged, or why the look is refused: NoSession for the
-  -- cursor of a session that hasn't joined; NoBranch; NoPlace
+  -- why a look is refused: NoSession for the cursor of a session that doesn't exist or hasn't
+  -- joined; NoBranch; or NoPlace. If it isn't refused, Ok with the branches, unchanged.
   abbrev pub looked_in : World P → Query → Result Forest Refusal
   looked_in w (Cursor who) = if lacks_cursor who w.cursors then Err NoSession else Ok w.forest
   looked_in w query = views.looked query w.forest
 
-  -- the page of a look, if it isn't refused
+  -- the page that a look shows of the world w, if it isn't refused
   abbrev pub shown_in : World P → Query → Option Page
   shown_in w Branches = Some (page.Branches (branches_page w.edits w.forest))
   shown_in w (Cursor who) = cursor_page (cursor_at w.cursors who) (breaks_at w.breaks who)

@@ -1,12 +1,13 @@
--- What is saved of a world.
+-- What a file keeps of a world: its branches, as limbs.
 use Rattle.std.specs.Prelude.{◌≡◌, ◌<◌, List, length}
 use Rattle.schedule_trie.specs.declared.limb.Limb.{Limb}
 use Rattle.schedule_trie.specs.Limbs.{FitLimits, AreLawfulLimbs, limbs}
 use Rattle.cutoff.specs.Held.{LimbsFit}
 use Rattle.sessions.specs.World.{World}
 
--- The limbs of a world's branches. They are lawful, there is at least one, and their steps fit the
--- register. For each limb, the branch that it shares cells with and the number of these cells are
+-- `saved` are the limbs of a world's branches (a limb is a branch as a file has it). There is at
+-- least one, they are lawful (each may follow those before it), and their steps fit the register.
+-- In each, the number of the branch that it shares cells with, and the number of these cells, are
 -- within the limits.
 pub record IsSaved {P : Type 0} (w : World P) (saved : List Limb) : Type 0 where
   pub same : saved ≡ limbs w.forest

@@ -1,5 +1,5 @@
--- What a walk over stored runs requires of the runs, and what it finds. `test` says whether a place
--- is a hit.
+-- What a walk over stored runs requires of the runs, and what it finds. `test` says of each place
+-- whether it is a hit (a place at which a break is met).
 use Rattle.std.specs.Prelude.{ℕ, ◌+◌, ◌≡◌, ◌<◌, ◌≤◌, Bool, true, false, List, [], ◌∷◌, Option, length, take, slice_index_or}
 use Rattle.std.specs.List.{list_any}
 use Rattle.frames.specs.declared.types.StepEvents.{StepEvents}
@@ -13,11 +13,12 @@ use Rattle.views.specs.Breaks.{is_met, is_recorded}
 use Rattle.sessions.specs.declared.seek.Search.{Search}
 use Rattle.sessions.specs.Seeks.{next_place, no_events, places_with}
 
--- what a search finds among the places below n that pass a test
+-- what a search finds among the places below n that pass the test: the nearest in its direction
 abbrev pub found_below : Search → (ℕ → Bool) → ℕ → Option ℕ
 found_below search test n = next_place search.way search.from (places_with test n)
 
--- if `found` is a search's result up to `place`, `result` is its result `count` places further on
+-- if `found` is what a search finds among the places from 0 to `place`, then `result` is what it
+-- finds among those from 0 to `place + count`
 abbrev pub SearchGoesOn : Search → (ℕ → Bool) → ℕ → ℕ → Option ℕ → Option ℕ → Type 0
 SearchGoesOn search test place count found result = found ≡ found_below search test (place + 1) → result ≡ found_below search test ((place + count) + 1)
 
@@ -30,27 +31,28 @@ is_on_bit break = false
 abbrev pub records_any : List Break → StepEvents → Bool
 records_any breaks events = list_any (λ break. is_recorded break events) breaks
 
--- the test agrees with the events of successive steps, the first of which is at `place`: at the
--- place after a step, it says whether the step's events meet a break
+-- the test is right for successive steps from `place` on, which recorded these events: at the place
+-- after each step, it says whether the events of that step meet one of the breaks
 abbrev pub ReportsEvents : List Break → (ℕ → Bool) → ℕ → List StepEvents → Type 0
 ReportsEvents breaks test place events = (i : ℕ) → i < length events → test ((place + 1) + i) ≡ records_any breaks (slice_index_or events i no_events)
 
--- the test agrees with the replay of steps from a configuration at `place`: at the place after a
--- step, it says whether a break is met
+-- the test is right for these steps, replayed from the configuration c at `place`: at the place
+-- after each step, it says whether one of the breaks is met
 abbrev pub ReportsSteps : {R P : Type 0} → Behaviour P → List Break → (ℕ → Bool) → ℕ → Configuration R P → List Step → Type 0
 ReportsSteps b breaks test place c steps =
     (i : ℕ) → i < length steps → test ((place + 1) + i) ≡ is_met breaks (slice_index_or (history b c steps) i no_events) (replayed b c (take (i + 1) steps)).memory
 
 module _ {R P : Type 0} (is : R → Behaviour P) (breaks : List Break) (test : ℕ → Bool) where
-  -- the test agrees with a part of a run that begins at `place`: at the place after each of its
-  -- steps, it says whether a break is met
+  -- the test is right for a part of a stored run (its first `count` steps), whose first step is at
+  -- `place`: at the place after each of these steps, it says whether one of the breaks is met
   pub record ReportsPart (place : ℕ) (part : RunPart R P) : Type 0 where
     pub within : part.count ≤ length part.run.steps
     pub each : (i : ℕ) → i < part.count
         → test ((place + 1) + i) ≡ is_met breaks (slice_index_or (history (is part.run.entry.register) part.run.entry part.run.steps) i no_events)
         (replayed (is part.run.entry.register) part.run.entry (take (i + 1) part.run.steps)).memory
 
-  -- the same for successive parts
+  -- for each of these parts of stored runs, which follow one another from `place` on, the break test
+  -- `test` reports exactly what `ReportsPart` says
   abbrev pub ReportParts : ℕ → List (RunPart R P) → Type 0
   ReportParts place [] = Unit {0}
   ReportParts place (part ∷ parts) = ReportsPart place part × ReportParts (place + part.count) parts

@@ -6,9 +6,9 @@ use Rattle.schedule_trie.specs.Forest.{Forest}
 use Rattle.views.specs.declared.breakpoint.Break.{Break}
 use Rattle.sessions.specs.declared.cursor.Cursor.{Cursor}
 
--- the register and its initial value; the limits; the branches; for each of sixteen sessions, its
--- cursor (`None` if it hasn't joined) and its breaks in the order they were set; the numbers of
--- accepted edits and of logged commands
+-- a world: the register and its initial value; the limits; the branches; for each of sixteen
+-- sessions, its cursor (`None` if it hasn't joined) and its breaks in the order they were set; and
+-- the numbers of accepted edits and of logged commands
 pub record World (P : Type 0) : Type 0 where
   pub tower : Behaviour P
   pub value : ℕ

@@ -1,4 +1,4 @@
-//! The book: the world of a desk, and the log of the commands that led to it.
+//! The book: a desk's world (what its commands see and change), and the log of these commands.
 
 ghost use Rattle.std.specs.Prelude.{◌≡◌, ◌<◌, ◌≤◌, ◌⊎◌, Some, Ok, OnOk, IfOk, IfErr, IsSome, [], ◌∷◌, ◌++◌, length, vec_capacity};
 ghost use Rattle.std.specs.Arc.{arc_value};
@@ -38,7 +38,9 @@ use std::sync::Arc;
 use views::query::Query;
 use views::slip::Slip;
 
-/// A desk's world and the log of its commands. Proofs also see the chart that it opened with.
+/// A desk's world (the branches, and the sessions' cursors and breaks), and the log of the commands
+/// that led to it. In contracts a book also has the chart that it opened with, and the number of
+/// further entries that its log has memory reserved for.
 #[derive(Drop)]
 pub struct Book<R: Register> {
     first: Snapshot<Chart<R>>,
@@ -58,12 +60,14 @@ impl<R: Register> Model for Book<R> {
 }
 
 impl<R: Register> Book<R> {
-    /// A book before its first command, with one branch that has these steps. `value` is the
-    /// register's initial value; the steps have to fit the register.
+    /// A book before its first command: its log is empty, no session has joined, and its only
+    /// branch, `main`, has these steps. The steps have to fit the register, the limits have to be
+    /// in their ranges, and the initial value `value` has to be one of the register's values.
     ///
     /// # Errors
     ///
-    /// Full if there are more steps than the limits allow cells; Memory.
+    /// Full if there are more steps than the limits allow cells; otherwise Memory, if memory runs
+    /// out.
     pub fn new(
         alloc: Global,
         register: R,
@@ -88,7 +92,7 @@ impl<R: Register> Book<R> {
         Ok(Book::over(alloc, chart, limits)?)
     }
 
-    /// A book before its first command, over a chart with these limits.
+    /// A book before its first command, with this chart, which has these limits.
     fn over(alloc: Global, chart: Chart<R>, limits: Limits) -> Result<Book<R>, AllocError>
         requires limits { AreLimits limits }
         requires same_limits { chart.cut.limits ≡ limits }
@@ -108,9 +112,13 @@ impl<R: Register> Book<R> {
         })
     }
 
-    /// Answers a command of session `who`, and logs the command and its reply with the number of
-    /// the calling chair. If a guard `if_at` is given and differs from the edit count, the command
-    /// is refused. If the log is full or memory runs out, neither world nor log is changed.
+    /// Carries out a command of session `who`, or refuses it, and returns the reply. If a guard
+    /// `if_at` is given and differs from the edit count, the command is refused. A refused command
+    /// changes nothing but the log. The log gets an entry with the command, the number of the
+    /// calling chair, the session, the guard and the reply, unless the reply is LogFull or Memory.
+    /// The reply is never Memory if the log is full. It is Memory only if before the call the log
+    /// had no memory reserved for one more entry, or if there is no other reason to refuse the
+    /// command.
     pub fn act(
         &mut self,
         alloc: Global,
@@ -138,14 +146,17 @@ impl<R: Register> Book<R> {
         reply
     }
 
-    /// Looks at the branches, or at a session, as the logged commands left them; plans and installs
-    /// since then make no difference. The slip's page may be made later, but shows what was there
-    /// at the time of the look. On a regular or an atomic register it shows no stray read.
+    /// Looks at branches, or at a session's cursor and breaks, as the query asks. Returns a slip,
+    /// from which the page is made later. The page shows the world at the time of the look, as the
+    /// logged commands left it: plans and installs make no difference. On a regular or an atomic
+    /// register it shows no read whose verdict is `stray`. World and log are unchanged, with or
+    /// without an error.
     ///
     /// # Errors
     ///
-    /// NoSession if the query is for the cursor of a session that hasn't joined; NoBranch; NoPlace
-    /// if the branch is shorter; Memory. World and log are unchanged, with or without an error.
+    /// NoSession if the query is for the cursor of a session that doesn't exist or hasn't joined;
+    /// NoBranch if there is no such branch; NoPlace if the branch is shorter than the query's
+    /// place; otherwise Memory, if memory runs out.
     pub fn look(&mut self, alloc: Global, query: Query) -> Result<Slip<R>, Refusal>
         ensures page { let w = world_after (opening_of R.behaviour self.old) self.old.log in
             IfOk result (λ slip. Some slip.page ≡ shown_in w query) }
@@ -162,13 +173,14 @@ impl<R: Register> Book<R> {
         self.stage.look(alloc, query)
     }
 
-    /// The jobs to run ahead of looks: for each branch, its first segment that no stored run fits.
-    /// The branch called `branch` comes first, then the others in the order they were made; no
-    /// segment appears twice. The list is empty if stored runs fit all segments.
+    /// Jobs for the segments to replay before a look needs their runs: for each branch, a job for
+    /// its first segment that no stored run fits, if it has such a segment. The job of the branch
+    /// called `branch` is first; the others are in the order the branches were made. A segment that
+    /// branches share has one job.
     ///
     /// # Errors
     ///
-    /// NoBranch; Memory.
+    /// NoBranch if no branch is called `branch`; otherwise Memory, if memory runs out.
     pub fn plan(&self, alloc: Global, branch: &Name) -> Result<Vec<Job<R>>, Refusal>
         ensures ok { let chart = self.now.now.chart in IfOk result
             (λ jobs. IsPlan R.PartialEq.eq (R.behaviour chart.start.register) chart branch.now
@@ -181,8 +193,10 @@ impl<R: Register> Book<R> {
         self.stage.chart().plan(alloc, branch)
     }
 
-    /// Stores a run that was replayed elsewhere, if it fits the segment with this key and stored
-    /// runs fit all segments above that one. Allocates nothing. World and log are unchanged.
+    /// Stores a run that was replayed elsewhere, on two conditions: the run fits the segment with
+    /// this key, and stored runs fit all segments above that one (before it on its branches).
+    /// Returns Installed if so. Otherwise stores nothing, and returns Gone if no segment has this
+    /// key, or Stale if one has. Allocates nothing. World and log are unchanged.
     pub fn install(&mut self, key: SegKey, run: Arc<Run<R>>) -> Installation
         ensures installs { let old = self.old.now.chart in
             Installs R.PartialEq.eq (R.behaviour old.start.register) old self.new.now.chart key
@@ -194,7 +208,9 @@ impl<R: Register> Book<R> {
         self.stage.install(key, run)
     }
 
-    /// How many commands are logged. The contract also gives what a book's type guarantees.
+    /// How many commands are logged. The contract also says what a book's type guarantees: each
+    /// logged reply is the one that its command gets, the log leads from the book's opening to its
+    /// present world, and the log's length is within its limit.
     pub fn len(&self) -> u32
         ensures count { result ≡ length self.now.log }
         ensures kept { IsHeld R.behaviour self.now }
@@ -202,9 +218,11 @@ impl<R: Register> Book<R> {
         self.log.len() as u32
     }
 
-    /// Does nothing, but its contract gives callers what a book's type guarantees: the log is legal
-    /// and leads from the opening to the present world; the chart is cut into segments, and begins
-    /// from the opening's initial configuration.
+    /// Does nothing, but its contract gives callers what a book's type guarantees: each logged
+    /// reply is the one that its command gets; the log leads from the opening to the present world,
+    /// and its length is within its limit; the branches are cut into segments of 1 to 128 cells;
+    /// and replay begins from the initial configuration of the register and value that the book
+    /// opened with.
     pub fn held(&self)
         ensures log { IsHeld R.behaviour self.now }
         ensures cut { IsCut self.now.now.chart.cut }
@@ -220,7 +238,9 @@ impl<R: Register> Book<R> {
         self.stage.edits()
     }
 
-    /// The log, which is legal from the opening.
+    /// The log, which is legal: each entry's reply is neither LogFull nor Memory, and is the one
+    /// that its command gets in the world after the entries before it. (The first command is given
+    /// in the world of the opening.)
     pub fn into_log(self) -> Log
         ensures log { result ≡ self.log }
         ensures legal { IsLegal (opening_of R.behaviour self) result }

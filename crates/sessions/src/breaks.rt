@@ -1,4 +1,4 @@
-//! The breaks of a session.
+//! The breaks of a session: what its seeks stop at.
 
 ghost use Rattle.std.specs.Prelude.{◌≡◌, [], not, OnOk, OnErr};
 ghost use Rattle.sessions.specs.BreakLists as spec;
@@ -23,7 +23,7 @@ impl Model for Breaks {
 }
 
 impl Breaks {
-    /// No breaks.
+    /// An empty list of breaks.
     pub(crate) fn new(alloc: Global) -> Breaks
         ensures { result ≡ [] }
     {
@@ -32,7 +32,7 @@ impl Breaks {
         }
     }
 
-    /// The breaks, in order.
+    /// The breaks, in the order in which they were set.
     pub(crate) fn as_slice(&self) -> &[Break]
         ensures { result.now ≡ self.now }
     {
@@ -46,7 +46,8 @@ impl Breaks {
         self.list.iter().any(|other| is_same(sought, *other))
     }
 
-    /// Adds a break at the end, unless it is already one of these.
+    /// Adds a break at the end, unless it is already one of these. If memory runs out, nothing
+    /// changes.
     pub(crate) fn add(&mut self, added: Break) -> Result<(), AllocError>
         ensures ok { OnOk result (self.new ≡ spec.with_break added self.old) }
         ensures err { OnErr result (self.new ≡ self.old) }

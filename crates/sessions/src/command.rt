@@ -4,21 +4,22 @@ use frames::types::Step;
 use schedule_trie::name::Name;
 use views::breakpoint::Break;
 
-/// A command. `b` is the name of a branch, and `k` the place after the first `k` steps of it.
+/// A command. `b` is the name of a branch, and `k` the place after this branch's first `k` steps.
+/// The cell at a place is the one that follows the place.
 #[derive(Clone, Copy, Debug, PartialEq, Eq)]
 pub enum Command {
-    /// The session begins, with its cursor at the beginning of the first branch and no breaks.
+    /// The session begins, without breaks and with its cursor at the beginning of the first branch.
     Join,
     /// The session ends.
     Leave,
-    /// Adds a cell with this step before the cell at the place, or at the end of the branch.
+    /// Adds a cell with this step at the place, before the cell that is there, if any.
     Insert { b: Name, k: u32, step: Step },
     /// Removes the cell at the place.
     Remove { b: Name, k: u32 },
     /// Gives the cell at the place another step.
     Replace { b: Name, k: u32, step: Step },
-    /// Adds a branch called `name` that shares the cells before the place. It becomes
-    /// the last branch.
+    /// Adds, after all other branches, a branch called `name` that shares the cells of `b` before
+    /// the place.
     Fork { b: Name, k: u32, name: Name },
     /// Gives the branch new cells with the same steps, which it shares with no other branch.
     Detach { b: Name },
@@ -26,9 +27,9 @@ pub enum Command {
     Drop { b: Name },
     /// Moves the cursor to the place.
     Go { b: Name, k: u32 },
-    /// Moves the cursor forward to the next place at which a break of the session is met.
+    /// Moves the cursor forward to the nearest place at which a break of the session is met.
     Seek,
-    /// Moves the cursor back to the next place at which a break of the session is met.
+    /// Moves the cursor back to the nearest place at which a break of the session is met.
     Back,
     /// Sets a break of the session.
     Break(Break),

@@ -1,4 +1,4 @@
-//! The cursors of sessions.
+//! The cursors of sessions, and how edits move them.
 
 ghost use Rattle.std.specs.Prelude.{◌≡◌, ◌<◌, ◌≤◌, IfSome, length};
 ghost use Rattle.std.specs.List.{list_any};
@@ -15,7 +15,7 @@ use cutoff::chart::Chart;
 use frames::register::Register;
 use schedule_trie::name::Name;
 
-/// How many sessions there are.
+/// How many sessions a desk has, joined or not. They are numbered 0 to 15.
 pub const SESSIONS: usize = 16;
 
 /// A session's position: a place of a branch.
@@ -25,7 +25,8 @@ pub struct Cursor {
     pub place: u32,
 }
 
-/// How an edit moves the cursors that are after its place.
+/// The direction in which an edit moves the cursors after its place, on each branch that it
+/// changes.
 #[derive(Clone, Copy, Debug, PartialEq, Eq)]
 pub enum Shift {
     /// Towards the end by one, for an insert.
@@ -36,7 +37,7 @@ pub enum Shift {
 
 impl Shift {
     /// The new place of a cursor at `place`, which is after the edit's place. The sum can't
-    /// overflow: no branch is that long.
+    /// overflow, since `place` is at most MOST_CELLS_MADE.
     fn of(self, place: u32) -> u32
         requires following { 0 < place }
         requires within { place ≤ MOST_CELLS_MADE }
@@ -49,8 +50,8 @@ impl Shift {
     }
 }
 
-/// Whether an edit of `cell` changes the branch `other`. `None` is the end of `branch`: an edit
-/// there changes `branch` alone.
+/// Whether an edit of `cell` changes the branch `other`. If `cell` is `None`, the edit is at the
+/// end of `branch`, and changes `branch` alone.
 fn acts_in<R: Register>(chart: &Chart<R>, cell: Option<u32>, branch: &Name, other: &Name) -> bool
     ensures { result ≡ spec.acts_in cell (forest chart.now.cut) branch.now other.now }
 {
@@ -60,8 +61,8 @@ fn acts_in<R: Register>(chart: &Chart<R>, cell: Option<u32>, branch: &Name, othe
     }
 }
 
-/// The new position of a cursor, if there is one, after an edit at `place` of `branch`. The cell
-/// there is `cell`, or `None` at the branch's end.
+/// The position of a session's cursor after an edit at `place` of `branch`; `None` if the session
+/// has no cursor. `cell` is the cell at that place, or `None` at the branch's end.
 fn shifted_one<R: Register>(
     chart: &Chart<R>,
     cell: Option<u32>,
@@ -87,7 +88,8 @@ fn shifted_one<R: Register>(
     })
 }
 
-/// The new positions of all cursors after an edit at `place` of `branch`.
+/// The cursors of all sessions after an insert (Up) or a remove (Down) at `place` of `branch`.
+/// `chart` is the chart before that edit.
 pub(crate) fn shifted<R: Register>(
     chart: &Chart<R>,
     cursors: &[Option<Cursor>],
@@ -109,8 +111,9 @@ pub(crate) fn shifted<R: Register>(
     moved
 }
 
-/// The branch and the place of a command's edit, and how it moves the cursors after that place;
-/// `None` if it moves no cursor.
+/// If the command is an insert or a remove: its branch, its place, and the direction in which it
+/// moves the cursors after that place. `None` for any other command, since no other edit moves
+/// cursors.
 pub(crate) fn shift_of(command: &Command) -> Option<(Name, u32, Shift)>
     ensures { IsShift (edit_of command.now) result }
 {
@@ -121,9 +124,9 @@ pub(crate) fn shift_of(command: &Command) -> Option<(Name, u32, Shift)>
     }
 }
 
-/// Whether some cursor, on any branch, is after `place`. If not, an edit at `place` moves no
+/// Whether some cursor, on any branch, is after `place`. If none is, an edit at `place` moves no
 /// cursor.
-pub(crate) fn any_behind(cursors: &[Option<Cursor>], place: u32) -> bool
+pub(crate) fn any_after(cursors: &[Option<Cursor>], place: u32) -> bool
     ensures { result ≡ list_any (spec.is_after_place place) cursors.now }
 {
     cursors.iter().any(|cursor| is_after_place(place, cursor))
@@ -139,7 +142,7 @@ fn is_after_place(place: u32, cursor: &Option<Cursor>) -> bool
     }
 }
 
-/// Whether some cursor is on a branch.
+/// Whether some cursor is on this branch.
 pub(crate) fn is_occupied(cursors: &[Option<Cursor>], branch: &Name) -> bool
     ensures { result ≡ spec.is_occupied branch.now cursors.now }
 {

@@ -1,8 +1,8 @@
-//! Sessions: the world that a desk's commands see and change, and the log of commands that led to
-//! it.
+//! Sessions: the world that a desk's commands see and change, and the log of the commands that led
+//! to this world.
 //!
 //! Each of up to sixteen sessions has a cursor on a branch, and breaks. Each command gets one
-//! reply, and is logged with it.
+//! reply, and is logged with it unless the reply is LogFull or Memory.
 #![tactic(auto)]
 
 pub mod book;

@@ -40,7 +40,7 @@ impl Log {
         Log { entries }
     }
 
-    /// Its entries.
+    /// The entries, in order.
     pub fn entries(&self) -> &[Entry]
         ensures { result.now ≡ self.now }
     {

@@ -14,7 +14,7 @@ pub enum Reply {
     Edited(u64),
     /// The cursor is now at this place of this branch.
     Moved(Name, u32),
-    /// No break is met in that direction; the cursor hasn't moved.
+    /// No break is met in the seek's direction; the cursor hasn't moved.
     NoHit,
     /// The break is set.
     BreakSet,

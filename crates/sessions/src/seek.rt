@@ -1,4 +1,4 @@
-//! Seeks: the places of a branch at which breaks are met.
+//! Seeks, which look for hits: places of a branch at which a break is met.
 
 ghost use Rattle.std.specs.Prelude.{ℕ, Bool, List, ◌≡◌, ◌<◌, ◌≤◌, ◌+◌, ◌&&◌, ◌||◌, nat_lt, IfOk, IfSome, length, map, if◌then◌else◌, Some, None};
 ghost use Rattle.std.specs.List.{list_any};
@@ -36,7 +36,7 @@ pub struct Search<'a> {
     pub from: u32,
 }
 
-/// How far a search has gone: the last place searched, and the hit so far.
+/// How far a search has gone: the last place searched, and the hit found so far, if any.
 #[derive(Clone, Copy)]
 struct Progress {
     place: u32,
@@ -44,8 +44,8 @@ struct Progress {
 }
 
 impl Search<'_> {
-    /// The hit once `place` is searched as well; `found` is the hit before that, and `hit` says
-    /// whether a break is met at `place`.
+    /// What the search has found once `place` is searched as well. `found` is what it had found
+    /// before, and `hit` says whether a break is met at `place`.
     fn with_place(&self, found: Option<u32>, place: u32, hit: bool) -> Option<u32>
         ensures { (test : ℕ → Bool) → test place ≡ hit
             → found ≡ found_below self.now test place
@@ -61,7 +61,7 @@ impl Search<'_> {
     }
 }
 
-/// The hit so far, if there is one, or else `hit` if it is after `from`.
+/// `found`, if it isn't `None`; otherwise `hit`, if `hit` is after `from`.
 fn first_of(found: Option<u32>, from: u32, hit: u32) -> Option<u32>
     ensures { result ≡ option_or found (if nat_lt from hit then Some hit else None) }
 {
@@ -71,7 +71,7 @@ fn first_of(found: Option<u32>, from: u32, hit: u32) -> Option<u32>
     found
 }
 
-/// `hit` if it is before `from`, or else the hit so far.
+/// `hit` if it is before `from`, or else `found`.
 fn last_of(found: Option<u32>, from: u32, hit: u32) -> Option<u32>
     ensures { result ≡ (if nat_lt hit from then Some hit else found) }
 {
@@ -132,8 +132,8 @@ fn is_met<R: Register>(breaks: &[Break], events: StepEvents, config: &Config<R>)
     false
 }
 
-/// Continues a search that has reached `place`, by the events of the steps that follow. Nothing is
-/// replayed.
+/// Continues a search from `place`, by the events of the steps after it, and returns what is found
+/// by then. Nothing is replayed.
 fn along_events(
     search: &Search<'_>,
     events: EventWalk<'_>,
@@ -156,8 +156,8 @@ fn along_events(
     found
 }
 
-/// Continues a search that has reached `place`, by replaying the steps that follow from the
-/// configuration there.
+/// Continues a search from `place`, whose configuration is `config`, by replaying the steps
+/// after it, and returns what is found by then.
 fn along_steps<R: Register>(
     search: &Search<'_>,
     config: Config<R>,
@@ -182,8 +182,8 @@ fn along_steps<R: Register>(
     found
 }
 
-/// Continues a search over the first `count` steps of a run. They are replayed only if one of the
-/// breaks is on a bit.
+/// Continues a search over the first `count` steps of a run. The steps are replayed only if one of
+/// the breaks is on a bit.
 fn along_run<R: Register>(
     alloc: Global,
     search: &Search<'_>,
@@ -206,8 +206,8 @@ fn along_run<R: Register>(
     Ok(along_events(search, events, progress.place, progress.found))
 }
 
-/// Searches a whole branch: its beginning, in the configuration `first`, and the places in its
-/// runs, which follow one another.
+/// Searches a whole branch: its beginning, whose configuration is `first`, and then the places
+/// in its runs, one run after the other.
 fn along_runs<R: Register>(
     alloc: Global,
     search: &Search<'_>,
@@ -234,8 +234,14 @@ fn along_runs<R: Register>(
     Ok(found)
 }
 
-/// The next place of a branch, in the search's direction, at which one of the breaks is met, if
-/// any.
+/// The first place of a branch at which one of the breaks is met, when one goes from `search.from`
+/// in the search's direction; `search.from` itself doesn't count. `None` if there is no such place.
+/// A branch that doesn't exist is searched like one without steps. With or without an error,
+/// nothing in the chart changes, except that missing runs are stored.
+///
+/// # Errors
+///
+/// If memory runs out.
 pub fn next_hit<R: Register>(
     alloc: Global,
     chart: &mut Chart<R>,
@@ -256,8 +262,7 @@ pub fn next_hit<R: Register>(
     along_runs(alloc, search, &first, runs.as_slice())
 }
 
-/// The runs of a whole branch, once the missing ones are stored; no runs if there is no such
-/// branch.
+/// Stores the missing runs of a branch, and returns all its runs; none if there is no such branch.
 fn settled<R: Register>(
     alloc: Global,
     chart: &mut Chart<R>,

@@ -55,7 +55,9 @@ impl<R: Register> Model for Stage<R> {
 }
 
 impl<R: Register> Stage<R> {
-    /// The world before its first command, over a chart with these limits.
+    /// A world before its first command: the register, the initial value and the branches are those
+    /// of `chart`, and no session has joined. `limits` have to be the chart's limits, have to be in
+    /// their ranges, and have to allow the cells that were made in the chart.
     pub(crate) fn new(
         alloc: Global,
         chart: Chart<R>,
@@ -78,7 +80,7 @@ impl<R: Register> Stage<R> {
         })
     }
 
-    /// The branches with their stored runs.
+    /// The chart: the branches with their stored runs.
     pub(crate) fn chart(&self) -> &Chart<R>
         ensures { result.now ≡ self.now.chart }
     {
@@ -99,7 +101,10 @@ impl<R: Register> Stage<R> {
         self.logged >= self.limits.log
     }
 
-    /// Stores a run that was replayed elsewhere, as `Chart::install` does.
+    /// Stores a run that was replayed elsewhere, on two conditions: the run fits the segment with
+    /// this key, and stored runs fit all segments above that one (before it on its branches).
+    /// Returns Installed if so. Otherwise stores nothing, and returns Gone if no segment has this
+    /// key, or Stale if one has. Changes nothing that commands see.
     pub(crate) fn install(&mut self, key: SegKey, run: Arc<Run<R>>) -> Installation
         ensures installs { let old = self.old.chart in Installs R.PartialEq.eq
             (R.behaviour old.start.register) old self.new.chart key (arc_value run) result }
@@ -108,8 +113,9 @@ impl<R: Register> Stage<R> {
         self.chart.install(key, run)
     }
 
-    /// Answers a command that can be logged. If memory runs out, nothing that commands see is
-    /// changed.
+    /// Carries out or refuses a command, and counts it as logged. Before the call the number of
+    /// logged commands has to be below its limit. Fails only if memory runs out and there is no
+    /// reason to refuse the command; then nothing that commands see is changed.
     pub(crate) fn act(
         &mut self,
         alloc: Global,
@@ -131,7 +137,7 @@ impl<R: Register> Stage<R> {
         }
     }
 
-    /// Answers a command that has no early refusal.
+    /// Answers a command that has no early refusal, and fails as `act` does.
     fn answer(&mut self, alloc: Global, who: u32, command: &Command) -> Result<Reply, AllocError>
         requires room { CanLog self.old }
         requires session { who < 16 }
@@ -155,7 +161,7 @@ impl<R: Register> Stage<R> {
         }
     }
 
-    /// Counts a refused command as logged, unless the log is full.
+    /// Replies with this refusal. The command then counts as logged, unless the refusal is LogFull.
     fn refuse(&mut self, refusal: Refusal) -> Reply
         requires { CanLog self.old }
         ensures world { world_of R.behaviour self.new
@@ -168,7 +174,7 @@ impl<R: Register> Stage<R> {
         Reply::No(refusal)
     }
 
-    /// The reason, if any, to refuse a command before its branch is looked up.
+    /// The first reason, if any, to refuse a command before its branch is looked up.
     fn early_refusal(&self, who: u32, if_at: Option<u64>, command: &Command) -> Option<Refusal>
         ensures { result
             ≡ first_refusal (early_refusals who if_at command.now (world_of R.behaviour self.now)) }
@@ -189,7 +195,8 @@ impl<R: Register> Stage<R> {
         None
     }
 
-    /// Whether there is no such session, or the session hasn't joined and the command needs it to.
+    /// Whether there is no session `who`, or this session hasn't joined and the command needs it to
+    /// have joined.
     fn lacks_session(&self, who: u32, command: &Command) -> bool
         ensures { result ≡ spec.lacks_session who command.now self.now.cursors }
     {
@@ -197,7 +204,8 @@ impl<R: Register> Stage<R> {
         index >= SESSIONS || (needs_session(command) && self.cursors[index].is_none())
     }
 
-    /// Carries out a command that has no early refusal.
+    /// Carries out a command that has no early refusal, or refuses it for a late reason or as
+    /// Memory; then nothing that commands see is changed.
     fn work(&mut self, alloc: Global, who: u32, command: &Command) -> Result<Reply, Refusal>
         requires room { CanLog self.old }
         requires session { who < 16 }

@@ -1,4 +1,4 @@
--- The limits of a stamped register's own numbers, and its refusals.
+-- The limits of a stamped register's numbers of values and stamps, and why one is refused.
 use Rattle.std.specs.Prelude.{ℕ, Bool, ◌&&◌, nat_le, nat_lt, Option, Some, if◌then◌else◌}
 use Rattle.frames.specs.declared.limits.TheConstants.{LEAST_VALUES, MOST_VALUES}
 use Rattle.layers.specs.declared.fit.LayerError.{LayerError}
@@ -7,10 +7,11 @@ use Rattle.frames.specs.Behaviour.{Behaviour}
 use Rattle.layers.specs.Fit.{refusal_below}
 use Rattle.stamped.specs.Program.{stamped_code_count, stamped_table}
 
--- 2 to 512 values, a last stamp of at most 511, and at most 512 codes
+-- there are 2 to 512 values, the last stamp is at most 511, and there are at most 512 codes
 abbrev pub stamped_limits_hold : ℕ → ℕ → Bool
 stamped_limits_hold values last = nat_le LEAST_VALUES values && (nat_le values MOST_VALUES && (nat_lt last MOST_VALUES && nat_le (stamped_code_count values last) MOST_VALUES))
 
--- why a stamped register of these numbers over register b is refused, or `None` if it isn't
+-- why a stamped register of `values` values, with stamps up to `last`, can't be built on register
+-- b; `None` if it can
 abbrev pub stamped_refusal : {P : Type 0} → ℕ → ℕ → Behaviour P → Option LayerError
 stamped_refusal values last b = if stamped_limits_hold values last then refusal_below (stamped_table values last) b else Some BadSize

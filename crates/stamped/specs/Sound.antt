@@ -1,4 +1,5 @@
--- The stamped register's table is sound, and the test of two tasks decides whether they are equal.
+-- The stamped register's rules meet the laws that every layer's rules must meet; and its equality
+-- test on tasks (points at which the register below is written or read) is right.
 use Rattle.std.proofs.Common.{◌%◌, ◌≡◌, ◌≢◌, ℕ, ◌+◌, ◌*◌, ◌<◌, ◌≤◌, max, Bool, true, false, refl, ap, arith, nat_eq}
 use Rattle.std.specs.Bool.{Decides}
 use Rattle.std.specs.Prelude.{◌==◌, if◌then◌else◌, ◌&&◌}
@@ -22,15 +23,17 @@ use Rattle.stamped.specs.declared.task.StampedTask.{StampedTask}
 use Rattle.stamped.specs.declared.task.StampedTask.TheVariants.{Writing, Reading}
 use Rattle.stamped.specs.Program.{stamped_program, stamped_table, stamped_asks, stamped_rest, stamped_frame, stamped_find, stamped_code_count, StampedMayBeAt}
 
--- a code whose stamp was raised, to at most the last stamp, is one of the codes
+-- for each stamp below the last stamp, the code of the next stamp, with any value, is below the
+-- number of codes
 pub code_fits : (values last stamp v : ℕ) → stamp < last → v < values → (stamp + 1) * values + v < stamped_code_count values last
 code_fits values last stamp v before lt = let h = mul-add-lt (stamp + 1) values v (last + 1) (omega arith) lt in omega (arith, h)
 
--- a raised code has a stamp of 1 or more
+-- a code with a stamp of 1 or more is at least `values`
 pub code_stamped : (values stamp v : ℕ) → values ≤ (stamp + 1) * values + v
 code_stamped values stamp v = omega (arith, add-mul stamp 1 values)
 
--- an initial value is a code
+-- each value, taken as a code, is below the number of codes: it is the code of stamp 0 and this
+-- value
 pub value_fits : (values last v : ℕ) → v < values → v < stamped_code_count values last
 value_fits values last v lt = let h = mul-add-lt 0 values v (last + 1) (omega arith) lt in omega (arith, h)
 
@@ -79,7 +82,7 @@ module _ (values last : ℕ) (some : LEAST_VALUES ≤ values) where
       by_test true = omega arith
       by_test false = value_fits values last v lt
 
-  -- nothing follows a task
+  -- an operation has at most one task: the rest of its program, after a task, has no task
   rest_falls : (who : ℕ) (o : Op) (task : StampedTask) (outcome : Outcome) → StampedMayBeAt values last who o task → Answers (stamped_code_count values last) (stamped_asks task).op outcome → IsNotSpent outcome
       → Falls {Task = StampedTask} (λ _. 0) 0 (stamped_rest values task outcome)
   rest_falls who o (Writing v code) outcome stands answers on = tt
@@ -101,20 +104,20 @@ module _ (values last : ℕ) (some : LEAST_VALUES ≤ values) where
   frame_tells who (op.Write w) Reading stands = absurd stands
   frame_tells who op.Read (Writing v code) stands = absurd stands
 
-  -- the stamped register's table is sound
+  -- the stamped register's rules meet the laws that every layer's rules must meet
   pub stamped_sound : IsSoundTable (stamped_table values last) (StampedMayBeAt values last) (λ _. 0)
   stamped_sound = writer.one_writer_sound (stamped_table values last) (StampedMayBeAt values last) (λ _. 0) (λ who o. refl) (omega arith)
       (λ v j lt below. value_fits values last v lt) first_words
       asks_fit stands_suits frame_tells begins_sound rest_sound rest_falls
 
--- the equality test of two tasks
+-- whether two tasks are equal: both are reads, or both are writes with equal values and codes
 abbrev pub stamped_task_eq : StampedTask → StampedTask → Bool
 stamped_task_eq (Writing v x) (Writing w y) = nat_eq v w && nat_eq x y
 stamped_task_eq Reading Reading = true
 stamped_task_eq (Writing v x) Reading = false
 stamped_task_eq Reading (Writing w y) = false
 
--- the test of two tasks decides whether they are equal
+-- `stamped_task_eq` is true exactly if the two tasks are equal
 pub stamped_task_decides : (a b : StampedTask) → Decides (stamped_task_eq a b) (a ≡ b)
 stamped_task_decides (Writing v x) (Writing w y) =
     Decides-like (nat_eq v w && nat_eq x y) (λ p. λ i. Writing (p.0 i) (p.1 i)) (λ p. (cc, cc)) (Decides-and (nat_eq v w) (nat_eq x y) (Decides-eqb v w) (Decides-eqb x y))
@@ -122,7 +125,7 @@ stamped_task_decides Reading Reading = (λ h. refl, λ h. refl)
 stamped_task_decides (Writing v x) Reading = (λ h. cc, λ h. cc)
 stamped_task_decides Reading (Writing w y) = (λ h. cc, λ h. cc)
 
--- stamped registers of equally many values and equal last stamps have equal tables
+-- stamped registers with the same number of values and the same last stamp have the same rules
 pub stamped_table_alike : (v w l m : ℕ) → (nat_eq v w && nat_eq l m) ≡ true → stamped_table v l ≡ stamped_table w m
 stamped_table_alike v w l m h =
     let both = both_true (nat_eq v w) (nat_eq l m) h in

@@ -1,4 +1,4 @@
-//! The rules of a stamped register, over any register.
+//! The rules of a stamped register, whichever register is below it.
 
 ghost use Rattle.std.specs.Prelude.{◌≡◌, ℕ, ◌+◌, ◌*◌, ◌<◌, ◌≤◌, ◌^◌, MatchResult, IfOk, Some, None};
 ghost use Rattle.frames.specs.declared.limits.TheConstants.{LEAST_VALUES, MOST_VALUES};
@@ -16,18 +16,19 @@ use layers::layered::Layered;
 use layers::nested::{Ask, Continuation};
 use safe_bit::Store;
 
-/// A stamped register over a register of `(last + 1) * values` codes. A write raises the stamp and
-/// writes its code to the register below; at the last stamp it is spent instead. A read keeps the
-/// greatest code read so far, and returns the value of that code (Lamport 1986; Herlihy and Shavit,
-/// chapter 4).
+/// A register of one writer and one reader, over a register of `(last + 1) * values` codes; a code
+/// is one number for a stamp and a value. A write takes the next stamp, and writes the code of this
+/// stamp and its value to the register below; if there is no next stamp, the write is spent. A read
+/// reads a code, and returns the value in the greatest code that the reader has read so far
+/// (Lamport 1986; Herlihy and Shavit, chapter 4).
 pub type Stamped<S> = Layered<StampedRules, S>;
 
-/// The rules of a stamped register.
+/// A stamped register's own numbers, within their limits. They determine its rules.
 #[derive(Debug, PartialEq, Eq)]
 pub struct StampedRules {
-    /// The number of values.
+    /// The number of values that the stamped register can hold.
     pub values: u32,
-    /// The last stamp.
+    /// The last stamp. Once the stamp has this value, each later write is spent.
     pub last: u32,
     ghost some: { LEAST_VALUES ≤ values },
     ghost few: { values ≤ MOST_VALUES },
@@ -43,7 +44,7 @@ impl Clone for StampedRules {
 
 impl Copy for StampedRules {}
 
-/// The trait of `Stamped::new`. It has to be in scope in each module that calls `Stamped::new`.
+/// The trait that declares `Stamped::new`. Import it to call `Stamped::new`.
 pub trait NewStamped<S: Register>: Sized {
     /// The stamped register of `values` values, with stamps up to `last`, over `below`. `values` is
     /// 2 to 512, and `last` is at most 511. The register below has 2 processes, and it has

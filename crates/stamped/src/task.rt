@@ -1,6 +1,7 @@
-//! The points of a stamped register's programs.
+//! The tasks of a stamped register: the points of its programs at which the register below is at
+//! work.
 
-/// An operation of the register below.
+/// A task: the write or read of the register below that a pending operation is making.
 #[derive(Clone, Copy, Debug, PartialEq, Eq)]
 pub enum StampedTask {
     /// A write of the value in the first field, as the code in the second.

@@ -1,4 +1,5 @@
--- A bit whose write and read are one action each: a register that is written from the required calls alone.
+-- A bit whose write and read are one action each: a register with only the methods that a register
+-- must have.
 use Rattle.std.proofs.Common.{◌≡◌, ℕ, ◌+◌, ◌-◌, ◌<◌, Bool, true, false, List, [], ◌∷◌, length, drop, Option, Some, None, refl, sym, ap, subst, ◌∙◌, arith, add-zero, length-drop}
 use Rattle.std.specs.Prelude.{◌≢◌, if◌then◌else◌, ⊤}
 use Rattle.std.specs.Option.{MatchOption}
@@ -25,7 +26,7 @@ use Rattle.frames.specs.laws.OneWriter as writer
 abbrev pub switch_size : Place
 switch_size = record { cell = 1; word = 0 }
 
--- a pending operation is its own point
+-- A pending operation is at one point only, which is the operation itself.
 abbrev pub switch_goes : Op → Memory → Moved Op
 switch_goes (op.Write v) m = record { next = Done Written; chosen = None; memory = record { cells = idle_cell (bit_of v) ∷ []; words = [] } }
 switch_goes op.Read m = record { next = Done (Value (value_of (cell_at 0 m).value)); chosen = None; memory = m }
@@ -55,7 +56,7 @@ switch = record {
   acts = switch_acts;
 }
 
--- a process has its own operation pending, which fits it
+-- the pending operation p of a process is the operation o that it invoked, and o fits the process
 abbrev pub SwitchReaches : ℕ → Op → Op → Type 0
 SwitchReaches who o p = (p ≡ o) × (one_writer 2 2 who o ≡ true)
 
@@ -101,15 +102,15 @@ switch_lawful = record {
 pub switch_tells : FramesGivePoint switch SwitchReaches switch_point
 switch_tells = record { point = λ who o p r. refl; op = λ who o p r. ap Some r.0; none = λ who. refl }
 
--- what a read reads, at a place
+-- in a register at a place of a memory, a read finds the bit of the cell at that place
 pub reads_own : (at : Place) (m : Memory) → (cell_at 0 (part at switch_size m)).value ≡ (cell_at at.cell m).value
 reads_own at m = ap (λ c. c.value) (cell_at-part at switch_size 0 m (omega arith) ∙ ap (λ i. cell_at i m) (add-zero at.cell))
 
--- another number of frames than one
+-- if the number of frames isn't one, they give no point
 pub not_one : (who first : ℕ) (stack : List Frame) → length (drop first stack) ≢ 1 → IsPointByFrames switch.frames SwitchReaches who (drop first stack) None
 not_one who first stack other o p there e = other (ap length e)
 
--- one frame, of an operation that fits
+-- if there is just one frame, and its operation fits, the frames give that operation as the point
 pub one_frame : (who first : ℕ) (stack : List Frame) (frame : Frame) → drop first stack ≡ frame ∷ drop (first + 1) stack → length stack - first ≡ 1
     → one_writer 2 2 who frame.op ≡ true → frame ≡ switch_frame frame.op → IsPointByFrames switch.frames SwitchReaches who (drop first stack) (Some frame.op)
 one_frame who first stack frame found one fits same =

@@ -16,25 +16,25 @@ use std::sync::Arc;
 use std::test::Fail;
 use views::{Query, Slip};
 
-/// Adds a bit action to `main`, and forks all of it to `a`.
+/// Adds a bit action to `main`, and forks `a` from all of `main`.
 fn grown(alloc: Global, chart: &mut Chart<Switch>, main: &Name, a: Name) -> Result<(), Refusal> {
     chart.insert(alloc, main, 1, GO)?;
     chart.fork(alloc, main, 2, a)
 }
 
-/// Gives `a` cells of its own, and removes the last of them.
+/// Detaches `a`, which gives it cells of its own, and removes the last of these.
 fn parted(alloc: Global, chart: &mut Chart<Switch>, a: &Name) -> Result<(), Refusal> {
     chart.detach(alloc, a)?;
     chart.remove(a, 1)
 }
 
-/// Forks `main` to `b`, and drops `b`.
+/// Forks `b` from the first cell of `main`, and drops `b`.
 fn forked(alloc: Global, chart: &mut Chart<Switch>, main: &Name, b: Name) -> Result<(), Refusal> {
     chart.fork(alloc, main, 1, b)?;
     chart.drop_branch(&b)
 }
 
-/// Puts a step before those of `main`, and makes it a write.
+/// Inserts a read at the beginning of `main`, and replaces this read by a write.
 fn preceded(alloc: Global, chart: &mut Chart<Switch>, main: &Name) -> Result<(), Refusal> {
     chart.insert(alloc, main, 0, READ)?;
     chart.replace(main, 0, WRITE)
@@ -49,7 +49,7 @@ fn edit(rt: &impl Abort, alloc: Global, chart: &mut Chart<Switch>) -> Result<(),
     preceded(alloc, chart, &main)
 }
 
-/// A chart after these edits. It promises nothing, so that the tests' proofs stay small.
+/// A chart after these edits. The contract promises nothing, so that the tests' proofs stay small.
 fn edited(rt: &impl Abort, alloc: Global) -> Result<Chart<Switch>, Refusal> {
     let mut chart = Chart::new(alloc, Switch, 0, limits(), &[READ])?;
     edit(rt, alloc, &mut chart)?;

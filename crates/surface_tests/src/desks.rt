@@ -48,7 +48,7 @@ fn split(desk: &Desk<Switch>, chair: &mut Chair<Switch>) -> Chair<Switch>
     desk.split(chair, 8)
 }
 
-/// Makes the insert, guarded by edit count 0. This contract promises nothing of histories.
+/// Makes the insert, guarded by edit count 0. This contract promises nothing about histories.
 fn acted<R: Abort + Wait>(
     rt: &R,
     alloc: Global,
@@ -62,7 +62,7 @@ fn acted<R: Abort + Wait>(
     desk.act(rt, alloc, chair, who, Some(0), &insert(rt))
 }
 
-/// Joins another chair. This contract promises nothing of histories.
+/// Joins another chair to this one. This contract promises nothing about histories.
 fn joined(desk: &Desk<Switch>, chair: &mut Chair<Switch>, other: Chair<Switch>)
     requires { IsChairOf (λ _. switch) desk.now chair.old
         × IsChairOf (λ _. switch) desk.now other }
@@ -90,7 +90,7 @@ pub(crate) fn worked_by_two<R: Abort + Wait>(
     (first, second)
 }
 
-/// The length of the history. This contract promises nothing of it.
+/// The length of the history. This contract promises nothing about that length.
 fn news(desk: &Desk<Switch>, chair: &mut Chair<Switch>) -> u64
     requires { IsChairOf (λ _. switch) desk.now chair.old }
     ensures { IsChairOf (λ _. switch) desk.now chair.new }

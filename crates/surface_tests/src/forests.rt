@@ -7,25 +7,25 @@ use std::alloc::Global;
 use std::process::Abort;
 use std::test::Fail;
 
-/// Adds a bit action to `main`, and forks all of it to `a`.
+/// Adds a bit action to `main`, and forks `a` from all of `main`.
 fn grown(alloc: Global, trie: &mut Trie<u32>, main: &Name, a: Name) -> Result<(), Refusal> {
     trie.insert(alloc, main, 1, GO)?;
     trie.fork(alloc, main, 2, a)
 }
 
-/// Gives `a` cells of its own, and removes the last of them.
+/// Detaches `a`, which gives it cells of its own, and removes the last of these.
 fn parted(alloc: Global, trie: &mut Trie<u32>, a: &Name) -> Result<(), Refusal> {
     trie.detach(alloc, a)?;
     trie.remove(a, 1)
 }
 
-/// Forks `main` to `b`, and drops `b`.
+/// Forks `b` from the first cell of `main`, and drops `b`.
 fn forked(alloc: Global, trie: &mut Trie<u32>, main: &Name, b: Name) -> Result<(), Refusal> {
     trie.fork(alloc, main, 1, b)?;
     trie.drop_branch(&b)
 }
 
-/// Puts a step before those of `main`, and makes it a write.
+/// Inserts a read at the beginning of `main`, and replaces this read by a write.
 fn preceded(alloc: Global, trie: &mut Trie<u32>, main: &Name) -> Result<(), Refusal> {
     trie.insert(alloc, main, 0, READ)?;
     trie.replace(main, 0, WRITE)
@@ -40,7 +40,7 @@ fn edit(rt: &impl Abort, alloc: Global, trie: &mut Trie<u32>) -> Result<(), Refu
     preceded(alloc, trie, &main)
 }
 
-/// A forest after these edits. It promises nothing, so that the tests' proofs stay small.
+/// A forest after these edits. The contract promises nothing, so that the tests' proofs stay small.
 fn edited(rt: &impl Abort, alloc: Global) -> Result<Trie<u32>, Refusal> {
     let mut trie = Trie::new(alloc, limits(), &[READ])?;
     edit(rt, alloc, &mut trie)?;

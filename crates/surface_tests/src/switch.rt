@@ -1,5 +1,5 @@
-//! A reader's own register, written from the eleven methods alone: a bit whose writes and reads
-//! take one action each.
+//! A register as a reader might write it, with only the eleven methods that a register must have: a
+//! bit whose writes and reads take one action each.
 
 ghost use Rattle.std.specs.Prelude.{◌≡◌, None};
 ghost use Rattle.frames.specs.declared.types.Next.TheVariants.{Done};

@@ -140,8 +140,8 @@ fn plan_of_two(rt: &impl Abort, alloc: Global) -> Result<Vec<plan::Job<Safe>>, R
 /// The outcome of a job of a chart.
 type Ran = Done<SegKey, Arc<Run<Safe>>>;
 
-/// The key of a job, and the one step of its run; `None` unless there is a run, and it has one
-/// step.
+/// The key of a job, and the one step of its run; `None` if there is no run, or if the run doesn't
+/// have exactly one step.
 fn only_step(done: &Ran) -> Option<(SegKey, Step)> {
     let JobOutcome::Ran(run) = &done.outcome else {
         return None;
@@ -286,8 +286,8 @@ impl Runnable for Watched<'_> {
     }
 }
 
-/// How often three jobs are run after their own offers. The jobs give `number`, or run out of
-/// memory if that is `None`.
+/// How often, in all, three jobs are run after their own offers. The jobs give `number`, or run out
+/// of memory if `number` is `None`.
 fn runs_of_three<W: Threads + Wait + Sync>(
     rt: &W,
     alloc: Global,
@@ -313,7 +313,7 @@ fn runs_of_three<W: Threads + Wait + Sync>(
 
 /// Each job is run once, after its own offer, even if it runs out of memory.
 #[test]
-fn each_job_runs_once_behind_its_offer(rt: HostRuntime) -> Result<(), Fail> {
+fn each_job_runs_once_after_its_offer(rt: HostRuntime) -> Result<(), Fail> {
     for thieves in [0, 2] {
         for number in [Some(1), None] {
             let runs = runs_of_three(&rt, rt.alloc(), number, thieves)?;

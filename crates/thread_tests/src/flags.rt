@@ -11,8 +11,8 @@ const LOOKS: u32 = 1 << 24;
 #[derive(Drop)]
 pub(crate) struct Flags {
     held: AtomicU64,
-    reported: AtomicU64,
-    untold: AtomicU64,
+    released: AtomicU64,
+    unreleased: AtomicU64,
 }
 
 impl Flags {
@@ -20,8 +20,8 @@ impl Flags {
     pub(crate) fn new() -> Flags {
         Flags {
             held: AtomicU64::new(0),
-            reported: AtomicU64::new(0),
-            untold: AtomicU64::new(0),
+            released: AtomicU64::new(0),
+            unreleased: AtomicU64::new(0),
         }
     }
 
@@ -34,8 +34,8 @@ impl Flags {
     /// `LOOKS` reads.
     pub(crate) fn hold(&self) {
         self.say_held();
-        if !arrives(&self.reported) {
-            self.untold.store(1, Ordering::SeqCst);
+        if !arrives(&self.released) {
+            self.unreleased.store(1, Ordering::SeqCst);
         }
     }
 
@@ -45,18 +45,18 @@ impl Flags {
     }
 
     /// Signals the holder to go on.
-    pub(crate) fn tell(&self) {
-        self.reported.store(1, Ordering::SeqCst);
+    pub(crate) fn release(&self) {
+        self.released.store(1, Ordering::SeqCst);
     }
 
     /// Whether the holder has been signalled to go on.
-    pub(crate) fn is_told(&self) -> bool {
-        self.reported.load(Ordering::SeqCst) == 1
+    pub(crate) fn is_released(&self) -> bool {
+        self.released.load(Ordering::SeqCst) == 1
     }
 
     /// Whether each holder was signalled before it went on.
-    pub(crate) fn were_told(&self) -> bool {
-        self.untold.load(Ordering::SeqCst) == 0
+    pub(crate) fn were_released(&self) -> bool {
+        self.unreleased.load(Ordering::SeqCst) == 0
     }
 }
 

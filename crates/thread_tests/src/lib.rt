@@ -1,5 +1,5 @@
-//! Tests of the turn, the crew and the desk by their public calls, with two threads and more. This
-//! crate is above theirs, so that none of them is proved again for its tests.
+//! Tests of the turn, the crew and the desk by their public calls, with two threads or more. This
+//! crate is above the crates that it tests, so that none of them is proved again for its tests.
 #![tactic(auto)]
 
 #[cfg(test)]

@@ -277,7 +277,7 @@ fn ask(turn: &Turn<Notes>, mut chair: Chair<Notes>, flags: &Flags) -> (bool, u64
 {
     let held = flags.is_held();
     let news = turn.news(&mut chair);
-    flags.tell();
+    flags.release();
     (held, news)
 }
 
@@ -309,7 +309,7 @@ fn news_while_held(rt: HostRuntime) -> Result<(), Fail> {
     let (mut first, second) = parted(&turn, first, 8);
     assert!(rt; write_down(&rt, &turn, &mut first, 3));
     let (held, news) = ask_while_held(&rt, &turn, first, second, &flags);
-    assert!(rt; held && flags.were_told());
+    assert!(rt; held && flags.were_released());
     assert_eq!(rt; news, 1);
     Ok(())
 }

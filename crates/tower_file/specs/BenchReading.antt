@@ -20,46 +20,55 @@ use Rattle.words.specs.Words.{lines, words, after_next}
 abbrev pub limb_name : Limb → List ℕ
 limb_name l = l.name
 
--- a limb with one more step, and limbs of which the last has one more step
+-- a limb with one more step at its end
 abbrev pub limb_with_step : Limb → Step → Limb
 limb_with_step l s = record { name = l.name; from = l.from; shared = l.shared; steps = l.steps ++ s ∷ [] }
 
+-- these limbs with one more step at the end of the last limb; no limbs if there are none
 abbrev pub put_step : List Limb → Step → List Limb
 put_step [] s = []
 put_step (l ∷ []) s = limb_with_step l s ∷ []
 put_step (l ∷ k ∷ ls) s = l ∷ put_step (k ∷ ls) s
 
--- these limbs and then l, the limb of line n, if l may follow them
+-- these limbs with l, the limb of line n, added at the end. On line n there is BadBranch if l's
+-- name isn't the name of a new branch, or else Tangled if l's `from` and `shared` don't allow it to
+-- follow these limbs.
 abbrev pub put_limb : ℕ → List Limb → Limb → Result (List Limb) FileFault
 put_limb n limbs l =
     if not (is_new_name limbs l.name) then Err (fault BadBranch n)
     else (if may_share limbs l then Ok (limbs ++ l ∷ []) else Err (fault Tangled n))
 
--- these limbs and then the branch of line n, given that line's words after the first
+-- these limbs with the limb of line n added at the end, given that line's words after `branch`. On
+-- line n there is BadBranch if the words aren't those of a branch, or the fault that `put_limb`
+-- gives.
 abbrev pub then_branch : ℕ → List Limb → List (List ℕ) → Result (List Limb) FileFault
 then_branch n limbs ws = ok_or (branch_of ws) (fault BadBranch n) >>= put_limb n limbs
 
--- these limbs, at least one, with the step of line n added to the last
+-- these limbs with the step of line n added to the last limb. On line n there is BadBranch if there
+-- is no limb, or else BadStep if the line doesn't spell a step that fits the tower.
 abbrev pub then_step : TowerSpec → ℕ → List Limb → List ℕ → Result (List Limb) FileFault
 then_step t n limbs line =
     if is_some limbs then (ok_or (fitting_step Two t line) (fault BadStep n) >>= λ s. Ok (put_step limbs s))
     else Err (fault BadBranch n)
 
--- these limbs with the branch or the step of line n added
+-- these limbs with line n added: a branch if the line's first word is `branch`, and otherwise a
+-- step of the last limb; or the fault of that line
 abbrev pub then_line : TowerSpec → ℕ → List Limb → List ℕ → Result (List Limb) FileFault
 then_line t n limbs line = if is_branch line then then_branch n limbs (after_next (words line)) else then_step t n limbs line
 
--- what is wrong with a line that follows these limbs and has no line end
+-- the kind of fault of a line that follows these limbs and has no line end: BadBranch if its first
+-- word is `branch` or there is no limb, and otherwise BadStep
 abbrev pub cut_line : List Limb → List ℕ → FaultKind
 cut_line limbs line = if is_branch line || not (is_some limbs) then BadBranch else BadStep
 
--- these limbs at the end of a file, if there is a limb and nothing follows the last line end;
--- otherwise a fault on line n
+-- these limbs, when no line with a line end is left. There must be at least one limb, and `rest`,
+-- the text after the last line end, must be empty; otherwise there is a fault on line n, whose text
+-- is `rest`.
 abbrev pub limbs_at_end : ℕ → List Limb → List ℕ → Result (List Limb) FileFault
 limbs_at_end n limbs rest = if length rest == 0 && is_some limbs then Ok limbs else Err (fault (cut_line limbs rest) n)
 
--- These limbs, with the branches and the steps of the lines from line n on. Nothing may follow the
--- last line end.
+-- these limbs with the branches and the steps of the lines from line n on added; or the first fault
+-- of those lines. At the end there must be at least one limb, and no text after the last line end.
 unfoldable pub limbs_of : TowerSpec → ℕ → List Limb → List (List ℕ) → Result (List Limb) FileFault
 limbs_of t n limbs [] = limbs_at_end n limbs []
 limbs_of t n limbs (rest ∷ []) = limbs_at_end n limbs rest
@@ -70,7 +79,7 @@ limbs_of t n limbs (line ∷ other ∷ others) = then_line t n limbs line >>= λ
 abbrev pub is_bench : List ℕ → Bool
 is_bench bytes = has_header bench_header (lines bytes)
 
--- the bench file of these lines, or their first fault; no byte is odd
+-- the bench file that these lines spell, or their first fault; odd bytes aren't looked for
 abbrev pub bench_of_lines : List (List ℕ) → Result Bench FileFault
 bench_of_lines ls =
     if has_header bench_header ls

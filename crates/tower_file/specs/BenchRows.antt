@@ -1,4 +1,4 @@
--- A bench file, and files with faults, as the definitions read them.
+-- Examples: how the definitions read a bench file, and files with faults.
 use Rattle.std.specs.Prelude.{ℕ, List, [], ◌∷◌, ◌++◌, Ok, Err, codes, ◌≡◌, refl, true}
 use Rattle.frames.specs.declared.types.Step.TheVariants.{Read, Write, Go}
 use Rattle.tower_file.specs.declared.tower.TowerSpec.TheVariants.{Safe}
@@ -18,12 +18,13 @@ bench =
           ∷ record { name = codes "b"; from = 1; shared = 2; steps = Go 1 1 ∷ [] } ∷ [];
     }
 
--- the first seven lines of its file, and the whole file with another line 8
+-- the first seven of the nine lines of the file that spells `bench`
 abbrev front : List ℕ
 front =
     text_with_end (codes "bench 1") ++ text_with_end (codes "safe 0") ++ text_with_end (codes "branch main 0 0") ++ text_with_end (codes "r 1") ++ text_with_end (codes "w 0 1")
     ++ text_with_end (codes "branch a 0 1") ++ text_with_end (codes "g 1 0")
 
+-- the nine lines of the file that spells `bench`, with this text in place of line 8
 abbrev with_line_8 : List ℕ → List ℕ
 with_line_8 text = front ++ text_with_end text ++ text_with_end (codes "g 1 1")
 

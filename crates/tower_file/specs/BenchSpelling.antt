@@ -12,7 +12,8 @@ use Rattle.tower_file.specs.Reading.{first_odd}
 abbrev pub bench_header : List ℕ
 bench_header = codes "bench 1"
 
--- the line of a branch: its name, the branch that it starts from, and how many cells the two share
+-- the line of a limb's branch, without a line end: `branch`, the branch's name, the number of the
+-- branch that it starts from, and how many cells the two share
 abbrev pub branch_text : Limb → List ℕ
 branch_text l = codes "branch" ++ 32 ∷ text l.name (l.from ∷ l.shared ∷ [])
 
@@ -24,13 +25,13 @@ limb_text l = text_with_end (branch_text l) ++ flat_map (λ s. text_with_end (st
 abbrev pub bench_spelling : Bench → List ℕ
 bench_spelling b = text_with_end bench_header ++ text_with_end (tower_text b.spec) ++ flat_map limb_text b.limbs
 
--- These bytes spell this bench file.
+-- These bytes spell this bench file: the file is lawful, and the bytes are its spelling.
 pub record SpellsBench (bytes : List ℕ) (b : Bench) : Type 0 where
   pub lawful : IsLawfulBench b
   pub spelled : bytes ≡ bench_spelling b
 
--- A prefix of these lines spells at least one limb, and these limbs are lawful on the tower. All
--- lines but the last have their line ends.
+-- The text of these lines, joined by line ends, begins with the lines of at least one limb. A bench
+-- file on this tower can have the limbs that these lines spell.
 pub record SpellsLimbs (t : TowerSpec) (ls : List (List ℕ)) : Type 0 where
   pub limbs : List Limb
   pub rest : List ℕ
@@ -38,7 +39,7 @@ pub record SpellsLimbs (t : TowerSpec) (ls : List (List ℕ)) : Type 0 where
   pub lawful : are_lawful t limbs ≡ true
   pub parts : join_with_byte 10 ls ≡ flat_map limb_text limbs ++ rest
 
--- A prefix of these bytes spells a bench file, and no byte is odd; so there is no fault in the
+-- None of these bytes is odd, and a prefix of them spells a bench file; so any fault is after that
 -- prefix.
 pub record SpellsFront (bytes : List ℕ) : Type 0 where
   pub front : List ℕ

@@ -6,12 +6,13 @@ use Rattle.schedule_trie.specs.Limbs.{are_lawful_after}
 use Rattle.tower_file.specs.declared.tower.TowerSpec.{TowerSpec}
 use Rattle.tower_file.specs.Towers.{is_lawful_tower, fits}
 
--- a tower, and the limbs of a forest
+-- the contents of a bench file: a tower, and the limbs of a forest (each limb is a branch as a file
+-- stores it)
 pub record Bench : Type 0 where
   pub spec : TowerSpec
   pub limbs : List Limb
 
--- the bench of a tower and limbs
+-- the bench with this tower and these limbs
 abbrev pub bench_of : TowerSpec → List Limb → Bench
 bench_of t limbs = record { spec = t; limbs = limbs }
 
@@ -20,17 +21,21 @@ abbrev pub is_some : List Limb → Bool
 is_some [] = false
 is_some (l ∷ ls) = true
 
--- a limb's numbers have at most 9 digits, and its steps fit the tower
+-- whether the limb's `from` and `shared` have at most 9 digits, and its steps fit the tower
 abbrev pub has_fit : TowerSpec → Limb → Bool
 has_fit t l = (nat_lt l.from (10 ^ 9) && nat_lt l.shared (10 ^ 9)) && list_all (fits t) l.steps
 
--- a file can have these limbs on this tower: they are lawful, and each of them fits the tower
+-- whether a bench file on this tower can have these limbs: each may follow those before it, has
+-- numbers of at most 9 digits, and has steps that fit the tower
 abbrev pub are_lawful : TowerSpec → List Limb → Bool
 are_lawful t limbs = are_lawful_after [] limbs && list_all (has_fit t) limbs
 
--- the tower is lawful, there is at least one limb, and a file can have these limbs on this tower
+-- whether the tower is lawful, there is at least one limb, and a bench file on this tower can have
+-- these limbs
 abbrev pub is_lawful_bench : Bench → Bool
 is_lawful_bench b = (is_lawful_tower b.spec && is_some b.limbs) && are_lawful b.spec b.limbs
 
+-- The bench is lawful: its tower is lawful, there is at least one limb, and a bench file on that
+-- tower can have these limbs.
 abbrev pub IsLawfulBench : Bench → Type 0
 IsLawfulBench b = is_lawful_bench b ≡ true

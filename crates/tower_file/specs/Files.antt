@@ -7,23 +7,25 @@ use Rattle.tower_file.specs.declared.version.Version.{Version}
 use Rattle.tower_file.specs.Towers.{is_lawful_tower}
 use Rattle.tower_file.specs.Versions.{may_have}
 
--- a version, a tower and a schedule
+-- the contents of a tower file: a version of the file format, a tower and a schedule
 pub record File : Type 0 where
   pub version : Version
   pub spec : TowerSpec
   pub steps : List Step
 
+-- the file with this version, tower and steps
 abbrev pub file_of : Version → TowerSpec → List Step → File
 file_of v t steps = record { version = v; spec = t; steps = steps }
 
--- the tower is lawful, the version has each step, and each step fits the tower
+-- whether the tower is lawful, the version can express each step, and each step fits the tower
 abbrev pub is_lawful : File → Bool
 is_lawful f = is_lawful_tower f.spec && list_all (may_have f.version f.spec) f.steps
 
--- the file with this version, tower and steps, or `None` if it isn't lawful
+-- the file with this version, tower and steps; `None` if that file isn't lawful
 abbrev pub checked_file : Version → TowerSpec → List Step → Option File
 checked_file v t steps = if is_lawful (file_of v t steps) then Some (file_of v t steps) else None
 
--- the file is lawful
+-- The file is lawful: its tower is lawful, its version can express each step, and each step fits
+-- the tower.
 abbrev pub IsLawfulFile : File → Type 0
 IsLawfulFile f = is_lawful f ≡ true

@@ -18,7 +18,7 @@ use Rattle.tower_file.specs.Versions.{may_have}
 abbrev pub named : List ℕ → List ℕ → TowerName → Option TowerName
 named word text name = if bytes_eq word text then Some name else None
 
--- the kind of tower that a word names
+-- the kind of tower that a word names; `None` if it names none
 abbrev pub tower_name : List ℕ → Option TowerName
 tower_name word =
     if bytes_eq word (codes "safe") then Some Safe
@@ -29,7 +29,8 @@ tower_name word =
     else (if bytes_eq word (codes "matrix") then Some Matrix
     else None)))))
 
--- the tower of this kind with these numbers, if the words are exactly its numbers
+-- the tower of this kind with the numbers that the words spell; `None` if there are too few or too
+-- many words, or if one isn't a number
 abbrev pub fields_of : TowerName → List (List ℕ) → Option TowerSpec
 fields_of Safe ws = option_map (λ init. tower.Safe init) (one_number ws)
 fields_of Copies ws = option_map (λ n. tower.Copies n.0 n.1) (two_numbers ws)
@@ -38,7 +39,8 @@ fields_of Unary ws = option_map (λ n. tower.Unary n.0 n.1 n.2) (three_numbers w
 fields_of Stamped ws = option_map (λ n. tower.Stamped n.0 n.1) (two_numbers ws)
 fields_of Matrix ws = option_map (λ n. tower.Matrix n.0 n.1 n.2 n.3) (four_numbers ws)
 
--- the step of a line, if a file of this version on this tower may have that step
+-- the step that a line spells; `None` if the line spells none, if the version can't express the
+-- step, or if the step doesn't fit the tower
 abbrev pub fitting_step : Version → TowerSpec → List ℕ → Option Step
 fitting_step v t line = do
   s ← step_of_words (words line)
@@ -48,8 +50,9 @@ fitting_step v t line = do
 abbrev pub is_branch : List ℕ → Bool
 is_branch line = bytes_eq (next (words line)) (codes "branch")
 
--- The branch of the words after `branch`: its name, the branch that it starts from, and how many
--- cells the two share. There may be no more words. The limb has no steps yet.
+-- the limb, still without steps, that the words after `branch` spell: a name of at most 16 bytes,
+-- the number of the branch that it starts from, and how many cells the two branches share; `None`
+-- if the words aren't exactly these three
 abbrev pub branch_of : List (List ℕ) → Option Limb
 branch_of ws = do
   name ← names.name_of_bytes (next ws)

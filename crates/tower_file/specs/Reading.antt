@@ -16,7 +16,7 @@ use Rattle.tower_file.specs.Files.{File, file_of}
 use Rattle.words.specs.Words.{lines, words, next, after_next, is_end}
 use Rattle.tower_file.specs.Lines.{tower_name, fields_of, fitting_step}
 
--- the second reading, of what the first one gave; or the fault of the first, if it has one
+-- the result of f on the value of a reading; or, if the reading is a fault, that fault
 infixl 10 ◌>>=◌
 abbrev pub ◌>>=◌ : {A B : Type 0} → Result A FileFault → (A → Result B FileFault) → Result B FileFault
 (Ok x) >>= f = f x
@@ -26,11 +26,12 @@ abbrev pub ◌>>=◌ : {A B : Type 0} → Result A FileFault → (A → Result B
 abbrev pub is_file_byte : ℕ → Bool
 is_file_byte b = b == 10 || (nat_le 32 b && nat_le b 126)
 
--- the index of the first odd byte: one that a file can't have
+-- the index of the first odd byte (a byte that a file can't have); `None` if no byte is odd
 abbrev pub first_odd : List ℕ → Option ℕ
 first_odd bytes = position (λ b. not (is_file_byte b)) bytes
 
--- the number of the line that has byte k: one more than the number of line ends before byte k
+-- the number of the line that has the byte at index k, counted from 1: one more than the number of
+-- line ends before that byte
 abbrev pub line_at : ℕ → List ℕ → ℕ
 line_at k bytes = count_by (λ b. b == 10) (take k bytes) + 1
 
@@ -38,36 +39,43 @@ line_at k bytes = count_by (λ b. b == 10) (take k bytes) + 1
 abbrev pub has_header : List ℕ → List (List ℕ) → Bool
 has_header text ls = not (is_end (after_next ls)) && bytes_eq (next ls) text
 
--- the version whose header is the first line
+-- the version whose header is the first line; `None` if that line is no header or has no line end
 abbrev pub version_of : List (List ℕ) → Option Version
 version_of ls =
     if has_header (header One) ls then Some One
     else (if has_header (header Two) ls then Some Two
     else None)
 
--- the tower, or BadSize if it isn't lawful
+-- the tower; or, if it isn't lawful, BadSize on line 2
 abbrev pub sized : TowerSpec → Result TowerSpec FileFault
 sized t = if is_lawful_tower t then Ok t else Err (fault BadSize 2)
 
--- the tower of this kind with these numbers, if its line has a line end
+-- the tower of this kind with these words of line 2 as its numbers. There is BadField if the line
+-- is cut (has no line end) or the words aren't exactly the tower's numbers, or else BadSize if the
+-- tower isn't lawful.
 abbrev pub fields : Bool → List (List ℕ) → TowerName → Result TowerSpec FileFault
 fields is_cut ws name = if is_cut then Err (fault BadField 2) else (ok_or (fields_of name ws) (fault BadField 2) >>= sized)
 
--- the tower of the second line's words; `is_cut` is whether that line has no line end
+-- the tower of the second line, given that line's words and whether it has no line end (`is_cut`);
+-- or the line's fault: UnknownTower, BadField or BadSize
 abbrev pub second_line : Bool → List (List ℕ) → Result TowerSpec FileFault
 second_line is_cut ws = ok_or (tower_name (next ws)) (fault UnknownTower 2) >>= fields is_cut (after_next ws)
 
--- the tower of a file, given the lines from the second on
+-- the tower of a file, given the lines from the second on; or the fault of the second line
 abbrev pub tower_of : List (List ℕ) → Result TowerSpec FileFault
 tower_of ls = second_line (is_end (after_next ls)) (words (next ls))
 
--- the step of line n, which must have a line end; `None` if nothing follows the last line end
+-- the step of line n, the first of these lines; `None` if line n is the empty text after the last
+-- line end; BadStep if line n is other text without a line end, or isn't a step that this file may
+-- have
 abbrev pub next_step : Version → TowerSpec → ℕ → List (List ℕ) → Result (Option Step) FileFault
 next_step v t n ls =
     if is_end (after_next ls) then (if length (next ls) == 0 then Ok None else Err (fault BadStep n))
     else (ok_or (fitting_step v t (next ls)) (fault BadStep n) >>= λ s. Ok (Some s))
 
--- The steps of the lines from line n on. Nothing may follow the last line end.
+-- the steps of these lines, the first of which is line n; or BadStep on the first line that has no
+-- line end or isn't a step that this file may have. The empty text after the last line end has no
+-- step.
 unfoldable pub steps_of : Version → TowerSpec → ℕ → List (List ℕ) → Result (List Step) FileFault
 steps_of v t n [] = Ok []
 steps_of v t n (rest ∷ []) = if length rest == 0 then Ok [] else Err (fault BadStep n)
@@ -76,7 +84,7 @@ steps_of v t n (line ∷ other ∷ others) = do
   ss ← steps_of v t (n + 1) (other ∷ others)
   Ok (s ∷ ss)
 
--- the tower file of these lines, or their first fault; no byte is odd
+-- the tower file that these lines spell, or their first fault; odd bytes aren't looked for
 abbrev pub file_of_lines : List (List ℕ) → Result File FileFault
 file_of_lines ls = do
   v ← ok_or (version_of ls) (fault BadHeader 1)
@@ -84,23 +92,25 @@ file_of_lines ls = do
   ss ← steps_of v t 3 (after_next (after_next ls))
   Ok (file_of v t ss)
 
--- what the lines of the bytes are read as, or NotAscii if some byte is odd, byte k being the first
+-- what bytes are read as, given the index of their first odd byte. If there is one, the result is
+-- NotAscii on the line of that byte; otherwise it is what `of_lines` gives for the bytes' lines.
 abbrev pub reading_from : {Y : Type 0} → (List (List ℕ) → Result Y FileFault) → Option ℕ → List ℕ → Result Y FileFault
 reading_from of_lines (Some k) bytes = Err (fault NotAscii (line_at k bytes))
 reading_from of_lines None bytes = of_lines (lines bytes)
 
--- the first fault of the bytes: NotAscii if some byte is odd, or else e, the fault of their lines;
--- and the result of reading the lines, with its fault replaced by the first one
+-- the first fault of the bytes, given the index of their first odd byte and e, the fault of their
+-- lines: NotAscii on the line of the odd byte; or e, if no byte is odd
 abbrev pub fault_in_order : Option ℕ → List ℕ → FileFault → FileFault
 fault_in_order (Some k) bytes e = fault NotAscii (line_at k bytes)
 fault_in_order None bytes e = e
 
+-- the result of reading the bytes' lines, in which NotAscii replaces a fault if some byte is odd
 abbrev pub odd_first : {Y : Type 0} → List ℕ → Result Y FileFault → Result Y FileFault
 odd_first bytes (Ok y) = Ok y
 odd_first bytes (Err e) = Err (fault_in_order (first_odd bytes) bytes e)
 
--- The result of a parser is the file that the bytes spell, or the first fault in them, unless
--- memory ran out.
+-- A parser's result for these bytes is the file that they spell, or their first fault if they spell
+-- no file, unless memory ran out.
 pub record Parses {X F : Type 0} (view : X → F) (Spells : List ℕ → F → Type 0) (of_lines : List (List ℕ) → Result F FileFault) (bytes : List ℕ) (result : Result X FileFault) : Type 0 where
   pub found : IfOk result (λ x. Spells bytes (view x))
   pub only : (f : F) → Spells bytes f → Gives view result (Ok f)
@@ -111,6 +121,6 @@ pub record Parses {X F : Type 0} (view : X → F) (Spells : List ℕ → F → T
 abbrev pub file_reading : List ℕ → Result File FileFault
 file_reading bytes = reading_from file_of_lines (first_odd bytes) bytes
 
--- at least one step is read, and so memory is needed
+-- the steps were read without a fault, and there is at least one, so that memory is needed
 abbrev pub HasSomeStep : Result (List Step) FileFault → Type 0
 HasSomeStep read = (s : Step) × (ss : List Step) × (read ≡ Ok (s ∷ ss))

@@ -11,7 +11,7 @@ use Rattle.tower_file.specs.Files.{File, IsLawfulFile}
 abbrev pub text_with_end : List ℕ → List ℕ
 text_with_end text = text ++ 10 ∷ []
 
--- the line of a tower: its name and its numbers
+-- the line of a tower, without a line end: its name and its numbers
 abbrev pub tower_text : TowerSpec → List ℕ
 tower_text (Safe init) = text (codes "safe") (init ∷ [])
 tower_text (Copies readers init) = text (codes "copies") (readers ∷ init ∷ [])
@@ -24,12 +24,12 @@ tower_text (Matrix processes values last_tag last_stamp) = text (codes "matrix")
 abbrev pub spelling : File → List ℕ
 spelling f = text_with_end (header f.version) ++ text_with_end (tower_text f.spec) ++ flat_map (λ s. text_with_end (step_text s)) f.steps
 
--- These bytes spell this tower file.
+-- These bytes spell this tower file: the file is lawful, and the bytes are its spelling.
 pub record Spells (bytes : List ℕ) (f : File) : Type 0 where
   pub lawful : IsLawfulFile f
   pub spelled : bytes ≡ spelling f
 
--- These bytes spell a tower file that has steps, and so needs memory.
+-- These bytes spell a tower file that has at least one step, so that reading it needs memory.
 pub record SpellsSteps (bytes : List ℕ) : Type 0 where
   pub file : File
   pub spells : Spells bytes file

@@ -10,7 +10,7 @@ use Rattle.frames.specs.OneWriter.{one_writer}
 use Rattle.tower_file.specs.declared.tower.TowerSpec.{TowerSpec}
 use Rattle.tower_file.specs.declared.tower.TowerSpec.TheVariants.{Safe, Copies, Regular, Unary, Stamped, Matrix}
 
--- how many values a tower has
+-- how many values a tower's register has
 abbrev pub values_of : TowerSpec → ℕ
 values_of (Safe init) = 2
 values_of (Copies readers init) = 2
@@ -19,8 +19,8 @@ values_of (Unary values readers init) = values
 values_of (Stamped values last) = values
 values_of (Matrix processes values last_tag last_stamp) = values
 
--- how many processes a tower has: process 0 and the readers; in a matrix each process writes and
--- reads
+-- how many processes a tower has: in a matrix, the number that its line gives; in any other tower,
+-- the writer and the readers, of which there is one if its line gives no number
 abbrev pub processes_of : TowerSpec → ℕ
 processes_of (Safe init) = 2
 processes_of (Copies readers init) = readers + 1
@@ -33,13 +33,16 @@ processes_of (Matrix processes values last_tag last_stamp) = processes
 abbrev pub is_between : ℕ → ℕ → ℕ → Bool
 is_between least most n = nat_le least n && nat_le n most
 
--- a matrix has at most 512 codes, and at most 4,096 bits: one for each code, writer and reader
+-- whether a matrix with these numbers has at most 512 codes (each is one number for a stamp, a tag,
+-- a process and a value), and at most 4,096 bits: one for each code, writer and reader
 abbrev pub is_small_matrix : ℕ → ℕ → ℕ → ℕ → Bool
 is_small_matrix processes values last_tag last_stamp =
     let codes = (last_stamp + 1) * (last_tag + 1) * processes * values in
     nat_le codes MOST_VALUES && nat_le (processes * processes * codes) MOST_CELLS
 
--- each number is in its range, and the tower isn't too large
+-- whether each number of the tower is in its range, and the tower isn't too large: a stamped
+-- register or a matrix has at most 512 codes (each is one number for a value and what is stored
+-- with it, such as its stamp), and a matrix has at most 4,096 bits
 abbrev pub is_lawful_tower : TowerSpec → Bool
 is_lawful_tower (Safe init) = nat_lt init 2
 is_lawful_tower (Copies readers init) = is_between 1 MOST_READERS readers && nat_lt init 2
@@ -50,8 +53,8 @@ is_lawful_tower (Matrix processes values last_tag last_stamp) =
     ((is_between LEAST_PROCESSES MOST_WRITERS processes && is_between LEAST_VALUES MOST_VALUES values) && nat_lt last_tag MOST_VALUES && nat_lt last_stamp MOST_VALUES)
     && is_small_matrix processes values last_tag last_stamp
 
--- which operations fit a process: in a matrix each process reads and writes each value; every other
--- tower has one writer
+-- whether an operation fits process `who`: in a matrix each process may read, and write each value;
+-- in any other tower process 0 may write each value, and the other processes may read
 abbrev pub suits : TowerSpec → ℕ → Op → Bool
 suits (Matrix processes values last_tag last_stamp) who (op.Write v) = nat_lt who processes && nat_lt v values
 suits (Matrix processes values last_tag last_stamp) who op.Read = nat_lt who processes
@@ -61,10 +64,11 @@ suits (Regular readers init) who o = one_writer 2 (readers + 1) who o
 suits (Unary values readers init) who o = one_writer values (readers + 1) who o
 suits (Stamped values last) who o = one_writer values 2 who o
 
--- a tower's number of processes, and which operations fit each process
+-- how many processes a tower has, and which operations fit each process
 abbrev pub roles : TowerSpec → Roles
 roles t = record { processes = processes_of t; suits = suits t }
 
--- which steps fit a tower
+-- whether a step fits the tower: its process exists and may make such a step, a value to be written
+-- is one of the tower's values, and a choice is 0 or 1
 abbrev pub fits : TowerSpec → Step → Bool
 fits t s = step_fits (roles t) s

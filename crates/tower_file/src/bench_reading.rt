@@ -60,7 +60,8 @@ fn add_branch(
     Ok(())
 }
 
-/// Adds the step of line `number` to the last limb. `spelled` is `None` if the line spells no step.
+/// Adds the step of line `number` to the last limb. `spelled` is that step, or `None` if the line
+/// spells no step.
 fn add_step(
     tower: &TowerSpec,
     limbs: &mut NamedLimbs,
@@ -161,7 +162,7 @@ fn bench_of_lines(alloc: Global, bytes: &[u8]) -> Result<BenchFile, FileFault>
     Ok(BenchFile::of_lawful(tower, limbs))
 }
 
-/// Reads a bench file. Only after a fault are its bytes checked for odd ones.
+/// Reads a bench file. If its lines have a fault, also looks for an odd byte.
 fn bench_of(alloc: Global, bytes: &[u8]) -> Result<BenchFile, FileFault>
     ensures parsed { reading.Parses as_bench SpellsBench spec.bench_of_lines bytes.now result }
     ensures memory { MemoryOnlyIf result (SpellsFront bytes.now) }
@@ -169,8 +170,8 @@ fn bench_of(alloc: Global, bytes: &[u8]) -> Result<BenchFile, FileFault>
     odd_first(bytes, bench_of_lines(alloc, bytes))
 }
 
-/// Whether the bytes are to be read as a bench file: their first line has to be a bench file's
-/// header and to have a line end.
+/// Whether these bytes are to be read as a bench file: their first line is `bench 1` and has a line
+/// end.
 pub fn is_bench(bytes: &[u8]) -> bool
     ensures { result ≡ spec.is_bench bytes.now }
 {
@@ -178,18 +179,22 @@ pub fn is_bench(bytes: &[u8]) -> bool
     has_header(&mut lines)
 }
 
-/// Returns the bench file that the bytes spell, or the first fault in them.
+/// Returns the bench file that the bytes spell. If they spell none, returns their first fault:
+/// NotAscii if some byte is odd (neither a line end nor one of 0x20 to 0x7E), or else the fault of
+/// the first faulty line. If no byte is odd, and memory runs out before a faulty line is reached,
+/// returns Memory on line 0 instead.
 pub fn parse_bench(alloc: Global, bytes: &[u8]) -> Result<BenchFile, FileFault>
     // The bytes spell the file that is returned.
     ensures found { IfOk result (λ b. SpellsBench bytes.now (as_bench b)) }
     // If the bytes spell a file, it is returned, unless memory runs out.
     ensures only { (b : Bench) → SpellsBench bytes.now b → Gives as_bench result (Ok b) }
-    // If the bytes spell no file, their first fault is returned, unless memory runs out.
+    // If the bytes spell no file, their first fault is returned, unless memory runs out. A fault
+    // other than Memory is returned only if they spell no file.
     ensures exact { Gives as_bench result (spec.bench_reading bytes.now) }
     ensures fault { IfErr result (λ e. e.kind ≢ Memory
         → (b : Bench) → SpellsBench bytes.now b → ⊥) }
-    // Memory is reported only if no byte is odd, and no line has a fault up to the one that needed
-    // memory.
+    // Memory is reported only if no byte is odd, and a prefix of the bytes spells a bench file: the
+    // lines up to and including the one that needed memory.
     ensures memory { IfErr result (λ e. e.kind ≡ Memory → (e.line ≡ 0) × SpellsFront bytes.now) }
 {
     bench_of(alloc, bytes)

@@ -11,7 +11,7 @@ use schedule_trie::limb::Limb;
 use std::alloc::{AllocError, Global};
 use std::io::Write;
 
-/// The bytes that spell a bench file.
+/// Returns the bytes that spell `file`. The only error is that memory ran out.
 pub fn print_bench(alloc: Global, file: &BenchFile) -> Result<Vec<u8>, AllocError>
     ensures { IfOk result (λ bytes. SpellsBench bytes.items (as_bench file.now)) }
 {

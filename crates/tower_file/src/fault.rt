@@ -23,7 +23,7 @@ pub enum FaultKind {
     BadField,
     /// A line isn't a step of the file's version that fits the tower, or has no line end. In a
     /// tower file this is a line after the second; in a bench file, a line after the first branch's
-    /// line that isn't a branch's line itself.
+    /// line, whose first word isn't `branch`.
     #[error("14 BadStep")]
     BadStep,
     /// A field of the tower is out of its range, or the tower is too large.
@@ -43,7 +43,7 @@ pub enum FaultKind {
 }
 
 impl FaultKind {
-    /// The fault's number.
+    /// The fault's number: 10 to 17, or 40 for Memory. The fault's message begins with it.
     pub fn number(self) -> u32
         ensures { result ≡ spec.fault_number self }
     {
@@ -60,7 +60,7 @@ impl FaultKind {
         }
     }
 
-    /// The fault's name.
+    /// The fault's name, which is the name of its variant, such as `BadStep`.
     pub fn name(self) -> &'static str
         ensures { result.now ≡ spec.fault_name self }
     {

@@ -7,8 +7,8 @@ use crate::version::{Version, may_have_all};
 use frames::types::Step;
 use schedule_trie::limb::Steps;
 
-/// A version, a lawful tower, and a schedule. The version has each step of the schedule, and each
-/// step fits the tower.
+/// What a tower file says: a version of the file format, a lawful tower, and a schedule. The
+/// version can express each step of the schedule, and each step fits the tower.
 #[derive(Debug, Drop)]
 pub struct TowerFile {
     /// The version.
@@ -26,8 +26,9 @@ impl TowerFile {
     ghost use Rattle.tower_file.specs.Files.{IsLawfulFile, checked_file, file_of};
     ghost use Rattle.tower_file.specs.Said.{as_file};
 
-    /// The file with this version, this tower and these steps. `None` if the tower isn't lawful, or
-    /// if the version doesn't have some step, or if some step doesn't fit the tower.
+    /// Returns the file with this version, tower and steps. Returns `None` if the tower isn't
+    /// lawful, or if some step doesn't fit the tower or can't be expressed in this version (a stop,
+    /// in version 1).
     pub fn new(version: Version, spec: TowerSpec, steps: Vec<Step>) -> Option<TowerFile>
         ensures { option_map as_file result ≡ checked_file version spec steps.items }
     {
@@ -38,8 +39,8 @@ impl TowerFile {
         }
     }
 
-    /// The file with this version, this lawful tower and these steps, which a file of this version
-    /// on this tower may have.
+    /// The file with this version, tower and steps. The tower must be lawful. Each step must fit
+    /// the tower, and be one that this version can express.
     pub(crate) fn of_lawful(version: Version, spec: TowerSpec, steps: Vec<Step>) -> TowerFile
         requires lawful { IsLawfulFile (file_of version spec steps.items) }
         ensures { as_file result ≡ file_of version spec steps.items }

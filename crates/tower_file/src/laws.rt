@@ -8,8 +8,8 @@ ghost use Rattle.tower_file.specs.Benches.{Bench, IsLawfulBench};
 ghost use Rattle.tower_file.specs.BenchSpelling.{SpellsBench, bench_spelling};
 ghost use Rattle.tower_file.specs.BenchReading.{bench_reading};
 
-/// Each lawful tower file has exactly one spelling, and no bytes spell two files. Bytes are read as
-/// a file exactly if they spell that file.
+/// Exactly one list of bytes spells each lawful tower file, and no bytes spell two files. Bytes are
+/// read as a tower file (by `file_reading`) exactly if they spell that file.
 pub fn one_spelling()
     ensures spelling { (f : File) → IsLawfulFile f → Spells (spelling f) f }
     ensures bytes { (f : File) (a b : List ℕ) → Spells a f → Spells b f → a ≡ b }
@@ -18,8 +18,8 @@ pub fn one_spelling()
         → (file_reading bytes ≡ Ok f) ↔ Spells bytes f }
 {}
 
-/// Each lawful bench file has exactly one spelling, and no bytes spell two files. Bytes are read as
-/// a file exactly if they spell that file.
+/// Exactly one list of bytes spells each lawful bench file, and no bytes spell two files. Bytes are
+/// read as a bench file (by `bench_reading`) exactly if they spell that file.
 pub fn one_bench_spelling()
     ensures spelling { (b : Bench) → IsLawfulBench b → SpellsBench (bench_spelling b) b }
     ensures bytes { (b : Bench) (x y : List ℕ) → SpellsBench x b → SpellsBench y b → x ≡ y }

@@ -1,5 +1,6 @@
 //! Tower files: a register tower and a schedule of steps, as text. Bench files: a tower and the
-//! limbs of a forest of branches.
+//! limbs of a forest of branches, as text. A limb is one branch as a file stores it: its name, what
+//! it shares with an earlier branch, and its own steps.
 //!
 //! A file is lines of bytes 0x20 to 0x7E, each ended by a line feed. A line is words separated by
 //! exactly one space. A number is `0`, or a digit 1 to 9 followed by digits, at most 9 digits in
@@ -15,10 +16,11 @@
 //! READERS is 1 to 4, VALUES is 2 to 512, and PROCESSES is 2 to 4. LAST, TAG and STAMP are each 0
 //! to 511. INIT is less than VALUES, or less than 2 if the tower has no VALUES.
 //!
-//! Each further line is a step that fits the tower: `w P V`, `r P`, `g P C` with C 0 or 1, or, only
-//! in version 2, `x P`. In a matrix each process writes and reads. In other towers process 0
-//! writes, and processes 1 to READERS read, or process 1 if the tower has no READERS. Each process
-//! makes bit actions and can stop.
+//! Each further line is a step that fits the tower: `w P V` (process P invokes a write of V), `r P`
+//! (P invokes a read), `g P C` (P makes a bit action, with choice C, 0 or 1), or, only in version
+//! 2, `x P` (P stops). In a matrix each process writes and reads. In other towers process 0 writes,
+//! and processes 1 to READERS read, or process 1 if the tower has no READERS. Each process makes
+//! bit actions and can stop.
 //!
 //! [`parse`] reports the first fault in the order of [`FaultKind`]'s numbers, except that BadStep
 //! (14) comes after BadSize (15). A version, a tower and a list of steps have one spelling
@@ -29,14 +31,14 @@
 //! counted from 0. The branch NAME begins with the first K cells of branch P. NAME is 1 to 16
 //! bytes, a lower-case letter and then lower-case letters or digits, and differs from all earlier
 //! names. Either P and K are 0, or P is an earlier branch, and K is more than that branch's own K
-//! and at most its length. So P is the first branch that has the last shared cell, and a forest has
-//! one spelling ([`laws::one_bench_spelling`]).
+//! and at most the number of that branch's cells. So P is the first branch that has the last shared
+//! cell, and a forest has one spelling ([`laws::one_bench_spelling`]).
 //!
 //! [`parse_bench`] reports NotAscii (10) and the faults of the first two lines as [`parse`] does,
-//! and then the first bad line from the third on. If that line's first word is `branch`, the fault
-//! is BadBranch (16) if its form, its end or its name is wrong, and Tangled (17) if only its P and
-//! K are. For any other line, the fault is BadBranch before the first branch's line, and BadStep
-//! (14) after it. So a file that ends after two lines has the fault BadBranch, on line 3.
+//! and then the fault of the first bad line from the third on. If that line's first word is
+//! `branch`, the fault is BadBranch (16) if the line's form, end or name is wrong, and Tangled (17)
+//! if only P and K are wrong. The fault of any other line is BadBranch before the first branch's
+//! line, and BadStep (14) after it. So a file that ends after two lines has BadBranch on line 3.
 #![tactic(auto)]
 
 mod bench;

@@ -12,8 +12,8 @@ use schedule_trie::name::Name;
 use std::alloc::{AllocError, Global};
 use std::marker::Model;
 
-/// Limbs in order, and a hash set of their names, in which a name is found fast. Contracts see only
-/// the list of limbs.
+/// Limbs in the order of the file, and a hash set of their names, which makes it fast to find a
+/// name. Contracts see only the list of limbs.
 #[derive(Drop)]
 pub(crate) struct NamedLimbs {
     limbs: Vec<Limb>,
@@ -50,7 +50,7 @@ impl NamedLimbs {
         self.limbs.is_empty()
     }
 
-    /// Whether a name has the form of a branch's name, and no limb has it.
+    /// Whether a name has the form of a branch's name, and isn't the name of one of these limbs.
     pub(crate) fn is_new_name(&self, name: &Name) -> bool
         ensures { result ≡ spec.is_new_name self.now name.now }
     {
@@ -58,8 +58,8 @@ impl NamedLimbs {
         name.is_well_formed() && !self.names.contains(name)
     }
 
-    /// Whether `limb` may follow these limbs, given the branch that it starts from and the number
-    /// of cells that it shares with that branch.
+    /// Whether `from` and `shared` of `limb` allow it to follow these limbs: both are 0, or the
+    /// last cell that it shares is one of the own cells of limb number `from`.
     pub(crate) fn may_share(&self, limb: &Limb) -> bool
         ensures { result ≡ spec.may_share self.now limb.now }
     {
@@ -77,7 +77,7 @@ impl NamedLimbs {
         Ok(())
     }
 
-    /// Adds a step to the last limb, if there is one.
+    /// Adds a step to the last limb. Does nothing if there is no limb.
     pub(crate) fn push_step(&mut self, step: Step) -> Result<(), AllocError>
         ensures { OnOk result (self.new ≡ put_step self.old step) }
     {
@@ -92,7 +92,7 @@ impl NamedLimbs {
     }
 }
 
-/// Adds a step to the last limb, if there is one.
+/// Adds a step to the last limb. Does nothing if there is no limb.
 fn put_step(limbs: &mut Vec<Limb>, step: Step) -> Result<(), AllocError>
     ensures put { OnOk result (limbs.new.items ≡ put_step limbs.old.items step) }
     ensures names { map limb_name limbs.new.items ≡ map limb_name limbs.old.items }

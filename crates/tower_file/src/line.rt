@@ -1,4 +1,4 @@
-//! Reading a line: the line of a tower or of a branch.
+//! Reading the line of a tower or the line of a branch.
 
 ghost use Rattle.std.specs.Prelude.{◌≡◌};
 ghost use Rattle.tower_file.specs.Lines as spec;
@@ -11,7 +11,7 @@ use words::number::{four_numbers, one_number, three_numbers, two_numbers};
 use words::parts::Parts;
 use words::step::is;
 
-/// The first word of a tower's line.
+/// The kind of a tower, which is named by the first word of the tower's line.
 #[derive(Clone, Copy, Debug, PartialEq, Eq)]
 pub enum TowerName {
     Safe,
@@ -29,7 +29,7 @@ fn named(word: &[u8], text: &str, name: TowerName) -> Option<TowerName>
     if is(word, text) { Some(name) } else { None }
 }
 
-/// The kind of tower that `word` names; `None` if it names none.
+/// The kind of tower that `word` names; `None` if `word` isn't the name of a tower.
 #[tactic(auto, using(crate::proofs::TowerNames::or_other))]
 pub fn tower_name(word: &[u8]) -> Option<TowerName>
     ensures { result ≡ spec.tower_name word.now }
@@ -42,8 +42,9 @@ pub fn tower_name(word: &[u8]) -> Option<TowerName>
         .or(named(word, "matrix", TowerName::Matrix))
 }
 
-/// Reads the numbers of a tower. `None` if the words aren't exactly the numbers that this kind of
-/// tower has.
+/// Reads the words that are left as the numbers of a tower of this kind, and returns the tower.
+/// `None` if there are too few or too many words, or if one isn't a number. The numbers' ranges
+/// aren't checked.
 pub fn fields_of(name: TowerName, words: &mut Parts<'_>) -> Option<TowerSpec>
     ensures { result ≡ spec.fields_of name words.old }
 {
@@ -92,9 +93,9 @@ pub fn is_branch(line: &[u8]) -> bool
     is(words.next(), "branch")
 }
 
-/// Reads a branch from the words after `branch`: its name, the branch that it starts from, and how
-/// many cells the two branches share. `None` if the words aren't exactly these three. The limb has
-/// no steps yet. Allocates nothing.
+/// Reads the words after `branch` as a limb without steps. There must be exactly three: a name of
+/// at most 16 bytes, the number of the branch that it starts from, and how many cells the two
+/// branches share. `None` if the words don't have this form. Allocates nothing.
 pub fn branch_of(alloc: Global, words: &mut Parts<'_>) -> Option<Limb>
     ensures { result ≡ spec.branch_of words.old }
 {

@@ -44,14 +44,14 @@ fn line_at(place: usize, bytes: &[u8]) -> u64
     bytes[..place].iter().filter(|b| **b == b'\n').count() as u64 + 1
 }
 
-/// A fault on a line.
+/// The fault of this kind on this line.
 pub(crate) fn fault(kind: FaultKind, line: u64) -> FileFault
     ensures { result ≡ faults.fault kind line }
 {
     FileFault { kind, line }
 }
 
-/// The lines of the bytes. They are few enough to be counted in 64 bits.
+/// The lines of the bytes. There are at most 2^63 of them, so their numbers fit in 64 bits.
 pub(crate) fn lines_of(bytes: &[u8]) -> Lines<'_>
     ensures lines { result ≡ lines bytes.now }
     ensures few { length result ≤ 2 ^ 63 }
@@ -60,8 +60,8 @@ pub(crate) fn lines_of(bytes: &[u8]) -> Lines<'_>
     Lines::new(bytes)
 }
 
-/// Reads the first line. Returns the version whose header it is, or `None` if it is no header or
-/// has no line end.
+/// Reads the first line. Returns the version whose header this line is; `None` if the line isn't a
+/// header or has no line end.
 fn version_of(lines: &mut Lines<'_>) -> Option<Version>
     ensures version { result ≡ spec.version_of lines.old }
     ensures left { lines.new ≡ after_next lines.old }
@@ -79,7 +79,8 @@ fn version_of(lines: &mut Lines<'_>) -> Option<Version>
     None
 }
 
-/// Reads the second line, which is the tower's.
+/// Reads the second line of a file, which must be the next of `lines`. Returns the line's tower,
+/// which is lawful, or the line's fault.
 pub(crate) fn tower_of(lines: &mut Lines<'_>) -> Result<TowerSpec, FileFault>
     ensures tower { result ≡ spec.tower_of lines.old }
     ensures lawful { IfOk result (λ tower. is_lawful_tower tower ≡ true) }
@@ -104,7 +105,8 @@ pub(crate) fn tower_of(lines: &mut Lines<'_>) -> Result<TowerSpec, FileFault>
     Ok(tower)
 }
 
-/// Reads the step of line `number`. `None` if nothing follows the last line end.
+/// Reads the step of line `number`. Returns `None` if nothing follows the last line end, and
+/// BadStep if the line isn't a step that the file may have, or has no line end.
 fn next_step(
     version: Version,
     tower: &TowerSpec,
@@ -194,8 +196,9 @@ fn first_fault(bytes: &[u8], of_lines: FileFault) -> FileFault
     }
 }
 
-/// What reading the lines gave, except that an odd byte takes precedence over their fault. If the
-/// lines are those of a file, no byte is odd.
+/// Returns `of_lines`, the result of reading the bytes' lines. But if that is a fault, and some
+/// byte is odd (neither a line end nor one of 0x20 to 0x7E), returns NotAscii on the line of the
+/// first odd byte. If the lines spell a file, no byte is odd, so none is looked for.
 pub(crate) fn odd_first<T>(bytes: &[u8], of_lines: Result<T, FileFault>) -> Result<T, FileFault>
     ensures { result ≡ spec.odd_first bytes.now of_lines }
 {
@@ -205,7 +208,7 @@ pub(crate) fn odd_first<T>(bytes: &[u8], of_lines: Result<T, FileFault>) -> Resu
     }
 }
 
-/// Reads a file. Only after a fault are its bytes checked for odd ones.
+/// Reads a tower file. If its lines have a fault, also looks for an odd byte.
 fn file_of(alloc: Global, bytes: &[u8]) -> Result<TowerFile, FileFault>
     ensures parsed { spec.Parses as_file Spells spec.file_of_lines bytes.now result }
     ensures memory { MemoryOnlyIf result (SpellsSteps bytes.now) }
@@ -213,13 +216,17 @@ fn file_of(alloc: Global, bytes: &[u8]) -> Result<TowerFile, FileFault>
     odd_first(bytes, file_of_lines(alloc, bytes))
 }
 
-/// Returns the tower file that the bytes spell, or the first fault in them.
+/// Returns the tower file that the bytes spell. If they spell none, returns their first fault:
+/// NotAscii if some byte is odd (neither a line end nor one of 0x20 to 0x7E), or else the fault of
+/// the first faulty line. If they spell a file with steps, and there is no memory for the steps,
+/// returns Memory on line 0.
 pub fn parse(alloc: Global, bytes: &[u8]) -> Result<TowerFile, FileFault>
     // The bytes spell the file that is returned.
     ensures found { IfOk result (λ f. Spells bytes.now (as_file f)) }
     // If the bytes spell a file, it is returned, unless memory runs out.
     ensures only { (f : File) → Spells bytes.now f → Gives as_file result (Ok f) }
-    // If the bytes spell no file, their first fault is returned, unless memory runs out.
+    // If the bytes spell no file, their first fault is returned. A fault other than Memory is
+    // returned only if they spell no file.
     ensures exact { Gives as_file result (spec.file_reading bytes.now) }
     ensures fault { IfErr result (λ e. e.kind ≢ Memory → (f : File) → Spells bytes.now f → ⊥) }
     // Memory is reported only if the bytes spell a file that has steps.

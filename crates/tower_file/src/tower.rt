@@ -9,7 +9,7 @@ use frames::register::MOST_CELLS;
 use frames::roles::{HasRoles, step_fits};
 use frames::types::{Op, Step};
 
-/// A tower, by its kind and numbers.
+/// A tower: its kind, and the numbers that its line in a file gives.
 #[derive(Clone, Copy, Debug, PartialEq, Eq)]
 pub enum TowerSpec {
     /// A safe bit.
@@ -59,7 +59,9 @@ impl TowerSpec {
         }
     }
 
-    /// Whether the tower's numbers are in their ranges, and the tower isn't too large.
+    /// Whether each number of the tower is in its range, and the tower isn't too large: a stamped
+    /// register or a matrix has at most 512 codes (each is one number for a value and what is
+    /// stored with it, such as its stamp), and a matrix has at most 4,096 bits.
     pub fn is_lawful(&self) -> bool
         ensures { result ≡ spec.is_lawful_tower self.now }
     {
@@ -91,7 +93,8 @@ impl TowerSpec {
         }
     }
 
-    /// Whether a step fits the tower.
+    /// Whether a step fits the tower: its process exists and may make such a step, a value to be
+    /// written is one of the tower's values, and a choice is 0 or 1.
     pub fn fits(&self, step: Step) -> bool
         ensures { result ≡ spec.fits self.now step }
     {
@@ -114,7 +117,7 @@ impl HasRoles for TowerSpec {
         }
     }
 
-    // In a matrix each process writes and reads; in every other tower process 0 alone writes.
+    // In a matrix each process writes and reads; in other towers process 0 writes and others read.
     fn suits(&self, who: u32, op: Op) -> bool {
         let values = self.values();
         let processes = self.process_count();

@@ -11,7 +11,7 @@ use frames::types::Step;
 use std::alloc::{AllocError, Global};
 use words::step::{append_step, push_words};
 
-/// The bytes that spell a tower file.
+/// Returns the bytes that spell `file`. The only error is that memory ran out.
 pub fn print(alloc: Global, file: &TowerFile) -> Result<Vec<u8>, AllocError>
     ensures { IfOk result (λ bytes. Spells bytes.items (as_file file.now)) }
 {
@@ -24,7 +24,7 @@ pub fn print(alloc: Global, file: &TowerFile) -> Result<Vec<u8>, AllocError>
     Ok(out)
 }
 
-/// Adds the line of a tower.
+/// Adds the line of a tower, with its line end, at the end of `out`.
 pub(crate) fn push_tower(out: &mut Vec<u8>, tower: &TowerSpec) -> Result<(), AllocError>
     ensures { OnOk result (out.new.items ≡ out.old.items ++ text_with_end (tower_text tower.now)) }
 {
@@ -47,7 +47,7 @@ pub(crate) fn push_tower(out: &mut Vec<u8>, tower: &TowerSpec) -> Result<(), All
     }
 }
 
-/// Adds the line of a step.
+/// Adds the line of a step, with its line end, at the end of `out`.
 pub(crate) fn push_step_line(out: &mut Vec<u8>, step: Step) -> Result<(), AllocError>
     ensures { OnOk result (out.new.items ≡ out.old.items ++ text_with_end (step_text step)) }
 {
@@ -56,7 +56,7 @@ pub(crate) fn push_step_line(out: &mut Vec<u8>, step: Step) -> Result<(), AllocE
     Ok(())
 }
 
-/// Adds a line that is a word and then numbers.
+/// Adds a line at the end of `out`: a word, each number with a space before it, and a line end.
 pub(crate) fn push_line(out: &mut Vec<u8>, word: &str, numbers: &[u32]) -> Result<(), AllocError>
     ensures { OnOk result
         (out.new.items ≡ out.old.items ++ text_with_end (text word.now numbers.now)) }

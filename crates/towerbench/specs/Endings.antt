@@ -15,7 +15,7 @@ use Rattle.towerbench.specs.declared.ending.Ending.{Ending}
 use Rattle.towerbench.specs.declared.ending.Ending.TheVariants.{Done, Refused, Faulted}
 use Rattle.towerbench.specs.Opening.{IsUnopened, IsUntouched, Ran, RanInto}
 
--- the bytes of the file are given exactly if a file is named
+-- the bytes of a file are given exactly if the words name a file
 abbrev pub IsRead : Bool → Option (List ℕ) → Type 0
 IsRead named bytes = is_some bytes ≡ named
 
@@ -24,8 +24,9 @@ abbrev pub ending_of : Result ⊤ Fault → Ending
 ending_of (Ok done) = Done
 ending_of (Err e) = Faulted (Run e)
 
--- A run of the program over a file of these bytes, or without a file, ends with this fault. If
--- saving failed, saving was asked for, and the script had ended well.
+-- A run of the program over a file of these bytes, or without a file, ended with this fault. If the
+-- fault is Save, saving was asked for (`saves`), and the script had ended well. After any other
+-- fault, what was read and written is as `RanInto` says.
 abbrev pub FailsBy : Bool → Option (List ℕ) → Limits → Option (List ℕ) → Option (List ℕ) → Option (List ℕ) → Option (List ℕ) → Fault → Type 0
 FailsBy saves bytes limits old now before after (fault.File e) = RanInto saves bytes limits old now before after (fault.File e)
 FailsBy saves bytes limits old now before after (fault.Refused r) = RanInto saves bytes limits old now before after (fault.Refused r)
@@ -35,16 +36,17 @@ FailsBy saves bytes limits old now before after fault.TooLong = RanInto saves by
 FailsBy saves bytes limits old now before after fault.Memory = RanInto saves bytes limits old now before after fault.Memory
 FailsBy saves bytes limits old now before after fault.Save = (saves ≡ true) × Ran bytes limits old now before after
 
--- Why there are no branches to work on. Either the named file can't be read; or the file has a
--- fault; or there is no memory for the branches.
+-- The program has this fault before there are branches to work on: the named file can't be read, or
+-- its bytes have a fault, or, without a file, there is no memory for the branches.
 abbrev pub IsLacking : Bool → ProgramFault → Type 0
 IsLacking named (Source e) = named ≡ true
 IsLacking named (Run e) = (bytes : Option (List ℕ)) × IsRead named bytes × IsUnopened bytes e
 IsLacking named Help = ⊥
 IsLacking named Memory = ⊥
 
--- How a run of the program over the named file, or without a file, ends. If the file can't be read,
--- the script isn't read and nothing is written.
+-- A run of the program over the named file, or without a file, ends in this way. It ends well; or
+-- the file can't be read, and then nothing was read from the script or written; or the run ends
+-- with a fault of its own.
 abbrev pub WorksOut : Bool → Limits → Bool → Option (List ℕ) → Option (List ℕ) → Option (List ℕ) → Option (List ℕ) → Ending → Type 0
 WorksOut named limits saves old now before after Done = (bytes : Option (List ℕ)) × IsRead named bytes × Ran bytes limits old now before after
 WorksOut named limits saves old now before after (Refused text) = ⊥
@@ -61,7 +63,9 @@ RunsBy words old now before after ending =
     (file : Option Text) × ((options : Options) × ((save : Option Text)
     × (Says words file options save × WorksOut (is_some file) (limits_of options) (is_some save) old now before after ending)))
 
--- the help was written, or a prefix of it before a write failed
+-- The printing of the help ended in this way: done, or with the fault Help. Either way, the writer
+-- kept the bytes that it held, and bytes were added after them: which ones, and how many, isn't
+-- said; there may be none.
 abbrev pub IsPrinted : Option (List ℕ) → Option (List ℕ) → Ending → Type 0
 IsPrinted before after Done = (help : List ℕ) × Appends before after help
 IsPrinted before after (Refused text) = ⊥
@@ -70,14 +74,15 @@ IsPrinted before after (Faulted (Source e)) = ⊥
 IsPrinted before after (Faulted (Run e)) = ⊥
 IsPrinted before after (Faulted Memory) = ⊥
 
--- the words ask for the help, nothing is read, and the help is printed
+-- The words ask for the help. Nothing is read from the script, and the printing of the help ends in
+-- this way: done, or with the fault Help.
 abbrev pub HelpsBy : List Text → Option (List ℕ) → Option (List ℕ) → Option (List ℕ) → Option (List ℕ) → Ending → Type 0
 HelpsBy words old now before after ending = AsksHelp words × (now ≡ old) × IsPrinted before after ending
 
 -- How the program ends. It is done if the words ask for the help and the help was written, or if
 -- the words are accepted and the script was answered. The words are refused only if they are wrong.
--- A fault is one of the file, of the run of the program, of saving or of a write of the help, or it
--- is that there was no memory to read the words.
+-- A fault means that the file couldn't be read, that the run of the program or the save failed,
+-- that a write of the help failed, or that there was no memory to read the words.
 abbrev pub ProgramEndsBy : List Text → Option (List ℕ) → Option (List ℕ) → Option (List ℕ) → Option (List ℕ) → Ending → Type 0
 ProgramEndsBy words old now before after Done = HelpsBy words old now before after Done ⊎ RunsBy words old now before after Done
 ProgramEndsBy words old now before after (Refused text) = IsWrong words × IsUntouched old now before after
@@ -86,7 +91,7 @@ ProgramEndsBy words old now before after (Faulted Memory) = IsUntouched old now 
 ProgramEndsBy words old now before after (Faulted (Source e)) = RunsBy words old now before after (Faulted (Source e))
 ProgramEndsBy words old now before after (Faulted (Run e)) = RunsBy words old now before after (Faulted (Run e))
 
--- the program's exit status
+-- the program's exit status: 0 if it is done, 2 if the words are refused, 1 after a fault
 abbrev pub exit_status : Ending → ℕ
 exit_status Done = 0
 exit_status (Refused text) = 2

@@ -34,20 +34,20 @@ use Rattle.conversation.specs.Conversations.{Answering, IsAnswered, Breaks, Wrot
 use Rattle.towerbench.specs.declared.fault.Fault.{Fault}
 use Rattle.towerbench.specs.declared.fault.Fault.TheVariants as fault
 
--- the limb of a single branch `main`, which has these steps
+-- the limb (a branch as a file stores it) of a single branch `main`, which has these steps
 abbrev pub main_limb : List Step → Limb
 main_limb steps = record { name = codes "main"; from = 0; shared = 0; steps = steps }
 
--- the bench of a tower with a single branch `main`, which has these steps; and such a bench for a
--- tower file
+-- the bench of a tower with a single branch `main`, which has these steps
 abbrev pub one_branch : TowerSpec → List Step → Bench
 one_branch t steps = bench_of t (main_limb steps ∷ [])
 
+-- the bench of a tower file: its tower with a single branch `main`, which has the file's steps
 abbrev pub bench_in : File → Bench
 bench_in f = one_branch f.spec f.steps
 
--- what bytes are read as: a bench file, or a tower file, whose steps become those of a branch
--- `main`
+-- what bytes are read as, or their first fault: given `true`, a bench file; given `false`, a tower
+-- file, whose steps become those of a branch `main`
 abbrev pub said_by : Bool → List ℕ → Result Bench FileFault
 said_by true bytes = bench_reading bytes
 said_by false bytes = file_reading bytes >>= λ f. Ok (bench_in f)
@@ -58,22 +58,24 @@ abbrev pub opened_bench : Option (List ℕ) → Result Bench FileFault
 opened_bench None = Ok (one_branch (Safe 0) [])
 opened_bench (Some bytes) = said_by (is_bench bytes) bytes
 
--- the world before the first line: a register that holds this value, these limits, and the branches
--- of these limbs
+-- the world that a script's first line finds: a register with this behaviour and initial value,
+-- these limits, and the branches that these limbs describe
 abbrev pub opening_of_limbs : {P : Type 0} → Behaviour P → ℕ → Limits → List Limb → World P
 opening_of_limbs b value limits ls = sessions.opening b value limits (forest_of ls)
 
--- the answers to a script's lines, and the branches that these lines leave, given which of the
--- lines were refused memory
+-- What scripts do. From a script's lines and the marks of those that were refused memory,
+-- `answering` gives the answers, and `leaving` gives the branches that the lines leave.
 pub record Course : Type 0 where
   pub answering : Answering
   pub leaving : List (List ℕ) → Marks → Forest
 
--- the course of scripts from a world
+-- the course of scripts (their answers, and the branches that they leave) whose first line finds
+-- this world
 abbrev pub course_from : {P : Type 0} → World P → Course
 course_from w = record { answering = answers_to answer_line w; leaving = λ lines marks. (after_lines answer_line w lines marks).world.forest }
 
--- the course of scripts on a tower from its initial value, with these limits and limbs
+-- the course of scripts (their answers, and the branches that they leave) on a tower from its
+-- initial value, with these limits and the branches of these limbs
 abbrev pub course_of : TowerSpec → Limits → List Limb → Course
 course_of (Safe init) limits ls = course_from (opening_of_limbs safe_behaviour init limits ls)
 course_of (Copies readers init) limits ls = course_from (opening_of_limbs (copies_tower readers) init limits ls)
@@ -82,35 +84,40 @@ course_of (Unary values readers init) limits ls = course_from (opening_of_limbs 
 course_of (Stamped values last) limits ls = course_from (opening_of_limbs (stamped_tower values last) 0 limits ls)
 course_of (Matrix processes values last_tag last_stamp) limits ls = course_from (opening_of_limbs (matrix_tower processes values last_tag last_stamp) 0 limits ls)
 
--- the course of scripts on a bench
+-- the course of scripts (their answers, and the branches that they leave) on a bench, with these
+-- limits
 abbrev pub course_on : Bench → Limits → Course
 course_on b limits = course_of b.spec limits b.limbs
 
--- nothing was read or written
+-- nothing was read or written: the reader has the bytes left that it had, and the writer holds the
+-- bytes that it held
 abbrev pub IsUntouched : Option (List ℕ) → Option (List ℕ) → Option (List ℕ) → Option (List ℕ) → Type 0
 IsUntouched old now before after = (now ≡ old) × (after ≡ before)
 
--- A run of the program ended well: its branches are within the limits, and its script was answered.
+-- A run of the program on this bench ended well: the bench's branches are within the limits, the
+-- script was read to its end, and the answers to all its lines were written.
 pub record IsDone (limits : Limits) (b : Bench) (old now before after : Option (List ℕ)) : Type 0 where
   pub room : loaded limits b.limbs ≡ Ok (forest_of b.limbs)
   pub answered : IsAnswered (course_on b limits).answering old now before after
 
--- A run of the program ended well and left this bench: the tower that it had opened, and the limbs
--- of the branches that its lines left.
+-- A run of the program on bench `b` ended well and left the bench `left`: the tower of `b`, and the
+-- limbs of the branches that the script's lines left.
 pub record IsLeftBench (limits : Limits) (b left : Bench) (old now before after : Option (List ℕ)) : Type 0 where
   pub done : IsDone limits b old now before after
   pub tower : left.spec ≡ b.spec
   pub branches : left.limbs ≡ limbs ((course_on b limits).leaving (lines_of done.answered.script) done.answered.marks)
 
--- A run of the program ended with this fault of its streams: its branches are within the limits,
--- and no more was written than this fault allows.
+-- A run of the program on this bench ended with this fault of its streams. The bench's branches are
+-- within the limits, and what was read and written is as `Breaks` says for this fault.
 pub record IsBroken (limits : Limits) (b : Bench) (fault : StreamFault) (old now before after : Option (List ℕ)) : Type 0 where
   pub room : loaded limits b.limbs ≡ Ok (forest_of b.limbs)
   pub broke : Breaks (course_on b limits).answering fault old now before after
 
--- A run of the program over a bench ends with this fault: the branches are refused as they are
--- loaded, or a stream failed, or memory ran out. If the branches are to be reported, memory may
--- also run out for that, after a script that ended well.
+-- A run of the program on a bench ended with this fault. Either the branches were refused as they
+-- were loaded, and nothing was read or written; or a stream failed, the script was too long, or
+-- memory ran out, and what was read and written is as `IsBroken` says. If the branches are to be
+-- reported (`reports`), memory may also have run out during the report, after a script that ended
+-- well.
 abbrev pub FailsOver : Bool → Limits → Bench → Option (List ℕ) → Option (List ℕ) → Option (List ℕ) → Option (List ℕ) → Fault → Type 0
 FailsOver reports limits b old now before after (fault.File e) = ⊥
 FailsOver reports limits b old now before after (fault.Refused r) = IsRefused (loaded limits b.limbs) r × IsUntouched old now before after
@@ -121,34 +128,36 @@ FailsOver reports limits b old now before after fault.Memory =
     IsBroken limits b stream.Memory old now before after ⊎ ((reports ≡ true) × IsDone limits b old now before after)
 FailsOver reports limits b old now before after fault.Save = ⊥
 
--- the bytes that are returned for the bench that a run of the program left: they spell the bench if
--- it is asked for, and there are none otherwise
+-- What a run of the program returns as bytes about `left`, the bench that it left: bytes that spell
+-- `left` if the branches are to be reported, and otherwise no bytes.
 abbrev pub IsReported : Bool → Bench → List ℕ → Type 0
 IsReported true left bytes = SpellsBench bytes left
 IsReported false left bytes = bytes ≡ []
 
--- how a run of the program over a bench ends: well, with bytes for the bench that it left, or with
--- a fault
+-- A run of the program on a bench ended with this result: with bytes, if it ended well (they spell
+-- the bench that it left if `reports`, and otherwise there are none), or with a fault.
 abbrev pub EndsOver : Bool → Limits → Bench → Option (List ℕ) → Option (List ℕ) → Option (List ℕ) → Option (List ℕ) → Result (Vec ℕ Global) Fault → Type 0
 EndsOver reports limits b old now before after (Ok bytes) =
     (left : Bench) × IsLeftBench limits b left old now before after × IsReported reports left bytes.items
 EndsOver reports limits b old now before after (Err e) = FailsOver reports limits b old now before after e
 
--- a run of the program over a file, or without one, ended well
+-- a run of the program over a file, or without one, ended well: a bench was opened, the script was
+-- read to its end, and the answers to all its lines were written
 abbrev pub Ran : Option (List ℕ) → Limits → Option (List ℕ) → Option (List ℕ) → Option (List ℕ) → Option (List ℕ) → Type 0
 Ran file limits old now before after = (b : Bench) × ((opened_bench file ≡ Ok b) × IsDone limits b old now before after)
 
--- the bytes have no fault as far as they were read before memory ran out
+-- What is known of bytes if memory ran out while they were read. If they were read as a bench file,
+-- a prefix spells a bench file, and no byte is odd; otherwise all of them spell a tower file.
 abbrev pub AreSound : Bool → List ℕ → Type 0
 AreSound true bytes = SpellsFront bytes
 AreSound false bytes = (f : File) × Spells bytes f
 
--- the fault of a file's bytes: the first fault in them; or Memory, and then the bytes have no fault
--- as far as they were read
+-- reading a file's bytes ends with the fault e: the first fault of the bytes; or Memory, and then
+-- the bytes are as `AreSound` says
 abbrev pub IsFileFault : FileFault → List ℕ → Type 0
 IsFileFault e bytes = Fails e.kind e (opened_bench (Some bytes)) × (e.kind ≡ kind.Memory → AreSound (is_bench bytes) bytes)
 
--- why nothing is opened: a fault of the file; or, without a file, memory ran out
+-- no bench is opened, for this reason: the file has a fault; or, without a file, memory ran out
 abbrev pub IsUnopened : Option (List ℕ) → Fault → Type 0
 IsUnopened file (fault.File e) = MatchOption file ⊥ (IsFileFault e)
 IsUnopened file (fault.Refused r) = (file ≡ None) × (r ≡ Memory)
@@ -158,12 +167,14 @@ IsUnopened file fault.TooLong = ⊥
 IsUnopened file fault.Memory = ⊥
 IsUnopened file fault.Save = ⊥
 
--- a file, or none, was opened, and the run of the program over it ended with this fault
+-- a bench was opened (that of the file, or the one without a file), and the run of the program on
+-- it ended with this fault
 abbrev pub FailsOpen : Bool → Option (List ℕ) → Limits → Option (List ℕ) → Option (List ℕ) → Option (List ℕ) → Option (List ℕ) → Fault → Type 0
 FailsOpen reports file limits old now before after e = (b : Bench) × ((opened_bench file ≡ Ok b) × FailsOver reports limits b old now before after e)
 
--- how a run of the program fails: with a fault of its file, if there is one; or after what it works
--- on was opened
+-- A run of the program ended with this fault. Either the fault is one of its file, and nothing was
+-- read or written; or a bench was opened, and the run on that bench ended with this fault, as
+-- `FailsOver` says.
 abbrev pub RanInto : Bool → Option (List ℕ) → Limits → Option (List ℕ) → Option (List ℕ) → Option (List ℕ) → Option (List ℕ) → Fault → Type 0
 RanInto reports file limits old now before after (fault.File e) = MatchOption file ⊥ (IsFileFault e) × IsUntouched old now before after
 RanInto reports file limits old now before after (fault.Refused r) = FailsOpen reports file limits old now before after (fault.Refused r)
@@ -182,13 +193,15 @@ pub record RanLeaving (file : Option (List ℕ)) (limits : Limits) (bytes : List
   pub leaves : IsLeftBench limits bench left old now before after
   pub spells : SpellsBench bytes left
 
--- a run of the program ended well, and the bytes of its branches were added to the saver, which
--- held `kept` before
+-- a run of the program ended well, and the bytes that spell its tower and the branches that it left
+-- were written to the saver, after `kept`, which the saver held before
 abbrev pub RanSaving : Option (List ℕ) → Limits → Option (List ℕ) → Option (List ℕ) → Option (List ℕ) → Option (List ℕ) → Option (List ℕ) → Option (List ℕ) → Type 0
 RanSaving file limits old now before after kept saved = (bytes : List ℕ) × RanLeaving file limits bytes old now before after × Appends kept saved bytes
 
--- How a run of the program that saves fails. If saving fails, the saver took a prefix of the bytes;
--- if the run fails before that, the saver took nothing.
+-- A run of the program that saves ended with this fault. If the fault is Save, the script had ended
+-- well, and the saver took a prefix of the bytes that spell the tower and the branches that were
+-- left. After any other fault, the saver took nothing, and what was read and written is as
+-- `RanInto` says.
 abbrev pub SavesInto : Option (List ℕ) → Limits → Option (List ℕ) → Option (List ℕ) → Option (List ℕ) → Option (List ℕ) → Option (List ℕ) → Option (List ℕ) → Fault → Type 0
 SavesInto file limits old now before after kept saved fault.Save =
     (bytes : List ℕ) × RanLeaving file limits bytes old now before after × WroteFront kept saved bytes

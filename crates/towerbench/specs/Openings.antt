@@ -19,20 +19,20 @@ use Rattle.towerbench.specs.declared.opening.Reporting.{Reporting}
 use Rattle.towerbench.specs.declared.opening.Reporting.TheVariants.{Nothing, Branches}
 use Rattle.towerbench.specs.Opening.{opening_of_limbs, course_from, course_of, EndsOver}
 
--- A register with an initial value is a tower's: the same steps fit both, and scripts have the same
--- course on both.
+-- This register, from this initial value, does what tower t does: the same steps fit both, and
+-- scripts get the same answers and leave the same branches on both.
 pub record Builds {R P : Type 0} (is : R → Behaviour P) (register : R) (value : ℕ) (t : TowerSpec) : Type 0 where
   pub alike : (s : Step) → fits t s ≡ fits_step (is register) s
   pub course : (limits : Limits) (ls : List Limb) → course_of t limits ls ≡ course_from (opening_of_limbs (is register) value limits ls)
 
--- the initial value is one of the register's values, the register is the tower's, and the options
--- are in their ranges
+-- A desk can be opened with this: the initial value is one of the register's values, the options
+-- are in their ranges, and the register and the initial value are those of the setup's tower.
 pub record CanOpen {R P : Type 0} (is : R → Behaviour P) (o : Opening R) : Type 0 where
   pub value : o.value < (is o.register).values
   pub limits : AreOptionsInRange o.setup.options
   pub builds : Builds is o.register o.value o.setup.bench.spec
 
--- the world before the first line of the script
+-- the world that the first line of the script finds: the one that this opening describes
 abbrev pub opening_world : {R P : Type 0} → (R → Behaviour P) → Opening R → World P
 opening_world is o = opening_of_limbs (is o.register) o.value (limits_of o.setup.options) o.setup.bench.limbs
 
@@ -41,6 +41,7 @@ abbrev pub is_reported : Reporting → Bool
 is_reported Nothing = false
 is_reported Branches = true
 
--- how a run of the program with this setup ends
+-- A run of the program with this setup, and with this choice of what is returned about the branches
+-- that it left, ended with this result.
 abbrev pub EndsFrom : Setup → Reporting → Option (List ℕ) → Option (List ℕ) → Option (List ℕ) → Option (List ℕ) → Result (Vec ℕ Global) Fault → Type 0
-EndsFrom setup telling old now before after result = EndsOver (is_reported telling) (limits_of setup.options) (as_bench setup.bench) old now before after result
+EndsFrom setup reporting old now before after result = EndsOver (is_reported reporting) (limits_of setup.options) (as_bench setup.bench) old now before after result

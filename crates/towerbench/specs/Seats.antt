@@ -1,4 +1,4 @@
--- Seats: a desk with a chair of it.
+-- Seats: a desk and one of its chairs.
 use Rattle.std.specs.Prelude.{ℕ, ◌≡◌, ◌++◌, Bool, List}
 use Rattle.turn.specs.declared.view.View.{View}
 use Rattle.turn.specs.Shares.{HasAll}
@@ -13,27 +13,29 @@ use Rattle.sessions.specs.Held.{Held, opening_of}
 use Rattle.sessions.specs.Logs.{world_after}
 use Rattle.sessions.specs.World.{World}
 
--- the book that the desk was opened with, the history that the chair has seen, and the chair's
--- shares
+-- what contracts see of a seat: the book (branches, sessions and log) that its desk was opened
+-- with, the history of logged calls that its chair has seen, and the chair's shares
 pub record Seated (R P : Type 0) : Type 0 where
   pub first : Held R P
   pub seen : List Entry
   pub shares : List Bool
 
--- the seat of a chair at a desk, given what the chair knows
+-- the seat of a chair at a desk, given the chair's view `v`: its shares, and the calls that it has
+-- seen
 abbrev pub seated : {R P : Type 0} → Desk R P → View (Item R P) → Seated R P
 seated desk v = record { first = book_at_first desk; seen = seen v; shares = v.shares }
 
--- nobody else is at the desk: the chair holds every share
+-- the seat's chair holds every share, so that no one else can call the desk
 abbrev pub IsAlone : {R P : Type 0} → Seated R P → Type 0
 IsAlone s = HasAll s.shares
 
--- the world that lines see and change: the one after the history that the chair has seen
+-- the world that a script's lines see and change at this seat: the one after the history of logged
+-- calls that the chair has seen
 abbrev pub world_at : {R P : Type 0} → (R → Behaviour P) → Seated R P → World P
 world_at is s = world_after (opening_of is s.first) s.seen
 
--- an answer is added after what was there before, and this world is left; `memory` is whether the
--- call was refused memory
+-- A call was answered. Its answer was added after the bytes `before`, and the call left the world
+-- `left`. `answered` gives both, given whether the call was refused memory, which is `memory`.
 pub record AddsAnswer {W : Type 0} (answered : Bool → Answered W) (left : W) (before after : List ℕ) : Type 0 where
   pub memory : Bool
   pub text : List ℕ

@@ -43,7 +43,9 @@ impl<R: Register, W: Wait> Answers for Seat<'_, R, W> {
 /// `Ok` if the answer to a line was added; an error if there was no memory for the answer's text.
 pub(crate) type LineAnswer = Result<(), AllocError>;
 
-/// Adds the answer to `line`, the line with this number, to `out`.
+/// Adds the answer to `line`, which is line `number` of the script, at the end of `out`. If the
+/// seat's chair holds every share, and the result is `Ok`, the line was answered in the world that
+/// the seat had, and the seat now has the world after the line.
 pub(crate) fn answer<R: Register + Send + Sync, W: Threads + Wait + Sync>(
     alloc: Global,
     seat: &mut Seat<'_, R, W>,

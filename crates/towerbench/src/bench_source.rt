@@ -1,5 +1,5 @@
-//! The tower and the branches that a run of the program opens with: those of its file; without a
-//! file, a safe bit at 0 and one branch without steps.
+//! The tower and the branches that a run of the program opens with: those of its file; or, if it
+//! has no file, a safe bit at 0 and one branch without steps.
 
 ghost use Rattle.std.specs.Prelude.{◌≡◌, Some, Ok, IfOk, IfErr, true};
 ghost use Rattle.std.specs.Option.{option_map};
@@ -18,9 +18,10 @@ use schedule_trie::refusal::Refusal;
 use std::alloc::{AllocError, Global};
 use tower_file::{BenchFile, FileFault, TowerFile, TowerSpec, is_bench, parse, parse_bench};
 
-/// The tower and the branches that the bytes of `file` spell. If their first line is a bench file's
-/// header, they are read as a bench file; otherwise as a tower file, whose steps become those of a
-/// branch `main`. If `file` is `None`, a safe bit at 0, and a branch `main` without steps.
+/// The tower and the branches that the bytes of `file` spell. If the first line is a bench file's
+/// header, the bytes are read as a bench file; otherwise as a tower file, whose steps become those
+/// of a branch `main`. If `file` is `None`, returns a safe bit at 0 and a branch `main` without
+/// steps. An error if the bytes have a fault, or memory runs out.
 pub(crate) fn open_file(alloc: Global, file: Option<&[u8]>) -> Result<BenchFile, Fault>
     ensures ok { IfOk result (λ bench.
         opened_bench (option_map (λ bytes. bytes.now) file.entry) ≡ Ok (as_bench bench)) }
@@ -65,7 +66,9 @@ fn one_branch(alloc: Global, tower: TowerSpec, steps: Steps) -> Result<BenchFile
     Ok(of_lawful(tower, limbs))
 }
 
-/// The bench file with this lawful tower and these limbs, which are lawful and fit the tower.
+/// The bench file with this tower and these limbs. The tower must be lawful. There must be at least
+/// one limb. Each limb must be one that may follow those before it; its `from` and `shared` must be
+/// below 10^9, and its steps must fit the tower.
 pub(crate) fn of_lawful(spec: TowerSpec, limbs: Vec<Limb>) -> BenchFile
     requires lawful { IsLawfulBench (bench_of spec limbs.items) }
     ensures { as_bench result ≡ bench_of spec limbs.items }

@@ -1,11 +1,12 @@
-//! What a script's desk is opened with.
+//! What a script's desk (its branches, sessions and log, inside a lock) is opened with.
 
 ghost use Rattle.std.specs.Prelude.{◌≡◌};
 
 use command_line::Options;
 use tower_file::BenchFile;
 
-/// What is done with a seat when its script has ended well. After a fault a seat is always dropped.
+/// What is done with a seat (a desk and one of its chairs) after a script that ended well. After a
+/// fault the seat is always dropped.
 #[derive(Clone, Copy)]
 pub(crate) enum Fate {
     /// The seat is dropped, because the process goes on and needs the memory of the desk.
@@ -15,7 +16,7 @@ pub(crate) enum Fate {
     Forgotten,
 }
 
-/// What is returned about the branches that a script left.
+/// What a run of the program returns about the branches that its script left.
 #[derive(Clone, Copy)]
 pub(crate) enum Reporting {
     /// Nothing.
@@ -24,7 +25,8 @@ pub(crate) enum Reporting {
     Branches,
 }
 
-/// A tower and its branches, the options, and what is done with the seat.
+/// What a run of the program begins with: a tower and its branches, the options, and what is done
+/// with the seat after the script.
 #[derive(Drop)]
 pub(crate) struct Setup {
     pub bench: BenchFile,
@@ -33,7 +35,8 @@ pub(crate) struct Setup {
 }
 
 impl Setup {
-    /// The setup of a run of the program after which the process goes on.
+    /// The setup of a run of the program after which the process goes on, so that the seat is
+    /// dropped.
     pub(crate) fn new(bench: BenchFile, options: Options) -> Setup
         ensures bench { result.bench ≡ bench }
         ensures options { result.options ≡ options }
@@ -45,7 +48,8 @@ impl Setup {
         }
     }
 
-    /// The setup of a run of the program after which the process ends.
+    /// The setup of a run of the program after which the process ends, so that the seat isn't
+    /// dropped.
     pub(crate) fn last(bench: BenchFile, options: Options) -> Setup
         ensures bench { result.bench ≡ bench }
         ensures options { result.options ≡ options }
@@ -58,7 +62,7 @@ impl Setup {
     }
 }
 
-/// What a desk is opened with: a tower's register, its initial value, and a setup.
+/// What a desk is opened with: the register of a tower, that register's initial value, and a setup.
 #[derive(Drop)]
 pub(crate) struct Opening<R> {
     pub register: R,

@@ -26,9 +26,12 @@ use std::sync::Wait;
 use std::thread::Threads;
 use tower_file::BenchFile;
 
-/// Does the program's work, and returns the exit status: 0 at the end of the script or after the
-/// help, 1 after a fault, 2 if the words are refused. A process should end after this call: after a
-/// script that ended well, the memory of the branches is freed only when the process ends.
+/// Does what `words`, the words after the program's name, ask for: reads a script from `reader`,
+/// writes the answers to `writer`, and saves the branches if a path to save to is given; or writes
+/// the help to `writer`. Reports a fault or a refusal to `errors`. Returns the exit status: 1 after
+/// a fault, such as a failed save, and 2 if the words are refused; otherwise 0, and then the whole
+/// script was answered or the help was written. The process should end after this call: after a
+/// script that ended well, the memory of the branches isn't freed until then.
 pub fn tool<F: Files + AllocGlobal + Threads + Wait + Sync, R: Read, W: Write, E: Write>(
     files: &F,
     words: io::Result<Vec<String>>,
@@ -42,10 +45,11 @@ pub fn tool<F: Files + AllocGlobal + Threads + Wait + Sync, R: Read, W: Write, E
         (R.remaining reader.new)
         (W.contents writer.old) (W.contents writer.new) ending
         × (result ≡ exit_status ending)) }
+    // If `words` is an error, nothing is read from `reader` or written to `writer`.
     ensures unread { OnErr words (IsUntouched (R.remaining reader.old) (R.remaining reader.new)
         (W.contents writer.old) (W.contents writer.new) × (1 ≤ result)) }
-    // If there is no memory for the words, that is a fault; if a word isn't text, the words are
-    // refused.
+    // If that error is OutOfMemory, the program ends with a fault, and the status is 1. After any
+    // other error (a word isn't text), the words are refused, and the status is 2.
     ensures no_memory { IfErr words (λ e. error_kind e ≡ ErrorKind.OutOfMemory → result ≡ 1) }
     ensures not_text { IfErr words (λ e. error_kind e ≢ ErrorKind.OutOfMemory → result ≡ 2) }
 {
@@ -54,7 +58,7 @@ pub fn tool<F: Files + AllocGlobal + Threads + Wait + Sync, R: Read, W: Write, E
             let ending = follow(files, words.as_slice(), reader, writer);
             report(errors, ending)
         }
-        Err(e) if e.kind() == ErrorKind::OutOfMemory => tell(errors, ProgramFault::Memory),
+        Err(e) if e.kind() == ErrorKind::OutOfMemory => report_fault(errors, ProgramFault::Memory),
         Err(_) => {
             let _ = writeln!(errors, "towerbench: a word of the command line is not text");
             2
@@ -72,11 +76,11 @@ fn report<E: Write>(errors: &mut E, ending: Ending) -> u8
             let _ = errors.write_all(text.as_bytes());
             2
         }
-        Ending::Faulted(fault) => tell(errors, fault),
+        Ending::Faulted(fault) => report_fault(errors, fault),
     }
 }
 
-/// Does what the words ask for.
+/// Does what the words ask for, and returns how the program ends.
 fn follow<F: Files + AllocGlobal + Threads + Wait + Sync, R: Read, W: Write>(
     files: &F,
     words: &[String],
@@ -99,8 +103,8 @@ fn follow<F: Files + AllocGlobal + Threads + Wait + Sync, R: Read, W: Write>(
     }
 }
 
-/// Opens the named file, if one is named, and answers the script. If a path to save to is given,
-/// saves the branches that the script left.
+/// Opens the named file, if a file is named, and answers the script. If the script ended well and a
+/// path to save to is given, saves the branches that the script left.
 fn work<F: Files + AllocGlobal + Threads + Wait + Sync, R: Read, W: Write>(
     files: &F,
     file: Option<&str>,
@@ -127,8 +131,8 @@ fn work<F: Files + AllocGlobal + Threads + Wait + Sync, R: Read, W: Write>(
     }
 }
 
-/// The tower and the branches of the file at a path. If no path is given, a safe bit at 0, and a
-/// branch `main` without steps.
+/// The tower and the branches of the file at a path. If no path is given, they are a safe bit at 0
+/// and a branch `main` without steps.
 fn bench_at<F: Files + AllocGlobal>(
     files: &F,
     file: Option<&str>,
@@ -154,7 +158,7 @@ fn ending_of(ran: Result<(), Fault>) -> Ending
     }
 }
 
-/// Prints the help.
+/// Writes the help. The ending is the fault Help if a write or the flush fails.
 fn print<W: Write>(writer: &mut W, text: &str) -> Ending
     ensures { IsPrinted (W.contents writer.old) (W.contents writer.new) result }
 {
@@ -168,7 +172,7 @@ fn print<W: Write>(writer: &mut W, text: &str) -> Ending
 }
 
 /// Reports a fault, and returns its exit status, even if the report can't be written.
-fn tell<E: Write>(errors: &mut E, fault: ProgramFault) -> u8
+fn report_fault<E: Write>(errors: &mut E, fault: ProgramFault) -> u8
     ensures { result ≡ 1 }
 {
     let _ = writeln!(errors, "towerbench: {fault}");

@@ -31,12 +31,16 @@ use std::thread::Threads;
 use tower_file::{TowerSpec, print_bench};
 use towers::{MatrixTower, StampedTower, copies, matrix, regular, stamped, unary};
 
-/// Answers a script. All whole lines that have been read are answered before the next read. The
-/// script works on the tower and the branches of a file, or on a safe bit at 0 if `file` is `None`.
+/// Answers a script on the tower and the branches that the bytes of `file` spell, or, if `file` is
+/// `None`, on a safe bit at 0 and one branch without steps. Each option must be in its range. All
+/// whole lines (those with a line end) that have been read are answered before the next read. If
+/// the result is `Ok`, the script was read to its end, and the answers to all its lines were
+/// written.
 ///
-/// If the file has a fault, or its branches are refused, nothing is read or written. After a fault
-/// of the streams, a prefix of the output has been written. After a failed read, or if the script
-/// is too long, this prefix is the answers to the whole lines that were read.
+/// After File (the file has a fault) or Refused (the branches can't be loaded), nothing has been
+/// read or written. After Read or TooLong, the answers to all whole lines that were read have been
+/// written; after Memory, the answers to the first `count` of these lines, for some `count`; after
+/// Write, a prefix of the answers to the lines that were read, which may end within an answer.
 pub fn run<H: Threads + Wait + Sync, R: Read, W: Write>(
     rt: &H,
     alloc: Global,
@@ -58,7 +62,8 @@ pub fn run<H: Threads + Wait + Sync, R: Read, W: Write>(
     run_bench(rt, alloc, setup, reader, writer)
 }
 
-/// Answers a script on a tower and its branches. The limbs are dropped before anything is read.
+/// Answers a script on the tower and the branches of `setup`. The limbs that spell these branches
+/// are dropped before anything is read.
 pub(crate) fn run_bench<H: Threads + Wait + Sync, R: Read, W: Write>(
     rt: &H,
     alloc: Global,
@@ -78,7 +83,8 @@ pub(crate) fn run_bench<H: Threads + Wait + Sync, R: Read, W: Write>(
     Ok(())
 }
 
-/// Answers a script, and returns the bytes of the bench file of the branches that the script left.
+/// Answers a script on the tower and the branches of `setup`. Returns the bytes of a bench file
+/// with this tower and the branches that the script left.
 pub(crate) fn run_leaving<H: Threads + Wait + Sync, R: Read, W: Write>(
     rt: &H,
     alloc: Global,
@@ -150,8 +156,8 @@ fn run_setup<H: Threads + Wait + Sync, R: Read, W: Write>(
     }
 }
 
-/// Answers a script on a stamped register. This and the matrix have functions of their own, so that
-/// the proofs about their types run side by side.
+/// Answers a script on a stamped register. Stamped registers and matrices have functions of their
+/// own, so that the proofs about their types run side by side.
 fn begin_stamped<H: Threads + Wait + Sync, R: Read, W: Write>(
     rt: &H,
     alloc: Global,
@@ -215,7 +221,7 @@ where
     let tower = opening.setup.bench.spec;
     let mut seat = Seat::open(rt, alloc, opening)?;
     serve_at(alloc, &mut seat, reader, writer)?;
-    match tell(alloc, &mut seat, tower, reporting) {
+    match reported_bytes(alloc, &mut seat, tower, reporting) {
         Ok(reported) => {
             leave(seat, fate);
             Ok(reported)
@@ -232,9 +238,9 @@ fn leave<B: Register, H>(seat: Seat<'_, B, H>, fate: Fate) {
     }
 }
 
-/// The bytes that `reporting` asks for about the branches at a seat. The seat's register is that of
-/// `tower`.
-fn tell<B: Register, H: Wait>(
+/// The bytes that `reporting` asks for about the branches at a seat. The seat's register must be
+/// that of `tower`. An error if memory runs out, which it can't if nothing is asked for.
+fn reported_bytes<B: Register, H: Wait>(
     alloc: Global,
     seat: &mut Seat<'_, B, H>,
     tower: TowerSpec,

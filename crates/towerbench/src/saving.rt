@@ -20,11 +20,15 @@ use std::rt::Files;
 use std::sync::Wait;
 use std::thread::Threads;
 
-/// Answers a script as `run` does. If the script ended well, writes the bench file of the branches
-/// that it left to `saver`.
+/// Answers a script on the tower and the branches that the bytes of `file` spell, or, if `file` is
+/// `None`, on a safe bit at 0 and one branch without steps. Each option must be in its range. If
+/// the script ended well, also writes a bench file to `saver`: the tower, and the branches that the
+/// script left.
 ///
-/// Nothing is saved before the script has ended well. If a write to the saver fails, a prefix of
-/// the file has been written.
+/// After the fault Save, the script has ended well, and a prefix of the bench file has been written
+/// to `saver`. After any other fault, nothing has been written to `saver`, and `reader` and
+/// `writer` are as `run` leaves them after that fault; but Memory may also follow a script that
+/// ended well.
 pub fn run_saving<H: Threads + Wait + Sync, R: Read, W: Write, S: Write>(
     rt: &H,
     alloc: Global,
@@ -51,7 +55,8 @@ pub fn run_saving<H: Threads + Wait + Sync, R: Read, W: Write, S: Write>(
     save(saver, &bytes)
 }
 
-/// Opens and empties the file at a path, and writes bytes to it.
+/// Creates the file at a path, or empties it if it exists, and writes `bytes` to it. The fault is
+/// Memory if memory runs out as the file is created or emptied, and otherwise Save.
 pub(crate) fn save_at<F: Files>(files: &F, path: &str, bytes: &[u8]) -> Result<(), Fault>
     ensures { IfErr result (λ e. (e ≡ Fault.Save) ⊎ (e ≡ Fault.Memory)) }
 {
@@ -62,7 +67,8 @@ pub(crate) fn save_at<F: Files>(files: &F, path: &str, bytes: &[u8]) -> Result<(
     }
 }
 
-/// Writes all bytes. If a write fails or takes no bytes, a prefix of the bytes has been written.
+/// Writes all bytes. If a write fails or takes no bytes, the fault is Save, and a prefix of the
+/// bytes has been written.
 fn save<S: Write>(saver: &mut S, bytes: &[u8]) -> Result<(), Fault>
     ensures written { OnOk result
         (Appends (S.contents saver.old) (S.contents saver.new) bytes.now) }

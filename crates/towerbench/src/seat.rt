@@ -30,9 +30,11 @@ use views::lens::Lens;
 use views::page::Page;
 use views::query::Query;
 
-/// A desk, and a chair at it. If the chair holds every share, each call finds just the history that
-/// the chair has seen. At most 4 thieves help with the chair's fills. All looks share one lens,
-/// which is made for the first of them.
+/// A desk, and a chair at it (one caller's part of the desk). If the chair holds every share (all
+/// 16, under which calls are counted), no one else calls the desk; so each call finds just the
+/// history of logged calls that the chair has seen. At most 4 thieves (threads that take jobs) help
+/// with the chair's fills. All looks share one lens (a cache of configurations), which is made for
+/// the first look.
 #[derive(Drop)]
 pub(crate) struct Seat<'a, R: Register, W>
 where
@@ -62,7 +64,8 @@ where
 }
 
 impl<'a, R: Register, W> Seat<'a, R, W> {
-    /// The seat of `chair` at `desk`, with `thieves` thieves for its fills.
+    /// The seat of `chair`, which must be a chair of `desk`. At most 4 `thieves` (threads that take
+    /// jobs) help with its fills.
     pub(crate) fn new(rt: &'a W, desk: Desk<R>, chair: Chair<R>, thieves: u32) -> Seat<'a, R, W>
         requires chair { IsChairOf R.behaviour desk chair }
         requires thieves { thieves ≤ 4 }
@@ -77,12 +80,13 @@ impl<'a, R: Register, W> Seat<'a, R, W> {
         }
     }
 
-    /// Opens a desk, and returns the seat of the desk's only chair. The limbs are dropped.
+    /// Opens a desk with what `opening` gives, and returns the seat of the desk's only chair, which
+    /// holds every share. The limbs of the opening are dropped.
     ///
     /// # Errors
     ///
     /// Full if the limbs have more cells than may be made; TooManyBranches if there are too many
-    /// limbs; Memory.
+    /// limbs; Memory if memory runs out.
     pub(crate) fn open(
         rt: &'a W,
         alloc: Global,
@@ -116,7 +120,8 @@ impl<'a, R: Register, W> Seat<'a, R, W> {
 }
 
 impl<R: Register, W: Wait> Seat<'_, R, W> {
-    /// Does a session's command, if its guard `if_at` allows that, and returns the reply.
+    /// Carries out a session's command, if its guard `if_at` allows that, and returns the reply. If
+    /// the chair holds every share, and the reply is the refusal Memory, the world hasn't changed.
     pub(crate) fn act(
         &mut self,
         alloc: Global,
@@ -136,12 +141,13 @@ impl<R: Register, W: Wait> Seat<'_, R, W> {
         receipt.reply
     }
 
-    /// Answers a look at a branch or at a session with its page.
+    /// Returns the page of a look. If the chair holds every share, the page shows the seat's world,
+    /// which the look leaves unchanged.
     ///
     /// # Errors
     ///
     /// NoSession for the cursor of a session that hasn't joined; NoBranch; NoPlace if the place is
-    /// after the branch's last one; Memory.
+    /// after the branch's last place; Memory.
     pub(crate) fn look(&mut self, alloc: Global, query: Query) -> Result<Page, Refusal>
         ensures page { IsAlone self.old → IfOk result (λ page.
             Some page ≡ shown_in (world_at R.behaviour self.old) query) }
@@ -163,7 +169,8 @@ impl<R: Register, W: Wait> Seat<'_, R, W> {
         answer.result
     }
 
-    /// The limbs of the branches, in the order they were made.
+    /// The limbs of the branches (each limb is a branch as a file stores it), in the order in which
+    /// the branches were made.
     ///
     /// # Errors
     ///
@@ -184,11 +191,13 @@ where
     R::Pending: Send + Sync,
 {
     /// Stores runs for `branch` and for the other branches, as far as there is memory, and reports
-    /// how the jobs ended.
+    /// how the jobs (segments to be replayed) ended. If the chair holds every share, the
+    /// seat's world is unchanged.
     ///
     /// # Errors
     ///
-    /// NoBranch; Memory.
+    /// NoBranch if there is no such branch; Memory if there is no memory to list the jobs, or for
+    /// the threads that run them.
     pub(crate) fn fill(&mut self, alloc: Global, branch: &Name) -> Result<Report, Refusal>
         ensures found { IsAlone self.old
             → NeedsBranch branch.now (world_at R.behaviour self.old) result }

@@ -22,15 +22,19 @@ use std::io::{Read, Write};
 use std::sync::Wait;
 use std::thread::Threads;
 
-/// Answers a script at a desk, by one of the desk's chairs. All whole lines that have been read are
-/// answered before the next read. If the chair holds all 16 shares, the first line is answered from
-/// the world after the history that the chair has seen. At most 4 thieves help with fills, and no
-/// answer depends on how many. The desk and the chair are dropped.
+/// Answers a script at a desk, by one of the desk's chairs (one caller's part of the desk). All
+/// whole lines (those with a line end) that have been read are answered before the next read. If
+/// the chair holds all 16 shares, the first line finds the world after the history of logged calls
+/// that the chair has seen; and if the result is then `Ok`, the answers to all lines of the script
+/// were written. At most 4 `thieves` (threads that take jobs) help with fills; no answer depends on
+/// their number. The desk and the chair are dropped.
 ///
 /// # Errors
 ///
-/// Read, Write, TooLong, Memory. After Read or TooLong, all whole lines that were read have been
-/// answered.
+/// Read, Write, TooLong, Memory. If the chair holds all shares, then after Read or TooLong the
+/// answers to all whole lines that were read have been written; after Memory, the answers to the
+/// first `count` of these lines, for some `count`; after Write, a prefix of the answers to the
+/// lines that were read, which may end within an answer.
 pub fn serve<B: Register + Send + Sync, H: Threads + Wait + Sync, R: Read, W: Write>(
     rt: &H,
     alloc: Global,
@@ -59,7 +63,8 @@ where
     Ok(())
 }
 
-/// Answers a script at a seat. Afterwards the seat's world is the one that the lines leave.
+/// Answers a script at a seat. If the seat's chair holds every share, and the script ends well, the
+/// seat's world is then the one that the script's lines leave.
 pub(crate) fn serve_at<B: Register + Send + Sync, H: Threads + Wait + Sync, R: Read, W: Write>(
     alloc: Global,
     seat: &mut Seat<'_, B, H>,

@@ -10,10 +10,10 @@ use std::io::{ErrorKind, Read};
 use std::rt::Files;
 use thiserror::Error;
 
-/// The most bytes that a file may have. Branches are never saved as more.
+/// The most bytes that a file may have. No saved file is ever longer.
 pub const MOST_FILE_BYTES: usize = 1 << 32;
 
-/// The most bytes of one read.
+/// The most bytes that one read takes.
 const PIECE_BYTES: usize = 4096;
 
 /// Why the bytes of a file can't be read.
@@ -30,7 +30,8 @@ pub enum SourceFault {
     Memory,
 }
 
-/// Reads the bytes of the file at a path.
+/// Returns the bytes of the file at a path. The error is TooLong if there are more than
+/// `MOST_FILE_BYTES`, Unreadable if the file can't be opened or a read fails, or Memory.
 pub fn read_file<F: Files + AllocGlobal>(files: &F, path: &str) -> Result<Vec<u8>, SourceFault>
     ensures { IfOk result (λ bytes. length bytes.items ≤ MOST_FILE_BYTES) }
 {
@@ -42,7 +43,12 @@ pub fn read_file<F: Files + AllocGlobal>(files: &F, path: &str) -> Result<Vec<u8
     read_all(files.alloc(), &mut file, MOST_FILE_BYTES)
 }
 
-/// Reads a reader to its end. TooLong if it gives more than `limit` bytes. No read is retried.
+/// Reads to the reader's end, and returns all bytes that the reader had left, of which there are at
+/// most `limit`. A read that fails isn't retried.
+///
+/// # Errors
+///
+/// TooLong if the reader had more than `limit` bytes left; Unreadable if a read fails; Memory.
 pub fn read_all<R: Read>(
     alloc: Global,
     reader: &mut R,

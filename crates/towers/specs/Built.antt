@@ -1,4 +1,5 @@
--- Within a tower's limits, each of its layers can be built on the one below.
+-- If a tower's numbers (of values, readers and so on) are within their limits, each of its layers
+-- can be built on the layer below.
 use Rattle.std.proofs.Common.{◌≡◌, ℕ, ◌+◌, ◌*◌, ◌<◌, ◌≤◌, Option, None, Some, Result, Ok, Err, arith, rules}
 use Rattle.std.proofs.lemmas.Bool.Decides.{nat_tests}
 use Rattle.std.proofs.Math.Nat.{mul-le-mul, mul-le-mul_right}
@@ -39,7 +40,7 @@ matrix_fits n values tag stamp two four some few tags most cells =
     one_le : (k : ℕ) → 1 ≤ k + 1
     one_le k = omega arith
 
--- a result that isn't refused is a value
+-- if `refusal` is `None`, and any error of the result r is the one in `refusal`, then r is `Ok`
 pub ok_unless_refused : {A E : Type 0} (Q : A → Type 0) (r : Result A E) (refusal : Option E) → refusal ≡ None → MatchResult r Q (λ e. refusal ≡ Some e) → IsOk r
 ok_unless_refused Q (Ok x) refusal none h = search rules
 ok_unless_refused Q (Err e) refusal none h = absurd (never refusal e none h)

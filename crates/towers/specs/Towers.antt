@@ -1,4 +1,5 @@
--- The behaviour of each of the six towers, given its numbers.
+-- The behaviour of each tower that is built over a safe bit, given its numbers of readers, values
+-- and so on. A code is one number for a stamp and a value, or for a tag, a writer and a value.
 use Rattle.std.specs.Prelude.{ℕ, ◌+◌, ◌*◌}
 use Rattle.frames.specs.Behaviour.{Behaviour}
 use Rattle.frames.specs.declared.safe.SafePoint.{SafePoint}
@@ -16,39 +17,45 @@ use Rattle.stamped.specs.Program.{stamped_table}
 use Rattle.matrix.specs.declared.task.MatrixTask.{MatrixTask}
 use Rattle.matrix.specs.Program.{matrix_table}
 
--- the type of the points of each tower's operations
+-- the points at which an operation on copies of a safe bit can be pending
 abbrev pub CopiesPoint : Type 0
 CopiesPoint = Nested CopiesTask SafePoint
 
+-- the points at which an operation on a regular bit over copies can be pending
 abbrev pub RegularPoint : Type 0
 RegularPoint = Nested RegularTask CopiesPoint
 
+-- the points at which an operation on a unary number over regular bits can be pending
 abbrev pub UnaryPoint : Type 0
 UnaryPoint = Nested UnaryTask RegularPoint
 
+-- the points at which an operation on a stamped register can be pending
 abbrev pub StampedPoint : Type 0
 StampedPoint = Nested StampedTask UnaryPoint
 
+-- the points at which an operation on a matrix can be pending
 abbrev pub MatrixPoint : Type 0
 MatrixPoint = Nested MatrixTask StampedPoint
 
--- copies of a safe bit for `readers` readers
+-- copies of a safe bit, one for each of `readers` readers
 abbrev pub copies_tower : ℕ → Behaviour CopiesPoint
 copies_tower readers = layered (copies_table readers 2) safe_behaviour
 
--- a regular bit over copies
+-- a regular bit over copies of a safe bit, for `readers` readers
 abbrev pub regular_tower : ℕ → Behaviour RegularPoint
 regular_tower readers = layered (regular_table (readers + 1)) (copies_tower readers)
 
--- a unary number of `values` values over regular bits
+-- a unary number with the values 0 to `values` - 1, over regular bits, for `readers` readers
 abbrev pub unary_tower : ℕ → ℕ → Behaviour UnaryPoint
 unary_tower values readers = layered (unary_table values (readers + 1)) (regular_tower readers)
 
--- a stamped register with stamps up to `last`, over a unary number whose values are its codes
+-- a stamped register for one reader, with stamps up to `last`, over a unary number that has one
+-- value for each pair of a stamp and a value
 abbrev pub stamped_tower : ℕ → ℕ → Behaviour StampedPoint
 stamped_tower values last = layered (stamped_table values last) (unary_tower ((last + 1) * values) 1)
 
--- a matrix of `processes` processes with tags up to `tag`, over stamped registers with stamps up to
--- `stamp`, whose values are the matrix's codes
+-- a matrix for `processes` processes with tags up to `tag`, over stamped registers with stamps up
+-- to `stamp`, whose values are the codes of the matrix: each is one number for a tag, a writer and
+-- a value
 abbrev pub matrix_tower : ℕ → ℕ → ℕ → ℕ → Behaviour MatrixPoint
 matrix_tower processes values tag stamp = layered (matrix_table processes values tag) (stamped_tower ((tag + 1) * processes * values) stamp)

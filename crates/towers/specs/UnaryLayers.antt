@@ -1,5 +1,5 @@
--- The layers of a unary number over regular bits, copies and safe bits: each layer fits on the one
--- below, and equal unary numbers have equal layers.
+-- The layers of a unary number over regular bits, copies and safe bits: each layer fits on the
+-- layer below, and equal unary numbers behave alike.
 use Rattle.std.specs.Prelude.{◌≡◌, ℕ, Bool, true, List, Option}
 use Rattle.std.proofs.Common.{refl, nat_eq}
 use mathlib.Core.Bool.{◌&&◌}
@@ -26,39 +26,44 @@ use Rattle.unary_number.specs.Sound as unary
 use Rattle.towers.specs.Towers.{CopiesPoint, RegularPoint, UnaryPoint}
 use Rattle.towers.specs.declared.unary_tower.UnaryTower.{UnaryTower}
 
--- copies over a safe bit; a regular bit over such copies; a unary number over such regular bits
+-- a unary number's lowest layer, the copies, with the proof that it fits on safe bits
 abbrev pub on_bits : UnaryTower → LayerOver CopiesTask SafePoint
 on_bits r =
     let c = r.layers.below.below in
     over safe_lawful (copies.copies_sound c.layer.readers c.layer.values c.layer.some c.layer.few) c.fit
 
+-- a unary number's layer of regular bits, with the proof that it fits on the copies
 abbrev pub on_copies : UnaryTower → LayerOver RegularTask CopiesPoint
 on_copies r =
     let b = r.layers.below in
     over (layer_lawful (on_bits r)) (regular.regular_sound b.layer.processes b.layer.some) b.fit
 
+-- a unary number's top layer, with the proof that it fits on the regular bits
 abbrev pub on_regular : UnaryTower → LayerOver UnaryTask RegularPoint
 on_regular r =
     let u = r.layers in
     over (layer_lawful (on_copies r)) (unary.unary_sound u.layer.values u.layer.processes u.layer.two u.layer.some) u.fit
 
--- the unary number's behaviour, and the point that its frames describe
+-- the behaviour of a unary number: each layer's rules over the behaviour of the layer below
 abbrev pub does : UnaryTower → Behaviour UnaryPoint
 does r = let u = r.layers in let b = u.below in let c = b.below in
     layered (unary_table u.layer.values u.layer.processes) (layered (regular_table b.layer.processes) (layered (copies_table c.layer.readers c.layer.values) safe_behaviour))
 
+-- the point of a process's operation on a unary number that a list of frames describes; `None` if
+-- the list describes none
 abbrev pub finds : UnaryTower → ℕ → List Frame → Option UnaryPoint
 finds r = let u = r.layers in let b = u.below in let c = b.below in
     layered_point (unary_table u.layer.values u.layer.processes)
     (layered_point (regular_table b.layer.processes) (layered_point (copies_table c.layer.readers c.layer.values) safe_point))
 
--- the equality test of two unary numbers, given the result of the test of their safe bits
+-- whether two unary numbers are equal, layer by layer; `safe` says whether their safe bits are
+-- equal
 abbrev pub tower_eq : Bool → UnaryTower → UnaryTower → Bool
 tower_eq safe r s = let u = r.layers in let v = s.layers in let b = u.below in let d = v.below in
     ((safe && copies.copies_layer_eq b.below.layer.readers d.below.layer.readers b.below.layer.values d.below.layer.values) && nat_eq b.layer.processes d.layer.processes)
     && (nat_eq u.layer.values v.layer.values && nat_eq u.layer.processes v.layer.processes)
 
--- equal unary numbers have the same behaviour, and their frames describe the same points
+-- equal unary numbers have the same behaviour, and in both the same frames describe the same point
 pub same_layers : (safe : Bool) (r s : UnaryTower) → tower_eq safe r s ≡ true → (does r ≡ does s) × (finds r ≡ finds s)
 same_layers safe r s h =
     let u = r.layers in

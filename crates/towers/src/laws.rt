@@ -1,5 +1,6 @@
-//! The laws of the copies, the regular bit, the unary number and the stamped register that tower
-//! files describe, on every schedule.
+//! The laws of four towers (copies, regular bit, unary number and stamped register), on every
+//! schedule. A read is stray if it gives neither the value written last before it (the initial
+//! value, if none was) nor the value of a write that overlaps it.
 
 ghost use Rattle.frames.specs.Regularity.{NeverStray};
 ghost use Rattle.frames.specs.Regularity.{IsAtomic, IsRegular, IsSafe};
@@ -11,7 +12,8 @@ use frames::laws::{never_stray, safe};
 use frames::register::Behaves;
 use views::laws::never_shows_stray;
 
-/// Copies of a safe bit are safe.
+/// Copies of a safe bit are safe: a read that no write overlaps gives the value written last before
+/// it. They have one writer and refuse no operation.
 pub fn copies_are_safe(register: &CopiesTower)
     ensures { IsSafe (⟦<CopiesTower as Behaves>⟧.behaviour register.now) }
 {
@@ -19,7 +21,8 @@ pub fn copies_are_safe(register: &CopiesTower)
     reader_copies::laws::safe(register);
 }
 
-/// A regular bit over copies is regular, and so never shows a stray read.
+/// A regular bit over copies is regular: each returned read gives the value written last before it,
+/// or that of a write that overlaps it. So none of its returned reads is stray.
 pub fn regular_is_regular(register: &RegularTower)
     ensures regular { IsRegular (⟦<RegularTower as Behaves>⟧.behaviour register.now) }
     ensures never_stray { NeverStray (⟦<RegularTower as Behaves>⟧.behaviour register.now) }
@@ -28,8 +31,9 @@ pub fn regular_is_regular(register: &RegularTower)
     regular_bit::laws::regular(register);
 }
 
-/// A unary number built on regular bits is regular, and so never shows a stray read. A scan that
-/// reads the last bit reads 1 there.
+/// A unary number over regular bits is regular: each returned read gives the value written last
+/// before it, or that of a write that overlaps it. So none of its returned reads is stray. A read
+/// that scans as far as the last bit finds a 1 there.
 pub fn unary_is_regular(register: &UnaryTower)
     ensures regular { IsRegular (⟦<UnaryTower as Behaves>⟧.behaviour register.now) }
     ensures never_stray { NeverStray (⟦<UnaryTower as Behaves>⟧.behaviour register.now) }
@@ -41,7 +45,11 @@ pub fn unary_is_regular(register: &UnaryTower)
     unary_number::laws::regular(&register.layers);
 }
 
-/// A stamped register over a unary number is atomic, and so never shows a stray read.
+/// A stamped register over a unary number is atomic. It has one writer and one reader. Each
+/// returned read can be assigned a write whose value it gives, so that the writes assigned never go
+/// back. The write assigned is the last that returned before the read began, or one that overlaps
+/// the read; refused writes are left out, and the initial value is taken as a first write. So none
+/// of its returned reads is stray.
 pub fn stamped_is_atomic(register: &StampedTower)
     ensures atomic { IsAtomic (⟦<StampedTower as Behaves>⟧.behaviour register.now) }
     ensures never_stray { NeverStray (⟦<StampedTower as Behaves>⟧.behaviour register.now) }
@@ -51,7 +59,9 @@ pub fn stamped_is_atomic(register: &StampedTower)
     never_stray(register);
 }
 
-/// No page of a regular, unary or stamped tower ever shows a stray read.
+/// If each step of each branch fits the tower, no page of a regular, unary or stamped tower shows a
+/// stray read: one whose value is neither the one written last before it nor that of an overlapping
+/// write.
 pub fn pages_show_no_stray(bit: &RegularTower, number: &UnaryTower, register: &StampedTower)
     ensures regular { NeverShowsStray (⟦<RegularTower as Behaves>⟧.behaviour bit.now) }
     ensures unary { NeverShowsStray (⟦<UnaryTower as Behaves>⟧.behaviour number.now) }

@@ -1,5 +1,5 @@
-//! The six towers, built from their numbers: a safe bit, copies of it for readers, a regular bit, a
-//! unary number, a stamped register, and a matrix of stamped registers for many writers.
+//! The six towers: a safe bit, copies of a safe bit for several readers, a regular bit, a unary
+//! number, a stamped register, and a matrix of stamped registers for several writers.
 #![tactic(auto)]
 
 pub mod laws;
@@ -21,19 +21,20 @@ use stamped::{NewStamped, Stamped};
 use unary_number::{NewUnary, Unary};
 pub use unary_tower::UnaryTower;
 
-/// Copies of a safe bit.
+/// Copies of a safe bit, one for each reader.
 pub type CopiesTower = Copies<Safe>;
 
-/// A regular bit over copies.
+/// A regular bit over copies of a safe bit.
 pub type RegularTower = RegularBit<CopiesTower>;
 
-/// A stamped register over a unary number.
+/// A stamped register, which is atomic, over a unary number.
 pub type StampedTower = Stamped<UnaryTower>;
 
-/// A matrix of stamped registers.
+/// A matrix of stamped registers, for several writers.
 pub type MatrixTower = Matrix<StampedTower>;
 
-/// Copies of a safe bit for 1 to 4 readers.
+/// Returns copies of a safe bit, one for each of `readers` readers; `readers` must be 1 to 4. They
+/// behave as `copies_tower readers` does.
 pub fn copies(readers: u32) -> CopiesTower
     requires some { 1 ≤ readers }
     requires few { readers ≤ MOST_READERS }
@@ -42,7 +43,8 @@ pub fn copies(readers: u32) -> CopiesTower
     Copies::new(Safe, readers).unwrap()
 }
 
-/// A regular bit for 1 to 4 readers.
+/// Returns a regular bit over copies for `readers` readers, which must be 1 to 4. It behaves as
+/// `regular_tower readers` does.
 pub fn regular(readers: u32) -> RegularTower
     requires some { 1 ≤ readers }
     requires few { readers ≤ MOST_READERS }
@@ -51,7 +53,9 @@ pub fn regular(readers: u32) -> RegularTower
     RegularBit::new(copies(readers)).unwrap()
 }
 
-/// A unary number of 2 to 512 values for 1 to 4 readers.
+/// Returns a unary number for the values 0 to `values` - 1, over regular bits for `readers`
+/// readers. `values` must be 2 to 512, and `readers` 1 to 4. It behaves as
+/// `unary_tower values readers` does.
 pub fn unary(values: u32, readers: u32) -> UnaryTower
     requires two { LEAST_VALUES ≤ values }
     requires most { values ≤ MOST_VALUES }
@@ -64,8 +68,10 @@ pub fn unary(values: u32, readers: u32) -> UnaryTower
     }
 }
 
-/// A stamped register of 2 to 512 values with stamps up to `last`, at most 511. It has
-/// `(last + 1) * values` codes, at most 512.
+/// Returns a stamped register for one reader, with the values 0 to `values` - 1 and stamps up to
+/// `last`. `values` must be 2 to 512, and `last` at most 511. The register is over a unary number
+/// that has one value for each pair of a stamp and a value; so there may be at most 512 of these
+/// pairs, `(last + 1) * values`. It behaves as `stamped_tower values last` does.
 pub fn stamped(values: u32, last: u32) -> StampedTower
     requires two { LEAST_VALUES ≤ values }
     requires few { values ≤ MOST_VALUES }
@@ -77,9 +83,12 @@ pub fn stamped(values: u32, last: u32) -> StampedTower
     Stamped::new(codes, values, last).unwrap()
 }
 
-/// A matrix of 2 to 4 processes and 2 to 512 values, with tags up to `tag`, over stamped registers
-/// with stamps up to `stamp`. Both are at most 511, each stamped register has at most 512 codes,
-/// and there are at most 4,096 bits in all.
+/// Returns a matrix for `processes` processes, which must be 2 to 4, with 2 to 512 values, tags up
+/// to `tag`, and stamps up to `stamp`; `tag` and `stamp` must be at most 511. It is over
+/// `processes` squared stamped registers. Each of these has a bit for each of its codes, of which
+/// there may be at most 512, `(stamp + 1) * (tag + 1) * processes * values`; and all of them
+/// together may have at most 4,096 bits. It behaves as `matrix_tower processes values tag stamp`
+/// does.
 pub fn matrix(processes: u32, values: u32, tag: u32, stamp: u32) -> MatrixTower
     requires two { LEAST_PROCESSES ≤ processes }
     requires four { processes ≤ MOST_WRITERS }
@@ -97,8 +106,8 @@ pub fn matrix(processes: u32, values: u32, tag: u32, stamp: u32) -> MatrixTower
     Matrix::new(part, processes, values, tag).unwrap()
 }
 
-/// The five towers below the matrix have one writer, whatever their numbers: only process 0 writes,
-/// and only the others read.
+/// Each of the five towers other than the matrix has one writer: only process 0 writes, and only
+/// the other processes read. This is so for any numbers of values, readers and stamps.
 pub fn have_one_writer()
     ensures safe { HasOneWriter safe_behaviour }
     ensures copies { (readers : ℕ) → HasOneWriter (copies_tower readers) }

@@ -1,5 +1,5 @@
-//! The unary number over regular bits, as a type of its own, so that the types above it name none
-//! of its layers.
+//! The unary number over regular bits, as a struct that hides its layers: the types of the towers
+//! above it would otherwise name each of them.
 
 use crate::RegularTower;
 use frames::flat::FlatStack;
@@ -13,10 +13,11 @@ use std::alloc::Global;
 use unary_number::Unary;
 use unary_number::task::UnaryTask;
 
-/// The layers of a unary number, which names each of them.
+/// The unary number as a nested type, which names each of its layers.
 type UnaryLayers = Unary<RegularTower>;
 
-/// A unary number over regular bits, which behaves as its layers do.
+/// A unary number over regular bits. It passes each call on to `layers`, so it behaves as `layers`
+/// does.
 #[derive(Clone, Copy, Debug, PartialEq, Eq)]
 pub struct UnaryTower {
     pub(crate) layers: UnaryLayers,
@@ -103,6 +104,17 @@ impl Register for UnaryTower {
     #[inline(always)]
     fn pending(&self, stack: &Stack, first: usize, who: u32) -> Option<Self::Pending> {
         self.layers.pending(stack, first, who)
+    }
+
+    #[inline(always)]
+    fn pending_on(
+        &self,
+        alloc: Global,
+        stack: &FlatStack,
+        first: usize,
+        who: u32,
+    ) -> Option<Self::Pending> {
+        self.layers.pending_on(alloc, stack, first, who)
     }
 
     #[inline(always)]

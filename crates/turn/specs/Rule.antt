@@ -1,5 +1,7 @@
--- The rule of the table, and what each kind of step guarantees. Word 0 is 0 while the turn is free,
--- and the slot then has the value. Word 1 is the length of the list.
+-- The invariant of a turn's table (shared memory of two words and a slot), and what each kind of
+-- step on the table guarantees. Word 0 is 0 while the turn is free, and the slot then has the
+-- value. Word 1 is the length of the value's list. Each chair has a seat at the table, which has
+-- the chair's view (what the chair knows).
 use Rattle.std.specs.Prelude.{◌≡◌, ◌≢◌, ℕ, ◌<◌, ◌≤◌, true, false, List, [], ◌∷◌, ◌++◌, length, All, Option, Some}
 use mathlib.Core.Option.{none, some}
 use lib.ListN.{get_elem?}
@@ -11,12 +13,15 @@ use Rattle.turn.specs.Shares.{has_share, HasAll}
 use Rattle.turn.specs.Histories.{StartsWith, grabbed, published, released, with_news, HoldsSome, under, OwnsItsCalls}
 
 module _ {E : Type 0} (by : E → ℕ) where
-  -- each entry was made by a chair
+  -- each entry has the number of a chair, which is less than 16
   abbrev pub ByChairs : List E → Type 0
   ByChairs list = All (λ e. by e < 16) list
 
-  -- what a view knows of the list, given word 0, the seat that has the turn, and the seat that owns
-  -- each share
+  -- What the view v of a seat says of the list is true: v has seen a prefix of it. For each share
+  -- that v holds, the calls of v under it are just the list's entries under it, and v has seen each
+  -- of these; v has no calls under other shares. If v has the turn, it has seen the whole list.
+  -- Here `flag` is word 0, `holder` is the seat that has the turn, and `owner` gives the seat that
+  -- holds a share.
   pub record Knows (list : List E) (flag holder : ℕ) (owner : ℕ → ℕ) (seat : ℕ) (v : View E) : Type 0 where
     pub below : (share : ℕ) → has_share v.shares share ≡ true → share < 16
     pub seen : (rest : List E) × (v.seen ++ rest ≡ list) × (HoldsSome v → ByChairs rest)
@@ -29,7 +34,8 @@ module _ {E : Type 0} (by : E → ℕ) where
     pub met : StartsWith list v.met.0 × StartsWith list v.met.1
 
   -- There is one list, and word 1 is its length. While the turn is free, the slot has the value,
-  -- and the list is the value's. Otherwise the slot is empty, and one seat has the turn.
+  -- and the list is the value's. Otherwise one seat has the turn, and the slot with it. What the
+  -- view of each seat says of the list is true (`Knows`).
   pub record Kept {T : Type 0} (entries : T → List E) (s : State (Option T) (View E)) : Type 0 where
     pub list : List E
     pub flag : ℕ
@@ -47,36 +53,43 @@ module _ {E : Type 0} (by : E → ℕ) where
     abbrev Sat : Type 0
     Sat = Me (Option T) (View E)
 
-    -- the turn was free; now this seat has the turn and the value
+    -- A seat found the turn free, and now has the turn and the value. The value's list begins with
+    -- what the seat had seen, is at least as long as any length that it had read, and is exactly
+    -- what it had seen if it has every share.
     abbrev pub Grabs : Sat → Sat → Type 0
     Grabs m m' = (x : T) × (m' ≡ (grabbed m.0 (entries x), (0, Some x) ∷ m.1)) × StartsWith (entries x) m.0.seen × (m.0.reported ≤ length (entries x))
         × OwnsItsCalls by (grabbed m.0 (entries x)) × (HasAll m.0.shares → entries x ≡ m.0.seen)
 
-    -- what three kinds of step guarantee: a grab, which takes the turn if it finds 0 in word 0; a
-    -- publish; and a release
+    -- what a step that tries to take the turn guarantees: if word 0 was 0, the seat now has the
+    -- turn; otherwise nothing has changed
     abbrev pub grab_reports : At → Sat → ℕ → Sat → Type 0
     grab_reports step m found m' = (found ≡ 0 → Grabs m m') × (found ≢ 0 → m' ≡ m)
 
+    -- what a step that writes the list's new length guarantees: in the seat's view, the entries
+    -- `added` are added to the list, as calls of its own chair
     abbrev pub publish_reports : List E → At → Sat → ℕ → Sat → Type 0
     publish_reports added step m found m' = m' ≡ (published m.0 added, m.1)
 
+    -- what a step that frees the turn guarantees: the seat has neither the turn nor the slot now
     abbrev pub release_reports : At → Sat → ℕ → Sat → Type 0
     release_reports step m found m' = m' ≡ (released m.0, [])
 
-    -- the length of the list is read; what is now seen begins with what each chair of the last join
-    -- had seen, unless that is longer
+    -- A seat reads the list's length, which is at least the length of what it has seen, and at
+    -- least any length that it had read. Suppose that one of the two lists seen before its last
+    -- join isn't longer than what it has seen; then what it has seen begins with that list.
     abbrev pub NewsReports : Sat → ℕ → Sat → Type 0
     NewsReports m found m' = (m' ≡ (with_news m.0 found, m.1)) × (m.0.reported ≤ found) × (length m.0.seen ≤ found) × OwnsItsCalls by m.0
         × (length m.0.met.0 ≤ length m.0.seen → StartsWith m.0.seen m.0.met.0) × (length m.0.met.1 ≤ length m.0.seen → StartsWith m.0.seen m.0.met.1)
 
+    -- what a step that reads the list's length guarantees: `NewsReports`
     abbrev pub news_reports : At → Sat → ℕ → Sat → Type 0
     news_reports step m found m' = NewsReports m found m'
 
 module _ {T E : Type 0} where
-  -- the table is a turn's, and the place belongs to it
+  -- the table is of a turn's shape (two words and one slot), and `place` is a seat at this table
   abbrev pub IsTurn : TableId → Seat (Option T) (View E) → Type 0
   IsTurn table place = (table.words ≡ 2) × (table.slots ≡ 1) × (place.table_id ≡ table)
 
-  -- both places are of the same table and the same seat
+  -- `place` and `place'` are one seat of one table (of atomic words and slots), at two times
   abbrev pub IsSamePlace : Seat (Option T) (View E) → Seat (Option T) (View E) → Type 0
   IsSamePlace place place' = (place'.table_id ≡ place.table_id) × (place'.id ≡ place.id)

@@ -1,4 +1,5 @@
--- Facts about sets of shares.
+-- Lemmas about sets of a turn's 16 shares. A set is a list of marks: mark i is true exactly if
+-- share i is in the set.
 use Rattle.std.proofs.Common.{◌≡◌, ℕ, ◌+◌, ◌<◌, ◌≤◌, Bool, true, false, not, ◌&&◌, ◌||◌, ◌⊎◌, inl, inr, List, length, get_or, set, refl, sym, ap, ◌∙◌, arith, length-set, get_or-set_same, get_or-set_other}
 use Rattle.std.proofs.lemmas.List.FromFn.{fill_by_all, get_or-map-range_with_len, length-map-range_with_len}
 use mathlib.Core.Logic.{dite}
@@ -12,16 +13,17 @@ use Rattle.std.specs.List.{position_or_len}
 use Rattle.std.proofs.lemmas.List.Sums.{sum_by-cons}
 use Rattle.std.proofs.Common.{lt-ltb, le-leb}
 
--- the marks below n agree with a test
+-- there are 16 marks, and for each k below n, mark k is what the test gives for k
 pub record MarkedBelow (test : ℕ → Bool) (n : ℕ) (marks : List Bool) : Type 0 where
   pub long : length marks ≡ 16
   pub each : (k : ℕ) → k < n → has_share marks k ≡ test k
 
--- the marks below 0 agree with any test; with one more mark, so do the marks below n + 1; and all
--- sixteen marks are then the set of the test
+-- of 16 marks, those below mark 0 (there are none) agree with any test
 pub marked_none : (test : ℕ → Bool) (marks : List Bool) → length marks ≡ 16 → MarkedBelow test 0 marks
 marked_none test marks long = record { long = long; each = λ k h. absurd (omega arith) }
 
+-- if the marks below mark n agree with a test, and mark n is set to what the test gives for n, then
+-- the marks below mark n + 1 agree with the test
 pub marked_more : (test : ℕ → Bool) (n : ℕ) (marks : List Bool) (mark : Bool) → MarkedBelow test n marks → n < 16 → mark ≡ test n → MarkedBelow test (n + 1) (set marks n mark)
 marked_more test n marks mark below inside is = let long = below.long in record {
   long = length-set marks n mark ∙ long;
@@ -29,16 +31,17 @@ marked_more test n marks mark below inside is = let long = below.long in record 
       (λ other. get_or-set_other marks n k mark false other ∙ below.each k (omega arith));
 }
 
+-- if all 16 marks agree with a test, they are the set of the shares that pass the test
 pub marked_all : (test : ℕ → Bool) (n : ℕ) (marks : List Bool) → MarkedBelow test n marks → 16 ≤ n → marks ≡ shares_where test
 unfolding shares_where
 marked_all test n marks below all = fill_by_all test marks 16 false below.long (λ k h. below.each k (omega arith))
 
--- a set that is given by a test has just the shares that pass the test
+-- a share below 16 is in the set of the shares that pass a test exactly if it passes the test
 pub has_where : (test : ℕ → Bool) (i : ℕ) → i < 16 → has_share (shares_where test) i ≡ test i
 unfolding shares_where
 has_where test i inside = get_or-map-range_with_len test 0 16 i i false inside (omega arith)
 
--- a set that is given by a test has 16 marks
+-- the set of the shares that pass a test is a list of 16 marks, one for each share
 pub length_where : (test : ℕ → Bool) → length (shares_where test) ≡ 16
 unfolding shares_where
 length_where test = length-map-range_with_len test 0 16
@@ -50,10 +53,11 @@ below_16 marks long share held = dite (dec_lt share) (λ l. l) (λ past. absurd 
     dec_lt : (n : ℕ) → Dec (n < 16)
     dec_lt n = dec_le (suc n) 16
 
--- a share in a set given by a test is below 16, and so is a share in the set of all
+-- a share in the set of the shares that pass a test is below 16
 pub below_where : (test : ℕ → Bool) (share : ℕ) → has_share (shares_where test) share ≡ true → share < 16
 below_where test = below_16 (shares_where test) (length_where test)
 
+-- a share in the set of all shares is below 16
 pub below_every : (share : ℕ) → has_share every_share share ≡ true → share < 16
 below_every = below_16 every_share (length-replicate 16 true)
 
@@ -65,7 +69,7 @@ none_held share held = at (below_16 no_share (length-replicate 16 false) share h
     at l = let gone : has_share no_share share ≡ false = get_or-replicate 16 share false false l in cc
 
 module _ (shares others : List Bool) where
-  -- which shares are in the difference of two sets, and which are in their union
+  -- a share in the difference of two sets is in the first set, and isn't in the second
   pub has_without : (share : ℕ) → has_share (shares_without shares others) share ≡ true → (has_share shares share ≡ true) × (has_share others share ≡ false)
   has_without share held = both (has_share shares share) (has_share others share) (sym (has_where _ share (below_where _ share held)) ∙ held)
     where
@@ -74,6 +78,8 @@ module _ (shares others : List Bool) where
       both true false e = (refl, refl)
       both false b e = absurd (cc)
 
+  -- a share below 16 that is neither in the difference of two sets nor in the second set isn't in
+  -- the first
   pub not_without : (share : ℕ) → share < 16 → has_share (shares_without shares others) share ≡ false → has_share others share ≡ false → has_share shares share ≡ false
   not_without share inside gone kept = neither (has_share shares share) (has_share others share) kept (sym (has_where _ share inside) ∙ gone)
     where
@@ -82,6 +88,7 @@ module _ (shares others : List Bool) where
       neither true false e f = absurd (cc)
       neither false b e f = refl
 
+  -- a share in the union of two sets is in one of them
   pub has_together : (share : ℕ) → has_share (together shares others) share ≡ true → (has_share shares share ≡ true) ⊎ (has_share others share ≡ true)
   has_together share held = one (has_share shares share) (has_share others share) (sym (has_where _ share (below_where _ share held)) ∙ held)
     where
@@ -90,6 +97,7 @@ module _ (shares others : List Bool) where
       one false true e = inr refl
       one false false e = absurd (cc)
 
+  -- a share below 16 that isn't in the union of two sets is in neither
   pub not_together : (share : ℕ) → share < 16 → has_share (together shares others) share ≡ false → (has_share shares share ≡ false) × (has_share others share ≡ false)
   not_together share inside gone = neither (has_share shares share) (has_share others share) (sym (has_where _ share inside) ∙ gone)
     where
@@ -104,7 +112,8 @@ count_true xs = sum_by-cons (λ held. cond held 1 0) true xs
 count_false : (xs : List Bool) → count (false ∷ xs) ≡ 0 + count xs
 count_false xs = sum_by-cons (λ held. cond held 1 0) false xs
 
--- for each n below the count there is a share of rank n
+-- for each n less than the number of shares in a set, there is a share in the set with exactly n
+-- lesser shares in the set
 pub of_rank : (shares : List Bool) (n : ℕ) → n < count shares → (share : ℕ) × (has_share shares share ≡ true) × (rank shares share ≡ n)
 of_rank [] n l = absurd (omega arith)
 of_rank (true ∷ xs) zero l = (0, refl, refl)
@@ -117,13 +126,13 @@ first_held (true ∷ xs) l = (omega arith, refl)
 first_held (false ∷ xs) l = let r = first_held xs (omega (arith, count_false xs)) in let n : ℕ = position_or_len (λ held. held) xs in let e : 1 + n ≡ suc n = omega arith in
     (omega arith, ap (λ (k : ℕ). has_share (false ∷ xs) k) e ∙ r.1)
 
--- a set with a share has a number, which is one of its shares
+-- the number of a set that isn't empty (its least share) is below 16 and is in the set
 pub number_held : (shares : List Bool) → length shares ≡ 16 → 0 < count shares → (chair_number shares < 16) × (has_share shares (chair_number shares) ≡ true)
 number_held shares long some = let first = first_held shares some in let n : ℕ = position_or_len (λ held. held) shares in
     let is : chair_number shares ≡ n = ap (λ b. unwrap_or (cond b (Some n) None) 16) (lt-ltb n (length shares) first.0) in
     (omega arith, ap (has_share shares) is ∙ first.1)
 
--- a split gives only shares of the set
+-- each share that a split of n shares gives away was in the set that is split
 pub given_inside : (n : ℕ) (shares : List Bool) (share : ℕ) → has_share (next_least n shares) share ≡ true → has_share shares share ≡ true
 given_inside n shares share held = front (has_share shares share) _ _ (sym (has_where _ share (below_where _ share held)) ∙ held)
   where
@@ -131,24 +140,24 @@ given_inside n shares share held = front (has_share shares share) _ _ (sym (has_
     front true b c e = refl
     front false b c e = absurd (cc)
 
--- a split of at least one share, but fewer than the set has, gives at least one
+-- if 0 < n, and a set has more than n shares, a split of n shares gives away at least one
 pub given_some : (n : ℕ) (shares : List Bool) → length shares ≡ 16 → 0 < n → n < count shares → (share : ℕ) × (has_share (next_least n shares) share ≡ true)
 given_some n shares long some less = let r = of_rank shares 1 (omega arith) in
     (r.0, has_where _ r.0 (below_16 shares long r.0 r.1) ∙ (λ i. r.1 i && nat_lt 0 (r.2 i) && nat_le (r.2 i) n) ∙ ap (λ b. true && true && b) (le-leb 1 n (omega arith)))
 
--- a split of fewer shares than the set has leaves at least one: the least
+-- if a set has more than n shares, a split of n shares leaves at least one
 pub kept_some : (n : ℕ) (shares : List Bool) → length shares ≡ 16 → n < count shares → (share : ℕ) × (has_share (shares_without shares (next_least n shares)) share ≡ true)
 kept_some n shares long less = let r = of_rank shares 0 (omega arith) in let below = below_16 shares long r.0 r.1 in
     let not_given : has_share (next_least n shares) r.0 ≡ false = has_where _ r.0 below ∙ (λ i. r.1 i && nat_lt 0 (r.2 i) && nat_le (r.2 i) n) in
     (r.0, has_where _ r.0 below ∙ (λ i. r.1 i && not (not_given i)))
 
--- a set with this share isn't empty
+-- a set that has this share isn't empty: it has more than 0 shares
 pub count_some : (shares : List Bool) (share : ℕ) → has_share shares share ≡ true → 0 < count shares
 count_some [] share held = absurd (cc)
 count_some (true ∷ xs) share held = omega (arith, count_true xs)
 count_some (false ∷ xs) zero held = absurd (cc)
 count_some (false ∷ xs) (suc share) held = let r = count_some xs share held in omega (arith, count_false xs)
 
--- a union with a set that has this share isn't empty
+-- the union of a set that has this share, which is below 16, with any other set has some share
 pub together_some : (shares others : List Bool) (share : ℕ) → share < 16 → has_share shares share ≡ true → (one : ℕ) × (has_share (together shares others) one ≡ true)
 together_some shares others share inside held = (share, has_where _ share inside ∙ ap (λ b. b || has_share others share) held)

@@ -1,4 +1,5 @@
-//! Chairs: they know the list, and may take the turn.
+//! Chairs: each caller of a turn (a lock around one value) has one. A chair may take the turn, and
+//! knows how much it has seen of the value's list.
 
 ghost use Rattle.std.specs.Prelude.{◌≡◌, ◌<◌, false, []};
 ghost use Rattle.turn.specs.Shares.{count};
@@ -8,8 +9,10 @@ use crate::counted::Counted;
 use crate::rule::Place;
 use crate::shares::Shares;
 
-/// A chair: at least one of a turn's 16 shares, and what is known by them. A chair can be sent to
-/// another thread if the value can. The shares of a dropped chair are lost.
+/// One caller's part of a turn (a lock around one value): at least one of the turn's 16 shares,
+/// and, for contracts alone, what the chair knows of the value's list. A chair can be sent to
+/// another thread if the value can. If a chair is dropped, its shares are lost, and the turn can't
+/// be closed.
 pub struct Chair<T: Counted> {
     pub(crate) place: Place<T>,
     pub(crate) shares: Shares,
@@ -20,7 +23,7 @@ pub struct Chair<T: Counted> {
 }
 
 impl<T: Counted> Chair<T> {
-    /// The chair's place at the table.
+    /// The chair's seat at the table that keeps the turn's value.
     pub(crate) fn into_place(self) -> Place<T>
         ensures { result ≡ self.place }
     {

@@ -1,4 +1,4 @@
-//! The calls of turns and chairs.
+//! The public calls of turns and chairs, such as `with`, which works on a turn's value.
 
 ghost use Rattle.std.specs.Prelude.{◌≡◌, ◌≢◌, ◌≤◌, ◌<◌, ℕ, All, IfOk, MatchResult, length};
 ghost use Rattle.turn.specs.Shares.{HasAll, count, next_least};
@@ -21,8 +21,9 @@ use std::snapshot::Snapshot;
 use std::sync::Wait;
 
 impl<T: Counted + Drop> Turn<T> {
-    /// Guards `value` by a new turn. Its first chair holds all 16 shares, and has seen the value's
-    /// list. If there is no memory, the value is dropped.
+    /// Makes a turn (a lock) around `value`. No entry of the value's list may have the number of a
+    /// chair, which is less than 16. The turn's first chair holds all 16 shares, has made no entry,
+    /// and has seen the whole list. If memory runs out, the value is dropped.
     pub fn new(alloc: Global, value: T) -> Result<(Turn<T>, Chair<T>), AllocError>
         requires { All (λ e. 16 ≤ T.by e) (T.entries value) }
         ensures chair { IfOk result (λ r. view r.1 ≡ first_view (T.entries value)) }
@@ -42,8 +43,12 @@ impl<T: Counted + Drop> Turn<T> {
         Ok((Turn { table }, chair))
     }
 
-    /// Waits for the turn, does the work on the value under the chair's number, and gives the turn
-    /// back. Only the work may allocate.
+    /// Waits for the turn, does the work on the value under the chair's number, gives the turn
+    /// back, and returns the work's answer. `chair` has to be a chair of this turn. The list that
+    /// the work finds begins with what the chair had seen, is at least as long as any length that
+    /// the chair has read, and is exactly what the chair had seen if the chair has all 16 shares.
+    /// Afterwards the chair has seen the list as the work left it; the entry that the work added,
+    /// if any, is the chair's own. Only the work may allocate.
     pub fn with<W: Work<T>, R: Wait>(&self, rt: &R, chair: &mut Chair<T>, work: &mut W) -> W::Out
         requires { IsOf self.now chair.old }
         ensures turn { IsOf self.now chair.new }
@@ -56,7 +61,9 @@ impl<T: Counted + Drop> Turn<T> {
         hold(rt, &self.table.shared, &mut chair.place, number, work)
     }
 
-    /// The length that the list has now. Never waits.
+    /// Reads how long the list is now, without waiting. `chair` has to be a chair of this turn. The
+    /// length is at least that of what the chair has seen, and at least any length that the chair
+    /// has read before. The chair has seen no more of the list than before.
     pub fn news(&self, chair: &mut Chair<T>) -> u64
         requires { IsOf self.now chair.old }
         ensures turn { IsOf self.now chair.new }
@@ -67,8 +74,10 @@ impl<T: Counted + Drop> Turn<T> {
         news(&self.table.shared, &mut chair.place)
     }
 
-    /// Makes a new chair of the `shares` least shares after the chair's number, with the calls made
-    /// under them. The old chair keeps its number. Both chairs have then seen what the old one had.
+    /// Makes a new chair of this turn, of which `chair` has to be a chair too. The new one gets
+    /// `shares` of the shares of `chair` (at least one, and fewer than `chair` has), and the calls
+    /// made under them. `chair` keeps its least share, which is its number, and gives the next
+    /// least ones. Both chairs have then seen what `chair` had seen.
     pub fn split(&self, chair: &mut Chair<T>, shares: u32) -> Chair<T>
         requires turn { IsOf self.now chair.old }
         requires some { 0 < shares }
@@ -83,8 +92,9 @@ impl<T: Counted + Drop> Turn<T> {
         chair.give(&self.table.shared, shares)
     }
 
-    /// Takes over another chair's shares and calls. Of the two lists that the chairs had seen, the
-    /// longer begins with the other; this chair has then seen the longer.
+    /// `chair` takes over the shares and calls of `other`, another chair of this turn, and reads
+    /// the list's length. Of the lists that the two had seen, the longer begins with the shorter;
+    /// `chair` has then seen the longer.
     pub fn join(&self, chair: &mut Chair<T>, other: Chair<T>)
         requires { IsOf self.now chair.old × IsOf self.now other }
         ensures turn { IsOf self.now chair.new }
@@ -94,8 +104,9 @@ impl<T: Counted + Drop> Turn<T> {
         chair.take_in(&self.table.shared, other);
     }
 
-    /// Returns the value, if the chair holds all 16 shares, and so has seen the whole list. If the
-    /// chair lacks a share, the error returns the turn and the chair.
+    /// Ends the turn and returns its value, if the chair holds all 16 shares; the value's list is
+    /// then exactly what the chair has seen. If the chair lacks a share, the call is refused, and
+    /// the error returns the turn and the chair unchanged.
     pub fn close(self, chair: Chair<T>) -> Result<T, (ChairsOut, Turn<T>, Chair<T>)>
         requires { IsOf self chair }
         ensures { MatchResult result (λ value. HasAll (view chair).shares

@@ -1,9 +1,10 @@
-//! What a turn guards, and the work that is done on it.
+//! The values that a turn can guard, and the work that a chair can do on them.
 
 ghost use Rattle.std.specs.Prelude.{◌≡◌, ℕ, ◌<◌, ◌++◌, List, length};
 ghost use Rattle.turn.specs.Entries.{AtMostOne};
 
-/// A value with a list of entries. Each entry has the number of the chair that made it.
+/// A value that a turn can guard. It has a list of entries. Each entry has a number: that of the
+/// chair that made it, or at least 16 if no chair made it.
 pub trait Counted {
     ghost use Rattle.std.specs.Prelude.{◌≡◌, ℕ, List, length};
 
@@ -12,7 +13,7 @@ pub trait Counted {
     /// The value's list.
     ghost entries: { Self → List Self.Entry };
 
-    /// The number of the chair that made an entry.
+    /// The number of the chair that made an entry; at least 16 if no chair made it.
     ghost by: { Self.Entry → ℕ };
 
     /// The length of the list.
@@ -20,7 +21,7 @@ pub trait Counted {
         ensures { result ≡ length (entries self.now) };
 }
 
-/// Work on a value, done while the turn is held.
+/// A piece of work on a turn's value, which a chair does while it has the turn (the lock).
 pub trait Work<T: Counted> {
     ghost use Rattle.std.specs.Prelude.{◌≡◌, ℕ, ◌<◌, ◌++◌, List, length};
     ghost use Rattle.turn.specs.Entries.{AtMostOne};
@@ -31,7 +32,8 @@ pub trait Work<T: Counted> {
     /// answer, and the work after.
     ghost relation: { Self → List T.Entry → List T.Entry → Self.Out → Self → Type 0 };
 
-    /// Does the work for the chair with this number.
+    /// Does the work for the chair with this number. Adds at most one entry, with this number, to
+    /// the list.
     fn work(&mut self, value: &mut T, number: u32) -> Self::Out
         requires { number < 16 }
         ensures kept { relation self.old (T.entries value.old)

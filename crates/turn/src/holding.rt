@@ -1,4 +1,4 @@
-//! One holding of the turn.
+//! What happens from the time a chair takes the turn until it gives it back.
 
 ghost use Rattle.std.specs.Prelude.{◌≡◌, ◌<◌, true, false, [], List, drop, length};
 ghost use Rattle.turn.specs.Shares.{count, chair_number as spec_number};
@@ -11,8 +11,9 @@ use crate::steps::{grab, publish, put, release, take};
 use std::marker::Brand;
 use std::sync::Wait;
 
-/// Takes the turn for `place`, which doesn't have it; does the work on the value; publishes the new
-/// length of the list; and gives the turn back.
+/// Takes the turn for the seat `place`, which doesn't have it; does the work on the value under the
+/// number of the seat's chair; writes the list's new length into the table; gives the turn back;
+/// and returns the work's answer.
 pub(crate) fn hold<T: Counted, W: Work<T>, R: Wait>(
     rt: &R,
     board: &Board<T>,

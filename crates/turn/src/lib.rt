@@ -1,9 +1,10 @@
-//! One value guarded by one lock, and chairs that know the value's list.
+//! A turn: one value guarded by one lock. Each caller has a chair, which may take the lock and
+//! knows how much it has seen of the value's list.
 //!
-//! The value has a list (`Counted`): a history that only grows, each entry made by one chair. A
-//! chair takes the turn to work on the value (`Turn::with`). Without the turn, a chair can read how
-//! long the list is by now (`Turn::news`). What a chair has seen is a prefix of the one list; a
-//! chair with all 16 shares has seen all of it.
+//! The value's list (`Counted`) only grows, and one chair makes each new entry. A chair takes the
+//! turn to work on the value (`Turn::with`). Without the turn, a chair can read how long the list
+//! is (`Turn::news`). What a chair has seen is a prefix of the list. The chairs divide the turn's
+//! 16 shares; a chair that has all of them has seen the whole list.
 //!
 //! The lock is a test-and-set lock that yields (Herlihy and Shavit, "The Art of Multiprocessor
 //! Programming", chapter 7); the list's length is in a separate word.

@@ -1,4 +1,5 @@
-//! The rule of a turn's table, and what each kind of step guarantees.
+//! The invariant of a turn's table (the shared memory that keeps the lock, the value and the list's
+//! length), and what each kind of step on the table guarantees.
 
 ghost use Rattle.std.specs.Prelude.{Bool, List};
 
@@ -8,7 +9,8 @@ use atomic_table::{Join, Play, Seat, Shared, Split, TableRule};
 use std::marker::{Brand, PhantomData};
 use std::snapshot::Snapshot;
 
-/// The rule: there is one list, which is the value's list while the turn is free.
+/// The invariant of a turn's table: there is one list, and it is the value's list while the turn is
+/// free.
 pub struct Rule<T>(PhantomData<T>);
 
 impl<T: Counted> TableRule<Option<T>, View<T::Entry>, Snapshot<T>> for Rule<T> {
@@ -20,13 +22,15 @@ impl<T: Counted> TableRule<Option<T>, View<T::Entry>, Snapshot<T>> for Rule<T> {
     ghost first = { λ about. first_view (T.entries about.value) };
 }
 
-/// The table that chairs share.
+/// A turn's table as its chairs share it: two atomic words, and a slot for the value.
 pub(crate) type Board<T> = Shared<Option<T>, View<<T as Counted>::Entry>, Snapshot<T>, Rule<T>>;
 
-/// A chair's seat at the table, with its view.
+/// A chair's seat at the turn's table: with it, the chair takes steps there. For contracts, it has
+/// the chair's view, which is what the chair knows.
 pub(crate) type Place<T> = Seat<Option<T>, View<<T as Counted>::Entry>>;
 
-/// The entries that a step adds. For contracts alone; each call chooses them.
+/// For contracts alone: the entries that one call of `publish` adds to the list. The call chooses
+/// them by this type parameter.
 pub(crate) trait Added<E> {
     ghost use Rattle.std.specs.Prelude.{List};
 
@@ -39,7 +43,8 @@ impl<E> Added<E> for Brand {
     ghost added = { [] };
 }
 
-/// The shares that a split gives away. For contracts alone; each call chooses them.
+/// For contracts alone: the shares that one call of `split` gives away. The call chooses them by
+/// this type parameter.
 pub(crate) trait Given {
     ghost use Rattle.std.specs.Prelude.{List, Bool};
 
@@ -52,7 +57,7 @@ impl Given for Brand {
     ghost given = { [] };
 }
 
-/// A step that takes the turn if it is free.
+/// A step that takes the turn if it is free, and otherwise does nothing.
 pub(crate) struct Grab<T>(PhantomData<T>);
 
 impl<T: Counted> Play<Option<T>, View<T::Entry>> for Grab<T> {
@@ -61,7 +66,7 @@ impl<T: Counted> Play<Option<T>, View<T::Entry>> for Grab<T> {
     ghost then = { grab_reports T.by T.entries };
 }
 
-/// A step that writes the list's new length.
+/// A step of the seat that has the turn: it writes the list's new length.
 pub(crate) struct Publish<T, N>(PhantomData<(T, N)>);
 
 impl<T: Counted, N: Added<T::Entry>> Play<Option<T>, View<T::Entry>> for Publish<T, N> {
@@ -70,7 +75,7 @@ impl<T: Counted, N: Added<T::Entry>> Play<Option<T>, View<T::Entry>> for Publish
     ghost then = { publish_reports T.by T.entries N.added };
 }
 
-/// A step that frees the turn.
+/// A step of the seat that has the turn: it frees the turn.
 pub(crate) struct Release<T>(PhantomData<T>);
 
 impl<T: Counted> Play<Option<T>, View<T::Entry>> for Release<T> {
@@ -88,7 +93,7 @@ impl<T: Counted> Play<Option<T>, View<T::Entry>> for News<T> {
     ghost then = { news_reports T.by T.entries };
 }
 
-/// A step that gives shares to a new seat.
+/// A step by which a new seat gets some of a seat's shares, and the calls made under them.
 pub(crate) struct SplitOff<T, G>(PhantomData<(T, G)>);
 
 impl<T: Counted, G: Given> Split<View<T::Entry>> for SplitOff<T, G> {
@@ -99,7 +104,7 @@ impl<T: Counted, G: Given> Split<View<T::Entry>> for SplitOff<T, G> {
     ghost right = { handed T.by G.given };
 }
 
-/// A step that takes over a seat's shares.
+/// A step by which one seat takes over another seat's shares and calls.
 pub(crate) struct JoinIn<T>(PhantomData<T>);
 
 impl<T: Counted> Join<View<T::Entry>> for JoinIn<T> {

@@ -3,7 +3,7 @@
 ghost use Rattle.std.specs.Prelude.{◌≡◌, ◌<◌, ◌≤◌, ◌↔◌, IsTrue, position};
 ghost use Rattle.turn.specs.Shares.{HasAll, count, every_share, next_least, chair_number, rank, together, shares_without};
 
-/// A set of the shares 0 to 15; `marks[i]` is whether share i is in the set.
+/// A set of some of a turn's shares, which are 0 to 15; `marks[i]` says whether share i is in it.
 #[derive(Clone, Copy, Debug, PartialEq, Eq)]
 pub(crate) struct Shares {
     pub(crate) marks: [bool; 16],
@@ -54,7 +54,8 @@ impl Shares {
         self.marks[..share].iter().filter(|held| **held).count()
     }
 
-    /// The `many` least shares in the set after its least share; all of these if there are fewer.
+    /// Of the shares in the set except its least one, the `many` least; all of them if there are
+    /// fewer than `many`.
     pub(crate) fn next_least(&self, many: usize) -> Shares
         ensures { result.marks ≡ next_least many self.now.marks }
     {

@@ -1,4 +1,5 @@
-//! The eight kinds of atomic step on a turn's table.
+//! The eight kinds of atomic step that a chair takes on a turn's table: grab, take, publish, put,
+//! release, news, split and join.
 
 ghost use Rattle.std.specs.Prelude.{◌≡◌, ℕ, ◌++◌, true, false, [], ◌∷◌, Some, None, List, length};
 ghost use Rattle.turn.specs.Shares.{has_share};
@@ -12,7 +13,8 @@ use crate::shares::Shares;
 use std::sync::Wait;
 use std::thread;
 
-/// Waits until the turn is free, and takes it.
+/// Waits until the turn is free, and takes it for the seat `place`, which has then seen the whole
+/// list.
 pub(crate) fn grab<T: Counted, R: Wait>(rt: &R, board: &Board<T>, place: &mut Place<T>)
     requires turn { IsTurn board.now.table_id place.old }
     requires some { HoldsSome place.old.me.0 }
@@ -28,7 +30,7 @@ pub(crate) fn grab<T: Counted, R: Wait>(rt: &R, board: &Board<T>, place: &mut Pl
     unreachable!()
 }
 
-/// Takes the value out of the slot.
+/// Takes the value out of the table's slot, for the seat that has the turn.
 pub(crate) fn take<T: Counted>(board: &Board<T>, place: &mut Place<T>) -> T
     requires turn { IsTurn board.now.table_id place.old }
     requires full { (x : T) × (place.old.me.1 ≡ (0, Some x) ∷ []) }
@@ -42,7 +44,9 @@ pub(crate) fn take<T: Counted>(board: &Board<T>, place: &mut Place<T>) -> T
     }
 }
 
-/// Publishes the list's new length.
+/// Writes the length of the value's list into the table, for the seat that has the turn. The work
+/// added at most one entry, under `number`, which is a share of the seat; the entry is then a call
+/// of the seat's chair.
 pub(crate) fn publish<T: Counted, N: Added<T::Entry>>(
     board: &Board<T>,
     place: &mut Place<T>,
@@ -60,7 +64,7 @@ pub(crate) fn publish<T: Counted, N: Added<T::Entry>>(
     board.store::<Publish<T, N>>(place, 1, value.len());
 }
 
-/// Puts the value back into the slot.
+/// Puts the value back into the table's slot, which is empty, for the seat that has the turn.
 pub(crate) fn put<T: Counted>(board: &Board<T>, place: &mut Place<T>, value: T)
     requires turn { IsTurn board.now.table_id place.old }
     requires empty { place.old.me.1 ≡ (0, None) ∷ [] }
@@ -72,7 +76,7 @@ pub(crate) fn put<T: Counted>(board: &Board<T>, place: &mut Place<T>, value: T)
     let None = taken_out else { unreachable!() };
 }
 
-/// Gives the turn back.
+/// Gives the turn back, once the value is in its slot again.
 pub(crate) fn release<T: Counted>(board: &Board<T>, place: &mut Place<T>)
     requires turn { IsTurn board.now.table_id place.old }
     requires holds { place.old.me.0.holds ≡ true }
@@ -84,7 +88,7 @@ pub(crate) fn release<T: Counted>(board: &Board<T>, place: &mut Place<T>)
     board.store::<Release<T>>(place, 0, 0);
 }
 
-/// Reads the list's length.
+/// Reads the list's length from the table, without waiting.
 pub(crate) fn news<T: Counted>(board: &Board<T>, place: &mut Place<T>) -> u64
     requires turn { IsTurn board.now.table_id place.old }
     ensures same { IsSamePlace place.old place.new }
@@ -93,7 +97,8 @@ pub(crate) fn news<T: Counted>(board: &Board<T>, place: &mut Place<T>) -> u64
     board.load::<News<T>>(place, 1)
 }
 
-/// Moves the given shares to a new place, and returns that place.
+/// Makes a new seat with the given shares of the seat `place`, and the calls made under them.
+/// Returns the new seat.
 pub(crate) fn split<T: Counted, G: Given>(
     board: &Board<T>,
     place: &mut Place<T>,
@@ -113,7 +118,7 @@ pub(crate) fn split<T: Counted, G: Given>(
     board.split_seat::<SplitOff<T, G>>(place)
 }
 
-/// Takes over another place's shares.
+/// The seat `place` takes over the shares and calls of the seat `other`.
 pub(crate) fn join<T: Counted>(board: &Board<T>, place: &mut Place<T>, other: Place<T>)
     requires turn { IsTurn board.now.table_id place.old }
     requires other { (other.table_id ≡ board.now.table_id) × (other.me.1 ≡ []) }

@@ -9,7 +9,8 @@ use atomic_table::Table;
 use std::alloc::Global;
 use std::snapshot::Snapshot;
 
-/// The table that keeps a turn's value, by its rule.
+/// The table (two atomic words and a slot) in which a turn keeps its lock, the list's length, and
+/// its value. `Rule` is the table's invariant.
 pub(crate) type Lock<T> = Table<
     Option<T>,
     View<<T as Counted>::Entry>,
@@ -18,7 +19,7 @@ pub(crate) type Lock<T> = Table<
     Global,
 >;
 
-/// One value guarded by one lock. Chairs share it by reference.
+/// One value guarded by one lock. Its callers share it by reference; each has a chair.
 #[derive(Drop)]
 pub struct Turn<T: Counted> {
     pub(crate) table: Lock<T>,

@@ -1,6 +1,7 @@
 -- A unary number of M values over M bits (Lamport 1986, a regular register of many values from
 -- regular bits; Herlihy and Shavit, chapter 4). Value x is written as a 1 in bit x and a 0 in each
--- bit below bit x. What a scan gives if it finds no 1 is this project's own.
+-- bit below bit x. A read scans the bits from bit 0 upward for the first 1; what it gives if it
+-- finds no 1 is this project's own choice.
 use Rattle.std.specs.Prelude.{◌≡◌, ℕ, zero, suc, ◌+◌, ◌-◌, ◌<◌, ◌≤◌, ◌==◌, ◌&&◌, nat_le, Option, Some, if◌then◌else◌}
 use Rattle.frames.specs.declared.types.Op.{Op}
 use Rattle.frames.specs.declared.types.Op.TheVariants as op
@@ -19,54 +20,59 @@ use Rattle.layers.specs.OneWriter.{one_writer}
 use Rattle.unary_number.specs.declared.task.UnaryTask.{UnaryTask}
 use Rattle.unary_number.specs.declared.task.UnaryTask.TheVariants.{Setting, Clearing, Looking}
 
--- a write of x clears the bits below bit i, downward, and ends after bit 0
+-- the rest of a write of x, which clears the bits below bit i, from bit i - 1 down to bit 0, and
+-- then ends
 abbrev pub clears_below : ℕ → ℕ → Program UnaryTask
 clears_below x zero = Ends Written
 clears_below x (suc i) = Asks (Clearing x i) (λ outcome. clears_below x i)
 
--- after a read of bit i: if it gives 1, the scan ends and gives i; if it gives 0, the scan goes on
+-- the rest of a scan after a read of bit i with this outcome: if the read gave 1, the scan ends and
+-- gives i; if it gave another value, the scan goes on with the program `onward`
 abbrev pub after_look : ℕ → Program UnaryTask → Outcome → Program UnaryTask
 after_look i onward (Value bit) = if bit == 1 then Ends (Value i) else onward
 after_look i onward Written = Ends Written
 after_look i onward (Spent layer) = Ends (Spent layer)
 
--- the scan of the bits above bit i, upward; the last number is how many there are; if none of them
--- is 1, the scan ends with `none`
+-- the rest of a scan by process `who`, which reads the bits above bit i, upward, and ends with
+-- outcome `none` if none of them gives 1; the last argument is the number of these bits
 abbrev pub looks_above : Outcome → ℕ → ℕ → ℕ → Program UnaryTask
 looks_above none who i zero = Ends none
 looks_above none who i (suc left) = Asks (Looking who (suc i) left) (λ outcome. after_look (suc i) (looks_above none who (suc i) left) outcome)
 
--- a write of x sets bit x and then clears the bits below it; a read scans from bit 0 upward for the
--- first 1
+-- the program of an operation by process `who`: a write of x sets bit x and then clears the bits
+-- below it; a read scans from bit 0 upward for the first 1, and ends with outcome `none` if it
+-- finds no 1
 abbrev pub unary_program : Outcome → ℕ → ℕ → Op → Program UnaryTask
 unary_program none values who (op.Write x) = Asks (Setting x) (λ outcome. clears_below x x)
 unary_program none values who op.Read = Asks (Looking who 0 (values - 1)) (λ outcome. after_look 0 (looks_above none who 0 (values - 1)) outcome)
 
--- the rest of these programs, after a task with this outcome
+-- the rest of an operation's program, after the bit has ended the task with this outcome
 abbrev pub unary_rest : Outcome → UnaryTask → Outcome → Program UnaryTask
 unary_rest none (Setting x) outcome = clears_below x x
 unary_rest none (Clearing x i) outcome = clears_below x i
 unary_rest none (Looking who i left) outcome = after_look i (looks_above none who i left) outcome
 
--- the operation that a task makes on a bit
+-- what a task asks for: that a bit is set to 1 or cleared to 0 by its process 0, or read by its
+-- process `who`
 abbrev pub unary_asks : UnaryTask → Ask
 unary_asks (Setting x) = record { part = x; who = 0; op = op.Write 1 }
 unary_asks (Clearing x i) = record { part = i; who = 0; op = op.Write 0 }
 unary_asks (Looking who i left) = record { part = i; who = who; op = op.Read }
 
--- the frame of a task
+-- the frame that records a task on the stack of a pending operation: the operation of the unary
+-- number, and the index of the bit at work
 abbrev pub unary_frame : UnaryTask → Frame
 unary_frame (Setting x) = record { layer = Unary; op = op.Write x; i = x; x = 0 }
 unary_frame (Clearing x i) = record { layer = Unary; op = op.Write x; i = i; x = 0 }
 unary_frame (Looking who i left) = record { layer = Unary; op = op.Read; i = i; x = 0 }
 
--- the task of a frame: a write of x sets bit x or clears another bit; a read reads the frame's bit,
--- and all higher bits are left
+-- the task that process `who` is in, if f is its frame with bit i: a write of x sets bit i if i is
+-- x, and otherwise clears it; a read reads bit i and has all higher bits left to read
 abbrev pub unary_find : ℕ → ℕ → Frame → UnaryTask
 unary_find values who f = elim (f.op) [ op.Write x ↦ (if f.i == x then Setting x else Clearing x f.i) | op.Read ↦ Looking who f.i (values - 1 - f.i) ]
 
--- the layer of `values` values over registers of `processes` processes; a scan that finds no 1 ends
--- with `none`
+-- The rules of a unary number of `values` values over bits of `processes` processes. At first only
+-- the bit of the initial value is 1. A scan that finds no 1 ends with outcome `none`.
 abbrev pub unary_table_with : Outcome → ℕ → ℕ → Table UnaryTask
 unary_table_with none values processes = record {
   values = values;
@@ -86,12 +92,12 @@ unary_table_with none values processes = record {
   find = unary_find values;
 }
 
--- the table of the unary number: a scan that finds no 1 gives the greatest value
+-- the rules of a unary number, in which a scan that finds no 1 gives the greatest value
 abbrev pub unary_table : ℕ → ℕ → Table UnaryTask
 unary_table values processes = unary_table_with (Value (values - 1)) values processes
 
--- process 0's write of x is at bit x or at a lower bit; or a reader is reading bit i, and `left` is
--- the number of bits above it
+-- process `who` can be in this task during the operation: process 0, in a write of w, sets bit w or
+-- clears a lower bit; each other process, in a read, reads a bit i that has `left` bits above it
 abbrev pub UnaryMayBeAt : ℕ → ℕ → ℕ → Op → UnaryTask → Type 0
 UnaryMayBeAt values processes who (op.Write w) (Setting x) = (who ≡ 0) × (x ≡ w) × (w < values)
 UnaryMayBeAt values processes who (op.Write w) (Clearing x i) = (who ≡ 0) × (x ≡ w) × (i < w) × (w < values)
@@ -100,7 +106,7 @@ UnaryMayBeAt values processes who (op.Write w) (Looking reader i left) = ⊥
 UnaryMayBeAt values processes who op.Read (Setting x) = ⊥
 UnaryMayBeAt values processes who op.Read (Clearing x i) = ⊥
 
--- why a unary number of `values` values over register b is refused, or `None` if it isn't; there
--- may be 2 to 512 values
+-- why a unary number of `values` values, which may be 2 to 512, can't be built on registers like b;
+-- `None` if it can
 abbrev pub unary_refusal : {P : Type 0} → ℕ → Behaviour P → Option LayerError
 unary_refusal values b = if nat_le LEAST_VALUES values && nat_le values MOST_VALUES then refusal_below (unary_table values b.processes) b else Some BadSize

@@ -1,4 +1,5 @@
--- The unary number's table is sound, and the test of two tasks decides whether they are equal.
+-- The unary number's rules meet the laws that every layer's rules must meet; and its equality test
+-- on tasks (points at which a bit is written or read) is right.
 use Rattle.std.proofs.Common.{◌≡◌, ℕ, zero, suc, ◌+◌, ◌-◌, ◌<◌, ◌≤◌, Bool, true, false, refl, sym, ap, arith, nat_eq}
 use mathlib.Core.Bool.{◌&&◌}
 use Rattle.std.specs.Bool.{Decides}
@@ -18,7 +19,7 @@ use Rattle.unary_number.specs.declared.task.UnaryTask.{UnaryTask}
 use Rattle.unary_number.specs.declared.task.UnaryTask.TheVariants.{Setting, Clearing, Looking}
 use Rattle.unary_number.specs.Program.{clears_below, after_look, looks_above, unary_program, unary_rest, unary_asks, unary_frame, unary_find, unary_table_with, unary_table, UnaryMayBeAt}
 
--- how many bits at most are still to be cleared or read after a task
+-- an upper bound on the number of bits that an operation still has to clear or read after a task
 abbrev pub unary_left : UnaryTask → ℕ
 unary_left (Setting x) = x
 unary_left (Clearing x i) = i
@@ -42,7 +43,9 @@ module _ (none : Outcome) (values processes : ℕ) (two : LEAST_VALUES ≤ value
   looks_sound who reader i zero same above below all = answered
   looks_sound who reader i (suc left) same above below all = ((same, above, below, omega arith), λ o. refl)
 
-  -- a scan that reads 1 may end with any of the values
+  -- after a scan has read a bit, the rest of its program is sound (it next reaches a task that the
+  -- reader can be in, or ends with an outcome that suits a read), whichever value x below `values`
+  -- it gives if the bit is 1
   looked_sound : (who reader i left bit x : ℕ) → reader ≡ who → 1 ≤ who → who < processes → i + left + 1 ≡ values → x < values
       → IsSound (unary_table_with none values processes) (UnaryMayBeAt values processes who op.Read) (Answers values op.Read) (after_look x (looks_above none reader i left) (Value bit))
   looked_sound who reader i left bit x same above below all small = by_test (bit == 1)
@@ -125,20 +128,21 @@ module _ (none : Outcome) (values processes : ℕ) (two : LEAST_VALUES ≤ value
   frame_tells who op.Read (Setting x) stands = absurd stands
   frame_tells who op.Read (Clearing x i) stands = absurd stands
 
-  -- the table is sound if a scan that finds no 1 gives one of the values
+  -- the rules meet the laws that every layer's rules must meet, if a read may end with `none`, the
+  -- outcome of a scan that finds no 1
   pub table_sound : IsSoundTable (unary_table_with none values processes) (UnaryMayBeAt values processes) unary_left
   table_sound = writer.one_writer_sound (unary_table_with none values processes) (UnaryMayBeAt values processes) unary_left (λ who o. refl) (some)
       (λ v j lt below. first_bit v j) (λ v k lt below. omega arith)
       asks_fit stands_suits frame_tells begins_sound rest_sound rest_falls
 
--- the table of the unary number is sound, since a scan that finds no 1 gives one of the number's
--- values
+-- the unary number's rules meet the laws that every layer's rules must meet, since a scan that
+-- finds no 1 gives one of its values
 pub unary_sound : (values processes : ℕ) → LEAST_VALUES ≤ values → 0 < processes → IsSoundTable (unary_table values processes) (UnaryMayBeAt values processes) unary_left
 unary_sound values processes two some =
     let greatest : Answers values op.Read (Value (values - 1)) = omega arith in
     table_sound (Value (values - 1)) values processes two some greatest
 
--- the equality test of two tasks
+-- whether two tasks are equal: both set, both clear or both read a bit, and their numbers are equal
 abbrev pub unary_task_eq : UnaryTask → UnaryTask → Bool
 unary_task_eq (Setting x) (Setting y) = nat_eq x y
 unary_task_eq (Clearing x i) (Clearing y j) = nat_eq x y && nat_eq i j
@@ -150,7 +154,7 @@ unary_task_eq (Clearing x i) (Looking q j n) = false
 unary_task_eq (Looking p i m) (Setting y) = false
 unary_task_eq (Looking p i m) (Clearing y j) = false
 
--- the test of two tasks decides whether they are equal
+-- `unary_task_eq` is true exactly if the two tasks are equal
 pub unary_task_decides : (a b : UnaryTask) → Decides (unary_task_eq a b) (a ≡ b)
 unary_task_decides (Setting x) (Setting y) = Decides-like (nat_eq x y) (λ p. ap Setting p) (λ p. cc) (Decides-eqb x y)
 unary_task_decides (Clearing x i) (Clearing y j) =
@@ -165,7 +169,7 @@ unary_task_decides (Clearing x i) (Looking q j n) = (λ h. cc, λ h. cc)
 unary_task_decides (Looking p i m) (Setting y) = (λ h. cc, λ h. cc)
 unary_task_decides (Looking p i m) (Clearing y j) = (λ h. cc, λ h. cc)
 
--- unary numbers of equally many values and processes have equal tables
+-- unary numbers with the same numbers of values and processes have the same rules
 pub unary_table_alike : (m n p q : ℕ) → nat_eq m n && nat_eq p q ≡ true → unary_table m p ≡ unary_table n q
 unary_table_alike m n p q h =
     let both = (Decides-and (nat_eq m n) (nat_eq p q) (Decides-eqb m n) (Decides-eqb p q)).0 h in

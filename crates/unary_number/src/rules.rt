@@ -1,4 +1,4 @@
-//! The rules of a unary number, over any registers.
+//! The rules of a unary number, whichever register of two values is below it.
 
 ghost use Rattle.std.specs.Prelude.{◌≡◌, ℕ, ◌<◌, ◌≤◌, ◌+◌, ◌-◌, ◌^◌, MatchResult, IfOk, Some, None};
 ghost use Rattle.safe_bit.specs.Memory.{Memory};
@@ -18,17 +18,18 @@ use layers::layered::Layered;
 use layers::nested::{Ask, Continuation};
 use safe_bit::Store;
 
-/// A unary number of 2 to 512 values over as many registers of two values, which are its bits. A
-/// write of x sets bit x, and then clears the bits below bit x, downward. A read scans from bit 0
-/// upward for the first 1 (Lamport 1986; Herlihy and Shavit, chapter 4).
+/// A register of 2 to 512 values, made of one register of two values, called a bit, for each of
+/// them. A write of x sets bit x to 1, and then clears the bits below bit x to 0, from bit x - 1
+/// down to bit 0. A read scans from bit 0 upward and returns the index of the first 1 that it finds
+/// (Lamport 1986; Herlihy and Shavit, chapter 4).
 pub type Unary<S> = Layered<UnaryRules, S>;
 
-/// The rules of a unary number.
+/// A unary number's own numbers, within their limits. They determine its rules.
 #[derive(Debug, PartialEq, Eq)]
 pub struct UnaryRules {
-    /// The number of values, and so of bits.
+    /// The number of values, which is also the number of bits.
     pub values: u32,
-    /// The number of processes: one writes, the others read.
+    /// The number of processes: process 0 writes, the others read.
     pub processes: u32,
     ghost two: { LEAST_VALUES ≤ values },
     ghost few: { values ≤ MOST_VALUES },
@@ -43,12 +44,13 @@ impl Clone for UnaryRules {
 
 impl Copy for UnaryRules {}
 
-/// The trait of `Unary::new`. It has to be in scope in each module that calls `Unary::new`.
+/// The trait that declares `Unary::new`. Import it to call `Unary::new`.
 pub trait NewUnary<S: Register>: Sized {
-    /// The unary number of `values` values over registers of two values, whose processes are the
-    /// number's processes too. Refused as BadSize if `values` isn't 2 to 512, or if the register
-    /// below doesn't have two values, doesn't have 2 to 5 processes, or has depth 8; otherwise
-    /// refused as TooManyBits if there would be more than 4,096 cells or 65,536 words.
+    /// The unary number of `values` values over registers like `below`, which has two values, and
+    /// whose processes are the number's processes too. Refused as BadSize if `values` isn't 2 to
+    /// 512, or if the register below doesn't have two values, doesn't have 2 to 5 processes, or has
+    /// depth 8; otherwise refused as TooManyBits if there would be more than 4,096 cells or 65,536
+    /// words.
     fn new(below: S, values: u32) -> Result<Unary<S>, LayerError>
         ensures refused { MatchResult result (λ _. unary_refusal values (S.behaviour below) ≡ None)
             (λ e. unary_refusal values (S.behaviour below) ≡ Some e) }

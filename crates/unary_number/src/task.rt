@@ -1,6 +1,6 @@
-//! The points of a unary number's programs.
+//! The tasks of a unary number: the points of its programs at which one bit is written or read.
 
-/// An operation of a bit.
+/// A task: the write or read of one bit that a pending operation of the unary number is making.
 #[derive(Clone, Copy, Debug, PartialEq, Eq)]
 pub enum UnaryTask {
     /// A write of a value sets the bit of this value.

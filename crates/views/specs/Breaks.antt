@@ -1,4 +1,4 @@
--- Breaks: what a seek stops at.
+-- Breaks: the conditions that a seek looks for, on a step's events or on the memory after the step.
 use Rattle.std.specs.Prelude.{ℕ, Bool, true, false, ◌==◌, ◌||◌, ◌&&◌, nat_lt, List, [], ◌∷◌, Option, Some, None, length, if◌then◌else◌}
 use Rattle.safe_bit.specs.Memory.{Memory, cell_at}
 use Rattle.frames.specs.declared.types.Event.{Event}
@@ -17,7 +17,7 @@ is_return_of p (event.Void q reason) = false
 is_return_of p (event.Stop q) = false
 is_return_of p (event.Chosen q bit v) = false
 
--- whether an event is the end of a hit read of a bit
+-- whether an event is the end of a hit read of a bit: one that a write of the bit overlapped
 abbrev pub is_choice : Event → Bool
 is_choice (event.Chosen q bit v) = true
 is_choice e = false
@@ -32,7 +32,7 @@ abbrev pub is_refused_event : Event → Bool
 is_refused_event (event.Refused q layer) = true
 is_refused_event e = false
 
--- whether an event meets a break
+-- whether an event meets a break; no event meets a break on a bit, which only a memory can meet
 abbrev pub is_met_by : Break → Event → Bool
 is_met_by (Returns p) e = is_return_of p e
 is_met_by (Bit j v) e = false
@@ -40,21 +40,21 @@ is_met_by Chosen e = is_choice e
 is_met_by Void e = is_void e
 is_met_by Refused e = is_refused_event e
 
--- whether an event, if there is one, meets a break
+-- whether there is an event, and it meets a break
 abbrev pub is_in : Break → Option Event → Bool
 is_in break None = false
 is_in break (Some e) = is_met_by break e
 
--- whether a step that records these events meets a break
+-- whether one of the events that a step recorded meets a break
 abbrev pub is_recorded : Break → StepEvents → Bool
 is_recorded break events = is_in break events.first || is_in break events.second
 
--- a bit as a number
+-- the value of a bit, as 0 or 1
 abbrev pub bit_number : Bool → ℕ
 bit_number v = if v then 1 else 0
 
--- whether a memory meets a break: the break is on a bit that the memory has, and that bit has the
--- break's value
+-- whether a memory meets a break: the break is on a bit that the memory has, and the bit's value is
+-- the break's
 abbrev pub is_shown : Break → Memory → Bool
 is_shown (Bit j v) m = nat_lt j (length m.cells) && (bit_number (cell_at j m).value == v)
 is_shown (Returns p) m = false
@@ -62,7 +62,8 @@ is_shown Chosen m = false
 is_shown Void m = false
 is_shown Refused m = false
 
--- whether a step that records these events, or the memory after it, meets one of these breaks
+-- whether one of the events that a step recorded, or the memory after the step, meets one of these
+-- breaks
 abbrev pub is_met : List Break → StepEvents → Memory → Bool
 is_met [] events m = false
 is_met (break ∷ breaks) events m = (is_recorded break events || is_shown break m) || is_met breaks events m

@@ -1,4 +1,4 @@
--- Looks at the branches of a chart. `is` gives the behaviour of each register of the chart's type.
+-- What looks at the branches of a chart show. `is` gives the behaviour of a register.
 use Rattle.std.specs.Prelude.{ℕ, List, Option}
 use Rattle.frames.specs.Behaviour.{Behaviour}
 use Rattle.schedule_trie.specs.Forest.{Forest}
@@ -12,16 +12,23 @@ use Rattle.views.specs.declared.page.Page.TheVariants.{Steps}
 use Rattle.views.specs.Spots.{IsSpotOf}
 use Rattle.views.specs.Looks.{steps_in, place_page, page_of}
 
--- the pages of a look at a branch, of a place of a branch, and of a branch's steps
+-- the page that a look at one branch of a chart shows; `None` if the query is for the list of
+-- branches, or for a session's cursor
 abbrev pub shown_by : {R P : Type 0} → (R → Behaviour P) → Charted R P → Query → Option Page
 shown_by is chart query = page_of (is chart.start.register) chart.value (forest chart.cut) query
 
+-- the page of the kind `what` that shows the place after the first `place` steps of a chart's
+-- branch
 abbrev pub page_in : {R P : Type 0} → (R → Behaviour P) → Charted R P → PlaceKind → List ℕ → ℕ → Page
 page_in is chart what branch place = place_page (is chart.start.register) chart.value what branch place (steps_in (forest chart.cut) branch)
 
+-- the page that shows all steps of a branch of a forest
 abbrev pub steps_page : Forest → List ℕ → Page
 steps_page f branch = Steps (record { branch = branch; steps = steps_in f branch })
 
--- these parts of runs are what a settle answers for a place of a branch of length `len`
+-- These parts of runs are the result of a settle of the first `place` steps of a chart's branch,
+-- which has `len` steps. The configuration that the parts reach equals the one after these first
+-- steps in everything except its register, and the two registers behave alike. The parts record the
+-- events of these steps.
 abbrev pub IsSpotIn : {R P : Type 0} → (R → Behaviour P) → Charted R P → List ℕ → ℕ → ℕ → List (RunPart R P) → Type 0
 IsSpotIn is chart branch place len parts = IsSpotOf is chart.start chart.value (steps_in (forest chart.cut) branch) place len parts

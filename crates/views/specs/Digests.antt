@@ -1,24 +1,25 @@
--- Digests of steps: the number that is hashed instead of the steps.
+-- Digests: to hash a list of steps, one number is computed from it and hashed in its place.
 use Rattle.std.specs.Prelude.{ℕ, ◌+◌, ◌*◌, ◌%◌, ◌^◌, List, [], ◌∷◌}
 use Rattle.frames.specs.declared.types.Step.{Step}
 use Rattle.frames.specs.declared.types.Step.TheVariants as step
 use Rattle.views.specs.declared.digest.TheConstants.{FACTOR}
 
--- a number for a step
+-- the number that a step adds to a digest
 abbrev pub word_of_step : Step → ℕ
 word_of_step (step.Go p c) = 4 * p + 1024 * c
 word_of_step (step.Write p v) = 4 * p + 1024 * v + 1
 word_of_step (step.Read p) = 4 * p + 2
 word_of_step (step.Stop p) = 4 * p + 3
 
--- the digest after one more step, and after several, given the digest of the steps before
+-- the digest of a list of steps with one more step at its end, given the digest of the list
 abbrev pub digest_with_step : ℕ → Step → ℕ
 digest_with_step digest s = ((digest * FACTOR) % 2 ^ 64 + word_of_step s) % 2 ^ 64
 
+-- the digest of a list of steps with more steps at its end, given the digest of the list
 abbrev pub with_steps : ℕ → List Step → ℕ
 with_steps digest [] = digest
 with_steps digest (s ∷ steps) = with_steps (digest_with_step digest s) steps
 
--- the digest of steps
+-- the digest of a list of steps: the number that is hashed in place of the list
 abbrev pub digest : List Step → ℕ
 digest steps = with_steps 0 steps

@@ -1,4 +1,4 @@
--- Lamport's safe, regular and atomic registers: what each means for every read that returned.
+-- Lamport's safe, regular and atomic registers, defined by what each returned read gives.
 use Rattle.std.specs.Prelude.{◌≡◌, ℕ, ◌+◌, ◌<◌, ◌≤◌, List, ◌∷◌, ◌++◌, ◌⊎◌, length}
 use Rattle.std.specs.List.{filter}
 use Rattle.frames.specs.declared.types.Op.TheVariants as op
@@ -16,25 +16,30 @@ use Rattle.views.specs.VerdictWords.{ReturnedRead, during, afterwards, is_writte
 abbrev pub Overlaps : {history : List (ℕ × Event)} → ℕ → ReturnedRead history → Type 0
 Overlaps v r = IsOverlapping v r.earlier (during r) (afterwards r)
 
--- Safe: a read that no write overlaps gives the value written last. Regular: each read gives that
--- value, or the value of a write that overlaps the read.
+-- what safe says of a read: if no write overlaps it, it gives the value written last before it (the
+-- initial value if none was)
 abbrev pub FreshIfAlone : {history : List (ℕ × Event)} → ℕ → ReturnedRead history → Type 0
 FreshIfAlone initial r = ((v : ℕ) → ¬ Overlaps v r) → IsFresh initial r.value r.earlier
 
+-- what regular says of a read: it gives the value written last before it (the initial value if none
+-- was), or that of a write that overlaps it
 abbrev pub FreshOrOverlapping : {history : List (ℕ × Event)} → ℕ → ReturnedRead history → Type 0
 FreshOrOverlapping initial r = IsFresh initial r.value r.earlier ⊎ Overlaps r.value r
 
--- a register has one writer, and on every list of fitting steps, from every initial value, no
--- operation is refused and `Says` holds of each read that returned
+-- a register has one writer, and on every list of fitting steps, from every initial value, it
+-- refuses no operation, and `Says` holds of each read that returned
 pub record AlwaysInWords {P : Type 0} (b : Behaviour P) (Says : (history : List (ℕ × Event)) → ℕ → ReturnedRead history → Type 0) : Type 0 where
   pub one_writer : HasOneWriter b
   pub refuses_none : (value : ℕ) (steps : List Step) → value < b.values → AllFit b steps → NoneRefused (recorded b value steps)
   pub each_read : (value : ℕ) (steps : List Step) → value < b.values → AllFit b steps → (r : ReturnedRead (recorded b value steps)) → Says (recorded b value steps) value r
 
--- Lamport's safe and regular registers
+-- Lamport's safe register: it has one writer, refuses no operation, and a read that no write
+-- overlaps gives the value written last before it
 abbrev pub IsSafeInWords : {P : Type 0} → Behaviour P → Type 0
 IsSafeInWords b = AlwaysInWords b (λ history initial r. FreshIfAlone initial r)
 
+-- Lamport's regular register: it has one writer, refuses no operation, and each read gives the
+-- value written last before it, or that of a write that overlaps it
 abbrev pub IsRegularInWords : {P : Type 0} → Behaviour P → Type 0
 IsRegularInWords b = AlwaysInWords b (λ history initial r. FreshOrOverlapping initial r)
 
@@ -42,8 +47,8 @@ IsRegularInWords b = AlwaysInWords b (λ history initial r. FreshOrOverlapping i
 abbrev pub returned_writes : List (ℕ × Event) → ℕ
 returned_writes events = length (filter (λ e. is_written e.1) events)
 
--- write number n is of the value v: it is invoked in `events`, when n - 1 writes have returned, and
--- is refused neither in `events` nor in `later`
+-- Write number n writes v: it is invoked in `events`, after n - 1 writes have returned there, and
+-- is never refused: neither in the rest of `events` nor in `later`, the events that follow.
 pub record IsWrite (n v : ℕ) (events later : List (ℕ × Event)) : Type 0 where
   pub before : List (ℕ × Event)
   pub step : ℕ
@@ -52,21 +57,23 @@ pub record IsWrite (n v : ℕ) (events later : List (ℕ × Event)) : Type 0 whe
   pub unrefused : (layer : Layer) → ¬ EndsBy 0 (Refused 0 layer) (since ++ later)
   pub number : n ≡ returned_writes before + 1
 
--- n can be the number of a read. No write with a number above n returned before the read was
--- invoked. Either write n has the read's value and is invoked before the read returns, or n is 0
--- and the read gives the initial value.
+-- The read r can be assigned write number n; number 0 is the initial value. The read gives the
+-- value of that write, which is invoked before the read returns; and no later write returned before
+-- the read was invoked.
 pub record NumbersRead {history : List (ℕ × Event)} (initial n : ℕ) (r : ReturnedRead history) : Type 0 where
   pub low : returned_writes r.earlier ≤ n
   pub write : ((n ≡ 0) × (r.value ≡ initial)) ⊎ IsWrite n r.value (r.earlier ++ during r) (afterwards r)
 
--- the returned reads, in the order in which they return, can be given numbers that never fall
+-- each returned read can be assigned a write whose value it gives, as `NumbersRead` states, so that
+-- in the order in which the reads return, the writes assigned never go back
 pub record AreNumbered (initial : ℕ) (history : List (ℕ × Event)) : Type 0 where
   pub number : ℕ → ℕ
   pub rises : (i j : ℕ) → i ≤ j → number i ≤ number j
   pub each : (r : ReturnedRead history) → NumbersRead initial (number (returned_reads (r.earlier ++ during r))) r
 
 -- Lamport's atomic register with one writer and one reader: on every list of fitting steps, from
--- every initial value, the reads that returned can be numbered as `AreNumbered` states
+-- every initial value, each returned read can be assigned a write whose value it gives, as
+-- `NumbersRead` states, so that the writes assigned never go back
 pub record IsAtomicInWords {P : Type 0} (b : Behaviour P) : Type 0 where
   pub one_writer : HasOneWriter b
   pub one_reader : b.processes ≡ 2

@@ -1,4 +1,4 @@
--- What a lens keeps.
+-- What a lens, a cache of configurations, keeps for each place of a run.
 use Rattle.std.specs.Prelude.{ℕ, Contains}
 use Rattle.checkpoints.specs.Segment.{SegmentRun}
 use Rattle.frames.specs.Behaviour.{Behaviour}
@@ -7,10 +7,12 @@ use Rattle.cutoff.specs.Fitting.{RunPart}
 use Rattle.lru.specs.LruCache.{LruCache}
 use Rattle.views.specs.Spots.{IsAlike, part_end}
 
--- a configuration is like the one that a run's first `count` steps reach
+-- the configuration c is like the one that the first `count` steps of a run reach: the registers
+-- behave alike, and all else is equal
 abbrev pub IsAt : {R P : Type 0} → (R → Behaviour P) → SegmentRun R P → ℕ → Configuration R P → Type 0
 IsAt is run count c = IsAlike is c (part_end is (record { run = run; count = count }))
 
--- each configuration in the cache is like the one that its key, a part of a run, reaches
+-- Each configuration in a lens's cache is like the one at its key: the one that a run reaches in
+-- its first `count` steps, if the key is that run and `count`.
 abbrev pub AreTrue : {R P : Type 0} → (R → Behaviour P) → LruCache (RunPart R P) (Configuration R P) → Type 0
 AreTrue {R} {P} is places = (e : RunPart R P × Configuration R P) → Contains places.entries e → IsAlike is e.1 (part_end is e.0)

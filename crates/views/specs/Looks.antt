@@ -17,9 +17,9 @@ use Rattle.views.specs.declared.page.Page.TheVariants as page
 use Rattle.frames.specs.Recorded.{shown, recorded}
 use Rattle.views.specs.Pages.{page_at}
 
--- A look leaves the forest unchanged, or is refused: NoBranch if there is no such branch, NoPlace
--- if the branch has fewer steps than the place. A look at a branch's steps is refused as a look at
--- place 0 is.
+-- The result of a look is the forest, which it leaves unchanged, or an error: NoBranch if there is
+-- no such branch, NoPlace if the branch has fewer than `place` steps. A look at a branch's steps is
+-- refused only if there is no such branch; one at all branches or at a cursor, never.
 abbrev pub looked : Query → Forest → Result Forest Refusal
 looked (State branch place) f = look f branch place
 looked (Process branch place process) f = look f branch place
@@ -35,18 +35,19 @@ looked (Cursor who) f = Ok f
 abbrev pub steps_in : Forest → List ℕ → List Step
 steps_in f branch = unwrap_or (path_of f branch) []
 
--- the page of the place after the first `place` steps of a branch, if the register's initial value
--- is `value`
+-- the page of the kind `what` for the branch named `branch`, which has the steps `steps`, after the
+-- first `place` of them; `value` is the register's initial value
 abbrev pub place_page : {P : Type 0} → Behaviour P → ℕ → PlaceKind → List ℕ → ℕ → List Step → Page
 place_page b value what branch place steps =
     page_at b what (record { branch = branch; place = place; len = length steps }) (shown b value (take place steps)) (recorded b value (take place steps))
 
--- the initial value, from which reads are judged; `None` if process 1 can write, since verdicts are
--- defined for registers with one writer
+-- the initial value, which verdicts depend on; `None` if process 1 can write too, since verdicts
+-- are defined only for registers with one writer
 abbrev pub judged_from : {P : Type 0} → Behaviour P → ℕ → Option ℕ
 judged_from b value = if b.suits 1 (op.Write 0) then None else Some value
 
--- the page of a look at a branch; `None` for a look at all branches or at a session
+-- the page that a look at one branch of a forest shows, if the register's initial value is `value`;
+-- `None` if the query is for the list of branches, or for a session's cursor
 abbrev pub page_of : {P : Type 0} → Behaviour P → ℕ → Forest → Query → Option Page
 page_of b value f (State branch place) = Some (place_page b value kind.State branch place (steps_in f branch))
 page_of b value f (Process branch place process) = Some (place_page b value (kind.Process process) branch place (steps_in f branch))
@@ -58,14 +59,14 @@ page_of b value f (Steps branch) = Some (page.Steps (record { branch = branch; s
 page_of b value f Branches = None
 page_of b value f (Cursor who) = None
 
--- whether a query looks at one branch
+-- whether a query looks at one branch, and not at the list of branches or a session's cursor
 abbrev pub is_at_branch : Query → Bool
 is_at_branch Branches = false
 is_at_branch (Cursor who) = false
 is_at_branch query = true
 
--- the two charts are equal except for their stored runs, which are all that a look or a seek
--- changes
+-- the two charts have the same branches, limits, initial configuration and initial value; only
+-- their stored runs may differ
 pub record IsChartKept {R P : Type 0} (old new : Charted R P) : Type 0 where
   pub branches : forest new.cut ≡ forest old.cut
   pub limits : new.cut.limits ≡ old.cut.limits

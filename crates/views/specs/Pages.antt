@@ -1,4 +1,4 @@
--- Pages: what a place shows, as data, and the text of a page.
+-- Pages: what looks show, as data and as text.
 use Rattle.std.specs.Prelude.{ℕ, List}
 use Rattle.frames.specs.declared.types.Event.{Event}
 use Rattle.frames.specs.Behaviour.{Behaviour}
@@ -18,7 +18,8 @@ use Rattle.views.specs.page.Branches.{branches_text}
 use Rattle.views.specs.page.Cursor.{cursor_text}
 use Rattle.views.specs.page.Steps.{steps_text}
 
--- the page of a place, given the configuration there and the events recorded up to it
+-- the page, of a given kind, that shows a place, given the configuration there and the events
+-- recorded before it
 abbrev pub page_at : {R P : Type 0} → Behaviour P → PlaceKind → Head → Configuration R P → List (ℕ × Event) → Page
 page_at b kind.State head c events = State (state_page b head c)
 page_at b (kind.Process p) head c events = Process (process_page b head p c)
@@ -27,7 +28,7 @@ page_at b kind.Pending head c events = Pending (pending_page b head c)
 page_at b kind.History head c events = History (record { head = head; events = events })
 page_at b (kind.Verdict value) head c events = Verdict (verdict_page head value events)
 
--- the text of a page, as the answer to the session with this number
+-- the text of a page, as the answer to the session with the number `session`
 abbrev pub page_text : ℕ → Page → List ℕ
 page_text session (State page) = state_text session page
 page_text session (Process page) = process_text session page

@@ -1,13 +1,14 @@
--- Places of runs, and the steps by which places are hashed.
+-- The steps by which a place of a run is hashed.
 use Rattle.std.specs.Prelude.{ℕ, ◌-◌, List, drop, length, take}
 use Rattle.frames.specs.declared.types.Step.{Step}
 use Rattle.cutoff.specs.Fitting.{RunPart}
 use Rattle.views.specs.declared.run_place.TheConstants.{HASHED_STEPS}
 
--- the last of the first `count` steps: at most HASHED_STEPS of them
+-- the last HASHED_STEPS of the first `count` steps, or all of these if there are fewer
 abbrev pub last_steps : ℕ → List Step → List Step
 last_steps count steps = drop (length (take count steps) - HASHED_STEPS) (take count steps)
 
--- the last steps before a place of a run
+-- the steps by which a place of a run is hashed: the last HASHED_STEPS steps before the place, or
+-- all if there are fewer
 abbrev pub last_made : {R P : Type 0} → RunPart R P → List Step
 last_made part = last_steps part.count part.run.steps

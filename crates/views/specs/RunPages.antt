@@ -1,4 +1,4 @@
--- Pages of what runs reach.
+-- Pages that are made from runs, which are replayed segments.
 use Rattle.std.specs.Prelude.{ℕ, ⊤, ◌≡◌, Bool, true, false, List, [], Option, Some, None}
 use Rattle.std.specs.declared.alloc.Global.{Global}
 use Rattle.std.specs.declared.sync.Arc.{Arc}
@@ -19,7 +19,7 @@ use Rattle.views.specs.page.Verdict.{verdict_page}
 use Rattle.views.specs.Pages.{page_at}
 use Rattle.views.specs.Spots.{part_end, parts_end, parts_events}
 
--- whether a page of this kind shows events; such a page can't be made from a configuration alone
+-- whether a page of this kind is made from events: a page of history or of verdicts
 abbrev pub shows_events : PlaceKind → Bool
 shows_events State = false
 shows_events (Process p) = false
@@ -28,44 +28,47 @@ shows_events Pending = false
 shows_events History = true
 shows_events (Verdict value) = true
 
--- the page of a configuration, for the kinds that show no events; the page of events, for the kinds
--- that do
+-- the page that shows a configuration, for a kind of page that shows no events
 abbrev pub config_page : {R P : Type 0} → Behaviour P → PlaceKind → Head → Configuration R P → Page
 config_page b kind head c = page_at b kind head c []
 
+-- the page that shows events: for the kind Verdict the verdicts on the reads among them, and for
+-- any other kind the events themselves
 abbrev pub events_page : PlaceKind → Head → List (ℕ × Event) → Page
 events_page (Verdict value) head events = page.Verdict (verdict_page head value events)
 events_page kind head events = page.History (record { head = head; events = events })
 
 module _ {R P : Type 0} (is : R → Behaviour P) where
-  -- the page of what these parts of runs reach and record from the configuration `first`
+  -- the page, of a given kind, that shows the configuration which the last of these parts of runs
+  -- reaches (`first` if there are none), or the events that the parts record
   abbrev pub run_page : PlaceKind → Head → Configuration R P → List (RunPart R P) → Page
   run_page kind head first parts = page_at (is (parts_end is first parts).register) kind head (parts_end is first parts) (indexed 0 (parts_events is parts))
 
-  -- the page of the configuration that a part of a run reaches
+  -- the page, of a kind without events, that shows the configuration which a part of a run reaches
   abbrev pub part_page : PlaceKind → Head → RunPart R P → Page
   part_page kind head part = config_page (is (part_end is part).register) kind head (part_end is part)
 
-  -- the page of what was found at a place
+  -- the page, of a given kind, that is made from what a look found at a place
   abbrev pub found_page : PlaceKind → Head → Found R P → Page
   found_page kind head (Initial c) = config_page (is c.register) kind head c
   found_page kind head (Last run count) = part_page kind head (part_of (run, count))
   found_page kind head (Runs runs) = events_page kind head (indexed 0 (parts_events is runs))
 
--- what was found is enough for a page of this kind: all runs always are; a configuration, or the
--- last run, is enough only if the page shows no events
+-- What a look found is enough for a page of this kind. The runs up to the place are enough for
+-- every kind; a configuration, or the last run alone, only for a kind that shows no events.
 abbrev pub IsFor : {R P : Type 0} → PlaceKind → Found R P → Type 0
 IsFor kind (Initial c) = shows_events kind ≡ false
 IsFor kind (Last run count) = shows_events kind ≡ false
 IsFor kind (Runs runs) = ⊤
 
--- what is found for a page without events: the last run, or the configuration `first` if there are
--- no runs
+-- what a look finds for a page without events: the last run up to the place, with how many of its
+-- steps precede the place; or, if there is no run, the configuration `first`
 abbrev pub found_last : {R P : Type 0} → Configuration R P → Option (Arc (SegmentRun R P) Global × ℕ) → Found R P
 found_last first None = Initial first
 found_last first (Some part) = Last part.0 part.1
 
--- what was found at a place is enough for the page, and gives the same page as these parts of runs
+-- what a look found at a place is enough for a page of this kind, and gives the same page as
+-- `parts`, the parts of all runs up to the place, after `first`, the configuration before them
 pub record Shows {R P : Type 0} (is : R → Behaviour P) (kind : PlaceKind) (first : Configuration R P) (parts : List (RunPart R P)) (found : Found R P) : Type 0 where
   pub page : (head : Head) → found_page is kind head found ≡ run_page is kind head first parts
   pub enough : IsFor kind found

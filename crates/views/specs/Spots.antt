@@ -1,5 +1,5 @@
--- What successive parts of runs reach and record. A part is a run, and how many of its first steps
--- count.
+-- What successive parts of runs reach and record. A part is a run with the number `count`: only the
+-- run's first `count` steps are replayed.
 use Rattle.std.specs.Prelude.{ℕ, ◌≡◌, List, [], ◌∷◌, ◌++◌, length, take}
 use Rattle.frames.specs.declared.types.Step.{Step}
 use Rattle.frames.specs.declared.types.StepEvents.{StepEvents}
@@ -10,19 +10,20 @@ use Rattle.cutoff.specs.Links.{without_register}
 use Rattle.frames.specs.Recorded.{first_configuration, shown}
 
 module _ {R P : Type 0} (is : R → Behaviour P) where
-  -- the configuration that a part reaches from its run's entry, and the events that it records
+  -- the configuration that a part reaches: the one after the first `count` steps of its run
   abbrev pub part_end : RunPart R P → Configuration R P
   part_end part = replayed (is part.run.entry.register) part.run.entry (take part.count part.run.steps)
 
+  -- the events that a part records: those of the first `count` steps of its run
   abbrev pub part_events : RunPart R P → List StepEvents
   part_events part = history (is part.run.entry.register) part.run.entry (take part.count part.run.steps)
 
-  -- the configuration that the last part reaches; c if there are no parts
+  -- the configuration that the last of these parts of runs reaches; c if there are no parts
   abbrev pub parts_end : Configuration R P → List (RunPart R P) → Configuration R P
   parts_end c [] = c
   parts_end c (part ∷ parts) = parts_end (part_end part) parts
 
-  -- the events of all parts, in order
+  -- the events that these parts of runs record, part by part
   abbrev pub parts_events : List (RunPart R P) → List StepEvents
   parts_events [] = []
   parts_events (part ∷ parts) = part_events part ++ parts_events parts
@@ -33,9 +34,10 @@ pub record IsAlike {R P : Type 0} (is : R → Behaviour P) (c d : Configuration 
   pub home : is c.register ≡ is d.register
   pub arrives : without_register c ≡ without_register d
 
--- These parts of runs are what a settle answers for the place after the first `place` of a branch's
--- `len` steps. From the register's initial configuration the parts reach the configuration that
--- these first steps reach, and record the events of these steps.
+-- These parts of runs are the result of a settle of the first `place` of a branch's steps, and
+-- `len` is the number of all its steps. The configuration that the last part reaches (if there are
+-- no parts, the initial one, `start`) equals the one after these first steps in everything except
+-- its register, and the two registers behave alike. The parts record the events of these steps.
 pub record IsSpotOf {R P : Type 0} (is : R → Behaviour P) (start : Configuration R P) (value : ℕ) (steps : List Step) (place len : ℕ) (parts : List (RunPart R P)) : Type 0 where
   pub counted : len ≡ length steps
   pub home : is (parts_end is start parts).register ≡ is start.register

@@ -1,4 +1,4 @@
--- The register whose history a page of verdicts judges, and pages that show no stray read.
+-- What holds of the verdicts that a page shows: which register they are on, and that none is stray.
 use Rattle.std.specs.Prelude.{◌≡◌, ◌≢◌, ℕ, ◌<◌, ◌⊎◌, ⊤, List, Option, IfSome}
 use Rattle.std.specs.List.{All}
 use Rattle.frames.specs.declared.types.Step.{Step}
@@ -29,8 +29,8 @@ OnVerdicts Says (Branches page) = ⊤
 OnVerdicts Says (Cursor page) = ⊤
 OnVerdicts Says (Steps page) = ⊤
 
--- `reads` are the verdicts on what the register records, for some fitting steps and some initial
--- value of the register
+-- `reads` are the verdicts on a history of a register: on what it records for some fitting steps,
+-- from some initial value
 pub record AreOf {P : Type 0} (b : Behaviour P) (reads : List ReadVerdict) : Type 0 where
   pub value : ℕ
   pub steps : List Step
@@ -38,15 +38,17 @@ pub record AreOf {P : Type 0} (b : Behaviour P) (reads : List ReadVerdict) : Typ
   pub fit : AllFit b steps
   pub judged : reads ≡ verdicts value (recorded b value steps)
 
--- if a page shows verdicts, they are on a history of this register, or of the register `judged`, if
--- there is one
+-- if a page shows verdicts, they are on a history that this register records
 abbrev pub Judges : {P : Type 0} → Behaviour P → Page → Type 0
 Judges b page = OnVerdicts (AreOf b) page
 
+-- if `judged` is a register, not `None`, and a page shows verdicts, they are on a history that this
+-- register records
 abbrev pub JudgesIts : {R P : Type 0} → (R → Behaviour P) → Option R → Page → Type 0
 JudgesIts is judged page = IfSome judged (λ register. Judges (is register) page)
 
--- no read on a page is stray
+-- if a page shows verdicts, none of them is stray: each read gives the fresh value, or that of a
+-- write that overlaps it
 abbrev pub ShowsNoStray : Page → Type 0
 ShowsNoStray page = OnVerdicts (λ reads. All (λ read. read.verdict ≢ Stray) reads) page
 
@@ -54,11 +56,12 @@ ShowsNoStray page = OnVerdicts (λ reads. All (λ read. read.verdict ≢ Stray) 
 abbrev pub IsRegularOrAtomic : {P : Type 0} → Behaviour P → Type 0
 IsRegularOrAtomic b = IsRegular b ⊎ IsAtomic b
 
--- if the steps of all branches fit, no look at a branch shows a stray read, from any initial value
+-- if each step of each branch fits the register, then from any initial value, no look at a branch
+-- shows a stray read: one that gives neither the fresh value nor that of an overlapping write
 abbrev pub NeverShowsStray : {P : Type 0} → Behaviour P → Type 0
 NeverShowsStray b = (value : ℕ) (f : Forest) (query : Query) → value < b.values → StepsFit b f → IfSome (page_of b value f query) ShowsNoStray
 
--- if a page of this kind judges reads, it judges them from the initial value `value`
+-- if a page of this kind shows verdicts, the initial value that they depend on is `value`
 abbrev pub JudgesFrom : ℕ → PlaceKind → Type 0
 JudgesFrom value (kind.Verdict from) = IfSome from (λ initial. initial ≡ value)
 JudgesFrom value kind.State = ⊤

@@ -1,2 +1,2 @@
--- What follows from the definitions.
+-- Laws that follow from the definitions.
 pub mod PlaceLaws

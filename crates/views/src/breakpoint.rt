@@ -1,4 +1,4 @@
-//! Breaks: what a seek stops at.
+//! Breaks: the conditions that a seek looks for.
 
 ghost use Rattle.std.specs.Prelude.{◌≡◌};
 ghost use Rattle.views.specs.Breaks as spec;
@@ -6,7 +6,10 @@ ghost use Rattle.views.specs.Breaks as spec;
 use frames::types::{Event, StepEvents};
 use safe_bit::Store;
 
-/// What a seek stops at. A break on a process or a bit that the tower doesn't have is never met.
+/// A condition on a step's events, or on the memory after the step. A seek moves a session's cursor
+/// along its branch, forwards or backwards, to the nearest other place at which one of the
+/// session's breaks is met; the cursor stays if there is none. A break on a process or a bit that
+/// the tower doesn't have is never met.
 #[derive(Clone, Copy, Debug, PartialEq, Eq)]
 pub enum Break {
     /// An operation of this process returned.
@@ -22,7 +25,8 @@ pub enum Break {
 }
 
 impl Break {
-    /// Whether a step that records these events meets the break.
+    /// Whether one of the events that a step recorded meets the break; always false for a break on
+    /// a bit, which only the memory after the step can meet.
     pub fn is_recorded(self, events: StepEvents) -> bool
         ensures { result ≡ spec.is_recorded self events }
     {
@@ -39,7 +43,8 @@ impl Break {
         }
     }
 
-    /// Whether an event meets the break.
+    /// Whether an event meets the break; always false for a break on a bit, which only a memory can
+    /// meet.
     pub fn is_met_by(self, event: Event) -> bool
         ensures { result ≡ spec.is_met_by self event }
     {
@@ -52,7 +57,8 @@ impl Break {
         }
     }
 
-    /// Whether the contents of `store` meet the break. Only a break on a bit depends on memory.
+    /// Whether `store` meets the break: the break is on a bit that `store` has, and the bit's value
+    /// is the break's. False for all other breaks.
     pub fn is_shown(self, store: &Store) -> bool
         ensures { result ≡ spec.is_shown self store.now }
     {

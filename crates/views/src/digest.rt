@@ -1,4 +1,4 @@
-//! Digests of steps: the number that is hashed instead of the steps.
+//! Digests: to hash a list of steps, one number is computed from it and hashed in its place.
 
 ghost use Rattle.std.specs.Prelude.{◌≡◌};
 ghost use Rattle.views.specs.Digests as spec;
@@ -8,7 +8,8 @@ use frames::types::Step;
 /// The multiplier: 2^64 over the golden ratio, so that the bits of each step reach higher ones too.
 const FACTOR: u64 = 0x9E37_79B9_7F4A_7C15;
 
-/// A number for a list of steps. Equal lists have equal numbers.
+/// The digest of a list of steps: the number that is hashed in place of the list. Equal lists have
+/// equal digests; different lists may have equal digests too.
 pub(crate) fn digest(steps: &[Step]) -> u64
     ensures { result ≡ spec.digest steps.now }
 {

@@ -1,10 +1,11 @@
-//! What holds of every page, whatever the steps.
+//! A law of pages: no page of a regular or an atomic register shows a stray read.
 
 ghost use Rattle.views.specs.Strays.{IsRegularOrAtomic, NeverShowsStray};
 
 use frames::register::Register;
 
-/// No page of a regular or an atomic register ever shows a stray read.
+/// If a register is regular or atomic, and each step of each branch fits it, no look at a branch
+/// shows a stray read: one whose value is neither the fresh one nor that of an overlapping write.
 pub fn never_shows_stray<R: Register>(register: &R)
     ensures { IsRegularOrAtomic (R.behaviour register.now)
         → NeverShowsStray (R.behaviour register.now) }

@@ -1,4 +1,4 @@
-//! A cache of configurations, kept from one page to the next.
+//! Lenses: caches of configurations, so that a look near an earlier one replays few steps.
 
 ghost use Rattle.std.specs.Prelude.{◌≡◌, ◌≤◌, ◌<◌, [], IfOk, IfSome, OnErr, length};
 ghost use Rattle.std.specs.Arc.{arc_value};
@@ -18,15 +18,16 @@ use std::marker::Model;
 use std::num::NonZeroUsize;
 use std::sync::Arc;
 
-/// How many places a lens keeps.
+/// The most places that a lens keeps.
 const PLACES: usize = 32;
 
-/// How many places are kept at once when looks go backwards, so that most of these looks replay no
-/// steps.
+/// The most places that one look keeps when looks go backwards, so that most of the looks that
+/// follow replay no steps.
 const STRETCH: u32 = 16;
 
-/// A cache of the configurations at the places looked at most recently. A place is found by the
-/// value of its run, not by its branch, so one lens serves all branches.
+/// A cache of the configurations at the places looked at most recently. Two places are the same if
+/// they lie after equally many steps of runs that have the same steps and begin from equal
+/// configurations, whatever the branches; so one lens serves all branches.
 #[derive(Drop)]
 pub struct Lens<R: Register> {
     places: LruCache<RunPlace<R>, Config<R>>,
@@ -46,7 +47,8 @@ impl<R: Register> Model for Lens<R> {
 }
 
 impl<R: Register> Lens<R> {
-    /// An empty lens, which keeps at most 32 places.
+    /// Returns an empty lens, which will keep at most 32 configurations. Fails only if memory runs
+    /// out.
     pub fn new(alloc: Global) -> Result<Lens<R>, AllocError>
         ensures { IfOk result (λ lens. lens ≡ lru_cache [] PLACES) }
     {
@@ -57,8 +59,10 @@ impl<R: Register> Lens<R> {
         Ok(Lens { places })
     }
 
-    /// A configuration like the one after the first `count` steps of `run`, which has more steps
-    /// than that. It is replayed from the place that `nearest` finds.
+    /// The configuration after the first `count` steps of `run`, which must have more than `count`
+    /// steps. It equals the one that replay from the run's entry reaches, but for its register,
+    /// which need only behave alike (`IsAlike`). Replay begins from a configuration that the lens
+    /// has, at that place or one step before it, else from the run's entry.
     pub(crate) fn config_in(
         &mut self,
         alloc: Global,
@@ -74,8 +78,8 @@ impl<R: Register> Lens<R> {
         Ok(self.walk(alloc, run, first, count, config))
     }
 
-    /// The place from which to replay to place `count`, with the configuration there: `count`
-    /// itself or the place before it, if the lens keeps one of them, or else the run's entry.
+    /// The place from which to replay to place `count`, and the configuration there. The place is
+    /// `count` if the lens keeps it, else `count` - 1 if the lens keeps that, else 0.
     fn nearest(
         &mut self,
         alloc: Global,
@@ -97,8 +101,8 @@ impl<R: Register> Lens<R> {
     }
 
     /// The place after which `walk` keeps each place up to `count`: usually `count` - 1, so that
-    /// one place is kept. If the place after `count` is kept already, looks are going backwards,
-    /// and up to 16 places are kept.
+    /// `walk` keeps one place. If the lens already keeps the place after `count`, looks are going
+    /// backwards, and `walk` keeps up to 16 places. The result is never before `made`.
     fn kept_from(&self, run: &Arc<Run<R>>, made: u32, count: u32) -> u32
         requires { made ≤ count }
         ensures { (made ≤ result) × (result ≤ count) }
@@ -138,8 +142,8 @@ impl<R: Register> Lens<R> {
         self.places.contains(&place)
     }
 
-    /// A copy of the configuration of place `count`, if the lens keeps that place and there is
-    /// memory for the copy. Marks the place as used.
+    /// A copy of the configuration at place `count`, if the lens keeps that place and there is
+    /// memory for the copy. Marks the place as the most recently used.
     fn find(&mut self, alloc: Global, run: &Arc<Run<R>>, count: u32) -> Option<Config<R>>
         ensures { IfSome result (λ c. IsAt R.behaviour (arc_value run.now) count c) }
     {
@@ -153,7 +157,7 @@ impl<R: Register> Lens<R> {
         Some(copy)
     }
 
-    /// Keeps the configuration of place `count`, and drops the least recently used place if the
+    /// Keeps the configuration at place `count`, and drops the least recently used place if the
     /// lens is full. If memory runs out, the lens is unchanged.
     fn keep(
         &mut self,
@@ -174,7 +178,7 @@ impl<R: Register> Lens<R> {
     }
 }
 
-/// Replays from place `made` of a run, which has the configuration `config`, to place `count`.
+/// Replays a run from place `made`, at which the configuration is `config`, to place `count`.
 fn advanced<R: Register>(run: &Run<R>, made: u32, count: u32, config: Config<R>) -> Config<R>
     requires order { made ≤ count }
     requires within { count < length run.now.steps }

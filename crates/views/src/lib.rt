@@ -1,8 +1,8 @@
-//! Pages: what a place of a branch shows, and its text.
+//! Pages: what a look shows at a place of a branch, as data and as text.
 //!
-//! To show a place, the chart is settled up to that place, which replays only what edits changed.
-//! The page is the same as if all steps of the branch up to the place were replayed from the
-//! register's initial value.
+//! To show a place, a look uses the stored runs that fit the branch's steps up to that place, and
+//! replays only the segments that no stored run fits. The page is the same as if all steps up to
+//! the place were replayed from the register's initial value.
 #![tactic(auto)]
 
 pub mod breakpoint;

@@ -1,11 +1,11 @@
-//! Lists in a page.
+//! The lists that pages hold.
 
 ghost use Rattle.std.specs.Prelude.{◌≡◌, IfOk};
 
 use std::alloc::{AllocError, Global};
 use std::marker::Model;
 
-/// A list of values. Contracts see the values, not the capacity.
+/// A list of values, as pages hold it. To contracts, it is just the list of its values.
 #[derive(Drop)]
 pub struct Listed<T> {
     items: Vec<T>,
@@ -20,14 +20,14 @@ impl<T> Model for Listed<T> {
 }
 
 impl<T> Listed<T> {
-    /// The list of these values. Allocates nothing.
+    /// Returns the list of the values in `items`, whose memory it takes. Allocates nothing.
     pub fn new(items: Vec<T>) -> Listed<T>
         ensures { result ≡ items.items }
     {
         Listed { items }
     }
 
-    /// The values, in order.
+    /// Returns the list's values, in order.
     pub fn as_slice(&self) -> &[T]
         ensures { result.now ≡ self.now }
     {
@@ -39,7 +39,7 @@ impl<T> Listed<T> {
         *self.items.allocator()
     }
 
-    /// A list of copies of `items`, in newly allocated memory.
+    /// A list of copies of `items`, in newly allocated memory; an error if memory runs out.
     pub(crate) fn of(alloc: Global, items: &[T]) -> Result<Listed<T>, AllocError>
     where
         T: Copy,

@@ -28,10 +28,10 @@ use steps::{StepsPage, push_steps};
 use verdict::{VerdictPage, push_verdict};
 use words::text::Pushed;
 
-/// Bytes reserved for a page's text at first; most pages are shorter.
+/// How many bytes are reserved for a page's text at first. Most texts are shorter.
 const SHORT_PAGE: usize = 256;
 
-/// The result of a look, as data.
+/// What a look shows, as data; there is a variant for each kind of look.
 #[derive(Clone, Drop)]
 pub enum Page {
     State(StatePage),
@@ -45,7 +45,8 @@ pub enum Page {
     Steps(StepsPage),
 }
 
-/// The text of a page, as the answer to session `who`.
+/// Returns the text of a page, as the answer to session `who`, whose number the text begins with.
+/// Fails only if memory runs out.
 pub fn page_text(alloc: Global, who: u32, page: &Page) -> Result<Vec<u8>, AllocError>
     ensures { IfOk result (λ text. text.items ≡ spec.page_text who page.now) }
 {

@@ -1,23 +1,24 @@
-//! What a session can look at.
+//! Looks: what a session can ask to be shown.
 
 use schedule_trie::name::Name;
 
-/// A look. Its place is after the first `k` steps of branch `b`; `p` is a process, `who` a session.
+/// What a look is to show. It shows a place if it has a `k`: the place after the first `k` steps of
+/// branch `b`. `p` is the number of a process, and `who` that of a session.
 #[derive(Clone, Copy, Debug, PartialEq, Eq)]
 pub enum Query {
     /// The processes, and the values of all bit cells and words.
     State { b: Name, k: u32 },
-    /// One process.
+    /// What one process is doing.
     Process { b: Name, k: u32, p: u32 },
-    /// Each bit cell and each word.
+    /// Each bit cell, with any write or read in progress on it, and each word.
     Bits { b: Name, k: u32 },
     /// The pending operation of each process, as frames.
     Pending { b: Name, k: u32 },
-    /// The events up to a place.
+    /// The events of the steps up to the place.
     History { b: Name, k: u32 },
-    /// The verdict on each read that returned up to a place.
+    /// The verdict on each read that returned in the steps up to the place.
     Verdict { b: Name, k: u32 },
-    /// The branches.
+    /// All branches, with their lengths.
     Branches,
     /// The cursor and the breaks of a session.
     Cursor { who: u32 },
@@ -25,7 +26,7 @@ pub enum Query {
     Steps { b: Name },
 }
 
-/// The kind of a look at a place of a branch.
+/// What a look at a place of a branch is to show there.
 #[derive(Clone, Copy, Debug, PartialEq, Eq)]
 pub(crate) enum PlaceKind {
     State,
@@ -33,6 +34,6 @@ pub(crate) enum PlaceKind {
     Bits,
     Pending,
     History,
-    /// Has the initial value if the tower has one writer, else `None`.
+    /// Holds the initial value if the tower has one writer, else `None`.
     Verdict(Option<u32>),
 }

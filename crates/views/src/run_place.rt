@@ -1,4 +1,4 @@
-//! Places of runs: the keys of a lens.
+//! Places in runs, which are the keys of a lens, a cache of configurations.
 
 ghost use Rattle.std.specs.Prelude.{◌≡◌, ◌++◌, IfOk};
 ghost use Rattle.std.specs.Arc.{arc_value};

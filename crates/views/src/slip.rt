@@ -35,9 +35,10 @@ mod content;
 
 use content::{Content, Found, PlaceSlip};
 
-/// What a look found. The slip's page is fixed, whatever happens to the branches before the page is
-/// made. For proofs alone, the slip also remembers the register that was looked at: a page of
-/// verdicts judges that register's history.
+/// What a look found, from which its page is made later. The page is already determined: edits made
+/// in the meantime don't change it. `judged`, which only proofs use, is the register that was
+/// looked at, or `None` if `Slip::of` made the slip. If there is a register, any verdicts on the
+/// page are on that register's reads.
 #[derive(Drop)]
 pub struct Slip<R: Register> {
     content: Content<R>,
@@ -56,13 +57,16 @@ impl<R: Register> Model for Slip<R> {
 }
 
 impl<R: Register> Slip<R> {
-    /// Looks at a branch.
+    /// Looks at one branch; `query` must not be `Branches` or `Cursor`. The returned slip's page
+    /// shows the branch's steps, or what the replay of its first `k` steps (`k` is the query's)
+    /// reaches and records from the initial value. The slip remembers the chart's register, and any
+    /// verdicts on the page are on a history of that register. If it is regular or atomic, none of
+    /// them is stray. Of the chart, only stored runs may change, even if there is an error.
     ///
     /// # Errors
     ///
-    /// NoBranch if there is no such branch; NoPlace if the branch has fewer steps than the place;
-    /// Memory. In each case the branches are unchanged. Runs may have been stored, and each is a
-    /// true replay.
+    /// NoBranch if there is no such branch; NoPlace if the query has a `k`, and the branch has
+    /// fewer than `k` steps; Memory if memory runs out.
     pub fn at(alloc: Global, chart: &mut Chart<R>, query: Query) -> Result<Slip<R>, Refusal>
         requires { spec.is_at_branch query ≡ true }
         ensures page { IfOk result (λ slip. Some slip.page ≡ shown_by R.behaviour chart.old query) }
@@ -91,8 +95,8 @@ impl<R: Register> Slip<R> {
         }
     }
 
-    /// The slip of a page that is already made, such as that of the branches or of a session.
-    /// Allocates nothing.
+    /// Returns a slip whose page is `page`, which was made already, for example from the list of
+    /// branches. The slip remembers no register. Allocates nothing.
     pub fn of(page: Page) -> Slip<R>
         ensures page { result.page ≡ page }
         ensures judged { result.judged ≡ None }
@@ -102,8 +106,10 @@ impl<R: Register> Slip<R> {
         Slip { content, judged }
     }
 
-    /// The page, which is the same with any lens. If the register that was looked at is regular or
-    /// atomic, the page shows no stray read.
+    /// Returns the slip's page. The page doesn't depend on `lens`, which only saves replaying
+    /// steps. If the slip remembers the register that was looked at, any verdicts on the page are
+    /// on a history of that register; and if that register is regular or atomic, none of them is
+    /// stray. Fails only if memory runs out.
     pub fn page(&self, alloc: Global, lens: &mut Lens<R>) -> Result<Page, AllocError>
         ensures page { IfOk result (λ page. page ≡ self.now.page) }
         ensures judges { IfOk result (JudgesIts R.behaviour self.now.judged) }
@@ -113,6 +119,23 @@ impl<R: Register> Slip<R> {
         match &self.content {
             Content::Place(slip) => slip.page(alloc, lens),
             Content::Ready(page) => page.clone(),
+        }
+    }
+
+    /// Consumes the slip and returns its page; a page that the slip was made from isn't copied. The
+    /// page doesn't depend on `lens`, which only saves replaying steps. If the slip remembers the
+    /// register that was looked at, any verdicts on the page are on a history of that register; and
+    /// if that register is regular or atomic, none of them is stray. Fails only if memory runs out.
+    pub fn into_page(self, alloc: Global, lens: &mut Lens<R>) -> Result<Page, AllocError>
+        ensures page { IfOk result (λ page. page ≡ self.page) }
+        ensures judges { IfOk result (JudgesIts R.behaviour self.judged) }
+        ensures never_stray { IfSome self.judged
+            (λ register. IsRegularOrAtomic (R.behaviour register) → IfOk result ShowsNoStray) }
+    {
+        let Slip { content, judged: _ } = self;
+        match content {
+            Content::Place(slip) => slip.page(alloc, lens),
+            Content::Ready(page) => Ok(page),
         }
     }
 }
@@ -129,7 +152,7 @@ fn judged_from<R: Register>(chart: &Chart<R>) -> Option<u32>
     }
 }
 
-/// The register that is looked at, for proofs alone.
+/// The register that is looked at, as a value that only proofs use.
 fn judged_by<R: Register>(chart: &Chart<R>) -> Snapshot<Option<R>>
     ensures { result.value ≡ Some chart.now.start.register }
 {
@@ -137,7 +160,7 @@ fn judged_by<R: Register>(chart: &Chart<R>) -> Snapshot<Option<R>>
     Snapshot::of(&Some(register))
 }
 
-/// Looks at a place of a branch.
+/// Looks at the place after the first `place` steps of a branch.
 fn place_slip<R: Register>(
     alloc: Global,
     chart: &mut Chart<R>,
@@ -162,7 +185,7 @@ fn place_slip<R: Register>(
     Ok(Slip { content, judged })
 }
 
-/// Settles a place of a branch; returns the branch's length, and what a page of this kind needs.
+/// Settles a branch's first `place` steps. Returns its length, and what a page of this kind needs.
 fn settled<R: Register>(
     alloc: Global,
     chart: &mut Chart<R>,
@@ -194,7 +217,7 @@ fn settled<R: Register>(
     Ok((last.len, found))
 }
 
-/// Whether a page of this kind shows events. Such a page can't be made from a configuration alone.
+/// Whether a page of this kind is made from events: a page of history or of verdicts.
 fn shows_events(kind: PlaceKind) -> bool
     ensures { result ≡ pages.shows_events kind }
 {
@@ -204,7 +227,7 @@ fn shows_events(kind: PlaceKind) -> bool
     }
 }
 
-/// What a page without events is made of: the last run up to the place, or the configuration
+/// What a page without events is made from: the last run up to the place, or the configuration
 /// `first` if there is no run.
 fn found_last<R: Register>(
     alloc: Global,

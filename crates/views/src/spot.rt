@@ -1,4 +1,4 @@
-//! What a settled place shows: the configuration that a run reaches, and the events of runs.
+//! What replay shows at a place: the configuration that it reaches, and the events recorded so far.
 
 ghost use Rattle.std.specs.Prelude.{◌≡◌, ◌≤◌, IfOk, length, map};
 ghost use Rattle.frames.specs.Configuration.{replayed};
@@ -13,7 +13,8 @@ use frames::types::{Event, Step};
 use std::alloc::{AllocError, Global};
 use std::sync::Arc;
 
-/// The configuration after the first `count` steps of `run`, which has no more steps than these.
+/// The exit of `run`: the configuration after all its steps. It is thus the one after the first
+/// `count` steps, since `count` must be at least the number of all steps.
 #[tactic(auto, using(std::proofs::lemmas::List::take_all))]
 pub(crate) fn exit_at<R: Register>(run: &Run<R>, count: u32) -> &Config<R>
     requires { length run.now.steps ≤ count }
@@ -22,7 +23,8 @@ pub(crate) fn exit_at<R: Register>(run: &Run<R>, count: u32) -> &Config<R>
     run.exit()
 }
 
-/// Replays `steps` on `config`.
+/// Replays `steps`, each of which must fit the register, from `config`, which becomes the
+/// configuration that they reach.
 pub(crate) fn make<R: Register>(config: &mut Config<R>, steps: &[Step])
     requires { AllFit (R.behaviour config.old.register) steps.now }
     ensures { config.new ≡ replayed (R.behaviour config.old.register) config.old steps.now }
@@ -32,8 +34,9 @@ pub(crate) fn make<R: Register>(config: &mut Config<R>, steps: &[Step])
     }
 }
 
-/// The events of successive runs: of each run the events of its first steps, as many steps as its
-/// count. Each event has the index of its step, counted across the runs.
+/// The events that successive runs record. Each run comes with a number, and only the events of
+/// that many of its first steps are listed. Each event has the index of its step, counted from 0
+/// through these first steps of all runs.
 pub(crate) fn history_of<R: Register>(
     alloc: Global,
     runs: &[(Arc<Run<R>>, u32)],

@@ -17,18 +17,18 @@ step_of_words ws =
     else (if bytes_eq (next ws) (codes "x") then option_map (λ p. step.Stop p) (one_number (after_next ws))
     else None)))
 
--- a word, and then each number after a space
+-- a word and then, for each number, a space and the number in decimal
 abbrev pub text : List ℕ → List ℕ → List ℕ
 text word numbers = word ++ flat_map (λ n. 32 ∷ decimal n) numbers
 
--- the text of a step
+-- the text that spells a step: its letter and then, for each of its numbers, a space and the number
 abbrev pub step_text : Step → List ℕ
 step_text (step.Write p v) = text (codes "w") (p ∷ v ∷ [])
 step_text (step.Read p) = text (codes "r") (p ∷ [])
 step_text (step.Go p c) = text (codes "g") (p ∷ c ∷ [])
 step_text (step.Stop p) = text (codes "x") (p ∷ [])
 
--- the numbers of a step are below 10 ^ 9, so that words can spell them
+-- Each number of a step is below 10 ^ 9, so that it has a spelling of at most 9 digits.
 abbrev pub HasShortNumbers : Step → Type 0
 HasShortNumbers (step.Write p v) = (p < 10 ^ 9) × (v < 10 ^ 9)
 HasShortNumbers (step.Read p) = p < 10 ^ 9

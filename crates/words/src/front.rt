@@ -12,7 +12,7 @@ use frames::types::Step;
 const LEAST_OF_NINE_DIGITS: u32 = 100_000_000;
 
 /// The step that the first line of `text` spells, and the text after that line's end; `None` if the
-/// line spells no step, or has no end.
+/// line spells no step, or has no line end.
 pub(crate) fn front_step(text: &[u8]) -> Option<(Step, &[u8])>
     ensures short { IfSome result (λ r. HasShortNumbers r.0) }
     ensures front { IfSome result (λ r. text.now ≡ step_text r.0 ++ 10 ∷ r.1.now) }

@@ -1,4 +1,4 @@
-//! Words: lines cut at spaces, numbers, and steps, as files and scripts have them.
+//! The words of a line, and how files and scripts spell numbers and steps.
 //!
 //! Words are separated by exactly one space, and no space is at the start or the end of a line. A
 //! number is `0`, or a digit 1 to 9 followed by digits, at most 9 digits in all. A step is `w P V`

@@ -9,7 +9,7 @@ use crate::parts::first_part;
 use frames::types::Step;
 use std::marker::Model;
 
-/// The lines that are left of a text. Lines are the parts between line ends.
+/// The lines of a text that aren't taken yet. Lines are the parts between line ends.
 #[derive(Drop)]
 pub struct Lines<'a> {
     text: Option<&'a [u8]>,
@@ -26,14 +26,14 @@ impl<'a> Model for Lines<'a> {
 }
 
 impl<'a> Lines<'a> {
-    /// The lines of a text.
+    /// All lines of `text`. The last of them is the text after the last line end; it may be empty.
     pub fn new(text: &'a [u8]) -> Lines<'a>
         ensures { result ≡ lines text.now }
     {
         Lines { text: Some(text) }
     }
 
-    /// Takes the next line; an empty one if no line is left.
+    /// Takes the next line, and returns it; returns an empty line if none is left.
     pub fn next(&mut self) -> &'a [u8]
         ensures part { result.now ≡ next self.old }
         ensures left { self.new ≡ after_next self.old }
@@ -46,8 +46,8 @@ impl<'a> Lines<'a> {
         line
     }
 
-    /// Takes the next line if it spells a step and has its end; else takes nothing. Reads each byte
-    /// once.
+    /// If the next line ends with a line end and spells a step, takes the line and returns its
+    /// step. Otherwise takes nothing and returns `None`. Reads the line in a single pass.
     pub fn next_step(&mut self) -> Option<Step>
         ensures step { IfSome result (λ s. step_of_words (words (next self.old)) ≡ Some s) }
         ensures whole { OnSome result (is_end (after_next self.old) ≡ false) }

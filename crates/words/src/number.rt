@@ -48,7 +48,7 @@ fn next_number(words: &mut Parts<'_>) -> Option<u32>
     number(words.next())
 }
 
-/// Reads one number; `None` if the word isn't a number, or if more words follow.
+/// Reads the next word as a number; `None` if it isn't a number, or if more words follow.
 pub fn one_number(words: &mut Parts<'_>) -> Option<u32>
     ensures { result ≡ spec.one_number words.old }
 {
@@ -56,7 +56,8 @@ pub fn one_number(words: &mut Parts<'_>) -> Option<u32>
     words.is_end().then_some(first)
 }
 
-/// Reads two numbers; `None` if a word isn't a number, or if more words follow.
+/// Reads the next two words as numbers; `None` if one of them isn't a number, or if more words
+/// follow.
 pub fn two_numbers(words: &mut Parts<'_>) -> Option<(u32, u32)>
     ensures { result ≡ spec.two_numbers words.old }
 {
@@ -65,7 +66,8 @@ pub fn two_numbers(words: &mut Parts<'_>) -> Option<(u32, u32)>
     Some((first, second))
 }
 
-/// Reads three numbers; `None` if a word isn't a number, or if more words follow.
+/// Reads the next three words as numbers; `None` if one of them isn't a number, or if more words
+/// follow.
 pub fn three_numbers(words: &mut Parts<'_>) -> Option<(u32, u32, u32)>
     ensures { result ≡ spec.three_numbers words.old }
 {
@@ -74,7 +76,8 @@ pub fn three_numbers(words: &mut Parts<'_>) -> Option<(u32, u32, u32)>
     Some((first, second, third))
 }
 
-/// Reads four numbers; `None` if a word isn't a number, or if more words follow.
+/// Reads the next four words as numbers; `None` if one of them isn't a number, or if more words
+/// follow.
 pub fn four_numbers(words: &mut Parts<'_>) -> Option<(u32, u32, u32, u32)>
     ensures { result ≡ spec.four_numbers words.old }
 {

@@ -7,7 +7,8 @@ ghost use Rattle.words.specs.Words.{parts, parts_left, next, after_next, is_end}
 use bstr::ByteSlice;
 use std::marker::Model;
 
-/// The parts that are left of a text. Parts are what is between the separators.
+/// The parts of a text that aren't taken yet. A part is the text between one separator and the
+/// next.
 #[derive(Drop)]
 pub struct Parts<'a> {
     text: Option<&'a [u8]>,
@@ -35,7 +36,7 @@ impl<'a> Parts<'a> {
         }
     }
 
-    /// Takes the next part; an empty one if no part is left.
+    /// Takes the next part, and returns it; returns an empty part if none is left.
     pub fn next(&mut self) -> &'a [u8]
         ensures part { result.now ≡ next self.old }
         ensures left { self.new ≡ after_next self.old }
@@ -56,8 +57,8 @@ impl<'a> Parts<'a> {
     }
 }
 
-/// The first part of a text, and the text after the first separator; `None` if there is no
-/// separator.
+/// The part of a text before the first separator, and the text after it. If there is no separator,
+/// they are the whole text, and `None`.
 pub(crate) fn first_part(text: &[u8], separator: u8) -> (&[u8], Option<&[u8]>)
     ensures { parts separator text.now ≡ result.0.now ∷ parts_left separator
         (option_map (λ t. t.now) result.1) }

@@ -12,7 +12,7 @@ use std::alloc::AllocError;
 use std::io;
 use std::io::Write;
 
-/// Reads a step; `None` if the words don't spell one, or if more words follow.
+/// Reads the next words as a step; `None` if they spell no step, or if more words follow.
 pub fn step_of(words: &mut Parts<'_>) -> Option<Step>
     ensures { result ≡ spec.step_of_words words.old }
 {
@@ -36,7 +36,7 @@ pub fn step_of(words: &mut Parts<'_>) -> Option<Step>
     None
 }
 
-/// Adds the text of a step.
+/// Adds the text that spells a step at the end of `out`.
 ///
 /// # Errors
 ///
@@ -61,7 +61,8 @@ fn append_letter(out: &mut Vec<u8>, letter: u8, numbers: &[u32]) -> Result<(), A
     append_numbers(out, numbers)
 }
 
-/// Adds a word, and then each number after a space. Fails only if memory runs out.
+/// Adds a word at the end of `out` and then, for each number, a space and the number. Fails only if
+/// memory runs out.
 pub fn push_words(out: &mut Vec<u8>, word: &str, numbers: &[u32]) -> io::Result<()>
     ensures { OnOk result (out.new.items ≡ out.old.items ++ spec.text word.now numbers.now) }
 {
@@ -81,7 +82,7 @@ fn append_numbers(out: &mut Vec<u8>, numbers: &[u32]) -> Result<(), AllocError>
     Ok(())
 }
 
-/// Whether a word equals this text.
+/// Whether the bytes of `word` are those of `text`.
 pub fn is(word: &[u8], text: &str) -> bool
     ensures { result ≡ bytes_eq word.now text.now }
 {

@@ -4,10 +4,10 @@ ghost use Rattle.std.specs.Prelude.{◌≡◌, ◌++◌, OnOk, codes, decimal};
 
 use std::alloc::AllocError;
 
-/// The result of adding a piece: an error only if memory runs out.
+/// The result of adding a piece to a text: an error only if memory runs out.
 pub type Pushed = Result<(), AllocError>;
 
-/// Adds bytes.
+/// Adds `bytes` at the end of `out`. Fails only if memory runs out.
 #[inline]
 pub fn push_bytes(out: &mut Vec<u8>, bytes: &[u8]) -> Pushed
     ensures { OnOk result (out.new.items ≡ out.old.items ++ bytes.now) }
@@ -15,7 +15,7 @@ pub fn push_bytes(out: &mut Vec<u8>, bytes: &[u8]) -> Pushed
     out.extend_from_slice(bytes)
 }
 
-/// Adds a text.
+/// Adds `text` at the end of `out`. Fails only if memory runs out.
 #[inline]
 pub fn push_text(out: &mut Vec<u8>, text: &str) -> Pushed
     ensures { OnOk result (out.new.items ≡ out.old.items ++ text.now) }
@@ -23,7 +23,7 @@ pub fn push_text(out: &mut Vec<u8>, text: &str) -> Pushed
     push_bytes(out, text.as_bytes())
 }
 
-/// Adds a space and a text.
+/// Adds a space and then `word` at the end of `out`. Fails only if memory runs out.
 pub fn push_word(out: &mut Vec<u8>, word: &str) -> Pushed
     ensures { OnOk result (out.new.items ≡ out.old.items ++ codes " " ++ word.now) }
 {
@@ -31,7 +31,7 @@ pub fn push_word(out: &mut Vec<u8>, word: &str) -> Pushed
     push_text(out, word)
 }
 
-/// Adds a text and a number.
+/// Adds `label` and then `number`, in decimal, at the end of `out`. Fails only if memory runs out.
 pub fn push_labelled(out: &mut Vec<u8>, label: &str, number: u64) -> Pushed
     ensures { OnOk result (out.new.items ≡ out.old.items ++ label.now ++ decimal number) }
 {
@@ -39,7 +39,7 @@ pub fn push_labelled(out: &mut Vec<u8>, label: &str, number: u64) -> Pushed
     push_number(out, number)
 }
 
-/// Adds the digits of a number.
+/// Adds `number`, in decimal, at the end of `out`. Fails only if memory runs out.
 pub fn push_number(out: &mut Vec<u8>, number: u64) -> Pushed
     ensures { OnOk result (out.new.items ≡ out.old.items ++ decimal number) }
 {

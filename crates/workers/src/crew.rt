@@ -1,5 +1,5 @@
-//! The crew: the caller puts the jobs' numbers into a deque, and works on them together with its
-//! thieves.
+//! The crew: the caller puts the jobs' numbers into a deque (a queue that other threads can take
+//! from), and works on the jobs together with its thieves, which are those threads.
 
 ghost use Rattle.std.specs.Prelude.{◌≡◌, ◌<◌, ◌≤◌, ◌-◌, [], length, vec_capacity, IfOk};
 ghost use denote.Param.Send.{IsSend, IsSync};
@@ -19,10 +19,10 @@ use std::sync::Wait;
 use std::thread;
 use std::thread::Threads;
 
-/// A crew of the caller and its thieves.
+/// A crew: the caller and its thieves (other threads), which run a list of jobs together.
 pub struct Crew;
 
-/// A new deque with the numbers of `jobs` jobs, in order.
+/// A new deque with the numbers 0 to `jobs` - 1, in order.
 fn deal(alloc: Global, jobs: usize) -> Result<Owner, AllocError>
     ensures { IfOk result (λ owner. (worker_flavor owner ≡ 0)
         × (worker_view owner ≡ hand 8 jobs [])) }
@@ -64,10 +64,10 @@ where
 /// What the caller works with: its end of the deque, and a slot for the outcome of each job.
 type Bench<R> = (Owner, Slots<R>);
 
-/// Runs the jobs in the deque, with at most `thieves` thieves, each in a thread of its own. The
-/// caller takes over the jobs of each thief, with their outcomes. If there is no memory for a
-/// thief, no more thieves are used. If no thread can be made for one, the caller works first, and
-/// that thief then finds the deque empty.
+/// Runs the jobs in the deque, with at most `thieves` thieves, each in a thread of its own. At the
+/// end the jobs that the thieves have taken count as the caller's, and their outcomes are in the
+/// caller's slots. If there is no memory for a thief, no more thieves are used. If no thread can be
+/// made for a thief, the caller works first, and that thief then finds the deque empty.
 fn share<R: Threads + Wait + Sync, J: Runnable + Sync, G: Gate<R> + Sync>(
     rt: &R,
     alloc: Global,
@@ -126,14 +126,15 @@ fn needed(thieves: u32, jobs: usize) -> u32
 }
 
 impl Crew {
-    /// Runs each job once: the caller and its thieves take jobs from one deque, in order. Returns
-    /// one outcome for each job, in the order of the jobs. Each job is first offered to the gate,
-    /// by the thread that is about to run it.
+    /// Runs each job once, and returns one outcome for each job, with the job's key, in the order
+    /// of the jobs. The outcome is the job's result, or `NoMemory` if the job ran out of memory.
+    /// The caller and its thieves, which are other threads, take the jobs from one deque, in order.
+    /// The thread that is about to run a job first offers it to the gate.
     ///
-    /// At most `thieves` thieves are used (up to 4), and no more than can find a job. A thief that
-    /// can't be started isn't used; without thieves, the caller runs all jobs. Memory for all
-    /// outcomes is reserved before the first job runs; without that memory the call fails, and the
-    /// jobs are dropped. A job that runs out of memory has the outcome `NoMemory`.
+    /// At most `thieves` thieves are used (`thieves` has to be at most 4), and at most one for each
+    /// job but the first. A thief that can't be started isn't used; without thieves, the caller
+    /// runs all jobs. Memory for the deque and for all outcomes is reserved before the first job
+    /// runs; without that memory the call fails, and the jobs are dropped.
     pub fn run<R: Threads + Wait + Sync, J: Runnable + Sync + Drop, G: Gate<R> + Sync>(
         rt: &R,
         alloc: Global,

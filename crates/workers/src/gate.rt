@@ -4,7 +4,7 @@ use std::sync::Wait;
 
 /// A gate: each job is offered to it once, by the thread that is about to run the job.
 pub trait Gate<W: Wait> {
-    /// The job with this index is about to be run. The call may wait.
+    /// The job with this index is about to be run by this thread. The call may wait.
     fn offer(&self, rt: &W, index: usize);
 }
 

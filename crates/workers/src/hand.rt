@@ -1,20 +1,23 @@
-//! The deque of the jobs' numbers: what each pass knows, and what the calls of the deque guarantee.
+//! What the caller's end of the deque of jobs' numbers, and each thief's pass (its right to steal),
+//! know of the deque; and what each call on the deque guarantees.
 
 use crossbeam_deque::protocol::{Join, Outcome, Protocol, Split};
 use crossbeam_deque::{Pass, Stealer, Worker};
 use std::alloc::Global;
 use std::collections::LinkedList;
 
-/// What a pass knows: how many of the 8 parts it has, how many jobs were dealt, and which jobs it
-/// has taken. A pass with all 8 parts is the only one that has taken any jobs. For contracts alone:
-/// no `Hand` is ever made.
+/// What the caller's end of the deque, or a thief's pass, knows of the deque: how many of the 8
+/// parts it has, how many jobs were dealt (put into the deque), and which jobs it has taken. The
+/// caller's end has all parts at first, and gives one to each thief's pass; whoever has all 8 is
+/// the only one that has taken any jobs. For contracts alone: no `Hand` is ever made.
 pub(crate) struct Hand {
     pub parts: u32,
     pub count: usize,
     pub taken: LinkedList<usize>,
 }
 
-/// The rule of the deque: each job's number is in the deque, or was taken with one pass, once.
+/// The invariant of the deque: the number of each job that was dealt is in the deque, or was taken
+/// once, by the caller or by one thief.
 pub(crate) struct Dealt;
 
 impl Protocol<usize, Hand> for Dealt {
@@ -28,7 +31,7 @@ impl Protocol<usize, Hand> for Dealt {
     ghost guest = { hand 0 0 [] };
 }
 
-/// A push of the next job's number.
+/// A push: the caller puts the next job's number into the deque.
 pub(crate) struct Deals;
 
 impl Outcome<usize, Hand> for Deals {
@@ -38,8 +41,9 @@ impl Outcome<usize, Hand> for Deals {
     ghost then = { λ v xs w. w ≡ hand v.parts (v.count + 1) v.taken };
 }
 
-/// A pop by the owner. If the owner has every part and finds the deque empty, it has taken all
-/// jobs.
+/// A pop: the owner (the caller's end) takes a job's number, or finds the deque empty. If it finds
+/// the deque empty and has all 8 parts of the deque's ownership, it has taken all jobs; those count
+/// that were taken with a pass which has returned to it.
 pub(crate) struct Pops;
 
 impl Outcome<usize, Hand> for Pops {
@@ -50,7 +54,7 @@ impl Outcome<usize, Hand> for Pops {
     ghost empty = { HasAllJobs };
 }
 
-/// A steal by a thief.
+/// A steal: a thief takes a job's number with its pass.
 pub(crate) struct Steals;
 
 impl Outcome<usize, Hand> for Steals {
@@ -59,7 +63,8 @@ impl Outcome<usize, Hand> for Steals {
     ghost then = { HasTaken };
 }
 
-/// A new pass with one of the owner's parts. It has taken no job.
+/// The owner (the caller's end) makes a thief's pass with one of its parts. The pass has taken no
+/// job.
 pub(crate) struct Hires;
 
 impl Split<Hand> for Hires {
@@ -71,7 +76,8 @@ impl Split<Hand> for Hires {
     ghost right = { λ v. hand 1 v.count [] };
 }
 
-/// A thief's pass returns to the owner, with the jobs that it has taken.
+/// A thief's pass returns to the owner (the caller's end), which then has the pass's parts, and
+/// counts the jobs that the pass has taken as its own.
 pub(crate) struct ComesBack;
 
 impl Join<Hand> for ComesBack {
@@ -83,11 +89,11 @@ impl Join<Hand> for ComesBack {
     ghost spent = { hand 0 0 [] };
 }
 
-/// The caller's end of the deque. The caller deals the jobs' numbers here, and takes some itself.
+/// The caller's end of the deque. The caller puts the jobs' numbers in here, and takes some itself.
 pub(crate) type Owner = Worker<usize, Global, Hand, Dealt>;
 
-/// A thief's end of the deque.
+/// A thief's end of the deque, from which the thief steals jobs' numbers.
 pub(crate) type Other = Stealer<usize, Global, Hand, Dealt>;
 
-/// A thief's pass.
+/// A thief's pass: its right to steal, and for contracts what it knows of the deque.
 pub(crate) type Part = Pass<usize, Hand>;

@@ -4,15 +4,18 @@ ghost use Rattle.std.specs.Prelude.{◌≡◌, IfOk};
 
 use std::alloc::{AllocError, Global};
 
-/// A job that any thread can run.
+/// A job that a crew can run, in any thread. It has a key, and gives a result or runs out of
+/// memory.
 pub trait Runnable {
     /// The type of a job's key, which names the job.
     type Key;
     /// The type of what a job gives when it runs.
     type Run;
 
+    /// The job's key, for contracts.
     ghost named: { Self → Self.Key };
 
+    /// Whether the job can give this result, for contracts.
     ghost gives: { Self → Self.Run → Type 0 };
 
     /// The job's key.
@@ -24,7 +27,7 @@ pub trait Runnable {
         ensures { IfOk result (gives self.now) };
 }
 
-/// The outcome of a job.
+/// How a job ended: with a result, or out of memory.
 #[derive(Debug, PartialEq, Eq, Drop)]
 pub enum JobOutcome<R> {
     /// The job ran, with this result.
@@ -33,7 +36,7 @@ pub enum JobOutcome<R> {
     NoMemory,
 }
 
-/// A job's outcome, with the job's key.
+/// How a job ended, with the job's key.
 #[derive(Debug, PartialEq, Eq, Drop)]
 pub struct Done<K, R> {
     pub key: K,

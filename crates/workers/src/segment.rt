@@ -1,4 +1,4 @@
-//! A crew can run the jobs of a chart's plan.
+//! The jobs of a chart's plan (segments to replay), as jobs that a crew can run.
 
 use crate::job;
 use checkpoints::run::{Run, run_segment};

@@ -1,4 +1,4 @@
-//! The jobs' outcomes, each in its job's slot.
+//! Slots for the outcomes of a crew's jobs: one for each job, in the order of the jobs.
 
 ghost use Rattle.std.specs.Prelude.{◌≡◌, ◌<◌, ◌≤◌, [], length, replicate, slice_set, vec_capacity, vec_len, IfOk, Some, None, All};
 ghost use Rattle.workers.specs.Outcomes.{OneForEach};
@@ -22,7 +22,7 @@ pub(crate) fn vacant<R>(alloc: Global, count: usize) -> Result<Slots<R>, AllocEr
     Ok(slots)
 }
 
-/// Puts an outcome into the slot of the job with this index.
+/// Puts an outcome into the slot of the job with this index, in place of what the slot had.
 pub(crate) fn put<R: Drop>(slots: &mut Slots<R>, index: usize, outcome: JobOutcome<R>)
     requires { index < length slots.old.items }
     ensures { slots.new.items ≡ slice_set slots.old.items index (Some outcome) }
@@ -30,7 +30,8 @@ pub(crate) fn put<R: Drop>(slots: &mut Slots<R>, index: usize, outcome: JobOutco
     slots[index] = Some(outcome);
 }
 
-/// Puts each outcome of a tray into its job's slot.
+/// Takes the outcomes from a thief's tray, and puts each into the slot of its job. The tray has the
+/// outcomes of the jobs that the thief ran.
 pub(crate) fn put_all<R: Drop>(slots: &mut Slots<R>, tray: Vec<Taken<R>>)
     requires { All (λ t. t.index < length slots.old.items) tray.items }
     ensures { slots.new.items ≡ with_all slots.old.items tray.items }
@@ -40,8 +41,9 @@ pub(crate) fn put_all<R: Drop>(slots: &mut Slots<R>, tray: Vec<Taken<R>>)
     }
 }
 
-/// The outcomes of all slots, in the order of the jobs, each with its job's key. They are put into
-/// `all`, which is empty and has memory reserved for them.
+/// The outcomes in the slots, in the order of the jobs, each with its job's key. There has to be a
+/// slot with an outcome for each job. `all`, into which they are put, has to be empty, with memory
+/// reserved for them.
 pub(crate) fn under_keys<J: Runnable>(
     jobs: &[J],
     slots: Slots<J::Run>,

@@ -12,14 +12,15 @@ use crossbeam_deque::Steal;
 use std::alloc::{AllocError, Global};
 use std::sync::Wait;
 
-/// The outcome of a job, with the job's index.
+/// A job's outcome, with the job's index, as a thief keeps it on its tray.
 #[derive(Drop)]
 pub(crate) struct Taken<R> {
     pub index: usize,
     pub outcome: JobOutcome<R>,
 }
 
-/// What a thief works with: its end of the deque, its pass, and a tray for the outcomes.
+/// What a thief works with: its end of the deque, its pass (its right to steal), and a tray, which
+/// is a list for the outcomes of the jobs that it runs.
 #[derive(Drop)]
 pub(crate) struct Thief<R> {
     pub deque: Other,
@@ -27,7 +28,9 @@ pub(crate) struct Thief<R> {
     pub tray: Vec<Taken<R>>,
 }
 
-/// A new thief, with one of the owner's parts, and memory reserved for the outcomes of `jobs` jobs.
+/// A new thief, with one of the owner's parts (the owner, which is the caller's end of the deque,
+/// has to have more than one) and memory reserved for the outcomes of `jobs` jobs. If memory runs
+/// out, the owner keeps its parts.
 pub(crate) fn hire<R: Drop>(
     alloc: Global,
     owner: &mut Owner,
@@ -49,7 +52,7 @@ pub(crate) fn hire<R: Drop>(
     Ok(Thief { deque, pass, tray })
 }
 
-/// Offers the job with this index to the gate, and then runs it.
+/// Offers the job with this index to the gate, then runs it, and returns its outcome.
 pub(crate) fn run_job<W: Wait, J: Runnable, G: Gate<W>>(
     rt: &W,
     alloc: Global,
@@ -67,8 +70,8 @@ pub(crate) fn run_job<W: Wait, J: Runnable, G: Gate<W>>(
     }
 }
 
-/// The thief takes jobs from the deque and runs them, until the deque is empty. The outcomes go on
-/// its tray.
+/// The thief takes jobs from the deque and runs them, until the deque is empty. Returns the thief,
+/// with an outcome on its tray for each job that it has taken.
 pub(crate) fn steal_all<W: Wait, J: Runnable, G: Gate<W>>(
     rt: &W,
     alloc: Global,

@@ -42,13 +42,13 @@ fn first_wrong_move(
         Ask::Replies(insert(on.a, 2, GO), Reply::Edited(2)),
         Ask::Replies(fork(on.main, 3, on.b), Reply::Edited(3)),
         Ask::Replies(detach(on.b), Reply::Edited(4)),
-        Ask::Stand(0, on.main),
-        Ask::Stand(4, on.a),
-        Ask::Stand(8, on.b),
+        Ask::GoToFourPlaces(0, on.main),
+        Ask::GoToFourPlaces(4, on.a),
+        Ask::GoToFourPlaces(8, on.b),
         Ask::Replies(*edit, Reply::Edited(5)),
-        Ask::StandAt(0, on.main, *main),
-        Ask::StandAt(4, on.a, *a),
-        Ask::StandAt(8, on.b, *b),
+        Ask::AreAt(0, on.main, *main),
+        Ask::AreAt(4, on.a, *a),
+        Ask::AreAt(8, on.b, *b),
     ];
     tried(alloc, LIMITS, &[READ, GO, GO], &rows, 29)
 }

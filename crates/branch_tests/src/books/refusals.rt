@@ -43,8 +43,8 @@ fn following(branch: &Name, cells: u32, step: Step, name: &Name) -> [Command; 4]
     ]
 }
 
-/// Commands that any session may give. If one can be refused for a late reason, such a reason
-/// holds.
+/// Commands that any session may give. If a command can be refused for a reason that is checked
+/// after its guard, such a reason holds.
 fn open_commands(main: &Name, zed: &Name) -> [Command; 7] {
     [
         Command::Join,
@@ -57,7 +57,8 @@ fn open_commands(main: &Name, zed: &Name) -> [Command; 7] {
     ]
 }
 
-/// The same for commands that only a session that has joined may give.
+/// Commands that only a session that has joined may give. If a command can be refused for a reason
+/// that is checked after its guard, such a reason holds.
 fn own_commands(zed: &Name) -> [Command; 6] {
     [
         Command::Leave,
@@ -111,9 +112,9 @@ fn a_log_of_one_entry(rt: HostRuntime) {
 }
 
 /// Commands that are refused late, for a reason that is checked after their guards. The book has
-/// one branch and three cells, as many as its limits allow, and session 0's cursor is on the
-/// branch. `branchless` commands name a missing branch, `placeless` ones a missing place; `others`
-/// are refused for the reasons given with them.
+/// one branch and three cells, the most that its limits allow, and session 0's cursor is on the
+/// branch. The commands `branchless` name a missing branch, and the commands `placeless` a missing
+/// place; `others` are refused for the reasons given with them.
 #[derive(Drop)]
 struct Late {
     branchless: [Command; 4],
@@ -160,8 +161,8 @@ fn rows_in_order(refused: &Refused) -> [Ask<'_>; 11] {
         Ask::RefusesEach(5, &refused.early.own, Refusal::NoSession),
         Ask::RefusesEach(0, &refused.early.open, Refusal::Newer(0)),
         Ask::RefusesEach(0, &refused.early.own, Refusal::Newer(0)),
-        Ask::RefusesLate(&refused.late.branchless, Refusal::NoBranch),
-        Ask::RefusesLate(&refused.late.placeless, Refusal::NoPlace),
+        Ask::RefusesUnguarded(&refused.late.branchless, Refusal::NoBranch),
+        Ask::RefusesUnguarded(&refused.late.placeless, Refusal::NoPlace),
         Ask::RefusesAll(&refused.late.others),
         Ask::Logs(61),
     ]

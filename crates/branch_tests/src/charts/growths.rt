@@ -12,7 +12,7 @@ use std::alloc::Global;
 use std::process::Abort;
 use std::sync::atomic::AtomicU64;
 
-/// How often a call is made at most: more often than the allocator refuses in a row.
+/// How often a call is made at most. This is more often than the allocator refuses in a row.
 const TRIES: u32 = 10;
 
 /// The index of the first row that goes wrong in a chart of these steps; `None` if none does, or if
@@ -43,8 +43,8 @@ fn late_run_wanting_memory(rt: HostRuntime) {
     none_wrong(&rt, tried(&rt, rt.alloc(), &steps, Wanted::All, &rows));
 }
 
-/// A settle; an edit, a plan and a second settle; and a third one, which replays nothing. The first
-/// two may have stored runs before memory ran out, and then replay fewer steps.
+/// A settle; an edit, a plan and a second settle; and a third settle, which replays nothing. The
+/// first two settles replay fewer steps if they had stored runs before memory ran out.
 const SETTLES: [Row; 6] = [
     (Branch::Main, Ask::Settle(1000, 0, 1000)),
     (Branch::Main, Ask::Replace(10, Kind::Go1)),

@@ -64,8 +64,9 @@ fn write_of(is_one: bool) -> Step
     step_of(if is_one { Kind::Write1 } else { Kind::Write0 })
 }
 
-/// The expected result of installing a run at `key`, if the piece has that key; `None` if not.
-fn told_of(
+/// The expected result of installing a run of a write at `key`; `None` unless `piece` has that key.
+/// `is_fitting` is whether a run is stored at the shared read.
+fn reported_of(
     piece: Option<Piece>,
     key: SegKey,
     is_fitting: bool,
@@ -80,10 +81,11 @@ fn told_of(
 }
 
 /// The expected result of installing a run of a write at a key: Gone if no segment has the key,
-/// Installed if its segment is that write and a run is stored at the shared read, and else Stale.
+/// Installed if the key's segment is that write and a run is stored at the shared read, and
+/// otherwise Stale.
 fn reported(pieces: Pieces, key: SegKey, is_one: bool) -> Installation {
-    let of_a = told_of(pieces.a, key, pieces.is_settled, is_one);
-    let of_b = told_of(pieces.b, key, pieces.is_settled, is_one);
+    let of_a = reported_of(pieces.a, key, pieces.is_settled, is_one);
+    let of_b = reported_of(pieces.b, key, pieces.is_settled, is_one);
     match (of_a, of_b) {
         (Some(reported), _) | (_, Some(reported)) => reported,
         _ if key == pieces.shared => Installation::Stale,
@@ -92,7 +94,7 @@ fn reported(pieces: Pieces, key: SegKey, is_one: bool) -> Installation {
 }
 
 /// Whether the install of an old run has the expected result at each key.
-fn is_told(chart: &mut Chart<Safe>, pieces: Pieces, old: &Old) -> Result<bool, Refusal> {
+fn is_reported(chart: &mut Chart<Safe>, pieces: Pieces, old: &Old) -> Result<bool, Refusal> {
     let mut all = true;
     for key in 0..KEYS {
         let Ok(run) = Arc::try_clone(&old.run) else {
@@ -103,11 +105,11 @@ fn is_told(chart: &mut Chart<Safe>, pieces: Pieces, old: &Old) -> Result<bool, R
     Ok(all)
 }
 
-/// The same for all old runs.
-fn are_told(shelf: &mut Shelf) -> Result<bool, Refusal> {
+/// Whether the installs of all old runs have the expected results at each key.
+fn are_reported(shelf: &mut Shelf) -> Result<bool, Refusal> {
     let mut all = true;
     for old in shelf.runs.iter() {
-        all &= is_told(&mut shelf.chart, shelf.pieces, old)?;
+        all &= is_reported(&mut shelf.chart, shelf.pieces, old)?;
     }
     Ok(all)
 }
@@ -267,14 +269,14 @@ fn first_wrong(
     asks: &[Ask],
 ) -> Result<Option<usize>, Refusal> {
     for (i, ask) in asks.iter().enumerate() {
-        if !goes(rt, alloc, shelf, *ask)? || !are_told(shelf)? {
+        if !goes(rt, alloc, shelf, *ask)? || !are_reported(shelf)? {
             return Ok(Some(i));
         }
     }
     Ok(None)
 }
 
-/// The same for a new chart of a read alone; 0 if the chart has no job.
+/// The index that `first_wrong` returns for a new chart of one read; 0 if the chart has no job.
 fn tried(rt: &impl Abort, alloc: Global, asks: &[Ask]) -> Result<Option<usize>, Refusal> {
     let steps = [step_of(Kind::Read)];
     let chart = Chart::new(alloc, Safe, 0, limits(), &steps)?;
@@ -301,7 +303,7 @@ const A: bool = true;
 const B: bool = false;
 
 /// The branches `a` and `b` are dropped and forked again in turn, with the same write and with the
-/// other one.
+/// other write.
 const ASKS: [Ask; 21] = [
     Ask::Settles,
     Ask::Forks(A, true),

@@ -1,5 +1,5 @@
-//! Pages made through one lens, place by place. Each is the same as through a new lens, and takes
-//! few steps.
+//! Pages made through one lens, place by place. Each page is the same as through a new lens, and
+//! takes few steps.
 
 ghost use Rattle.std.specs.Prelude.{◌≡◌, ◌<◌, true};
 ghost use Rattle.views.specs.Looks.{is_at_branch};
@@ -28,8 +28,8 @@ fn text_of<'a>(
     page_text(alloc, 0, &page)
 }
 
-/// How many steps were made for a slip's page through `lens`; `None` if the page differs from that
-/// through a new lens.
+/// How many steps were made for a slip's page through `lens`; `None` if the page differs from the
+/// slip's page through a new lens.
 fn steps_for<'a>(
     alloc: Global,
     calls: &AtomicU64,
@@ -79,7 +79,7 @@ impl<'a> Counted<'a> {
     }
 
     /// How many steps were made for the page of the state at a place; `None` if the page differs
-    /// from that through a new lens.
+    /// from the page through a new lens.
     fn steps_at(
         &mut self,
         lens: &mut Lens<Counting<'a>>,
@@ -100,8 +100,8 @@ impl<'a> Counted<'a> {
         }
     }
 
-    /// Goes upwards through the first `places` places. Returns the first whose page differs from
-    /// that through a new lens, or takes more than one step.
+    /// Goes upwards through the first `places` places. Returns the first place whose page differs
+    /// from the page through a new lens, or takes more than one step.
     fn first_wrong_up(
         &mut self,
         lens: &mut Lens<Counting<'a>>,
@@ -116,8 +116,9 @@ impl<'a> Counted<'a> {
         Ok(None)
     }
 
-    /// Goes downwards through the first `places` places. Returns the first whose page differs from
-    /// that through a new lens; `places` if the pages take more than six steps each on average.
+    /// Goes downwards through the first `places` places. Returns the first place whose page differs
+    /// from the page through a new lens; or `places` if the pages take more than six steps each on
+    /// average.
     fn first_wrong_down(
         &mut self,
         lens: &mut Lens<Counting<'a>>,
@@ -163,7 +164,7 @@ fn three_hundred_places_up_and_down(rt: HostRuntime) {
 }
 
 /// Goes upwards through 40 places of two charts: of both by turns through a shared lens, and of the
-/// second also through its own lens. Returns the first place with a page that differs from that
+/// second also through its own lens. Returns the first place with a page that differs from the page
 /// through a new lens.
 fn first_foreign<'a>(
     zero: &mut Counted<'a>,
@@ -182,8 +183,8 @@ fn first_foreign<'a>(
     Ok(None)
 }
 
-/// The same for two charts of the same steps, from the initial values 0 and 1. Their registers have
-/// equal numbers of cells and words.
+/// The first place that `first_foreign` finds for two charts of the same steps, from the initial
+/// values 0 and 1. Their registers have equal numbers of cells and words.
 fn first_foreign_place(rt: &impl Abort, alloc: Global) -> Result<Option<usize>, Refusal> {
     let calls = AtomicU64::new(0);
     let mut zero = Counted::new(rt, alloc, &calls, 0)?;
@@ -258,7 +259,7 @@ impl<'a> Counted<'a> {
 }
 
 /// Goes up through 40 places and down again, with one lens. Returns how many places were passed
-/// before a page of some kind differed from that through a new lens.
+/// before a page of some kind differed from the page through a new lens.
 fn first_wrong_of_all_kinds(rt: &impl Abort, alloc: Global) -> Result<Option<usize>, Refusal> {
     let calls = AtomicU64::new(0);
     let mut chart = Counted::new(rt, alloc, &calls, 0)?;
@@ -281,8 +282,8 @@ fn forty_places_of_each_kind(rt: HostRuntime) {
 const LAST_STATE: &[u8] =
     b"0: state main 1000 of 1000\n  p0 write 0 next ws 0\n  p1 idle\n  bits 1\n  words -\n";
 
-/// The number of the first page of the last place that is wrong: 0 is the page before a choice is
-/// replaced, 1 the page after that through the same lens, and 2 through a new lens.
+/// The number of the first wrong one of three pages, all of the last place: page 0 is made before a
+/// choice is replaced; pages 1 and 2 after that, through the same lens and through a new lens.
 fn first_wrong_after_an_edit(rt: &impl Abort, alloc: Global) -> Result<Option<usize>, Refusal> {
     let calls = AtomicU64::new(0);
     let mut chart = Counted::new(rt, alloc, &calls, 0)?;

@@ -90,7 +90,7 @@ pub(super) enum Ask {
     Drop,
     /// The plan has one job, of this step alone. Its run is made, by one call, and kept.
     Plan(Kind),
-    /// Whether the run that was kept first is installed when it is offered.
+    /// The run that was kept first is offered, and is installed if this is true.
     Install(bool),
     /// The plan has this number of jobs.
     Left(usize),
@@ -222,7 +222,7 @@ impl Bench<'_> {
 
     /// Asks the chart. Returns whether the result is the expected one, and the register was called
     /// once for each of these steps.
-    fn is_told(&mut self, rt: &impl Abort, row: Row) -> Result<bool, Refusal> {
+    fn is_reported(&mut self, rt: &impl Abort, row: Row) -> Result<bool, Refusal> {
         let (branch, ask) = row;
         let branch = name_of(rt, self.alloc, branch);
         let before = self.calls.load(Ordering::SeqCst);
@@ -231,10 +231,10 @@ impl Bench<'_> {
         Ok(is_wanted && made == u64::from(steps))
     }
 
-    /// The same, done up to `tries` times, until memory doesn't run out.
-    fn is_told_at_last(&mut self, rt: &impl Abort, row: Row) -> Result<bool, Refusal> {
+    /// Asks as `is_reported` does, again each time that memory runs out, at most `tries` times.
+    fn is_reported_at_last(&mut self, rt: &impl Abort, row: Row) -> Result<bool, Refusal> {
         for _ in 0..self.tries {
-            match self.is_told(rt, row) {
+            match self.is_reported(rt, row) {
                 Err(Refusal::Memory) => {}
                 reported => return reported,
             }
@@ -249,7 +249,7 @@ impl Bench<'_> {
         rows: &[Row],
     ) -> Result<Option<usize>, Refusal> {
         for (i, row) in rows.iter().enumerate() {
-            if !self.is_told_at_last(rt, *row)? {
+            if !self.is_reported_at_last(rt, *row)? {
                 return Ok(Some(i));
             }
         }
@@ -325,7 +325,7 @@ fn thousand_steps(rt: HostRuntime) {
     none_wrong(&rt, first_wrong_around(&rt, rt.alloc(), edit, 1000, 1, 128));
 }
 
-/// A write of 0 is replaced by one of 1. The next write is also one of 1, and after it everything
+/// A write of 0 is replaced by a write of 1. The next write is also of 1, and after that everything
 /// is as before.
 #[test]
 fn rejoined_suffix(rt: HostRuntime) {
@@ -370,8 +370,8 @@ fn settles_again_what_was_edited(rt: HostRuntime) {
     none_wrong(&rt, first_wrong(&rt, rt.alloc(), &steps, &rows));
 }
 
-/// A run that was made for a branch that is gone isn't installed; one for the branch that replaced
-/// it is.
+/// A run that was made for a dropped branch isn't installed; a run for the branch that took its
+/// place is installed.
 pub(super) const LATE: [Row; 10] = [
     (Branch::A, Ask::Fork),
     (Branch::A, Ask::Insert(1, Kind::Write1)),

@@ -1,5 +1,6 @@
-//! Edits of a chart's branches. Each edit keeps the stored run of every segment that it neither
-//! changes nor cuts. Each clears the mark, except for a fork of a whole branch.
+//! Edits of a chart's branches. Each edit keeps the stored run of every segment that it doesn't
+//! change, cut or drop. Every edit except a fork of a whole branch clears the mark, the segment
+//! down to which stored runs are known to fit.
 
 ghost use Rattle.std.specs.Prelude.{◌≡◌, ◌⊎◌, Some, None, true, OnOk, IfErr};
 ghost use Rattle.frames.specs.Configuration.{fits_step};
@@ -17,13 +18,15 @@ use schedule_trie::trie::{SegKey, Trie};
 use std::alloc::Global;
 
 impl<R: Register> Chart<R> {
-    /// Inserts a new cell before the cell at `place` of a branch, in each branch that has that
-    /// cell. If `place` is the branch's length, the new cell goes to the end of that branch alone.
+    /// Inserts a new cell with this step, which must fit the register, before the cell at `place`
+    /// of a branch, in each branch that has that cell. If `place` is the branch's length, the new
+    /// cell goes to the end of that branch alone. Only the segment that had that cell, or to which
+    /// the new cell is added, loses its stored run.
     ///
     /// # Errors
     ///
     /// NoBranch; NoPlace if the branch is shorter than `place`; Full if the number of cells made is
-    /// at its limit; Memory. Then nothing changes.
+    /// at its limit; Memory. On an error nothing changes.
     pub fn insert(
         &mut self,
         alloc: Global,
@@ -42,12 +45,12 @@ impl<R: Register> Chart<R> {
         self.trie.insert(alloc, branch, place, step)
     }
 
-    /// Removes the cell at `place` of a branch from each branch that has that cell. Never
-    /// allocates.
+    /// Removes the cell at `place` of a branch from each branch that has that cell. Only the
+    /// segment that had that cell loses its stored run. Never allocates.
     ///
     /// # Errors
     ///
-    /// NoBranch; NoPlace if the branch has no cell there. Then nothing changes.
+    /// NoBranch; NoPlace if the branch has no cell there. On an error nothing changes.
     pub fn remove(&mut self, branch: &Name, place: u32) -> Result<(), Refusal>
         ensures ok { OnOk result (IsEdited self.old.cut self.new.cut (Remove branch.now place)) }
         ensures err { IfErr result (IsUneditedChart self.old self.new (Remove branch.now place)) }
@@ -57,12 +60,13 @@ impl<R: Register> Chart<R> {
         self.trie.remove(branch, place)
     }
 
-    /// Replaces the step of the cell at `place` of a branch, in each branch that has that cell. The
-    /// cell keeps its number. Never allocates.
+    /// Replaces the step of the cell at `place` of a branch by `step`, which must fit the register.
+    /// Each branch that has this cell then has the new step. The cell keeps its number. Only the
+    /// segment with this cell loses its stored run. Never allocates.
     ///
     /// # Errors
     ///
-    /// NoBranch; NoPlace if the branch has no cell there. Then nothing changes.
+    /// NoBranch; NoPlace if the branch has no cell there. On an error nothing changes.
     pub fn replace(&mut self, branch: &Name, place: u32, step: Step) -> Result<(), Refusal>
         requires { fits_step (R.behaviour self.old.start.register) step ≡ true }
         ensures ok { OnOk result
@@ -75,13 +79,15 @@ impl<R: Register> Chart<R> {
         self.trie.replace(branch, place, step)
     }
 
-    /// Makes a new branch, after all others, which shares the first `place` cells of `branch`.
+    /// Makes a new branch with the name `name`, after all others. Its only cells are the first
+    /// `place` cells of `branch`, which the two branches then share. Only a segment with some of
+    /// these cells and also a later cell of `branch` loses its stored run.
     ///
     /// # Errors
     ///
     /// NoBranch; NameTaken; BadName if the name isn't a lower-case letter, followed by lower-case
     /// letters or digits; NoPlace if the branch is shorter than `place`; TooManyBranches; Memory.
-    /// Then nothing changes.
+    /// On an error nothing changes.
     pub fn fork(
         &mut self,
         alloc: Global,
@@ -94,17 +100,17 @@ impl<R: Register> Chart<R> {
             (IsUneditedChart self.old self.new (Fork branch.now place name)) }
         ensures keeps { KeepsBeginning self.old self.new }
     {
-        self.mark = mark_behind_fork(&self.trie, self.mark, branch, place);
+        self.mark = mark_after_fork(&self.trie, self.mark, branch, place);
         self.trie.fork(alloc, branch, place, name)
     }
 
     /// Replaces a branch's cells by new cells with the same steps. No other branch has the new
-    /// cells.
+    /// cells. Their segments have no stored runs; the other branches' segments keep theirs.
     ///
     /// # Errors
     ///
-    /// NoBranch; Full if the number of cells made would exceed its limit; Memory. Then nothing
-    /// changes.
+    /// NoBranch; Full if the number of cells made would exceed its limit; Memory. On an error
+    /// nothing changes.
     pub fn detach(&mut self, alloc: Global, branch: &Name) -> Result<(), Refusal>
         ensures ok { OnOk result (IsEdited self.old.cut self.new.cut (Detach branch.now)) }
         ensures err { IfErr result (IsUneditedChart self.old self.new (Detach branch.now)) }
@@ -114,11 +120,12 @@ impl<R: Register> Chart<R> {
         self.trie.detach(alloc, branch)
     }
 
-    /// Drops a branch, with the segments that no other branch has, and their runs. Never allocates.
+    /// Drops a branch, with the segments that no other branch has, and their runs. The other
+    /// branches' segments keep their runs. Never allocates.
     ///
     /// # Errors
     ///
-    /// NoBranch; LastBranch if it is the only one. Then nothing changes.
+    /// NoBranch; LastBranch if it is the only one. On an error nothing changes.
     pub fn drop_branch(&mut self, branch: &Name) -> Result<(), Refusal>
         ensures ok { OnOk result (IsEdited self.old.cut self.new.cut (Drop branch.now)) }
         ensures err { IfErr result (IsUneditedChart self.old self.new (Drop branch.now)) }
@@ -131,7 +138,7 @@ impl<R: Register> Chart<R> {
 
 /// The mark after a fork. A fork of all cells of a branch cuts no segment, so the mark stays; any
 /// other fork clears it.
-fn mark_behind_fork<T: Drop>(
+fn mark_after_fork<T: Drop>(
     trie: &Trie<T>,
     mark: Option<SegKey>,
     branch: &Name,

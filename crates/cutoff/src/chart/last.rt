@@ -1,4 +1,4 @@
-//! A settle of a place of a chart that returns only the last run.
+//! Settling a branch's first cells, if only the last of their stored runs is needed.
 
 ghost use Rattle.std.specs.Prelude.{◌≡◌, Ok, Some, IfOk, OnOk, IfErr};
 ghost use Rattle.std.specs.Option.{option_map};
@@ -16,15 +16,18 @@ use schedule_trie::refusal::Refusal;
 use std::alloc::Global;
 
 impl<R: Register> Chart<R> {
-    /// Settles a branch's first `place` cells as `settle` does, but returns only the last of their
-    /// stored runs. A second call for the same place visits only the segment with the last of these
-    /// cells, if no `install`, no `settle`, no call for another place, and no edit but forks of
-    /// whole branches came in between.
+    /// Settles a branch's first `place` cells: replays the whole of each segment that has one of
+    /// these cells and no stored run that fits, and stores the new run. Returns the branch's
+    /// length; the run now stored in the segment with the last of these cells, with how many of its
+    /// steps are steps of these cells (`None` if `place` is 0); and how many steps were replayed in
+    /// all. Nothing else changes. If the next call of `settle_last` is for the same place, it
+    /// visits only the segment with the last of these cells, unless there was an `install`, a
+    /// `settle`, or an edit other than a fork of a whole branch in between.
     ///
     /// # Errors
     ///
-    /// NoBranch; NoPlace if the branch has fewer than `place` cells; Memory. Even then the forest
-    /// doesn't change, but new runs that fit may have been stored.
+    /// NoBranch; NoPlace if the branch has fewer than `place` cells; Memory. On an error, some of
+    /// the new runs, which fit, may have been stored; nothing else changes.
     pub fn settle_last(
         &mut self,
         alloc: Global,

@@ -1,4 +1,5 @@
-//! Charts made from limbs, and the limbs of a chart.
+//! Charts made from limbs, and the limbs of a chart. A limb describes a branch in a file: its name,
+//! what it shares with which branch, and its own steps.
 
 ghost use Rattle.std.specs.Prelude.{◌≡◌, ◌<◌, length, IfOk, IfErr, Ok};
 ghost use Rattle.frames.specs.Configuration.{initial_configuration};
@@ -18,9 +19,12 @@ use schedule_trie::trie::Trie;
 use std::alloc::{AllocError, Global};
 
 impl<R: Register> Chart<R> {
-    /// A chart of the forest that `limbs` describes; at least one limb is required. The chart
-    /// begins from the initial configuration of `register` with the value `value`. Its own limbs
-    /// are the same again, and no run is stored.
+    /// A chart with the limits `limits`, of the branches that `limbs` describe. At least one limb
+    /// is required. Each must have a well-formed name that no earlier limb has, share nothing or
+    /// cells of an earlier limb's branch (the last of them one of that limb's own), and have steps
+    /// that fit the register. Each branch begins from the initial configuration of `register`, in
+    /// which the register holds `value`, one of its values. The chart's limbs equal `limbs`, and no
+    /// run is stored. The limits have to be in the ranges that `Limits` gives.
     ///
     /// # Errors
     ///
@@ -51,12 +55,13 @@ impl<R: Register> Chart<R> {
         Ok(Chart::over(alloc, trie, register, value)?)
     }
 
-    /// The limbs of the chart's forest, in the order its branches were made. A chart loaded from
-    /// them has the same forest, except for the numbers of the cells.
+    /// The limbs that describe the chart's branches, in the order the branches were made. They meet
+    /// the conditions of `load`, and their numbers are within the chart's limits. A chart loaded
+    /// from them has the same branches, except for the numbers of the cells.
     ///
     /// # Errors
     ///
-    /// If there is no memory for the limbs.
+    /// AllocError if memory runs out.
     pub fn limbs(&self, alloc: Global) -> Result<Vec<Limb>, AllocError>
         ensures limbs { IfOk result (λ r. r.items ≡ limbs (forest self.now.cut)) }
         ensures kept { let f = forest self.now.cut in

@@ -1,4 +1,4 @@
--- A register's calls change its own cells and words alone.
+-- A register's calls change only its own cells and words.
 use Rattle.std.specs.Prelude.{◌≡◌, ℕ, ◌<◌, Bool, true}
 use Rattle.safe_bit.specs.declared.Place.{Place}
 use Rattle.safe_bit.specs.Memory.{Memory}
@@ -9,7 +9,8 @@ use Rattle.frames.specs.Behaviour.{Behaviour, IsLawful}
 use Rattle.frames.specs.Others.{LeavesOthers}
 
 module _ {P : Type 0} (b : Behaviour P) (Holds : Memory → Type 0) (Reaches : ℕ → Op → P → Type 0) (lawful : IsLawful b Holds Reaches) where
-  -- putting in a register's own memory that satisfies `Holds` leaves all other parts as they were
+  -- if a register's own memory is replaced by one that satisfies `Holds`, all parts that don't
+  -- overlap it stay as they were
   pub put_in_leaves : (at : Place) (m inner : Memory) → LiesIn at b.size m → Holds inner → LeavesOthers at b.size m (with_part at inner m)
   put_in_leaves at m inner lies holds beside other there apart = part-with_part_beside at b.size beside other inner m (lawful.size_holds inner holds) lies there apart
 

@@ -1,4 +1,5 @@
--- Laws of flat stacks: they determine what is pending, and are equal only to themselves.
+-- Laws of stacks of frames: a stack determines which operation is pending and at which point, and a
+-- test decides whether two stacks are the same.
 use Rattle.std.proofs.Common.{◌≡◌, ℕ, zero, suc, ◌+◌, Bool, nat_eq, List, [], ◌∷◌, length, set, take, replicate, Option, Some, None, option_map, refl, sym, ap, ◌∙◌, arith}
 use Rattle.std.specs.Bool.{Decides}
 use mathlib.Core.Bool.{◌&&◌, beq}
@@ -17,7 +18,7 @@ use Rattle.frames.specs.Behaviour.{Behaviour}
 use Rattle.frames.specs.Equality.{op_eq, op_decides}
 use Rattle.frames.specs.Flat.{outermost, FramesGivePoint, IsReached, running_of, running_from, stack_of}
 
--- layers, numbered in the order of their declaration
+-- the number of a layer; layers are numbered in the order of their declaration
 abbrev pub layer_number : FrameLayer → ℕ
 layer_number layer.Safe = 0
 layer_number layer.Copies = 1
@@ -51,7 +52,7 @@ layer_eq a b = nat_eq (layer_number a) (layer_number b)
 layer_decides : (a b : FrameLayer) → Decides (layer_eq a b) (a ≡ b)
 layer_decides a b = Decides-like (layer_eq a b) (λ p. sym (numbered a) ∙ ap layer_of p ∙ numbered b) (λ p. ap layer_number p) (Decides-eqb (layer_number a) (layer_number b))
 
--- compares two frames, field by field
+-- whether two frames are equal in every field
 abbrev pub frame_eq : Frame → Frame → Bool
 frame_eq a b = layer_eq a.layer b.layer && (op_eq a.op b.op && (nat_eq a.i b.i && nat_eq a.x b.x))
 
@@ -61,7 +62,7 @@ frame_decides a b =
     (λ p. (ap (λ f. f.layer) p, (ap (λ f. f.op) p, (ap (λ f. f.i) p, ap (λ f. f.x) p))))
     (Decides-and _ _ (layer_decides a.layer b.layer) (Decides-and _ _ (op_decides a.op b.op) (Decides-and _ _ (Decides-eqb a.i b.i) (Decides-eqb a.x b.x))))
 
--- compares two stacks
+-- whether two stacks have equal frames in the same order
 abbrev pub stack_eq : List Frame → List Frame → Bool
 stack_eq = pointwise frame_eq
 
@@ -71,7 +72,7 @@ stack_decides xs ys = slice_eq-Decides frame_decides xs ys _ refl
 pub stack_per : IsPartialEquivalence stack_eq
 stack_per = per_from_decides stack_eq stack_decides
 
--- compares two processes: their stacks, and then their stop marks
+-- whether two processes have equal stacks and equal stop marks
 abbrev pub parked_eq : Parked → Parked → Bool
 parked_eq a b = stack_eq a.stack b.stack && beq a.stopped b.stopped
 
@@ -83,7 +84,8 @@ parked_decides a b =
 pub parked_per : IsPartialEquivalence parked_eq
 parked_per = per_from_decides parked_eq parked_decides
 
--- a test of stacks made of tests that agree with `layer_eq` and `op_eq` agrees with `stack_eq`
+-- if test L agrees with `layer_eq`, and test O with `op_eq`, a comparison of two stacks, frame by
+-- frame, with L and O agrees with `stack_eq`
 pub agrees : (L : FrameLayer → FrameLayer → Bool) (O : Op → Op → Bool) → ((a b : FrameLayer) → L a b ≡ layer_eq a b) → ((a b : Op) → O a b ≡ op_eq a b)
     → (xs ys : List Frame) → pointwise (λ a b. L a.layer b.layer && (O a.op b.op && (nat_eq a.i b.i && nat_eq a.x b.x))) xs ys ≡ stack_eq xs ys
 agrees L O layers ops xs ys = λ i. pointwise (λ a b. layers a.layer b.layer i && (ops a.op b.op i && (nat_eq a.i b.i && nat_eq a.x b.x))) xs ys
@@ -122,11 +124,14 @@ module _ {P : Type 0} (b : Behaviour P) (Reaches : ℕ → Op → P → Type 0) 
   tells_slot who None h = refl
   tells_slot who (Some r) h = told who (b.frames r.point) r.op r.point (tell.op who r.op r.point h) (tell.point who r.op r.point h)
 
-  -- the outermost frame has the pending operation, and an idle process has no frame
+  -- the outermost frame of a process's stack has its pending operation; an idle process has no
+  -- frame
   pub slot_op : (who : ℕ) (slot : Option (Running P)) → IsReached Reaches who slot → outermost (stack_of b slot) ≡ option_map (λ r. r.op) slot
   slot_op who None h = refl
   slot_op who (Some r) h = tell.op who r.op r.point h
 
+  -- `point` gives the point of a process's pending operation from its stack; `None` if the process
+  -- is idle
   pub slot_point : (who : ℕ) (slot : Option (Running P)) → IsReached Reaches who slot → point who (stack_of b slot) ≡ option_map (λ r. r.point) slot
   slot_point who None h = tell.none who
   slot_point who (Some r) h = tell.point who r.op r.point h

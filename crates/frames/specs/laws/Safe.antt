@@ -1,4 +1,4 @@
--- The register of one safe bit is lawful.
+-- The register of one safe bit obeys the laws of every register.
 use Rattle.std.proofs.Common.{◌≡◌, ℕ, zero, suc, ◌+◌, ◌<◌, Bool, true, false, List, [], ◌∷◌, ◌++◌, length, set, take, drop, add-zero, ◌∙◌, Some, None, refl, sym, ap, subst, arith, append-nil, length-drop, length-set, take_all}
 use Rattle.std.proofs.lemmas.List.{take_more_set}
 use Rattle.std.proofs.lemmas.Bool.Decides.{nat_tests, Decides-at, Decides-like}
@@ -148,28 +148,30 @@ safe_lawful = record {
   acts_own = λ who o p r. acts p;
 }
 
--- the byte of a bit is the bit's value
+-- the byte that represents a bit is the bit's value, 0 or 1
 pub byte_value : (b : Bool) → bool_byte b ≡ value_of b
 byte_value false = refl
 byte_value true = refl
 
--- a frame determines its point
+-- the bit of a bit's value is the bit itself
 told_bit : (b : Bool) → bit_of (value_of b) ≡ b
 told_bit false = refl
 told_bit true = refl
 
+-- a frame determines the point that it describes
 pub point_told : (p : SafePoint) → point_at (safe_frame p).op (safe_frame p).i ≡ p
 point_told (at.WriteStart b) = ap at.WriteStart (told_bit b)
 point_told (at.WriteEnd b) = ap at.WriteEnd (told_bit b)
 point_told at.ReadStart = refl
 point_told at.ReadEnd = refl
 
--- a frame determines its operation
+-- the value of the bit of v is v, if v is 0 or 1
 told_value : (v : ℕ) → v < 2 → value_of (bit_of v) ≡ v
 told_value zero lt = refl
 told_value (suc zero) lt = refl
 told_value (suc (suc v)) lt = absurd (omega (arith, lt))
 
+-- the outermost frame of an operation has the operation
 op_told : (who : ℕ) (o : Op) (p : SafePoint) → SafeReaches who o p → outermost (safe_behaviour.frames p) ≡ Some o
 op_told who (op.Write v) (at.WriteStart b) r = ap (λ x. Some (op.Write x)) (ap value_of r.2 ∙ told_value v r.1)
 op_told who (op.Write v) (at.WriteEnd b) r = ap (λ x. Some (op.Write x)) (ap value_of r.2 ∙ told_value v r.1)
@@ -188,7 +190,7 @@ pub begin_leaves : (at : Place) (m : Memory) (who : ℕ) (o : Op) → LiesIn at 
 begin_leaves at m who (op.Write v) lies = sym (with_part-own at safe_size m lies)
 begin_leaves at m who op.Read lies = sym (with_part-own at safe_size m lies)
 
--- the frame of an invoked operation follows the frames already on the stack
+-- an invocation pushes the operation's one frame after the frames already on the stack
 pub begin_lands : (at : Place) (m : Memory) (who : ℕ) (o : Op) (stack : List Frame) → LiesIn at safe_size m → safe_suits who o ≡ true
     → Lands safe_behaviour.frames at (safe_begins who o (part at safe_size m)).next (safe_begins who o (part at safe_size m)).memory stack m None
     (stack ++ record { layer = layer.Safe; op = o; i = 0; x = 0 } ∷ []) m
@@ -201,10 +203,11 @@ begin_lands at m who (op.Write v) stack lies fits =
     }
 begin_lands at m who op.Read stack lies fits = record { answer = refl; stack = refl; memory = sym (with_part-own at safe_size m lies) }
 
--- if just one frame is on a stack from index `first` on, it is the last one
+-- if a list has just one item from index `first` on, its length is `first` + 1
 one_left : {A : Type 0} (first : ℕ) (xs : List A) (x : A) → drop first xs ≡ x ∷ [] → length xs ≡ first + 1
 one_left first xs x e = let l = ap length e in omega (arith, l, length-drop first xs)
 
+-- if a list has just one item from index `first` on, setting it replaces that item
 set_last : {A : Type 0} (first : ℕ) (xs : List A) (x y : A) → drop first xs ≡ x ∷ [] → set xs first y ≡ take first xs ++ y ∷ []
 set_last first xs x y e =
     let l = one_left first xs x e in
@@ -212,14 +215,16 @@ set_last first xs x y e =
 
 module _ (at : Place) (m : Memory) (who first : ℕ) (stack : List Frame) (choice : Bool) (frame : Frame) (q : SafePoint)
     (found : drop first stack ≡ frame ∷ drop (first + 1) stack) (is : q ≡ point_at frame.op frame.i) where
-  -- a process with these frames is at the point that its frame describes
+  -- if the frames from index `first` on are those of point p, p is the point that the frame at
+  -- `first` describes
   same_point : (o : Op) (p : SafePoint) → HasFramesFrom safe_behaviour.frames SafeReaches who first stack o p → q ≡ p
   same_point o p on =
       let e : frame ∷ drop (first + 1) stack ≡ safe_frame p ∷ [] = sym found ∙ on.there in
       let f : frame ≡ safe_frame p = cc in
       is ∙ ap (λ x. point_at x.op x.i) f ∙ point_told p
 
-  -- the frame of an operation is replaced if the operation goes on, and dropped if it ends
+  -- if an operation is still pending after a bit action, its frame is replaced by that of the new
+  -- point
   pub stands_on : (q' : SafePoint) (m' : Memory) → (safe_goes q choice (part at safe_size m)).next ≡ Pending q' → m' ≡ with_part at (safe_goes q choice (part at safe_size m)).memory m
       → (o : Op) (p : SafePoint) → HasFramesFrom safe_behaviour.frames SafeReaches who first stack o p
       → Lands safe_behaviour.frames at (safe_goes p choice (part at safe_size m)).next (safe_goes p choice (part at safe_size m)).memory (take first stack) m None (set stack first (safe_frame q')) m'
@@ -232,6 +237,7 @@ module _ (at : Place) (m : Memory) (who first : ℕ) (stack : List Frame) (choic
         memory = memory;
       })
 
+  -- if a bit action ends an operation, the operation's frame is dropped
   pub ends_there : (outcome : Outcome) (m' : Memory) → (safe_goes q choice (part at safe_size m)).next ≡ Done outcome → m' ≡ with_part at (safe_goes q choice (part at safe_size m)).memory m
       → (o : Op) (p : SafePoint) → HasFramesFrom safe_behaviour.frames SafeReaches who first stack o p
       → Lands safe_behaviour.frames at (safe_goes p choice (part at safe_size m)).next (safe_goes p choice (part at safe_size m)).memory (take first stack) m (Some outcome) (take first stack) m'

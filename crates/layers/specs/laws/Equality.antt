@@ -1,5 +1,5 @@
--- Pending operations of a layer are equal only if they are the same; equal layers over equal
--- registers are the same register.
+-- Tests of equality: two pending operations are equal exactly if tests find their tasks and their
+-- parts' points equal; and equal rules over equal registers make equal registers.
 use Rattle.std.proofs.Common.{◌≡◌, Bool, true, false, ap}
 use mathlib.Core.Bool.{◌&&◌}
 use Rattle.std.specs.Bool.{Decides}
@@ -14,7 +14,7 @@ nested_decides E F d e a b =
     Decides-like (E a.task b.task && F a.below b.below) (λ p. λ i. record { task = p.0 i; below = p.1 i }) (λ p. (ap (λ n. n.task) p, ap (λ n. n.below) p))
     (Decides-and (E a.task b.task) (F a.below b.below) (d a.task b.task) (e a.below b.below))
 
--- if a joint test holds, both its halves hold
+-- if `a && b` is true, both a and b are true
 pub both_true : (a b : Bool) → (a && b) ≡ true → (a ≡ true) × (b ≡ true)
 both_true true true h = (h, h)
 both_true true false h = (cc, h)
@@ -23,6 +23,7 @@ both_true false b h = (h, cc)
 pub layered_alike : {Task P : Type 0} (t u : Table Task) (a b : Behaviour P) → t ≡ u → a ≡ b → layered t a ≡ layered u b
 layered_alike t u a b p q = λ i. layered (p i) (q i)
 
--- a test decides equality if it agrees with one that does
+-- if test F of two values decides whether they are equal, and test E always agrees with F, then E
+-- decides it too
 pub decides_like : {A : Type 0} (E F : A → A → Bool) → ((x y : A) → E x y ≡ F x y) → ((x y : A) → Decides (F x y) (x ≡ y)) → (x y : A) → Decides (E x y) (x ≡ y)
 decides_like E F same d x y = Decides-at (E x y) (F x y) (same x y) (d x y)

@@ -1,4 +1,5 @@
--- A layer's frames determine its task and its part's point; and the stack after a part's step.
+-- Laws of the frames of a layer's operation: these determine its task and its part's point. The
+-- last law says which frames are left after a part's step.
 use Rattle.std.proofs.Common.{◌≡◌, ℕ, ◌+◌, ◌<◌, List, [], ◌∷◌, ◌++◌, length, take, drop, Option, Some, option_map, refl, sym, ap, ◌∙◌, arith, append_assoc, append-nil, length-drop}
 use Rattle.std.proofs.lemmas.List.{drop_more, take_more, take-append-le, take_all}
 use Rattle.frames.specs.declared.types.Outcome.{Outcome}
@@ -22,11 +23,12 @@ layered_tells l find tell = record {
   none = λ who. refl;
 }
 
--- equal layers read the same point from frames, if the registers below do
+-- layers with equal rules find the same points from frames, if their registers below do
 pub points_alike : {Task P : Type 0} (t u : Table Task) (f g : ℕ → List Frame → Option P) → t ≡ u → f ≡ g → layered_point t f ≡ layered_point u g
 points_alike t u f g p q = λ i. layered_point (p i) (q i)
 
--- an index at which there is a frame is below the number of frames
+-- if something is left of a list after its first `first` items are dropped, then `first` is below
+-- the length of the list
 pub index_there : {A : Type 0} (first : ℕ) (xs ys : List A) (x : A) → drop first xs ≡ x ∷ ys → first < length xs
 index_there first xs ys x e = let l : length (drop first xs) ≡ length (x ∷ ys) = ap length e in omega (arith, l, length-drop first xs)
 
@@ -44,8 +46,9 @@ front_there first xs ys x e =
     let f = drop_more xs first x lt in
     take_more xs first x lt ∙ ap (λ y. take first xs ++ y ∷ []) (parts_there first xs ys x _ e f).0
 
--- the frames of a part that goes on follow the layer's own frame; if the part has ended, they are
--- dropped, and the layer's own frame too
+-- The layer's own frame follows the frames `front` on a stack, and the frames of its part follow
+-- it. All of these are kept after the part's step if the part's operation goes on; if it has ended,
+-- only `front` is kept.
 pub part_leaves : {P : Type 0} (frames : P → List Frame) (frame : Frame) (front : List Frame) (next : Next P) (given : Option Outcome) (left : List Frame) (first : ℕ)
     → length front ≡ first → given ≡ ended next → left ≡ (front ++ frame ∷ []) ++ left_frames frames next
     → cut_where_ended first given left ≡ front ++ left_frames (λ p. frame ∷ frames p) next

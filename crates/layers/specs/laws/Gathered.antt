@@ -1,4 +1,4 @@
--- Lists that are all equally long, joined into one.
+-- Laws of lists that are all equally long and are joined into one list.
 use Rattle.std.proofs.Common.{◌≡◌, ℕ, zero, suc, ◌*◌, ◌<◌, List, [], ◌∷◌, ◌++◌, length, take, get_or, refl, ap, ◌∙◌, inl, inr, arith, length-append, suc-mul, zero-mul}
 use Rattle.std.proofs.lemmas.Bool.{cases_lt}
 use Rattle.std.proofs.lemmas.List.{take_all, drop_at, get_or_append_left, get_or_at}
@@ -14,7 +14,7 @@ length-gathered f s (suc n) h =
     let l : length (f n) ≡ s = h n (omega arith) in
     omega (arith, length-append (gathered f n) (f n), suc-mul n s)
 
--- the stretch of the joined list that list j takes up is list j
+-- if lists of s items each are joined into one, the s items of it from index j * s on are list j
 pub window-gathered : {A : Type 0} (f : ℕ → List A) (s n j : ℕ) → ((k : ℕ) → k < n → length (f k) ≡ s) → j < n → window (j * s) s (gathered f n) ≡ f j
 window-gathered f s zero j h lt = absurd (omega arith)
 window-gathered f s (suc n) j h lt =
@@ -26,7 +26,7 @@ window-gathered f s (suc n) j h lt =
           rw same (ap (take s) (drop_at (gathered f n) (f n) (n * s) e) ∙ take_all s (f n) (let l : length (f n) ≡ s = h n (omega arith) in omega arith))
     ]
 
--- item k of the joined list, if each list has one item
+-- if lists of one item each are joined into one, its item k is the item of list k
 pub get_or-gathered : (w : ℕ → ℕ) (n k : ℕ) → k < n → get_or (gathered (λ q. w q ∷ []) n) k 0 ≡ w k
 get_or-gathered w zero k lt = absurd (omega arith)
 get_or-gathered w (suc n) k lt =

@@ -1,4 +1,5 @@
--- A layer at its place in a store: its parts and own words are read there, and put back.
+-- Laws of a layer that lies at a place in a store: how its parts and own words are read there and
+-- put back.
 use Rattle.std.proofs.Common.{◌≡◌, ℕ, ◌+◌, ◌<◌, ◌≤◌, Bool, true, length, Option, Some, None, refl, sym, ap, subst, ◌∙◌, arith, add_assoc}
 use Rattle.safe_bit.specs.declared.Place.{Place}
 use Rattle.safe_bit.specs.Memory.{Memory, word_at}
@@ -15,7 +16,7 @@ use Rattle.layers.specs.laws.Over.{LayerOver}
 
 module _ {Task P : Type 0} (l : LayerOver Task P)
     (at : Place) (m : Memory) (lies : LayerLies l.table l.below l.Holds at m) where
-  -- part j lies inside the store
+  -- part j of the layer lies inside the store m
   pub part_inside : (j : ℕ) → j < l.table.parts → LiesIn (place_after at (part_place l.below.size j)) l.below.size m
   part_inside j lt = LiesIn-place_after at (layer_size l.table l.below.size) (part_place l.below.size j) l.below.size m lies.inside (part_within l.table l.below.size j lt)
 
@@ -28,7 +29,8 @@ module _ {Task P : Type 0} (l : LayerOver Task P)
   pub part_holds : (j : ℕ) → j < l.table.parts → l.Holds (part (place_after at (part_place l.below.size j)) l.below.size m)
   part_holds j lt = subst l.Holds (part_there j lt) (lies.holds.parts j lt)
 
-  -- putting part j's memory into the store is the same as putting it into the layer's memory
+  -- putting new memory of part j into the store has the same effect as putting it into the layer's
+  -- memory, and then putting the layer's memory into the store
   pub put_part : (j : ℕ) (inner : Memory) → j < l.table.parts → l.Holds inner
       → with_part (place_after at (part_place l.below.size j)) inner m ≡ with_part at (with_part (part_place l.below.size j) inner (own l.table l.below at m)) m
   put_part j inner lt h =
@@ -56,7 +58,8 @@ module _ {Task P : Type 0} (l : LayerOver Task P)
       (word_at-part at (layer_size l.table l.below.size) (own_words l.table l.below.size + k) m (omega arith) ∙ ap (λ i. word_at i m) (sym (add_assoc at.word (own_words l.table l.below.size) k)))
       (lies.holds.words k lt)
 
-  -- a part that is asked in the store reaches the same point or end as in the layer's memory
+  -- an operation that is invoked on a part reaches the same point or end, whether the part's memory
+  -- is taken from the store or from the layer's memory
   pub asked_next : (a : Ask) → a.part < l.table.parts → (l.below.begins a.who a.op (part (place_after at (part_place l.below.size a.part)) l.below.size m)).next ≡ (asked l.below a (own l.table l.below at m)).next
   asked_next a lt = ap (λ inner. (l.below.begins a.who a.op inner).next) (sym (part_there a.part lt))
 
@@ -67,7 +70,8 @@ module _ {Task P : Type 0} (l : LayerOver Task P)
       put_part a.part _ lt (l.lawful.begins_well a.who a.op (part (place_after at (part_place l.below.size a.part)) l.below.size m) (part_holds a.part lt) fits).holds
       ∙ ap (λ inner. with_part at (with_part (part_place l.below.size a.part) (l.below.begins a.who a.op inner).memory (own l.table l.below at m)) m) (sym (part_there a.part lt))
 
-  -- part j's bit action in the store reaches the same point or end as in the layer's memory
+  -- a bit action of part j reaches the same point or end, whether the part's memory is taken from
+  -- the store or from the layer's memory
   pub pushed_next : (j : ℕ) (p : P) (choice : Bool) → j < l.table.parts → (l.below.goes p choice (part (place_after at (part_place l.below.size j)) l.below.size m)).next ≡ (pushed l.below j p choice (own l.table l.below at m)).next
   pushed_next j p choice lt = ap (λ inner. (l.below.goes p choice inner).next) (sym (part_there j lt))
 
@@ -87,7 +91,8 @@ module _ {Task P : Type 0} (l : LayerOver Task P)
       put_part j _ lt (l.lawful.goes_well who o p choice (part (place_after at (part_place l.below.size j)) l.below.size m) (part_holds j lt) there).holds
       ∙ ap (λ inner. with_part at (with_part (part_place l.below.size j) (l.below.goes p choice inner).memory (own l.table l.below at m)) m) (sym (part_there j lt))
 
-  -- the layer's memory still satisfies `LayerHolds` after a part is asked
+  -- the layer's memory still satisfies `LayerHolds` after an operation that fits is invoked on a
+  -- part
   pub asked_holds : (a : Ask) → a.part < l.table.parts → l.below.suits a.who a.op ≡ true → LayerHolds l.table l.below l.Holds (asked l.below a (own l.table l.below at m)).memory
   asked_holds a lt fits =
       holds_with_part l a.part _ (own l.table l.below at m) lt

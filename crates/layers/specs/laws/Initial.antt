@@ -1,4 +1,5 @@
--- Setting a layer's memory to its initial value: part after part, and then its own words.
+-- A layer's whole memory is at its initial value once its parts, one after the other, and then its
+-- own words, one after the other, have been set to theirs.
 use Rattle.std.proofs.Common.{◌≡◌, ℕ, suc, ◌+◌, ◌*◌, ◌<◌, ◌≤◌, List, [], ◌∷◌, length, set, refl, sym, ◌∙◌, arith, mul-one, mul-le-mul_right}
 use Rattle.safe_bit.specs.declared.Place.{Place}
 use Rattle.safe_bit.specs.Memory.{Memory}
@@ -13,7 +14,7 @@ use Rattle.layers.specs.laws.Over.{LayerOver}
 
 module _ {Task P : Type 0} (l : LayerOver Task P)
     (v : ℕ) (value : v < l.table.values) where
-  -- the size of the first n parts
+  -- the size of the first n parts together: their cells and their words
   rows : ℕ → Place
   rows n = record { cell = n * l.below.size.cell; word = n * l.below.size.word }
 
@@ -33,14 +34,15 @@ module _ {Task P : Type 0} (l : LayerOver Task P)
   pub rows_inside : (n : ℕ) (at : Place) (m : Memory) → n ≤ l.table.parts → LiesIn at (layer_size l.table l.below.size) m → LiesIn at (part_place l.below.size n) m
   rows_inside n at m few lies = let f = rows_fit n few in record { cells = let c = lies.cells in omega (arith, f.0); words = let w = lies.words in omega (arith, f.1) }
 
-  -- part j lies inside the store after the parts before it are set
+  -- part j lies inside the store after the parts before part j are set to their initial values
   pub next_inside : (j : ℕ) (at : Place) (m : Memory) → j < l.table.parts → LiesIn at (layer_size l.table l.below.size) m → LiesIn (place_after at (part_place l.below.size j)) l.below.size (with_part at (first_parts l.table l.below v j) m)
   next_inside j at m lt lies =
       LiesIn-with_part at (part_place l.below.size j) (place_after at (part_place l.below.size j)) l.below.size (first_parts l.table l.below v j) m
       (first_parts_size j (omega arith)) (rows_inside j at m (omega arith) lies)
       (LiesIn-place_after at (layer_size l.table l.below.size) (part_place l.below.size j) l.below.size m lies (part_within l.table l.below.size j lt))
 
-  -- setting part j after the parts before it sets the first j + 1 parts
+  -- setting the first j parts to their initial values, and then part j, has the same effect as
+  -- setting the first j + 1 parts
   pub next_part : (j : ℕ) (at : Place) (m : Memory) → j < l.table.parts → LiesIn at (layer_size l.table l.below.size) m
       → with_part (place_after at (part_place l.below.size j)) (l.below.initial (l.table.first v j)) (with_part at (first_parts l.table l.below v j) m) ≡ with_part at (first_parts l.table l.below v (suc j)) m
   next_part j at m lt lies =
@@ -50,11 +52,12 @@ module _ {Task P : Type 0} (l : LayerOver Task P)
       (splice-after at.cell (j * l.below.size.cell) (first_parts l.table l.below v j).cells (l.below.initial (l.table.first v j)).cells m.cells z.cells (let c = i.cells in let l = z.cells in omega arith))
       (splice-after at.word (j * l.below.size.word) (first_parts l.table l.below v j).words (l.below.initial (l.table.first v j)).words m.words z.words (let c = i.words in let l = z.words in omega arith))
 
-  -- setting no part changes nothing
+  -- setting the first 0 parts to their initial values changes nothing
   pub no_part : (at : Place) (m : Memory) → m ≡ with_part at (first_parts l.table l.below v 0) m
   no_part at m = same_memory _ _ (sym (splice-nothing at.cell m.cells)) (sym (splice-nothing at.word m.words))
 
-  -- setting all parts, and then the layer's own words after them, sets the layer's initial memory
+  -- setting all parts, and then the layer's own words, to their initial values has the same effect
+  -- as setting the layer's memory to its initial memory
   pub words_behind : (at : Place) (m : Memory) → LiesIn at (layer_size l.table l.below.size) m
       → record (with_part at (first_parts l.table l.below v l.table.parts) m) { words = splice (at.word + own_words l.table l.below.size) (gathered (λ k. l.table.first_word v k ∷ []) l.table.words) (with_part at (first_parts l.table l.below v l.table.parts) m).words }
       ≡ with_part at (layer_initial l.table l.below v) m
@@ -64,7 +67,8 @@ module _ {Task P : Type 0} (l : LayerOver Task P)
       (splice-after at.word (own_words l.table l.below.size) (first_parts l.table l.below v l.table.parts).words (gathered (λ k. l.table.first_word v k ∷ []) l.table.words) m.words z.words
       (let w = lies.words in let l = z.words in omega arith))
 
--- setting word k after the own words before it sets the first k + 1 own words
+-- setting the first k own words, which begin at index `base`, and then own word k has the same
+-- effect as setting the first k + 1 own words
 pub next_word : (w : ℕ → ℕ) (base k : ℕ) (xs : List ℕ) → base + k < length xs
     → set (splice base (gathered (λ q. w q ∷ []) k) xs) (base + k) (w k) ≡ splice base (gathered (λ q. w q ∷ []) (suc k)) xs
 next_word w base k xs lt = set-after base k (w k) (gathered (λ q. w q ∷ []) k) xs (length-gathered (λ q. w q ∷ []) 1 k (λ j few. refl) ∙ mul-one k) lt

@@ -1,5 +1,5 @@
--- Tables of registers of one writer. Laws of `frames` show which operations fit; here is what else
--- has to be shown of such a table.
+-- When the table of a register of one writer is sound: laws of `frames` show which operations its
+-- processes may make, and the law in this file lists all else that the table has to satisfy.
 use Rattle.std.specs.Prelude.{◌≡◌, ℕ, ◌<◌, true}
 use Rattle.std.proofs.Common.{◌∙◌, sym}
 use Rattle.frames.specs.declared.types.Op.{Op}
@@ -13,7 +13,8 @@ use Rattle.layers.specs.Sound.{IsSound, IsSoundTable, IsNotSpent, Falls, FitsPar
 pub use Rattle.frames.specs.laws.OneWriter.{zero_writes, others_read, nobody_else, writer_zero, no_other_value, reader_some, reader_few, writer_suits}
 
 module _ {Task : Type 0} (t : Table Task) (MayBeAt : ℕ → Op → Task → Type 0) (left : Task → ℕ) where
-  -- an outcome of a part after which the task's program goes on
+  -- `Then` holds, if process `who` can be in the task during operation o, and the outcome suits the
+  -- operation that the task asks for and isn't `Spent`
   abbrev GoesOn : ℕ → Op → Task → Outcome → (Type 0) → Type 0
   GoesOn who o task outcome Then = MayBeAt who o task → Answers t.inner_values (t.asks task).op outcome → IsNotSpent outcome → Then
 

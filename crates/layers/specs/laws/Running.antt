@@ -1,4 +1,4 @@
--- A layer that runs on from a continuation, or after a part's step, in its own memory.
+-- Laws of a layer that runs on in its own memory, from a continuation or after a part's step.
 use Rattle.std.proofs.Common.{◌≡◌, ℕ, ◌≤◌, Bool, sym, subst}
 use Rattle.safe_bit.specs.declared.Place.{Place}
 use Rattle.safe_bit.specs.Memory.{Memory}
@@ -20,7 +20,8 @@ use Rattle.layers.specs.laws.InPlace.{lies_with}
 use Rattle.layers.specs.laws.Over.{LayerOver}
 
 module _ {Task P : Type 0} (l : LayerOver Task P) where
-  -- the layer keeps its laws after a part's step
+  -- after a step of a task's part that has reached a right point or outcome, running the layer on
+  -- from memory that satisfies `LayerHolds` leaves its memory and operation `Good`
   pub follow_well : (who : ℕ) (o : Op) (task : Task) (next : Next P) (m : Memory) → LayerHolds l.table l.below l.Holds m → l.MayBeAt who o task
       → ReachedOrAnswered (l.Reaches (l.table.asks task).who (l.table.asks task).op) (Answers l.below.values (l.table.asks task).op) next
       → Good l who o (follow_on l.table l.below task next m)
@@ -29,7 +30,8 @@ module _ {Task P : Type 0} (l : LayerOver Task P) where
       (λ outcome answers goes_on. advance_well l who o (l.table.rest task outcome) m
       (rest_sound l who o task outcome stands answers goes_on) h)
 
-  -- a task's part that is asked is at a point that it can reach, or at an end that suits
+  -- once the operation that a task asks for is invoked, the task's part is at a point that it can
+  -- reach, or has ended with an outcome that suits this operation
   pub ask_stands : (who : ℕ) (o : Op) (task : Task) (m : Memory) → LayerHolds l.table l.below l.Holds m → l.MayBeAt who o task
       → ReachedOrAnswered (l.Reaches (l.table.asks task).who (l.table.asks task).op) (Answers l.below.values (l.table.asks task).op) (asked l.below (l.table.asks task) m).next
   ask_stands who o task m h stands =
@@ -53,14 +55,16 @@ module _ {Task P : Type 0} (l : LayerOver Task P) where
       let fit = asks_fit l who o task stands in
       holds_with_part l (l.table.asks task).part _ m fit.0 (l.lawful.goes_well (l.table.asks task).who (l.table.asks task).op p choice _ (h.parts (l.table.asks task).part fit.0) there).holds h
 
-  -- the layer keeps its laws when it runs on from a continuation
+  -- running the layer on, from memory that satisfies `LayerHolds` and a continuation that suits its
+  -- operation, leaves its memory and operation `Good`
   pub run_well : (who : ℕ) (o : Op) (at_turn : Continuation Task) (m : Memory) → ContinuationIsSound (l.MayBeAt who o) (Answers l.table.values o) at_turn → LayerHolds l.table l.below l.Holds m
       → Good l who o (run_on l.table l.below at_turn m)
   run_well who o (continuation.Ends outcome) m stands h = record { holds = h; may_be_at = stands }
   run_well who o (continuation.Asks task) m stands h =
       follow_well who o task (asked l.below (l.table.asks task) m).next (asked l.below (l.table.asks task) m).memory (ask_holds who o task m h stands) stands (ask_stands who o task m h stands)
 
-  -- after a task has ended, no more tasks are left than `left` says of it
+  -- after a task has ended, the bound on the number of tasks that its operation still begins is at
+  -- most what `left` gives for that task
   pub rest_left : (who : ℕ) (o : Op) (task : Task) (outcome : Outcome) (m : Memory) → l.MayBeAt who o task
       → Answers l.below.values (l.table.asks task).op outcome → IsNotSpent outcome
       → tasks_left l.left (settled (own_words l.table l.below.size) (l.table.rest task outcome) m).continuation ≤ l.left task
@@ -68,11 +72,13 @@ module _ {Task P : Type 0} (l : LayerOver Task P) where
       settled_falls l.table (l.MayBeAt who o) (Answers l.table.values o) l.left (own_words l.table l.below.size) (l.left task) (l.table.rest task outcome) m
       (l.sound.rest_falls who o task outcome stands (subst (λ n. Answers n (l.table.asks task).op outcome) l.fit.same_values answers) goes_on)
 
-  -- replacing the layer's memory twice is the same as replacing it by the second
+  -- replacing the layer's memory by `mid` and then by `late` has the same effect as replacing it by
+  -- `late`
   pub put_again : (at : Place) (m : Memory) → LayerLies l.table l.below l.Holds at m → (mid late : Memory) → LayerHolds l.table l.below l.Holds mid → LayerHolds l.table l.below l.Holds late
       → with_part at late (with_part at mid m) ≡ with_part at late m
   put_again at m lies mid late h h' = with_part-with_part at (layer_size l.table l.below.size) late mid m h'.size h.size lies.inside
 
-  -- the layer still lies at its place after a change of its memory that keeps `LayerHolds`
+  -- the layer still lies at its place in a store that differs only in the layer's memory, if this
+  -- satisfies `LayerHolds`
   pub lies_after : (at : Place) (m : Memory) → LayerLies l.table l.below l.Holds at m → (mid first : Memory) → first ≡ with_part at mid m → LayerHolds l.table l.below l.Holds mid → LayerLies l.table l.below l.Holds at first
   lies_after at m lies mid first e h = subst (LayerLies l.table l.below l.Holds at) (sym e) (lies_with l at m lies mid h)

@@ -1,4 +1,4 @@
--- Programs run to their next task or end, in a store and in the layer's memory inside the store.
+-- Laws of programs that run to their next task or end, in a store and in the layer's memory there.
 use Rattle.std.proofs.Common.{◌≡◌, ℕ, ◌+◌, ◌<◌, ◌≤◌, length, get_or, set, refl, sym, ap, subst, ◌∙◌, inl, inr, arith, length-set, add_assoc}
 use Rattle.std.proofs.lemmas.Bool.{cases_eq}
 use Rattle.std.proofs.lemmas.List.{get_or-set_same, get_or-set_other}
@@ -14,7 +14,8 @@ use Rattle.layers.specs.laws.Nested.{holds_with_word}
 use Rattle.layers.specs.Settled.{ContinuationIsSound, run_on, settled, tasks_left}
 use Rattle.layers.specs.laws.Over.{LayerOver}
 
--- setting one word to a value in range keeps all own words in range
+-- if all of the layer's own words are in range, they still are after own word i is set to a value
+-- in range
 pub words_hold_set : {Task : Type 0} (t : Table Task) (base i x : ℕ) (m : Memory) → base + t.words ≤ length m.words → i < t.words → x < t.bound i
     → WordsHold t base m → WordsHold t base (with_word (base + i) x m)
 words_hold_set t base i x m fit lt low h k few = elim (cases_eq k i) as (λ _. get_or (set m.words (base + i) x) (base + k) 0 < t.bound k) [
@@ -23,7 +24,7 @@ words_hold_set t base i x m fit lt low h k few = elim (cases_eq k i) as (λ _. g
 ]
 
 module _ {Task : Type 0} (t : Table Task) (MayBeAt : Task → Type 0) (Answer : Outcome → Type 0) where
-  -- a sound program stops at a task or an end that suits the operation
+  -- a sound program runs to a task that `MayBeAt` allows, or to an end that `Answer` allows
   pub settled_stands : (base : ℕ) (p : Program Task) (m : Memory) → IsSound t MayBeAt Answer p → base + t.words ≤ length m.words → WordsHold t base m
       → ContinuationIsSound MayBeAt Answer (settled base p m).continuation
   settled_stands base (Ends o) m sound fit h = sound
@@ -38,7 +39,8 @@ module _ {Task : Type 0} (t : Table Task) (MayBeAt : Task → Type 0) (Answer : 
   settled_falls left base n (Reads i k) m f = settled_falls left base n (k (word_at (base + i) m)) m (f _)
   settled_falls left base n (Sets i x k) m f = settled_falls left base n k (with_word (base + i) x m) f
 
-  -- running a program is the same as settling it and then running on from the continuation
+  -- running a program until it waits for a bit action or ends has the same effect as running it to
+  -- its next task or end, and then running on from this
   pub advance_settled : {P : Type 0} (b : Behaviour P) (p : Program Task) (m : Memory) → IsSound t MayBeAt Answer p
       → own_words t b.size + t.words ≤ length m.words → WordsHold t (own_words t b.size) m
       → advance t b p m ≡ run_on t b (settled (own_words t b.size) p m).continuation (settled (own_words t b.size) p m).memory
@@ -50,7 +52,8 @@ module _ {Task : Type 0} (t : Table Task) (MayBeAt : Task → Type 0) (Answer : 
       advance_settled b k (with_word (own_words t b.size + i) x m) sound.1.1 (omega (arith, length-set m.words (own_words t b.size + i) x))
       (words_hold_set t (own_words t b.size) i x m fit sound.0 sound.1.0 h)
 
-  -- settling in a store is the same as settling in the layer's memory that lies there
+  -- running a program to its next task or end reaches the same in a store as in the layer's memory
+  -- that lies there, and changes only this memory in the store, in the same way
   pub settled_in_place : (at size : Place) (own : ℕ) (p : Program Task) (m : Memory) → IsSound t MayBeAt Answer p → LiesIn at size m → own + t.words ≤ size.word
       → WordsHold t own (part at size m)
       → ((settled (at.word + own) p m).continuation ≡ (settled own p (part at size m)).continuation)
@@ -79,7 +82,8 @@ module _ {Task : Type 0} (t : Table Task) (MayBeAt : Task → Type 0) (Answer : 
       × (HasSize size (settled own k inner).memory)) (sym e)
       (there'.0, there'.1 ∙ with_part-with_part at size (settled own k inner).memory inner m there'.2 z lies, there'.2)
 
--- the layer's memory still satisfies `LayerHolds` after settling
+-- the layer's memory still satisfies `LayerHolds` after a sound program has run to its next task or
+-- end
 pub settled_holds : {Task P : Type 0} (l : LayerOver Task P)
     (MayBeAt : Task → Type 0) (Answer : Outcome → Type 0) (p : Program Task) (m : Memory) → IsSound l.table MayBeAt Answer p → LayerHolds l.table l.below l.Holds m
     → LayerHolds l.table l.below l.Holds (settled (own_words l.table l.below.size) p m).memory

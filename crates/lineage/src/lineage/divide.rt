@@ -1,4 +1,4 @@
-//! A new item right above another.
+//! Putting a new item right above another.
 
 ghost use Rattle.std.specs.Prelude.{◌≡◌, ◌≢◌, ◌<◌, ◌+◌, ◌-◌, ◌^◌, ℕ, length, map, Some, None, IsSome, IfOk, OnOk, OnErr};
 ghost use Rattle.slab.specs.Slab.{get, slab_len, HasRoomFor, ContainsKey};
@@ -12,8 +12,8 @@ use slab::Slab;
 use std::alloc::AllocError;
 
 impl<X: Drop> Lineage<X> {
-    /// Puts a new item right above a key, in each path that has the key. Returns the new item's
-    /// key. Visits no path.
+    /// Puts a new item right before the item at `key`, which has to exist, in each path that has
+    /// it. Returns the new item's key. No other item changes. Visits no path.
     ///
     /// # Errors
     ///
@@ -30,7 +30,8 @@ impl<X: Drop> Lineage<X> {
     }
 }
 
-/// Puts a new item right above a key, and returns the new item's key.
+/// Adds a node for a new item right above the node at `key`: the new node gets that node's link,
+/// and that node links to the new one. Returns the new node's key.
 pub(super) fn put_above<X>(nodes: &mut Slab<Node<X>>, key: Key, item: X) -> Key
     requires room { HasRoomFor nodes.old 1 }
     requires there { ContainsKey nodes.old key }
@@ -41,7 +42,7 @@ pub(super) fn put_above<X>(nodes: &mut Slab<Node<X>>, key: Key, item: X) -> Key
     ensures len { slab_len nodes.new ≡ slab_len nodes.old + 1 }
     ensures few { result < 2 ^ 64 - 1 }
 {
-    // for the proof: there are fewer than 2^64 slots, so no key has the word that means `None`
+    // for the proof: there are fewer than 2^64 slots, so no key is the word that means `None`
     let _most = nodes.capacity();
     let above = nodes[key].above;
     let fresh = nodes.insert_reserved(Node {

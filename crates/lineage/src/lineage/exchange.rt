@@ -13,7 +13,8 @@ use slab::Slab;
 use std::alloc::AllocError;
 
 impl<X: Drop> Lineage<X> {
-    /// Replaces the items of the path at an index. Drops the old items that no other path has.
+    /// Replaces the path at an index, which has to exist, by a path of these items, which get new
+    /// keys. Drops the old items that are then on no path. Other paths and items don't change.
     ///
     /// # Errors
     ///
@@ -31,7 +32,8 @@ impl<X: Drop> Lineage<X> {
     }
 }
 
-/// Reserves memory for one more path of `count` new nodes.
+/// Reserves memory for one more path, and for `count` more nodes. Fails if it can't, or if the
+/// paths and nodes might then be too many for a word to count.
 pub(super) fn reserve_path<X>(
     nodes: &mut Slab<Node<X>>,
     tips: &mut Vec<Above>,
@@ -53,7 +55,7 @@ pub(super) fn reserve_path<X>(
     tips.reserve(1)
 }
 
-/// Adds a last path, which has these new items.
+/// Adds a path of these new items at the end of the list of paths.
 fn put_last<X: Drop>(nodes: &mut Slab<Node<X>>, tips: &mut Vec<Above>, items: Vec<X>)
     requires sound { IsSoundFamily nodes.old.slots tips.old.items }
     requires room { HasRoomFor nodes.old (length items.items) }

@@ -1,4 +1,4 @@
-//! A new path that shares the beginning of others.
+//! Adding a path that shares the beginning of others.
 
 ghost use Rattle.std.specs.Prelude.{◌≡◌, ◌<◌, ◌+◌, ◌^◌, ◌++◌, ◌∷◌, [], ℕ, length, Some, None, IfSome, IsSome, IfOk, OnOk, OnErr, vec_capacity};
 ghost use Rattle.slab.specs.Slab.{get, slab_len, ContainsKey};
@@ -13,8 +13,9 @@ use slab::Slab;
 use std::alloc::AllocError;
 
 impl<X: Drop> Lineage<X> {
-    /// Adds a last path. It ends with `key`, and has all keys above `key`. If `key` is `None`, the
-    /// path has no item.
+    /// Adds a path at the end of the list of paths. It ends with `key`, which has to have an item;
+    /// before `key` it has the keys that are before `key` in each path that has `key`. If `key` is
+    /// `None`, the new path has no item. Items and other paths don't change.
     ///
     /// # Errors
     ///
@@ -30,8 +31,10 @@ impl<X: Drop> Lineage<X> {
         Ok(())
     }
 
-    /// Puts a new item right above a key, in each path that has the key. Adds a last path, which
-    /// ends with the new item. Returns the new item's key. Visits no path.
+    /// Puts a new item right before the item at `key`, which has to exist, in each path that has
+    /// it. Then adds a path at the end of the list of paths: it ends with the new item, and before
+    /// that it has the items that are before the new item in those paths. Returns the new item's
+    /// key. No other item changes. Visits no path.
     ///
     /// # Errors
     ///
@@ -64,12 +67,12 @@ fn reserve_tip(tips: &mut Vec<Above>, nodes: usize) -> Result<(), AllocError>
     tips.reserve(1)
 }
 
-/// The key of an existing item, or no key, in one word.
+/// `key`, which is `None` or the key of an existing item, in one word.
 fn end_at<X>(nodes: &Slab<Node<X>>, key: Option<Key>) -> Above
     requires { IfSome key (λ k. ContainsKey nodes.now k) }
     ensures { result ≡ key }
 {
-    // for the proof: there are fewer than 2^64 slots, so no key has the word that means `None`
+    // for the proof: there are fewer than 2^64 slots, so no key is the word that means `None`
     let _most = nodes.capacity();
     match key {
         Some(key) => Above::of(key),

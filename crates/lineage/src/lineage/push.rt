@@ -1,4 +1,4 @@
-//! A new item at the end of a path.
+//! Adding an item at the end of a path.
 
 ghost use Rattle.std.specs.Prelude.{◌≡◌, ◌≢◌, ◌<◌, ◌+◌, ◌^◌, ◌++◌, ◌∷◌, [], ℕ, length, slice_set, Some, None, IfOk, OnOk, OnErr};
 ghost use Rattle.slab.specs.Slab.{get, slab_len, HasRoomFor};
@@ -11,7 +11,8 @@ use slab::Slab;
 use std::alloc::AllocError;
 
 impl<X: Drop> Lineage<X> {
-    /// Puts a new item at the end of the path at an index, in that path alone. Returns its key.
+    /// Puts a new item at the end of the path at an index, which has to exist. Returns the item's
+    /// key. Other paths and items don't change.
     ///
     /// # Errors
     ///
@@ -28,7 +29,8 @@ impl<X: Drop> Lineage<X> {
     }
 }
 
-/// Reserves memory for one more node.
+/// Reserves memory for one more node; `tips` is the number of paths. Fails if it can't, or if the
+/// paths and nodes might then be too many for a word to count.
 pub(super) fn reserve_node<X>(nodes: &mut Slab<Node<X>>, tips: usize) -> Result<(), AllocError>
     requires { tips < 2 ^ 63 }
     ensures slots { nodes.new.slots ≡ nodes.old.slots }
@@ -44,7 +46,8 @@ pub(super) fn reserve_node<X>(nodes: &mut Slab<Node<X>>, tips: usize) -> Result<
     nodes.reserve(1)
 }
 
-/// Puts a new item at the end of a path, and returns the item's key.
+/// Adds a node for a new item at the end of the path at index `path`: it links to the last key of
+/// that path, and its own key is then the last. Returns that key.
 pub(super) fn push_node<X>(
     nodes: &mut Slab<Node<X>>,
     tips: &mut Vec<Above>,
@@ -60,7 +63,7 @@ pub(super) fn push_node<X>(
     ensures capacity { nodes.new.capacity ≡ nodes.old.capacity }
     ensures tips { tips.new.items ≡ slice_set tips.old.items path (Some result) }
 {
-    // for the proof: there are fewer than 2^64 slots, so no key has the word that means `None`
+    // for the proof: there are fewer than 2^64 slots, so no key is the word that means `None`
     let _most = nodes.capacity();
     let above = tips[path];
     let key = nodes.insert_reserved(Node {

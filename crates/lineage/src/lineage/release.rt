@@ -11,8 +11,8 @@ use crate::node::{Above, Node};
 use slab::Slab;
 
 impl<X: Drop> Lineage<X> {
-    /// Drops the path at an index, and the items that no other path has. The index of each later
-    /// path falls by one. Never allocates.
+    /// Drops the path at an index, which has to exist, and the items that are then on no path. The
+    /// index of each later path falls by one. Other items don't change. Never allocates.
     pub fn drop_path(&mut self, path: usize)
         requires { path < length self.old.paths }
         ensures paths { self.new.paths ≡ remove self.old.paths path }
@@ -23,8 +23,8 @@ impl<X: Drop> Lineage<X> {
     }
 }
 
-/// Takes a holder from the node of `tip`. If the node has no holder left, drops it, and does the
-/// same with the node above it, and so on.
+/// Counts one holder less for the node at `tip`, since a link to it is gone. If the node has no
+/// holder left, drops it, and does the same for the node that it linked to, and so on.
 pub(super) fn free_up<X: Drop>(nodes: &mut Slab<Node<X>>, tip: Above)
     requires { (tips : List (Option ℕ))
         × IsReleasing nodes.old.slots nodes.old.slots tips tip }
@@ -38,8 +38,8 @@ pub(super) fn free_up<X: Drop>(nodes: &mut Slab<Node<X>>, tip: Above)
     }
 }
 
-/// Takes one holder from the node at a key. If the node has no holder left, drops it and returns
-/// the key above it, whose node then has to lose a holder too. Otherwise returns no key.
+/// Takes one holder from the node at a key. If the node has no holder left, drops the node and
+/// returns the key above, whose node then has to lose a holder too. Otherwise returns no key.
 fn free_node<X: Drop>(nodes: &mut Slab<Node<X>>, key: Key) -> Above
     requires { ContainsKey nodes.old key }
     ensures next { result ≡ next_up (get nodes.old key) }

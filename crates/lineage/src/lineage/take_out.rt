@@ -10,9 +10,9 @@ use crate::node::{Above, Node};
 use slab::Slab;
 
 impl<X: Drop> Lineage<X> {
-    /// Takes the item at a key out of each path that has it, and returns the item. Each item and
-    /// path that linked to it then links to the item above it. Never allocates; visits each item
-    /// and path.
+    /// Takes the item at a key, which has to exist, out of each path that has it, and returns the
+    /// item. The other items don't change, and stay in order in each path. Never allocates; visits
+    /// each item and path.
     pub fn take_out(&mut self, key: Key) -> X
         requires { IsSome (item_at self.old key) }
         ensures was { item_at self.old key ≡ Some result }
@@ -38,8 +38,8 @@ fn past(at: Above, key: Key, above: Above) -> Above
     }
 }
 
-/// Changes the holders of the node above a skipped one: adds the skipped node's `holders`, and
-/// takes away one, the skipped node itself.
+/// Corrects the number of holders of the node at `above`, which a skipped node linked to: adds the
+/// skipped node's `holders`, and subtracts 1 for the skipped node itself.
 fn pass_on<X>(nodes: &mut Slab<Node<X>>, above: Above, holders: usize)
     requires there { IfSome above (λ k. ContainsKey nodes.old k) }
     requires few { (k : ℕ) (n : Node X) → above ≡ Some k → get nodes.old k ≡ Some n

@@ -8,7 +8,7 @@ use towerbench::{Fault, ProgramFault, SourceFault};
 /// The texts of the faults for each way to run out of memory, for a save that failed, and for help
 /// that can't be written.
 #[test]
-fn memory_told(rt: HostRuntime) -> Result<(), Fail> {
+fn memory_reported(rt: HostRuntime) -> Result<(), Fail> {
     let file = FileFault {
         kind: FaultKind::Memory,
         line: 0,

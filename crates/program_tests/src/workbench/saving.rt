@@ -1,4 +1,4 @@
-//! Row `bench-file` by `run_saving`: what its saver takes, even if the saver fails after any byte.
+//! Row `bench-file`, run by `run_saving`: what the saver takes, also if it fails after some byte.
 
 ghost use Rattle.command_line.specs.Ranges.{AreOptionsInRange};
 
@@ -47,8 +47,8 @@ fn ended<H: AllocGlobal + Threads + Wait + Sync>(
     (ran.err(), writer.taken, saver.taken)
 }
 
-/// If the saver fails after any byte, the file was saved up to that byte, and the answers are
-/// whole.
+/// The saver fails after any byte. It has taken the file up to that byte, and all answers were
+/// written.
 #[test]
 fn a_saver_fails_after_each_byte(rt: HostRuntime) {
     for room in 0..=SAVED.len() {
@@ -64,7 +64,7 @@ fn a_saver_fails_after_each_byte(rt: HostRuntime) {
     }
 }
 
-/// If the saver takes no byte, the save has failed: nothing is saved, and the answers are whole.
+/// If the saver takes no byte, the save fails: nothing is saved, and all answers were written.
 #[test]
 fn a_saver_takes_no_byte(rt: HostRuntime) {
     let mut reader = SCRIPT;

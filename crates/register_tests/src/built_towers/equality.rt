@@ -1,5 +1,5 @@
-//! Registers of one kind are equal if they have the same numbers, and a configuration gives back
-//! its register.
+//! Registers of one kind are equal if they have the same numbers, and a configuration returns the
+//! register that it was made from.
 
 use crate::steps::{GO_0, GO_1, GO_2, READ_1, READ_2, WRITE};
 use checkpoints::replay;

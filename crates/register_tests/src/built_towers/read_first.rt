@@ -1,6 +1,6 @@
 //! A register of 8 values that has to be read before it can be written: a write before the first
-//! read is spent. In a matrix of such registers, each process itself reads the part of its row on
-//! the diagonal; the other parts of the row are read only by other processes.
+//! read is refused as spent. In a matrix of such registers, each process itself reads the part of
+//! its row on the diagonal; the other parts of the row are read only by other processes.
 
 use frames::types::{Frame, FrameLayer, Layer, Op, Outcome};
 use layers::construction::{Construction, Rules, Shape, one_writer};

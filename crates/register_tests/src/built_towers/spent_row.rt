@@ -39,8 +39,8 @@ pub(super) fn replayed<R: Register>(
     replay(alloc, register, 0, steps)
 }
 
-/// Asserts that a write to a matrix that is spent at the second part of its row has left the first
-/// part written.
+/// Asserts that a write to a matrix, refused because the second part of its row is spent, has left
+/// the first part written.
 fn spent_part_of_a_row<R: Register>(
     rt: &impl Abort,
     alloc: Global,

@@ -27,7 +27,7 @@ option_decides {X} {E} d (Some a) (Some b) = Decides-like (E a b) (λ p. ap Some
     some_same : (u v : X) → ◌≡◌ {A = Option X} (Some u) (Some v) → u ≡ v
     some_same u v p = cc
 
--- compares two cells, field by field
+-- whether two cells are equal in every field
 abbrev pub cell_eq : Cell → Cell → Bool
 cell_eq a b = beq a.value b.value && (option_eq beq a.writing b.writing && (beq a.reading b.reading && beq a.hit b.hit))
 
@@ -40,7 +40,7 @@ cell_decides a b =
     (Decides-and (option_eq beq a.writing b.writing) _ (option_decides booleans_Decides a.writing b.writing)
     (Decides-and (beq a.reading b.reading) (beq a.hit b.hit) (booleans_Decides a.reading b.reading) (booleans_Decides a.hit b.hit))))
 
--- compares two memories: their cells, and then their words
+-- whether two memories have equal cells and equal words
 abbrev pub memory_eq : Memory → Memory → Bool
 memory_eq a b = pointwise cell_eq a.cells b.cells && pointwise nat_eq a.words b.words
 

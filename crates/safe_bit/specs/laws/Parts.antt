@@ -54,7 +54,7 @@ IsPlaced-inside at size m n h = record { cells = omega (arith, n.cells, h.cells)
 pub IsPlaced-place_after : (at size q s : Place) → IsPlaced at size → Within q s size → IsPlaced (place_after at q) s
 IsPlaced-place_after at size q s h w = record { cells = omega (arith, h.cells, w.cells); words = omega (arith, h.words, w.words) }
 
--- a part of a part is a part of the whole memory
+-- a part of a part is also a part of the whole memory
 pub part-part : (at size q s : Place) (m : Memory) → Within q s size → part q s (part at size m) ≡ part (place_after at q) s m
 part-part at size q s m w = same_memory _ _
     (window-window at.cell size.cell q.cell s.cell m.cells w.cells)
@@ -73,7 +73,8 @@ with_part-with_part at s later inner m y z h = same_memory _ _
     (splice-splice at.cell later.cells inner.cells m.cells (fits_cells at s inner m z h) (y.cells ∙ sym z.cells))
     (splice-splice at.word later.words inner.words m.words (fits_words at s inner m z h) (y.words ∙ sym z.words))
 
--- replacing a part of a part is the same as replacing that part of the whole memory
+-- replacing a part of a part, and putting that back, is the same as replacing the inner part in the
+-- whole memory
 pub with_part-part : (at size q s : Place) (inner m : Memory) → HasSize s inner → LiesIn at size m → Within q s size
     → with_part at (with_part q inner (part at size m)) m ≡ with_part (place_after at q) inner m
 with_part-part at size q s inner m z h w = same_memory _ _
@@ -91,7 +92,7 @@ part-with_part_beside a s b t inner m z h k apart = same_memory _ _
     (window-splice_beside a.cell b.cell t.cell inner.cells m.cells (fits_cells a s inner m z h) k.cells (rw z.cells apart.cells))
     (window-splice_beside a.word b.word t.word inner.words m.words (fits_words a s inner m z h) k.words (rw z.words apart.words))
 
--- the whole memory is the part of itself at the origin
+-- the part at the origin that has the size of the whole memory is the whole memory
 pub part-whole : (size : Place) (m : Memory) → HasSize size m → part origin size m ≡ m
 part-whole size m z = same_memory _ _ (window-whole size.cell m.cells z.cells) (window-whole size.word m.words z.words)
 
@@ -100,20 +101,22 @@ with_part-whole size inner m y z = same_memory _ _
     (splice-whole inner.cells m.cells (y.cells ∙ sym z.cells))
     (splice-whole inner.words m.words (y.words ∙ sym z.words))
 
--- cell i and word i of a part are a cell and a word of the whole memory
+-- cell i of a part at place `at` is cell `at.cell` + i of the whole memory
 pub cell_at-part : (at size : Place) (i : ℕ) (m : Memory) → i < size.cell → cell_at i (part at size m) ≡ cell_at (at.cell + i) m
 cell_at-part at size i m lt = get_or-window at.cell size.cell m.cells i no_cell lt
 
+-- word i of a part at place `at` is word `at.word` + i of the whole memory
 pub word_at-part : (at size : Place) (i : ℕ) (m : Memory) → i < size.word → word_at i (part at size m) ≡ word_at (at.word + i) m
 word_at-part at size i m lt = get_or-window at.word size.word m.words i 0 lt
 
--- changing a cell or a word of the memory inside a part is the same as changing it in the part
+-- changing a cell of a part, and putting the part back, is the same as changing it in the memory
 pub on_cell-part : (at size : Place) (i : ℕ) (f : Cell → Cell) (m : Memory) → LiesIn at size m → i < size.cell
     → on_cell (at.cell + i) f m ≡ with_part at (on_cell i f (part at size m)) m
 on_cell-part at size i f m h lt = same_memory _ _
     (ap (λ c. set m.cells (at.cell + i) (f c)) (sym (cell_at-part at size i m lt)) ∙ set-window at.cell size.cell i (f (cell_at i (part at size m))) m.cells h.cells lt)
     (sym (splice-own at.word size.word m.words h.words))
 
+-- setting a word of a part, and putting the part back, is the same as setting it in the memory
 pub with_word-part : (at size : Place) (i x : ℕ) (m : Memory) → LiesIn at size m → i < size.word
     → with_word (at.word + i) x m ≡ with_part at (with_word i x (part at size m)) m
 with_word-part at size i x m h lt = same_memory _ _

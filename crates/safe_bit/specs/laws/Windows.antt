@@ -6,7 +6,7 @@ use Rattle.std.proofs.Common.{suc, [], ◌∷◌, add-zero, append_assoc}
 use Rattle.std.proofs.lemmas.List.{set_split, take_at, drop_at, take-append-drop, take-append-le, drop-append-le}
 use Rattle.safe_bit.specs.Windows.{splice, window}
 
--- an index lies before a stretch, in it, or after it
+-- what holds of an index before a stretch, of one in it, and of one after it, holds of each index k
 by_place : (i n k : ℕ) (P : ℕ → Type 0) → (k < i → P k) → ((m : ℕ) → k ≡ i + m → m < n → P k) → (i + n ≤ k → P k) → P k
 by_place i n k P before inside after =
     elim (cases_lt k i) [
@@ -86,7 +86,8 @@ module _ {A : Type 0} where
       (λ m at_m lt. rw at_m (inside m d lt))
       (λ past. after k d past))
 
-  -- replacing a stretch of a stretch is the same as replacing that stretch of the whole list
+  -- replacing a stretch of a stretch, and putting that back, is the same as replacing the inner
+  -- stretch in the whole list
   pub splice-window : (i n j : ℕ) (ys xs : List A) → i + n ≤ length xs → j + length ys ≤ n
       → splice i (splice j ys (window i n xs)) xs ≡ splice (i + j) ys xs
   splice-window i n j ys xs h inner =
@@ -110,7 +111,8 @@ module _ {A : Type 0} where
           ∙ sym (ap (λ q. get_or (splice (i + j) ys xs) q d) (sym (add_assoc i j p)) ∙ get_or-splice_inside (i + j) ys xs p d hij below)))
           (λ after. get_or-splice_after j ys (window i n xs) m d hj after ∙ get_or-window i n xs m d less ∙ sym (get_or-splice_after (i + j) ys xs (i + m) d hij (omega arith)))
 
-  -- setting an item of the list inside a stretch is the same as setting it in the stretch
+  -- setting an item of a stretch, and putting the stretch back, is the same as setting it in the
+  -- list
   pub set-window : (i n j : ℕ) (x : A) (xs : List A) → i + n ≤ length xs → j < n → set xs (i + j) x ≡ splice i (set (window i n xs) j x) xs
   set-window i n j x xs h less =
       let lw = length-window i n xs h in
@@ -188,7 +190,7 @@ module _ {A : Type 0} where
       one : (front whole : List A) (k : ℕ) → front ++ x ∷ drop (suc k) whole ≡ front ++ x ∷ [] ++ drop (k + 1) whole
       one front whole k = ap (λ q. front ++ x ∷ drop q whole) {x = suc k} (let e : suc k ≡ k + 1 = omega arith in e) ∙ sym (append_assoc front (x ∷ []) (drop (k + 1) whole))
 
-  -- putting in nothing changes nothing
+  -- putting an empty list in at an index changes nothing
   pub splice-nothing : (i : ℕ) (xs : List A) → splice i [] xs ≡ xs
   splice-nothing i xs = ap (λ q. take i xs ++ [] ++ drop q xs) (add-zero i) ∙ joined (take i xs) (drop i xs) ∙ back i xs
     where

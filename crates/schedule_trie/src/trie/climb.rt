@@ -1,4 +1,4 @@
-//! Places of a branch, found from its end.
+//! Places of a branch, found by a climb: segment by segment, from the branch's last one up.
 
 ghost use Rattle.std.specs.Prelude.{ℕ, List, ◌≡◌, ◌≤◌, ◌<◌, ◌++◌, ◌∷◌, length, Some, None, IfSome, IfNone};
 ghost use Rattle.std.specs.List.{position};
@@ -14,7 +14,9 @@ use crate::slot::Slot;
 use lineage::lineage::Above;
 
 impl<T: Drop> Trie<T> {
-    /// The number of cells of the branch at an index; 0 if there is no such branch.
+    /// The number of cells of the branch at an index; 0 if there is no such branch. The contract
+    /// also states that the trie is cut correctly and within its limits (`IsWhole`), as each trie
+    /// is.
     pub fn len_at(&self, index: usize) -> u32
         ensures len { result ≡ length (slots_in (forest self.now).branches index) }
         ensures whole { IsWhole self.now }
@@ -43,8 +45,9 @@ impl<T: Drop> Trie<T> {
         len
     }
 
-    /// The key of the segment that has the cell at a place of a branch, and the cell's offset in
-    /// that segment; `None` if the branch has no cell there.
+    /// The key of the segment that has the cell at a place of the branch at `index`, and the cell's
+    /// offset in that segment. The place is this offset plus the number of cells in all segments
+    /// above. `None` if the branch has no cell there.
     pub fn find_cell(&self, index: usize, place: u32) -> Option<(SegKey, usize)>
         ensures found { IfSome result (IsSpotInPath (piece_at self.now.pieces)
             (keys_in self.now.strands index) place) }
@@ -56,14 +59,14 @@ impl<T: Drop> Trie<T> {
         if len <= place {
             return None;
         }
-        // the number of cells after the wanted one, without those of the segments already passed
+        // the number of cells after the wanted cell, except those of segments already passed
         let mut following = (len - place - 1) as usize;
         let mut at = self.segments.tip(index);
         while let Some(up) = self.slots_up(at) {
             let (key, slots, above) = up;
             let (left, is_here) = following.overflowing_sub(slots.len());
             if is_here {
-                // `left` is 2^64 - n, and the wanted cell is the n-th of this segment
+                // `left` is 2^64 - n; the wanted cell is the n-th here, so its offset is n - 1
                 return Some((key, usize::MAX - left));
             }
             following = left;
@@ -72,7 +75,8 @@ impl<T: Drop> Trie<T> {
         None
     }
 
-    /// The place of a cell on the branch at an index; `None` if the branch doesn't have the cell.
+    /// The place, on the branch at `index`, of the cell with the number `cell`; `None` if the
+    /// branch doesn't have that cell.
     pub(super) fn place_at(&self, index: usize, cell: u32) -> Option<u32>
         ensures { result ≡ position (is_cell cell) (slots_in (forest self.now).branches index) }
     {
@@ -87,8 +91,8 @@ impl<T: Drop> Trie<T> {
         None
     }
 
-    /// One step of a climb: a segment's key, the segment's cells, and the rest of the climb; `None`
-    /// if the climb has ended.
+    /// One step of a climb: the key `at`, the cells of its segment, and the key of the segment
+    /// above, or no key if no segment is above. `None` if the climb has ended.
     #[inline(always)]
     fn slots_up(&self, at: Above) -> Option<(SegKey, &[Slot], Above)>
         ensures key { IfSome result (λ s. at ≡ Some s.0) }
@@ -106,7 +110,7 @@ impl<T: Drop> Trie<T> {
     }
 }
 
-/// The index in a list of the cell with this number; `None` if it isn't there.
+/// The index in `slots` of the cell with this number; `None` if the cell isn't there.
 fn offset_of(slots: &[Slot], cell: u32) -> Option<usize>
     ensures { result ≡ position (is_cell cell) slots.now }
 {

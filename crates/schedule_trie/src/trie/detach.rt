@@ -1,4 +1,4 @@
-//! Giving a branch its own cells.
+//! Giving a branch new cells, which no other branch has.
 
 ghost use Rattle.std.specs.Prelude.{◌≡◌, ◌<◌, ◌≤◌, ◌+◌, length, Ok, OnOk, IfOk, IfErr, OnErr};
 ghost use Rattle.schedule_trie.specs.Edits.{Detach, IsEdited, IsUnedited};
@@ -13,12 +13,13 @@ use crate::segment::Segment;
 use std::alloc::{AllocError, Global};
 
 impl<T: Drop> Trie<T> {
-    /// Replaces each cell of a branch by a new cell with the same step, in that branch alone.
+    /// Replaces each cell of a branch by a new cell with the same step, in that branch alone. Its
+    /// new segments have no notes. The segments of other branches keep their notes.
     ///
     /// # Errors
     ///
-    /// NoBranch; Full if the number of cells made would exceed its limit; Memory. Then nothing
-    /// changes.
+    /// NoBranch if there is no such branch; Full if the number of cells made would exceed its
+    /// limit; Memory if memory runs out. After an error nothing has changed.
     pub fn detach(&mut self, alloc: Global, branch: &Name) -> Result<(), Refusal>
         ensures ok { OnOk result (IsEdited self.old self.new (Detach branch.now)) }
         ensures err { IfErr result (IsUnedited self.old self.new (Detach branch.now)) }
@@ -33,7 +34,7 @@ impl<T: Drop> Trie<T> {
         Ok(())
     }
 
-    /// Replaces the cells of the branch at an index by new ones. The limit allows the new ones.
+    /// Replaces the cells of the branch at an index by new cells, which the limit of cells allows.
     fn detach_at(&mut self, alloc: Global, index: usize) -> Result<(), AllocError>
         requires index { index < length self.old.strands }
         requires room { self.old.made + length (slots_in (forest self.old).branches index)
@@ -49,7 +50,8 @@ impl<T: Drop> Trie<T> {
         Ok(())
     }
 
-    /// Copies of the segments of the branch at an index, with new cells.
+    /// Copies of the segments of the branch at an index. The copies have new cells, numbered from
+    /// `made` on, and no notes.
     fn copies(&self, alloc: Global, index: usize) -> Result<Vec<Segment<T>>, AllocError>
         requires { self.now.made + length (slots_in (forest self.now).branches index)
             ≤ self.now.limits.cells }

@@ -9,11 +9,13 @@ use crate::name::Name;
 use crate::refusal::Refusal;
 
 impl<T: Drop> Trie<T> {
-    /// Drops a branch, and the segments that no other branch has. Never allocates.
+    /// Drops a branch, and the segments that no other branch has. All other segments keep their
+    /// notes. Never allocates.
     ///
     /// # Errors
     ///
-    /// NoBranch; LastBranch if the branch is the only one. Then nothing changes.
+    /// NoBranch if there is no such branch; LastBranch if the branch is the only one. After an
+    /// error nothing has changed.
     pub fn drop_branch(&mut self, branch: &Name) -> Result<(), Refusal>
         ensures ok { OnOk result (IsEdited self.old self.new (Drop branch.now)) }
         ensures err { IfErr result (IsUnedited self.old self.new (Drop branch.now)) }
@@ -28,7 +30,7 @@ impl<T: Drop> Trie<T> {
         Ok(())
     }
 
-    /// Drops the branch at an index, which isn't the only one.
+    /// Drops the branch at an index. It isn't the only branch.
     fn drop_at(&mut self, index: usize)
         requires index { index < length self.old.strands }
         requires several { 1 < length self.old.strands }

@@ -1,4 +1,4 @@
-//! Forks: a new last branch that shares the first cells of another.
+//! Forks: adding a branch that shares the first cells of another branch.
 
 ghost use Rattle.std.specs.Prelude.{ℕ, ◌≡◌, ◌+◌, ◌<◌, ◌≤◌, ◌++◌, ◌∷◌, List, true, length, nat_eq, take, drop, None, Ok, OnOk, OnErr, IfErr, IfOk};
 ghost use Rattle.std.specs.Cmp.Lexicographic.{pointwise};
@@ -19,14 +19,18 @@ use indexmap::IndexMap;
 use std::alloc::{AllocError, Global};
 
 impl<T: Drop> Trie<T> {
-    /// Adds a last branch, `name`, which shares the first `place` cells of `branch`. If these are
-    /// all cells of `branch`, no segment is cut.
+    /// Adds a branch, `name`, at the end of the list of branches. The new branch shares the first
+    /// `place` cells of `branch`. If these end inside a segment, the segment is cut there and loses
+    /// its note; no other note is lost. If these are all cells of `branch`, the new branch has the
+    /// same segments as `branch`, and no segment changes.
     ///
     /// # Errors
     ///
-    /// NoBranch; NameTaken; BadName if the name isn't a lower-case letter, followed by lower-case
-    /// letters or digits; NoPlace if the branch is shorter than the place; TooManyBranches; Memory.
-    /// Then nothing changes.
+    /// The first that holds: NoBranch if no branch is named `branch`; NameTaken if one is named
+    /// `name`; BadName if `name` isn't a lower-case letter, followed by lower-case letters or
+    /// digits; NoPlace if `place` is greater than the length of `branch`; TooManyBranches if the
+    /// number of branches is at its limit; Memory if memory runs out. After an error nothing has
+    /// changed.
     pub fn fork(
         &mut self,
         alloc: Global,
@@ -60,8 +64,10 @@ impl<T: Drop> Trie<T> {
         Ok(())
     }
 
-    /// Adds a last branch, `name`, which shares the first `place` cells of the branch at an index.
-    /// No branch has this name yet.
+    /// Adds a branch, `name`, at the end of the list of branches. It shares the first `place` cells
+    /// of the branch at `index`, which has at least that many. The caller has checked that the name
+    /// is new and well-formed, and that the limits allow one more branch. If memory runs out,
+    /// nothing changes.
     pub(super) fn fork_at(
         &mut self,
         alloc: Global,
@@ -93,8 +99,8 @@ impl<T: Drop> Trie<T> {
         }
     }
 
-    /// Adds a last branch, `name`, which shares the segments of the branch at an index down to
-    /// `last`, or no segment if `last` is `None`. No branch has this name yet.
+    /// Adds a branch, `name`, at the end of the list. It shares the segments of the branch at an
+    /// index down to `last`, or no segment if `last` is `None`. No branch has this name yet.
     fn fork_after(
         &mut self,
         index: usize,
@@ -119,9 +125,9 @@ impl<T: Drop> Trie<T> {
         Ok(())
     }
 
-    /// Adds a last branch, `name`, which shares the cells of the branch at an index down to the
-    /// `count`-th cell of the segment `key`. The segment is cut after that cell. No branch has this
-    /// name yet.
+    /// Adds a branch, `name`, at the end of the list. It shares the cells of the branch at an index
+    /// down to the `count`-th cell of the segment `key`. The segment is cut after that cell. No
+    /// branch has this name yet.
     fn fork_within(
         &mut self,
         alloc: Global,
@@ -154,7 +160,7 @@ impl<T: Drop> Trie<T> {
     }
 }
 
-/// The cells in two parts: the first `count` cells, and the rest.
+/// Copies of the cells in two parts: the first `count` cells, and the rest.
 fn parts_at(
     alloc: Global,
     slots: &[Slot],
@@ -169,7 +175,7 @@ fn parts_at(
     Ok((above, below))
 }
 
-/// Adds a branch, with no cached length, to a map that has memory reserved for one more.
+/// Adds a branch, with no cached length, to a map in which memory is reserved for it.
 fn insert_reserved(branches: &mut IndexMap<Name, Option<u32>>, name: Name)
     requires { 0 < spare branches.old }
     ensures { branches.new.entries ≡ insert_entry (pointwise nat_eq) branches.old.entries name

@@ -1,4 +1,4 @@
-//! A new cell at a place of a branch.
+//! Inserting a new cell at a place of a branch.
 
 ghost use Rattle.std.specs.Prelude.{◌≡◌, ◌<◌, ◌≤◌, ◌++◌, length, Ok, OnOk, IfOk, IfErr, OnErr};
 ghost use Rattle.std.specs.List.{insert as inserted_at};
@@ -15,17 +15,19 @@ use crate::slot::Slot;
 use frames::types::Step;
 use std::alloc::{AllocError, Global};
 
-/// The number of a full segment's cells that are above the cut, without the new cell.
+/// When an insert cuts a full segment in two, the first part gets this many of its old cells.
 const UPPER_SLOTS: usize = 64;
 
 impl<T: Drop> Trie<T> {
     /// Inserts a new cell before the cell at a place of a branch, in each branch that has that
     /// cell. If the place is the branch's length, adds the cell at the end of this branch alone.
+    /// Only the segment that gets the cell, or is cut for it, loses its note.
     ///
     /// # Errors
     ///
-    /// NoBranch; NoPlace if the branch is shorter than the place; Full if the number of cells made
-    /// is at its limit; Memory. Then nothing changes.
+    /// The first that holds: NoBranch if there is no such branch; NoPlace if `place` is greater
+    /// than the branch's length; Full if the number of cells made is at its limit; Memory if memory
+    /// runs out. After an error nothing has changed.
     pub fn insert(
         &mut self,
         alloc: Global,
@@ -109,7 +111,7 @@ impl<T: Drop> Trie<T> {
         Ok(())
     }
 
-    /// Cuts a full segment in two, and inserts a new cell before the one at an offset.
+    /// Cuts a full segment in two, and inserts a new cell before the cell at an offset.
     fn put_divided(
         &mut self,
         alloc: Global,

@@ -12,7 +12,8 @@ use crate::name::Name;
 use indexmap::IndexMap;
 
 impl<T: Drop> Trie<T> {
-    /// The number of cells of the branch at an index. Caches this number.
+    /// Returns the number of cells of the branch at an index, and caches it. There has to be such a
+    /// branch. Contracts don't see the cache.
     pub(super) fn learn_len(&mut self, index: usize) -> u32
         requires { index < length self.old.strands }
         ensures len { result ≡ length (slots_in (forest self.old).branches index) }
@@ -24,7 +25,8 @@ impl<T: Drop> Trie<T> {
         len
     }
 
-    /// Caches `len`, which is the number of cells of the branch at an index.
+    /// Caches `len`, which has to be the number of cells of the branch at an index. Contracts don't
+    /// see the cache.
     pub(super) fn keep_len(&mut self, index: usize, len: u32)
         requires index { index < length self.old.strands }
         requires len { len ≡ length (slots_in (forest self.old).branches index) }
@@ -34,7 +36,8 @@ impl<T: Drop> Trie<T> {
     }
 }
 
-/// The cached length of the branch at an index; `None` if no length is cached for it.
+/// The cached length of the branch at an index; `None` if there is no such branch, or if no length
+/// is cached for it.
 pub(super) fn kept_length(branches: &IndexMap<Name, Option<u32>>, index: usize) -> Option<u32>
     ensures { result ≡ kept_in (slice_get branches.now.entries index) }
 {
@@ -42,7 +45,8 @@ pub(super) fn kept_length(branches: &IndexMap<Name, Option<u32>>, index: usize) 
     *len
 }
 
-/// Sets the cached length of the branch at an index, or clears it if `len` is `None`.
+/// Sets the cached length of the branch at an index, or clears it if `len` is `None`. There has to
+/// be such a branch.
 pub(super) fn set_length(branches: &mut IndexMap<Name, Option<u32>>, index: usize, len: Option<u32>)
     requires { index < index_map_len branches.old }
     ensures { branches.new.entries ≡ set_value_at branches.old.entries index len }

@@ -1,4 +1,4 @@
-//! The limbs of a trie's forest.
+//! The limbs of a trie: its branches as a file stores them.
 
 ghost use Rattle.std.specs.Prelude.{◌≡◌, ◌<◌, ◌≤◌, ◌+◌, ◌^◌, ℕ, length, map, take, Some, true, IsSome, IfOk, OnOk, slice_get};
 ghost use Rattle.schedule_trie.specs.Forest.{name_in, step_of};
@@ -15,13 +15,17 @@ use crate::segment::SegKey;
 use std::alloc::{AllocError, Global};
 
 impl<T: Drop> Trie<T> {
-    /// The limbs of the trie's branches, in the order they were made. The forest that these limbs
-    /// describe equals this trie's, except for the numbers of cells: it has the same names and
-    /// steps, and its branches share cells at the same places.
+    /// The limbs of the trie's branches (each branch as a file stores it), in the order in which
+    /// the branches were made. There is at least one. Each limb has a well-formed name that no
+    /// earlier limb has, and shares only what `may_share` allows after the earlier limbs. Each
+    /// `from` is below the limit of branches, and each `shared` at most the limit of cells.
+    ///
+    /// The forest that the limbs describe is the trie's with other numbers for its cells: it has
+    /// the same names and steps, and its branches share cells at the same places.
     ///
     /// # Errors
     ///
-    /// If there is no memory for the limbs.
+    /// If memory runs out.
     pub fn limbs(&self, alloc: Global) -> Result<Vec<Limb>, AllocError>
         ensures limbs { IfOk result (λ r. r.items ≡ limbs (forest self.now)) }
         ensures kept { IfOk result (λ r. IsRenumbered (forest self.now) (forest_of r.items)) }
@@ -77,8 +81,9 @@ impl<T: Drop> Trie<T> {
         })
     }
 
-    /// The keys of a branch's segments below its last marked one, and the mark of that one. If none
-    /// is marked, these are all the keys, and the mark has branch 0 and 0 cells.
+    /// The mark of a branch's last marked segment, and the keys of the segments below that segment.
+    /// If no segment of the branch is marked, the mark has branch 0 and 0 cells, and the keys are
+    /// all keys of the branch.
     fn own_keys(
         &self,
         alloc: Global,
@@ -108,7 +113,8 @@ impl<T: Drop> Trie<T> {
         Ok((none, own))
     }
 
-    /// Marks consecutive segments of a branch. The branch has `above` cells above these segments.
+    /// Marks consecutive segments of the branch at index `branch`, which has `above` cells above
+    /// these segments.
     fn mark_all(&self, marks: &mut Vec<Option<Mark>>, keys: &[SegKey], branch: u32, above: u32)
         requires places { (k : ℕ) → has k keys.now ≡ true → k < length marks.old.items }
         requires once { Once keys.now }

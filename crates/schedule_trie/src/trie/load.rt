@@ -14,12 +14,18 @@ use crate::refusal::Refusal;
 use std::alloc::{AllocError, Global};
 
 impl<T: Drop> Trie<T> {
-    /// A trie of the forest that the limbs describe. There has to be at least one limb. The limbs
-    /// of the trie are these limbs again.
+    /// A trie with these limits, of the forest that the limbs describe: it has a branch for each
+    /// limb and a cell for each step of a limb. No segment has a note. Calling `limbs` on the trie
+    /// gives equal limbs.
+    ///
+    /// There has to be at least one limb. Each limb has to have a well-formed name that no earlier
+    /// limb has, and `may_share` has to accept it after the earlier limbs. The limits have to be in
+    /// the ranges that `Limits` gives.
     ///
     /// # Errors
     ///
-    /// Full if the limbs have more than `limits.cells` own cells in total; TooManyBranches; Memory.
+    /// The first that holds: Full if the limbs have more than `limits.cells` steps in total;
+    /// TooManyBranches if there are more than `limits.branches` limbs; Memory if memory runs out.
     pub fn load(alloc: Global, limits: Limits, limbs: &[Limb]) -> Result<Trie<T>, Refusal>
         requires limits { AreLimits limits }
         requires lawful { AreLawfulLimbs limbs.now }
@@ -42,7 +48,8 @@ impl<T: Drop> Trie<T> {
         Ok(Trie::with_limbs(alloc, limits, limbs)?)
     }
 
-    /// A trie of the forest that the limbs describe. The limbs are within the trie's limits.
+    /// A trie of the forest that the limbs describe. There are at most `limits.branches` limbs,
+    /// with at most `limits.cells` own cells in total.
     fn with_limbs(alloc: Global, limits: Limits, limbs: &[Limb]) -> Result<Trie<T>, AllocError>
         requires limits { AreLimits limits }
         requires lawful { AreLawfulLimbs limbs.now }
@@ -64,8 +71,8 @@ impl<T: Drop> Trie<T> {
         Ok(trie)
     }
 
-    /// Adds a last branch, which the limb describes. If memory runs out, the branch may have been
-    /// added with only some of its steps.
+    /// Adds the limb's branch at the end of the list of branches. If memory runs out, the branch
+    /// may have been added with only some of its steps.
     fn grow(&mut self, alloc: Global, limb: &Limb) -> Result<(), AllocError>
         requires { CanGrow self.old limb.now }
         ensures { OnOk result (IsGrown self.old self.new limb.now) }

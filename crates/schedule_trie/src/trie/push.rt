@@ -1,4 +1,4 @@
-//! A new cell at the end of a branch.
+//! Adding a new cell at the end of a branch.
 
 ghost use Rattle.std.specs.Prelude.{◌≡◌, ◌<◌, ◌≤◌, ◌+◌, length, IfSome, OnOk, OnErr};
 ghost use Rattle.schedule_trie.specs.Cut.{IsOwnEnd, IsPushed, ArePushed};
@@ -11,7 +11,8 @@ use frames::types::Step;
 use std::alloc::{AllocError, Global};
 
 impl<T: Drop> Trie<T> {
-    /// Adds a new cell at the end of the branch at an index, in that branch alone.
+    /// Adds a new cell at the end of the branch at an index, in that branch alone. The limit of
+    /// cells has to allow one more. If memory runs out, nothing changes.
     pub(super) fn push_last(
         &mut self,
         alloc: Global,
@@ -30,7 +31,8 @@ impl<T: Drop> Trie<T> {
     }
 
     /// Adds new cells with these steps at the end of the branch at an index, in that branch alone.
-    /// If memory runs out, some of the cells may have been added.
+    /// The limit of cells has to allow them. If memory runs out, some of the cells may have been
+    /// added.
     pub(super) fn push_all(
         &mut self,
         alloc: Global,

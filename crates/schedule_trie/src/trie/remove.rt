@@ -11,11 +11,13 @@ use crate::trie::Trie;
 use crate::trie::lengths::forget_lengths;
 
 impl<T: Drop> Trie<T> {
-    /// Removes the cell at a place of a branch from each branch that has the cell. Never allocates.
+    /// Removes the cell at a place of a branch from each branch that has the cell. Clears the note
+    /// of the cell's segment, and no other note. Never allocates.
     ///
     /// # Errors
     ///
-    /// NoBranch; NoPlace if the branch has no cell there. Then nothing changes.
+    /// NoBranch if there is no such branch; NoPlace if the branch has no cell there. After an error
+    /// nothing has changed.
     pub fn remove(&mut self, branch: &Name, place: u32) -> Result<(), Refusal>
         ensures ok { OnOk result (IsEdited self.old self.new (Remove branch.now place)) }
         ensures err { IfErr result (IsUnedited self.old self.new (Remove branch.now place)) }

@@ -1,4 +1,4 @@
-//! Books loaded from limbs, and the limbs of a book.
+//! Makes a book from limbs (a limb is a branch as a file has it), and limbs from a book.
 
 ghost use Rattle.std.specs.Prelude.{◌≡◌, ◌<◌, Ok, OnOk, IfOk, IfErr, [], length};
 ghost use Rattle.schedule_trie.specs.Forest.{IsRefused};
@@ -18,12 +18,17 @@ use schedule_trie::refusal::Refusal;
 use std::alloc::{AllocError, Global};
 
 impl<R: Register> Book<R> {
-    /// A book before its first command, with the branches of these limbs, at least one. `value` is
-    /// the register's initial value.
+    /// A book before its first command: its log is empty, no session has joined, and its branches
+    /// are those that these limbs describe (a limb is a branch as a file has it). There has to be
+    /// at least one limb. The limbs have to be lawful: each has a new and well-formed name, and
+    /// shares either no cells, or the first cells of an earlier branch, the last of which is one of
+    /// that branch's own. Their steps have to fit the register, the limits have to be in their
+    /// ranges, and the initial value `value` has to be one of the register's values.
     ///
     /// # Errors
     ///
-    /// Full if the limbs have more cells than the limits allow; TooManyBranches; Memory.
+    /// Full if the limbs have more cells than the limits allow; TooManyBranches if there are more
+    /// limbs than the limits allow branches; otherwise Memory, if memory runs out.
     pub fn load(
         alloc: Global,
         register: R,
@@ -50,8 +55,11 @@ impl<R: Register> Book<R> {
         Ok(Book::over(alloc, chart, limits)?)
     }
 
-    /// The limbs of the book's branches, in the order the branches were made. A book can be loaded
-    /// from these limbs.
+    /// The limbs of the book's branches (a limb is a branch as a file has it), in the order the
+    /// branches were made. There is at least one. They are lawful: each has a new and well-formed
+    /// name, and shares either no cells, or those of an earlier branch up to one of that branch's
+    /// own cells. Their steps fit the register. In each, the number of the branch that it shares
+    /// cells with, and the number of these cells, are within the book's limits.
     ///
     /// # Errors
     ///

@@ -1,4 +1,4 @@
-//! The sessions of a world: their cursors and breaks.
+//! The commands that begin or end a session, move its cursor, or change its breaks.
 
 ghost use Rattle.std.specs.Prelude.{◌≡◌, ◌<◌, IfOk, IfSome, length};
 ghost use Rattle.schedule_trie.specs.Cut.{forest};
@@ -27,7 +27,8 @@ use std::alloc::{AllocError, Global};
 use views::breakpoint::Break;
 
 impl<R: Register> Stage<R> {
-    /// Begins a session, or begins it again.
+    /// Begins a session, or begins it again if it has joined. Its cursor is then at the beginning
+    /// of the first branch, and it has no breaks.
     pub(super) fn join(&mut self, alloc: Global, who: u32) -> Reply
         requires room { CanLog self.old }
         requires session { who < 16 }
@@ -40,7 +41,7 @@ impl<R: Register> Stage<R> {
         Reply::Joined
     }
 
-    /// Ends a session.
+    /// Ends a session, and removes its cursor and its breaks.
     pub(super) fn leave(&mut self, alloc: Global, who: u32) -> Reply
         requires room { CanLog self.old }
         requires session { who < 16 }
@@ -56,7 +57,7 @@ impl<R: Register> Stage<R> {
     ///
     /// # Errors
     ///
-    /// NoBranch; NoPlace if the branch is shorter.
+    /// NoBranch; NoPlace if the branch is shorter than `place`.
     pub(super) fn go(&mut self, who: u32, branch: &Name, place: u32) -> Result<Reply, Refusal>
         requires room { CanLog self.old }
         requires session { who < 16 }
@@ -76,8 +77,8 @@ impl<R: Register> Stage<R> {
         Ok(Reply::Moved(*branch, place))
     }
 
-    /// Moves the session's cursor to the next place in this direction at which a break of the
-    /// session is met, if any.
+    /// Moves the session's cursor to the nearest place in this direction, other than its own, at
+    /// which a break of the session is met. If there is no such place, the cursor stays.
     ///
     /// # Errors
     ///
@@ -96,7 +97,7 @@ impl<R: Register> Stage<R> {
         Ok(reply)
     }
 
-    /// The next hit of a session's seek, if any.
+    /// The next hit of a session's seek; `None` if there is no hit, or the session hasn't joined.
     fn hit_of(&mut self, alloc: Global, who: u32, way: Way) -> Result<Option<Cursor>, AllocError>
         requires { who < 16 }
         ensures hit { IfOk result (λ hit. hit ≡ hit_of way (world_of R.behaviour self.old) who) }
@@ -147,7 +148,7 @@ impl<R: Register> Stage<R> {
     }
 }
 
-/// A cursor at the beginning of the first branch.
+/// A cursor at the beginning of the first branch; `None` if there is no branch.
 fn first_cursor<R: Register>(chart: &Chart<R>) -> Option<Cursor>
     ensures { result ≡ spec.first_cursor (forest chart.now.cut) }
 {
@@ -184,7 +185,7 @@ fn hit_from<R: Register>(
     }
 }
 
-/// The reply to a seek.
+/// The reply to a seek that finds this hit, or none.
 fn hit_reply(hit: &Option<Cursor>) -> Reply
     ensures { result ≡ hit_reply hit.now }
 {
@@ -194,7 +195,7 @@ fn hit_reply(hit: &Option<Cursor>) -> Reply
     }
 }
 
-/// The cursor of a session, if it has joined.
+/// The cursor of a session; `None` if the session hasn't joined.
 fn cursor_of(cursors: &[Option<Cursor>], who: u32) -> Option<Cursor>
     requires { who < length cursors.now }
     ensures { result ≡ spec.cursor_at cursors.now who }

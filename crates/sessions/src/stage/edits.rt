@@ -10,7 +10,7 @@ ghost use Rattle.schedule_trie.specs.Forest.{Forest};
 
 use super::Stage;
 use crate::command::Command;
-use crate::cursor::{Cursor, SESSIONS, any_behind, is_occupied, shift_of, shifted};
+use crate::cursor::{Cursor, SESSIONS, any_after, is_occupied, shift_of, shifted};
 use crate::reply::Reply;
 use cutoff::chart::Chart;
 use frames::register::Register;
@@ -18,11 +18,14 @@ use schedule_trie::refusal::Refusal;
 use std::alloc::Global;
 
 impl<R: Register> Stage<R> {
-    /// Makes an edit, and moves the cursors that are after its place.
+    /// Makes the edit of a command, and counts it. An insert or a remove also moves the cursors
+    /// that are after its place, on each branch that it changes.
     ///
     /// # Errors
     ///
-    /// Those of the edit; Occupied if it drops a branch that has a cursor on it; Memory.
+    /// The first reason why the branches or the limits don't allow the edit; Occupied if the edit
+    /// drops a branch that has a cursor on it; otherwise Memory, if memory runs out. In each case
+    /// nothing that commands see is changed.
     pub(super) fn edit(&mut self, alloc: Global, command: &Command) -> Result<Reply, Refusal>
         requires room { CanLog self.old }
         requires edits { IsSome (edit_of command.now) }
@@ -41,8 +44,7 @@ impl<R: Register> Stage<R> {
         Ok(Reply::Edited(self.edits))
     }
 
-    /// Whether a command is a drop that only a cursor prevents. NoBranch and LastBranch take
-    /// precedence.
+    /// Whether a command drops a branch that exists and isn't the only one, but has a cursor on it.
     fn is_held_up(&self, command: &Command) -> bool
         ensures { result
             ≡ is_held_up (edit_of command.now) (forest self.now.chart.cut) self.now.cursors }
@@ -60,7 +62,7 @@ impl<R: Register> Stage<R> {
 ///
 /// # Errors
 ///
-/// Those of the edit; then nothing is changed.
+/// The errors of the edit; then nothing is changed.
 fn change_and_move<R: Register>(
     alloc: Global,
     chart: &mut Chart<R>,
@@ -80,24 +82,24 @@ fn change_and_move<R: Register>(
     change_and_shift(alloc, chart, cursors, command)
 }
 
-/// Whether a command's edit surely moves no cursor: none is after its place, or such edits move
-/// none.
+/// Whether it is certain that a command's edit moves no cursor: the command is neither an insert
+/// nor a remove, or no cursor is after the edit's place.
 fn moves_none(cursors: &[Option<Cursor>], command: &Command) -> bool
     ensures { result ≡ true → (f : Forest)
         → cursors.now ≡ moved_if (edit_of command.now) f cursors.now }
 {
     match shift_of(command) {
         None => true,
-        Some((_, place, _)) => !any_behind(cursors, place),
+        Some((_, place, _)) => !any_after(cursors, place),
     }
 }
 
-/// Makes, in a chart, an edit that may move cursors, and moves them. Not inlined, since each call
-/// sets up an array of cursors.
+/// Does what `change_and_move` does, without testing first whether any cursor moves. It isn't
+/// inlined, since each call sets up an array of cursors.
 ///
 /// # Errors
 ///
-/// Those of the edit; then nothing is changed.
+/// The errors of the edit; then nothing is changed.
 #[inline(never)]
 fn change_and_shift<R: Register>(
     alloc: Global,
@@ -125,7 +127,7 @@ fn change_and_shift<R: Register>(
 ///
 /// # Errors
 ///
-/// Those of the edit; then nothing is changed.
+/// The errors of the edit; then nothing is changed.
 fn change<R: Register>(
     alloc: Global,
     chart: &mut Chart<R>,

@@ -1,4 +1,4 @@
-//! The limbs of a world's branches.
+//! Limbs of a world: its branches as a file has them.
 
 ghost use Rattle.std.specs.Prelude.{IfOk};
 ghost use Rattle.sessions.specs.Held.{world_of};
@@ -10,7 +10,8 @@ use schedule_trie::limb::Limb;
 use std::alloc::{AllocError, Global};
 
 impl<R: Register> Stage<R> {
-    /// The limbs of the branches, in the order the branches were made.
+    /// The limbs of the branches (a limb is a branch as a file has it), in the order the branches
+    /// were made. Fails if memory runs out.
     pub(crate) fn limbs(&self, alloc: Global) -> Result<Vec<Limb>, AllocError>
         ensures { IfOk result (λ limbs. IsSaved (world_of R.behaviour self.now) limbs.items) }
     {

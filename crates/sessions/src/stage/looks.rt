@@ -1,4 +1,4 @@
-//! Looks at a world.
+//! Looks at a world: what a session asks to see.
 
 ghost use Rattle.std.specs.Prelude.{◌≡◌, true, Some, Ok, OnOk, IfOk, IfErr};
 ghost use Rattle.schedule_trie.specs.Forest.{IsRefused};
@@ -25,13 +25,16 @@ use views::query::Query;
 use views::slip::Slip;
 
 impl<R: Register> Stage<R> {
-    /// Looks at the branches, or at a session.
+    /// Looks at branches, or at a session's cursor and breaks, as the query asks. Returns a slip,
+    /// from which the page is made later; the page shows the world at the time of the look. On a
+    /// regular or an atomic register it shows no read whose verdict is `stray`. Changes nothing
+    /// that commands see.
     ///
     /// # Errors
     ///
-    /// NoSession if the query is for the cursor of a session that hasn't joined; NoBranch; NoPlace
-    /// if the branch is shorter; Memory. Nothing that commands see is changed, with or without an
-    /// error.
+    /// NoSession if the query is for the cursor of a session that doesn't exist or hasn't joined;
+    /// NoBranch if there is no such branch; NoPlace if the branch is shorter than the query's
+    /// place; otherwise Memory, if memory runs out.
     pub(crate) fn look(&mut self, alloc: Global, query: Query) -> Result<Slip<R>, Refusal>
         ensures page { IfOk result
             (λ slip. Some slip.page ≡ spec.shown_in (world_of R.behaviour self.old) query) }

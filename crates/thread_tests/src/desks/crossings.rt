@@ -122,7 +122,7 @@ fn filled_beside<R: Abort + Threads + Wait + Sync>(
     desk.fill_with(rt, alloc, chair, &branch, 0, &gate)
 }
 
-/// Whether one run came too late, the one or two others were installed, and none ran out of memory.
+/// Whether one run came too late, one or two were installed, and none ran out of memory.
 fn is_crossed(report: Report) -> bool {
     is_crossed_once(report, 1) && report.installed <= 2
 }
@@ -148,8 +148,8 @@ fn crossing_install(rt: HostRuntime) -> Result<(), Fail> {
     Ok(())
 }
 
-/// Whether one run came too late, all others were installed, at least `least` of them, and none ran
-/// out of memory.
+/// Whether one run came too late, and all others, at least `least`, were installed; so none ran out
+/// of memory.
 fn is_crossed_once(report: Report, least: u64) -> bool {
     let late = report.stale.wrapping_add(report.gone);
     late == 1

@@ -55,7 +55,7 @@ pub(super) fn all_installed(count: u64) -> Report {
 }
 
 /// A segment has at most 128 cells, so the thousand steps have 8 segments. Each round installs the
-/// run of one, since there is only one branch.
+/// run of one segment, since there is only one branch.
 #[test]
 fn thousand_steps(rt: HostRuntime) -> Result<(), Fail> {
     let (main, zed) = (name(&rt, b"main"), name(&rt, b"zed"));

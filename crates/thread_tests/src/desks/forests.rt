@@ -30,7 +30,7 @@ use workers::gate::Gate;
 /// How many forests are filled.
 const FORESTS: u32 = 50;
 
-/// How often a forest grows by a series of inserts and one other edit.
+/// How often a forest grows, each time by a series of inserts and one other edit.
 const GROWTHS: u32 = 8;
 
 /// One more than the most inserts in a series. 384 inserts make three full segments.

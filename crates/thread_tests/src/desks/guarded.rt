@@ -37,7 +37,7 @@ fn insert_of(rt: &impl Abort, who: u32) -> Command {
 
 /// The edit count that a receipt reports, and whether the edit was made; `None` if the receipt
 /// reports no edit count.
-fn count_told(receipt: Receipt) -> Option<(u64, bool)> {
+fn count_reported(receipt: Receipt) -> Option<(u64, bool)> {
     match receipt.reply {
         Reply::Edited(count) => Some((count, true)),
         Reply::No(Refusal::Newer(count)) => Some((count, false)),
@@ -58,7 +58,7 @@ impl<R: Abort + Wait> Room<'_, R> {
         let mut made = 0u32;
         for _ in 0..2 * EDITS {
             let receipt = self.bring(chair, (who, Some(guard), &insert));
-            let Some((count, is_made)) = count_told(receipt) else {
+            let Some((count, is_made)) = count_reported(receipt) else {
                 return false;
             };
             guard = count;

@@ -85,7 +85,7 @@ fn chart_keeps(alloc: Global, limbs: &[Limb]) -> Result<bool, Refusal>
     Ok(are_same(&chart.limbs(alloc)?, limbs))
 }
 
-/// The same for a book.
+/// Whether a book that is loaded from limbs has the same limbs.
 fn book_keeps(alloc: Global, limbs: &[Limb]) -> Result<bool, Refusal>
     requires { AreLawfulLimbs limbs.now × (0 < length limbs.now)
         × LimbsFit safe_behaviour limbs.now }
@@ -94,7 +94,7 @@ fn book_keeps(alloc: Global, limbs: &[Limb]) -> Result<bool, Refusal>
     Ok(are_same(&book.limbs(alloc)?, limbs))
 }
 
-/// The same for a desk, before its first call.
+/// Whether a desk that is opened from limbs has the same limbs before its first call.
 fn desk_keeps<R: Wait>(rt: &R, alloc: Global, limbs: &[Limb]) -> Result<bool, Refusal>
     requires { AreLawfulLimbs limbs.now × (0 < length limbs.now)
         × LimbsFit safe_behaviour limbs.now }
@@ -112,11 +112,11 @@ fn all_keep<R: Abort + Wait>(rt: &R, alloc: Global) -> Result<bool, Refusal> {
 }
 
 #[test]
-fn limbs_are_told_again(rt: HostRuntime) {
+fn limbs_are_reported_again(rt: HostRuntime) {
     assert_eq!(rt; all_keep(&rt, rt.alloc()), Ok(true));
 }
 
-/// If memory runs out, the refusal is Memory, and no other.
+/// If memory runs out, the refusal is always Memory.
 #[test]
 fn limbs_wanting_memory(rt: HostRuntime) {
     let reported = all_keep(&rt, rt.alloc());

@@ -36,14 +36,14 @@ impl<R: Wait> Room<'_, R> {
 
     /// Seeks, at most `SEEKS` times, until the other chair signals that it has all its news.
     /// Returns whether it did, and the last seek had no hit.
-    fn seek_until_told(&self, chair: &mut Chair<Safe>, flags: &Flags) -> bool
+    fn seek_until_released(&self, chair: &mut Chair<Safe>, flags: &Flags) -> bool
         requires { IsChairOf (λ _. safe_behaviour) self.now.desk.now chair.old }
         ensures { IsChairOf (λ _. safe_behaviour) self.now.desk.now chair.new }
     {
         for _ in 0..SEEKS {
             let receipt = self.bring(chair, (0, None, &Command::Seek));
             flags.say_held();
-            if flags.is_told() {
+            if flags.is_released() {
                 return matches!(receipt.reply, Reply::NoHit);
             }
         }
@@ -64,7 +64,7 @@ fn ask_often(desk: &Desk<Safe>, chair: &mut Chair<Safe>, flags: &Flags) -> Optio
     for _ in 0..NEWS {
         news = asked(desk, chair);
     }
-    flags.tell();
+    flags.release();
     Some(news)
 }
 
@@ -81,14 +81,14 @@ fn news_beside_seeks<R: Threads + Wait + Sync>(
     ensures { IsChairOf (λ _. safe_behaviour) room.now.desk.now result.0 }
 {
     let (rt, alloc, desk) = (room.rt, room.alloc, room.desk);
-    let ((mut first, reported), (second, news)) = thread::join(
+    let ((mut first, released), (second, news)) = thread::join(
         rt,
         move || -> (Chair<Safe>, bool)
             requires { IsChairOf (λ _. safe_behaviour) desk.now first }
             ensures { IsChairOf (λ _. safe_behaviour) desk.entry.now result.0 }
         {
-            let reported = Room::new(rt, alloc, desk).seek_until_told(&mut first, flags);
-            (first, reported)
+            let released = Room::new(rt, alloc, desk).seek_until_released(&mut first, flags);
+            (first, released)
         },
         move || -> (Chair<Safe>, Option<u64>)
             requires { IsChairOf (λ _. safe_behaviour) desk.now second }
@@ -99,7 +99,7 @@ fn news_beside_seeks<R: Threads + Wait + Sync>(
         },
     );
     take_in(desk, &mut first, second);
-    (first, reported, news)
+    (first, released, news)
 }
 
 #[test]
@@ -109,10 +109,10 @@ fn news_while_held(rt: HostRuntime) -> Result<(), Fail> {
     let (mut first, second) = halves(&desk, chair);
     let room = Room::new(&rt, rt.alloc(), &desk);
     room.set_break(&mut first);
-    let (mut chair, reported, news) = news_beside_seeks(&room, first, second, &flags);
+    let (mut chair, released, news) = news_beside_seeks(&room, first, second, &flags);
     let Some(news) = news else {
         panic!(rt; "a seek")
     };
-    assert!(rt; reported && 2 < news && news <= asked(&desk, &mut chair));
+    assert!(rt; released && 2 < news && news <= asked(&desk, &mut chair));
     Ok(())
 }

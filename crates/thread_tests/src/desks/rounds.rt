@@ -23,8 +23,7 @@ use std::test::Fail;
 use std::thread::Threads;
 use workers::gate::Gate;
 
-/// A gate that counts all offers, and also the rounds: each has one offer of the first job of its
-/// plan.
+/// A gate that counts all offers, and also the rounds: in each round, job 0 is offered once.
 #[derive(Drop)]
 pub(super) struct Offers {
     all: AtomicU64,

@@ -94,7 +94,7 @@ fn two_threads(rt: HostRuntime) -> Result<(), Fail> {
 /// How many rounds each of four threads makes. A round has seven calls.
 const ROUNDS: u32 = 40;
 
-/// Splits `shares` shares off a chair; `None` if `shares` is 0, or the chair has no more than that.
+/// Splits `shares` shares off a chair; `None` if `shares` is 0, or if no share would be left.
 fn part(desk: &Desk<Safe>, chair: &mut Chair<Safe>, shares: u32) -> Option<Chair<Safe>>
     requires { IsChairOf (λ _. safe_behaviour) desk.now chair.old }
     ensures chair { IsChairOf (λ _. safe_behaviour) desk.now chair.new }

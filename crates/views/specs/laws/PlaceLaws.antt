@@ -1,4 +1,4 @@
--- Places of runs are equal by value: the same count and the same steps, from equal configurations.
+-- When two places of runs are the same: their counts, and their runs' steps and entries, are equal.
 use Rattle.std.proofs.Common.{◌≡◌, ℕ, Bool, true, false, nat_eq, List, refl, ap, ◌++◌}
 use mathlib.Core.Bool.{◌&&◌}
 use Rattle.std.specs.Bool.{Decides}
@@ -50,26 +50,28 @@ step_decides (step.Stop p) (step.Go q d) = (λ h. cc, λ h. cc)
 pub steps_decide : (a b : List Step) → Decides (pointwise step_eq a b) (a ≡ b)
 steps_decide a b = slice_eq-Decides step_decides a b _ refl
 
--- two places of runs are the same; E is the test whether registers are equal
+-- Two places of runs are the same: equally many steps precede them, and their runs have the same
+-- steps and begin from equal configurations. E compares the registers of these.
 pub record SamePlace {R P : Type 0} (E : R → R → Bool) (a b : RunPart R P) : Type 0 where
   pub count : a.count ≡ b.count
   pub steps : a.run.steps ≡ b.run.steps
   pub entry : SameConfiguration E a.run.entry b.run.entry
 
 module _ {R P : Type 0} (E : R → R → Bool) (F : P → P → Bool) where
-  -- whether two places are the same
+  -- whether two places of runs are the same; E compares registers, and F pending operations' points
   abbrev pub same_place : RunPart R P → RunPart R P → Bool
   same_place = eq_of_both (on (λ a. a.count) nat_eq) (eq_of_both (on (λ a. a.run.steps) (pointwise step_eq)) (on (λ a. a.run.entry) (configuration_eq E F)))
 
   module _ (d : (x y : P) → Decides (F x y) (x ≡ y)) where
-    -- `same_place` decides whether two places are the same
+    -- `same_place` decides whether two places of runs are the same, if F decides whether two points
+    -- are equal
     pub place_decides : (a b : RunPart R P) → Decides (same_place a b) (SamePlace E a b)
     place_decides a b =
         Decides-like (same_place a b) (λ p. record { count = p.0; steps = p.1.0; entry = p.1.1 }) (λ p. (p.count, (p.steps, p.entry)))
         (Decides-and (nat_eq a.count b.count) _ (Decides-eqb a.count b.count)
         (Decides-and (pointwise step_eq a.run.steps b.run.steps) _ (steps_decide a.run.steps b.run.steps) (configuration_decides E F d a.run.entry b.run.entry)))
 
-    -- if E is a partial equivalence, so is `same_place`
+    -- if E, which compares registers, is a partial equivalence, so is `same_place`
     pub same_place_per : IsPartialEquivalence E → IsPartialEquivalence same_place
     same_place_per per =
         and_per (on_per (λ a. a.count) (per_from_decides nat_eq Decides-eqb))
@@ -82,11 +84,11 @@ module _ {R P : Type 0} (E : R → R → Bool) (F : P → P → Bool) where
       entry = record { register = e.refl a.run.entry.register; memory = refl; running = refl; stopped = refl };
     }
 
-    -- if E is an equivalence, so is `same_place`
+    -- if E, which compares registers, is an equivalence, so is `same_place`
     pub same_place_equivalence : IsEquivalence E → IsEquivalence same_place
     same_place_equivalence e = equiv (same_place_per (partial_equiv_from_equiv e)) (λ a. (place_decides a a).1 (same_itself e a))
 
-    -- equal places are hashed alike
+    -- if `same_place` holds of two places, the same numbers are hashed for both
     pub places_hash_alike : (a b : RunPart R P) → same_place a b ≡ true
         → fed.u64 (digest (last_made a)) ++ fed.u32 a.count ≡ fed.u64 (digest (last_made b)) ++ fed.u32 b.count
     places_hash_alike a b h =

@@ -1,4 +1,4 @@
--- The page of each cell and each word.
+-- The page that shows each bit cell and each word.
 use Rattle.std.specs.Prelude.{ℕ, List, ◌++◌, codes}
 use Rattle.frames.specs.Configuration.{Configuration}
 use Rattle.views.specs.declared.page.head.Head.{Head}
@@ -9,6 +9,6 @@ use Rattle.views.specs.page.Memory.{bit_cell_lines, words_line}
 abbrev pub bits_page : {R P : Type 0} → Head → Configuration R P → BitsPage
 bits_page head c = record { head = head; cells = c.memory.cells; words = c.memory.words }
 
--- the text of the page
+-- the text of a page of bit cells and words, as the answer to the session with this number
 abbrev pub bits_text : ℕ → BitsPage → List ℕ
 bits_text session p = head_line session (codes "bits") p.head ++ bit_cell_lines p.cells ++ words_line p.words

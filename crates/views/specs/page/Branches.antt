@@ -1,4 +1,4 @@
--- The page of the branches.
+-- The page that lists all branches.
 use Rattle.std.specs.Prelude.{ℕ, List, ◌++◌, codes, length, map}
 use Rattle.std.specs.List.{flat_map}
 use Rattle.std.specs.Fmt.{decimal}
@@ -11,13 +11,13 @@ use Rattle.views.specs.page.Head.{line_end}
 abbrev pub length_of : Branch → BranchLength
 length_of b = record { name = b.name; len = length b.slots }
 
--- the page of a forest: how many edits were accepted, how many cells were ever made, and the
--- branches in the order they were made
+-- the page that lists a forest's branches, in the order they were made; it also shows `edits`, how
+-- many edits were accepted, and how many cells were ever made
 abbrev pub branches_page : ℕ → Forest → BranchesPage
 branches_page edits f = record { edits = edits; made = f.made; branches = map length_of f.branches }
 
--- the first line: how many branches there are, how many edits were accepted, and how many cells
--- were ever made
+-- the first line of the page: the session's number, how many branches there are, how many edits
+-- were accepted, and how many cells were ever made
 abbrev pub counts_line : ℕ → ℕ → ℕ → ℕ → List ℕ
 counts_line session count edits made =
     decimal session ++ codes ": branches " ++ decimal count ++ codes " edits " ++ decimal edits ++ codes " made " ++ decimal made ++ line_end
@@ -26,6 +26,6 @@ counts_line session count edits made =
 abbrev pub branch_line : BranchLength → List ℕ
 branch_line b = codes "  " ++ b.name ++ codes " " ++ decimal b.len ++ line_end
 
--- the text of the page
+-- the text of a page that lists the branches, as the answer to the session with this number
 abbrev pub branches_text : ℕ → BranchesPage → List ℕ
 branches_text session page = counts_line session (length page.branches) page.edits page.made ++ flat_map branch_line page.branches

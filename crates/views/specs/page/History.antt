@@ -1,4 +1,4 @@
--- The lines of events.
+-- The page of history, which has a line for each event.
 use Rattle.std.specs.Prelude.{ℕ, List, [], ◌∷◌, ◌++◌, codes}
 use Rattle.std.specs.List.{flat_map}
 use Rattle.std.specs.Fmt.{decimal}
@@ -10,7 +10,7 @@ use Rattle.views.specs.page.Names.{layer_name, reason_name}
 use Rattle.views.specs.page.Memory.{bit_name}
 use Rattle.views.specs.page.Process.{op_text}
 
--- the process of an event
+-- the number of the process of an event
 abbrev pub event_process : Event → ℕ
 event_process (Invoke p o) = p
 event_process (Got p v) = p
@@ -20,7 +20,7 @@ event_process (Void p why) = p
 event_process (Stop p) = p
 event_process (Chosen p bit v) = p
 
--- what an event did: its kind, with its operation, value or reason
+-- the text of an event: its kind, and its operation, value, layer, reason or bit if it has them
 abbrev pub event_name : Event → List ℕ
 event_name (Invoke p o) = codes "invoke " ++ op_text o
 event_name (Got p v) = codes "return " ++ decimal v
@@ -30,7 +30,7 @@ event_name (Void p why) = codes "void " ++ reason_name why
 event_name (Stop p) = codes "stop"
 event_name (Chosen p bit v) = codes "chosen bit " ++ decimal bit ++ codes " value " ++ bit_name v
 
--- the line of an event, with the index of its step
+-- the line of an event: the index of its step, its process, and its text
 abbrev pub event_line : ℕ × Event → List ℕ
 event_line e = codes "  " ++ decimal e.0 ++ codes " p" ++ decimal (event_process e.1) ++ codes " " ++ event_name e.1 ++ line_end
 
@@ -39,6 +39,6 @@ abbrev pub history_lines : List (ℕ × Event) → List ℕ
 history_lines [] = codes "  none" ++ line_end
 history_lines (e ∷ es) = flat_map event_line (e ∷ es)
 
--- the text of the page
+-- the text of a page of history, as the answer to the session with this number
 abbrev pub history_text : ℕ → HistoryPage → List ℕ
 history_text session page = head_line session (codes "history") page.head ++ history_lines page.events

@@ -1,4 +1,4 @@
--- The words for kinds of actions, layers, reasons and verdicts.
+-- The names that pages give to kinds of bit actions, layers, reasons and verdicts.
 use Rattle.std.specs.Prelude.{ℕ, List, codes}
 use Rattle.frames.specs.declared.types.ActionKind.{ActionKind}
 use Rattle.frames.specs.declared.types.ActionKind.TheVariants.{WriteStart, WriteEnd, ReadStart, ReadEnd}
@@ -11,14 +11,14 @@ use Rattle.frames.specs.declared.types.Reason.TheVariants as reason
 use Rattle.frames.specs.declared.verdict.Verdict.{Verdict}
 use Rattle.frames.specs.declared.verdict.Verdict.TheVariants.{Fresh, Overlap, Stray}
 
--- the short name of a kind of bit action
+-- the short name of a kind of bit action: the start or end of a write or of a read of a bit
 abbrev pub kind_name : ActionKind → List ℕ
 kind_name WriteStart = codes "ws"
 kind_name WriteEnd = codes "we"
 kind_name ReadStart = codes "rs"
 kind_name ReadEnd = codes "re"
 
--- the name of a layer; both phases of a matrix have the same name
+-- the name of a frame's layer; a frame of a matrix has the same name in both phases of an operation
 abbrev pub frame_name : FrameLayer → List ℕ
 frame_name Safe = codes "safe"
 frame_name Copies = codes "copies"
@@ -28,12 +28,12 @@ frame_name Stamped = codes "stamped"
 frame_name MatrixRead = codes "matrix"
 frame_name MatrixWrite = codes "matrix"
 
--- the name of a layer whose stamps or tags are used up
+-- the name of the layer that refused an operation because its stamps or tags are used up
 abbrev pub layer_name : Layer → List ℕ
 layer_name layer.Stamped = codes "stamped"
 layer_name layer.Matrix = codes "matrix"
 
--- why a step wasn't enabled
+-- the word for the reason why a step wasn't enabled
 abbrev pub reason_name : Reason → List ℕ
 reason_name reason.Busy = codes "busy"
 reason_name reason.Idle = codes "idle"

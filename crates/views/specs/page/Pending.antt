@@ -1,4 +1,4 @@
--- Pages of pending operations, as frames, and their text.
+-- The page that shows each pending operation as frames, one for each of its layers.
 use Rattle.std.specs.Prelude.{ℕ, Bool, List, [], ◌∷◌, ◌++◌, Option, Some, None, codes, map}
 use Rattle.std.specs.List.{flat_map, range_with_len}
 use Rattle.std.specs.Fmt.{decimal}
@@ -18,26 +18,26 @@ use Rattle.views.specs.page.Head.{line_end, head_line}
 use Rattle.views.specs.page.Names.{frame_name}
 use Rattle.views.specs.page.Process.{stopped_text, idle_line}
 
--- what a process has pending: its frames, outermost first, or `None` if nothing is pending; and
--- whether the process has stopped
+-- the frames of a pending operation, outermost first; `None` if nothing is pending
 abbrev pub frames_of : {P : Type 0} → Behaviour P → Option (Running P) → Option (List Frame)
 frames_of b None = None
 frames_of b (Some r) = Some (b.frames r.point)
 
+-- what process p has pending, as frames, and whether the process has stopped
 abbrev pub pending_at : {R P : Type 0} → Behaviour P → Configuration R P → ℕ → PendingStatus
 pending_at b c p = record { frames = frames_of b (running_at p c); stopped = is_stopped p c }
 
--- what each process has pending, in the order of the processes
+-- what each process has pending, and whether it has stopped, in the order of the processes
 abbrev pub pending : {R P : Type 0} → Behaviour P → Configuration R P → List PendingStatus
 pending b c = map (pending_at b c) (range_with_len 0 b.processes)
 
--- the text of an operation; a write is shown with the number `written`
+-- the short text of an operation: `w` and the number `written` for a write, `r` for a read
 abbrev pub short_op : Op → ℕ → List ℕ
 short_op (op.Write v) written = codes "w " ++ decimal written
 short_op op.Read written = codes "r"
 
--- the operation in a frame's text: a write is shown with its code x in a stamped register, and with
--- its value in every other layer
+-- the text of a frame's operation: a write is shown with its code x (one number for a stamp and a
+-- value) in a stamped register, and with its value in every other layer
 abbrev pub frame_op : FrameLayer → Op → ℕ → List ℕ
 frame_op Stamped (op.Write v) x = short_op (op.Write v) x
 frame_op Stamped op.Read x = short_op op.Read 0
@@ -48,8 +48,9 @@ frame_op layer op.Read x = short_op op.Read 0
 abbrev pub after_space : ℕ → List ℕ
 after_space n = codes " " ++ decimal n
 
--- what follows the operation in a frame's text: how many actions a safe bit has made, the reader
--- whose copy is in use, the unary bit in use, or the part of a matrix in use with the code
+-- What follows the operation in a frame's text. Safe bit: how many bit actions the operation has
+-- made; copies: the reader whose copy is in use; unary number: the bit in use; matrix: the phase,
+-- the part in use and a code; the other layers: nothing.
 abbrev pub frame_rest : FrameLayer → ℕ → ℕ → List ℕ
 frame_rest Safe i x = after_space i
 frame_rest Copies i x = after_space i
@@ -59,35 +60,40 @@ frame_rest Stamped i x = []
 frame_rest MatrixRead i x = codes " read" ++ after_space i ++ after_space x
 frame_rest MatrixWrite i x = codes " write" ++ after_space i ++ after_space x
 
+-- the text of a frame: its layer, its operation, and what `frame_rest` gives for the layer
 abbrev pub frame_text : Frame → List ℕ
 frame_text f = frame_name f.layer ++ codes " " ++ frame_op f.layer f.op f.x ++ frame_rest f.layer f.i f.x
 
--- the text of frames, outermost first, with ` > ` between them
+-- the text of a frame that isn't the outermost, after ` > `
 abbrev pub inner_frame : Frame → List ℕ
 inner_frame f = codes " > " ++ frame_text f
 
+-- the text of frames, outermost first, with ` > ` between them
 abbrev pub frames_text : List Frame → List ℕ
 frames_text [] = []
 frames_text (f ∷ fs) = frame_text f ++ flat_map inner_frame fs
 
--- the line of a process: its frames if it has an operation pending, and whether it has stopped
+-- the line of a process with an operation pending: its frames, and whether it has stopped
 abbrev pub frames_line : ℕ → List Frame → Bool → List ℕ
 frames_line p fs stopped = codes "  p" ++ decimal p ++ codes " " ++ frames_text fs ++ stopped_text stopped ++ line_end
 
+-- the line of a process, given the frames of its operation, or `None` if it has none pending
 abbrev pub shown_frames : ℕ → Option (List Frame) → Bool → List ℕ
 shown_frames p None stopped = idle_line p stopped
 shown_frames p (Some fs) stopped = frames_line p fs stopped
 
+-- the line of process p, given what it has pending and whether it has stopped
 abbrev pub pending_line : ℕ → PendingStatus → List ℕ
 pending_line p s = shown_frames p s.frames s.stopped
 
--- a line for each process
+-- a line for each process, numbered from 0
 abbrev pub pending_lines : List PendingStatus → List ℕ
 pending_lines statuses = numbered_lines pending_line 0 statuses
 
--- the page of all processes, and the text of the page
+-- the page that shows what each process has pending in a configuration
 abbrev pub pending_page : {R P : Type 0} → Behaviour P → Head → Configuration R P → PendingPage
 pending_page b head c = record { head = head; processes = pending b c }
 
+-- the text of a page of pending operations, as the answer to the session with this number
 abbrev pub pending_text : ℕ → PendingPage → List ℕ
 pending_text session page = head_line session (codes "pending") page.head ++ pending_lines page.processes

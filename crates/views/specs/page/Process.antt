@@ -1,4 +1,4 @@
--- The page of one process, and the line of a process.
+-- The page that shows one process, and the lines of processes, which other pages have too.
 use Rattle.std.specs.Prelude.{ℕ, List, [], ◌++◌, Option, Some, None, Bool, nat_lt, codes, map, if◌then◌else◌}
 use Rattle.std.specs.List.{range_with_len}
 use Rattle.std.specs.Fmt.{decimal}
@@ -15,44 +15,46 @@ use Rattle.views.specs.declared.page.process.ProcessPage.{ProcessPage}
 use Rattle.views.specs.page.Head.{line_end, head_line}
 use Rattle.views.specs.page.Names.{kind_name}
 
--- the status of a process, given what it has pending, if anything, and whether the process has
--- stopped
+-- what a process is doing, given its pending operation, if any, and whether it has stopped
 abbrev pub status : {P : Type 0} → Behaviour P → Option (Running P) → Bool → ProcessStatus
 status b None stopped = Idle stopped
 status b (Some r) stopped = if stopped then Stopped r.op else Busy r.op (b.acts r.point)
 
+-- what process p is doing in a configuration
 abbrev pub status_at : {R P : Type 0} → Behaviour P → Configuration R P → ℕ → ProcessStatus
 status_at b c p = status b (running_at p c) (is_stopped p c)
 
--- the status of each process, in the order of the processes
+-- what each process is doing in a configuration, in the order of the processes
 abbrev pub statuses : {R P : Type 0} → Behaviour P → Configuration R P → List ProcessStatus
 statuses b c = map (status_at b c) (range_with_len 0 b.processes)
 
--- the status of process p; `None` if the register has no such process
+-- what process p is doing in a configuration; `None` if the register has no such process
 abbrev pub status_of : {R P : Type 0} → Behaviour P → Configuration R P → ℕ → Option ProcessStatus
 status_of b c p = if nat_lt p b.processes then Some (status_at b c p) else None
 
--- the text of an operation
+-- the text of an operation: `write` and the value for a write, `read` for a read
 abbrev pub op_text : Op → List ℕ
 op_text (op.Write v) = codes "write " ++ decimal v
 op_text op.Read = codes "read"
 
--- the end of a process's line: ` stopped` if the process has stopped, else nothing
+-- what a process's line ends with: ` stopped` if the process has stopped, else nothing
 abbrev pub stopped_text : Bool → List ℕ
 stopped_text stopped = if stopped then codes " stopped" else []
 
--- the line of an idle process; of a process with an operation pending, with the next bit action and
--- its cell; of a process that has stopped with an operation pending; and of any process
+-- the line of a process that has nothing pending, which says whether it has stopped
 abbrev pub idle_line : ℕ → Bool → List ℕ
 idle_line p stopped = codes "  p" ++ decimal p ++ codes " idle" ++ stopped_text stopped ++ line_end
 
+-- the line of a process with an operation pending: the operation, and its next bit action
 abbrev pub busy_line : ℕ → Op → Action → List ℕ
 busy_line p o a =
     codes "  p" ++ decimal p ++ codes " " ++ op_text o ++ codes " next " ++ kind_name a.kind ++ codes " " ++ decimal a.cell ++ line_end
 
+-- the line of a process that has stopped with an operation pending
 abbrev pub stopped_line : ℕ → Op → List ℕ
 stopped_line p o = codes "  p" ++ decimal p ++ codes " " ++ op_text o ++ codes " stopped" ++ line_end
 
+-- the line of a process, given its status
 abbrev pub status_line : ℕ → ProcessStatus → List ℕ
 status_line p (Idle stopped) = idle_line p stopped
 status_line p (Busy o a) = busy_line p o a
@@ -63,9 +65,10 @@ abbrev pub one_line : ℕ → Option ProcessStatus → List ℕ
 one_line p None = codes "  p" ++ decimal p ++ codes " none" ++ line_end
 one_line p (Some s) = status_line p s
 
--- the page of one process, and the text of the page
+-- the page that shows what process p is doing in a configuration
 abbrev pub process_page : {R P : Type 0} → Behaviour P → Head → ℕ → Configuration R P → ProcessPage
 process_page b head p c = record { head = head; process = p; status = status_of b c p }
 
+-- the text of a page of one process, as the answer to the session with this number
 abbrev pub process_text : ℕ → ProcessPage → List ℕ
 process_text session page = head_line session (codes "process") page.head ++ one_line page.process page.status

@@ -1,4 +1,4 @@
-//! The page of each bit cell and each word.
+//! The page that shows each bit cell and each word.
 
 ghost use Rattle.std.specs.Prelude.{◌≡◌, ◌++◌, IfOk, OnOk};
 ghost use Rattle.views.specs.page.Bits as spec;
@@ -12,7 +12,7 @@ use safe_bit::Cell;
 use std::alloc::{AllocError, Global};
 use words::text::Pushed;
 
-/// Each bit cell and each word.
+/// A page that shows each bit cell, with any write or read in progress on it, and each word.
 #[derive(Clone, Drop)]
 pub struct BitsPage {
     pub head: Head,
@@ -20,7 +20,7 @@ pub struct BitsPage {
     pub words: Listed<u32>,
 }
 
-/// The page of a configuration's memory.
+/// The page that shows each bit cell and each word of a configuration's memory.
 pub(crate) fn bits_page<R: Register>(
     alloc: Global,
     head: &Head,
@@ -36,7 +36,7 @@ pub(crate) fn bits_page<R: Register>(
     })
 }
 
-/// Adds the page of each bit cell and each word.
+/// Adds to `out` the text of a page of bit cells and words.
 pub(crate) fn push_bits(out: &mut Vec<u8>, session: u32, page: &BitsPage) -> Pushed
     ensures { OnOk result (out.new.items ≡ out.old.items ++ spec.bits_text session page.now) }
 {

@@ -1,4 +1,4 @@
-//! The page of the branches.
+//! The page that lists all branches.
 
 ghost use Rattle.std.specs.Prelude.{◌≡◌, ◌++◌, ◌<◌, IfOk, OnOk, Some, codes, decimal, length, map, slice_get};
 ghost use Rattle.std.specs.List.{flat_map};
@@ -15,15 +15,15 @@ use schedule_trie::name::Name;
 use std::alloc::{AllocError, Global};
 use words::text::{Pushed, push_bytes, push_labelled, push_number, push_text};
 
-/// A branch, and how many cells it has.
+/// The name of a branch, and how many cells the branch has.
 #[derive(Clone, Copy, Debug, PartialEq, Eq)]
 pub struct BranchLength {
     pub name: Name,
     pub len: u32,
 }
 
-/// How many edits were accepted, how many cells were ever made, and the branches in the order they
-/// were made.
+/// A page that lists all branches, in the order they were made. It also shows how many edits were
+/// accepted, and how many cells, each of which holds a step, were ever made.
 #[derive(Clone, Drop)]
 pub struct BranchesPage {
     pub edits: u64,
@@ -32,7 +32,9 @@ pub struct BranchesPage {
 }
 
 impl BranchesPage {
-    /// The page of a chart's branches; `edits` is how many edits were accepted.
+    /// Returns the page that lists a chart's branches, in the order they were made, with their
+    /// lengths. The page also shows how many cells the chart ever made, and `edits`, which is how
+    /// many edits were accepted. Fails only if memory runs out.
     pub fn new<R: Register>(
         alloc: Global,
         edits: u64,
@@ -61,8 +63,7 @@ fn lengths<R: Register>(alloc: Global, chart: &Chart<R>) -> Result<Listed<Branch
     Ok(Listed::new(all))
 }
 
-/// The name and the length of the branch at `index`, which counts branches in the order they were
-/// made.
+/// The name and the length of the branch at `index`, with the branches in the order they were made.
 fn length_at<R: Register>(chart: &Chart<R>, index: u32) -> BranchLength
     requires apart { AreNamedApart (forest chart.now.cut).branches }
     requires within { index < length (forest chart.now.cut).branches }
@@ -78,7 +79,7 @@ fn length_at<R: Register>(chart: &Chart<R>, index: u32) -> BranchLength
     BranchLength { name, len }
 }
 
-/// Adds the page of the branches.
+/// Adds to `out` the text of a page that lists the branches.
 pub(crate) fn push_branches(out: &mut Vec<u8>, session: u32, page: &BranchesPage) -> Pushed
     ensures { OnOk result (out.new.items ≡ out.old.items ++ spec.branches_text session page.now) }
 {

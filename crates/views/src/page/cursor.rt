@@ -1,4 +1,4 @@
-//! The page of a session's cursor and its breaks.
+//! The page that shows a session's cursor and its breaks.
 
 ghost use Rattle.std.specs.Prelude.{◌≡◌, ◌++◌, IfOk, OnOk};
 ghost use Rattle.views.specs.page.Cursor as spec;
@@ -10,7 +10,8 @@ use schedule_trie::name::Name;
 use std::alloc::{AllocError, Global};
 use words::text::{Pushed, push_labelled, push_text};
 
-/// The cursor of a session, and the session's breaks in order.
+/// A page that shows a session's cursor, which is at the place `place` of the branch `branch`, and
+/// the session's breaks in order.
 #[derive(Clone, Drop)]
 pub struct CursorPage {
     pub branch: Name,
@@ -18,7 +19,7 @@ pub struct CursorPage {
     pub breaks: Listed<Break>,
 }
 
-/// Adds the page of a session's cursor.
+/// Adds to `out` the text of a page that shows a session's cursor and breaks.
 pub(crate) fn push_cursor(out: &mut Vec<u8>, session: u32, page: &CursorPage) -> Pushed
     ensures { OnOk result (out.new.items ≡ out.old.items ++ spec.cursor_text session page.now) }
 {

@@ -6,7 +6,7 @@ ghost use Rattle.views.specs.page.Head as spec;
 use schedule_trie::name::Name;
 use words::text::{Pushed, push_bytes, push_labelled, push_number, push_text};
 
-/// The place that a page shows: after the first `place` steps of a branch of `len` steps.
+/// The place that a page shows: after the first `place` steps of a branch that has `len` steps.
 #[derive(Clone, Copy, Debug, PartialEq, Eq)]
 pub struct Head {
     pub branch: Name,
@@ -14,7 +14,7 @@ pub struct Head {
     pub len: u32,
 }
 
-/// Adds the beginning of the first line of a page of a branch.
+/// Adds to `out` the beginning of a page's first line: the session, the kind of page, the branch.
 pub(crate) fn push_title(out: &mut Vec<u8>, session: u32, kind: &str, branch: &Name) -> Pushed
     ensures { OnOk result (out.new.items ≡ out.old.items
         ++ spec.page_title session kind.now branch.now) }
@@ -27,7 +27,8 @@ pub(crate) fn push_title(out: &mut Vec<u8>, session: u32, kind: &str, branch: &N
     push_text(out, " ")
 }
 
-/// Adds the first line of a page at a place.
+/// Adds to `out` the first line of a page that shows a place: the session, the kind of page, the
+/// branch, the place and the branch's length.
 pub(crate) fn push_head(out: &mut Vec<u8>, session: u32, kind: &str, head: &Head) -> Pushed
     ensures { OnOk result (out.new.items ≡ out.old.items
         ++ spec.head_line session kind.now head.now) }
@@ -36,7 +37,8 @@ pub(crate) fn push_head(out: &mut Vec<u8>, session: u32, kind: &str, head: &Head
     push_pair(out, u64::from(head.place), " of ", u64::from(head.len))
 }
 
-/// Adds two numbers with a text between them, and the end of the line.
+/// Adds to `out` the number `first`, the text `between`, the number `second`, and the end of the
+/// line.
 pub(super) fn push_pair(out: &mut Vec<u8>, first: u64, between: &str, second: u64) -> Pushed
     ensures { OnOk result (out.new.items ≡ out.old.items
         ++ decimal first ++ between.now ++ decimal second ++ spec.line_end) }

@@ -1,4 +1,4 @@
-//! The lines of events.
+//! The page of history, which has a line for each event.
 
 ghost use Rattle.std.specs.Prelude.{◌≡◌, ◌++◌, OnOk};
 ghost use Rattle.views.specs.page.History as spec;
@@ -11,14 +11,14 @@ use crate::page::process::push_op;
 use frames::types::Event;
 use words::text::{Pushed, push_labelled, push_text};
 
-/// The events up to a place, each with the index of its step.
+/// A page that shows the events of the steps before a place, each with the index of its step.
 #[derive(Clone, Drop)]
 pub struct HistoryPage {
     pub head: Head,
     pub events: Listed<(usize, Event)>,
 }
 
-/// Adds the page of events.
+/// Adds to `out` the text of a page of history.
 pub(crate) fn push_history(out: &mut Vec<u8>, session: u32, page: &HistoryPage) -> Pushed
     ensures { OnOk result (out.new.items ≡ out.old.items ++ spec.history_text session page.now) }
 {
@@ -66,7 +66,7 @@ fn event_process(event: Event) -> u32
     }
 }
 
-/// Adds what an event did: its kind, with its operation, value or reason.
+/// Adds the text of an event: its kind, with its operation, value, layer, reason or bit.
 fn push_event_name(out: &mut Vec<u8>, event: Event) -> Pushed
     ensures { OnOk result (out.new.items ≡ out.old.items ++ spec.event_name event) }
 {

@@ -1,4 +1,4 @@
-//! The lines of bit cells and words.
+//! The lines of a page that show bit cells and words.
 
 ghost use Rattle.std.specs.Prelude.{◌≡◌, ◌++◌, IfOk, OnOk, map};
 ghost use Rattle.std.specs.List.{flat_map};
@@ -9,7 +9,7 @@ use safe_bit::Cell;
 use std::alloc::{AllocError, Global};
 use words::text::{Pushed, push_labelled, push_text, push_word};
 
-/// The values of bit cells.
+/// The value of each of these bit cells, in order.
 pub(crate) fn bits(alloc: Global, cells: &[Cell]) -> Result<Listed<bool>, AllocError>
     ensures { IfOk result (λ all. all ≡ map spec.cell_value cells.now) }
 {
@@ -20,14 +20,14 @@ pub(crate) fn bits(alloc: Global, cells: &[Cell]) -> Result<Listed<bool>, AllocE
     Ok(Listed::new(all))
 }
 
-/// A bit as a digit.
+/// A bit's value as text: `1` if it is true, else `0`.
 pub(crate) fn bit_name(value: bool) -> &'static str
     ensures { result.now ≡ spec.bit_name value }
 {
     if value { "1" } else { "0" }
 }
 
-/// Adds the line of the values of all bit cells.
+/// Adds to `out` one line with the values of all bit cells.
 pub(crate) fn push_bits(out: &mut Vec<u8>, bits: &[bool]) -> Pushed
     ensures { OnOk result (out.new.items ≡ out.old.items ++ spec.bits_line bits.now) }
 {
@@ -38,7 +38,7 @@ pub(crate) fn push_bits(out: &mut Vec<u8>, bits: &[bool]) -> Pushed
     push_text(out, "\n")
 }
 
-/// Adds the line of all words.
+/// Adds to `out` one line with all words, or with a dash if there are no words.
 pub(crate) fn push_words(out: &mut Vec<u8>, words: &[u32]) -> Pushed
     ensures { OnOk result (out.new.items ≡ out.old.items ++ spec.words_line words.now) }
 {
@@ -52,7 +52,7 @@ pub(crate) fn push_words(out: &mut Vec<u8>, words: &[u32]) -> Pushed
     push_text(out, "\n")
 }
 
-/// Adds a line for each bit cell.
+/// Adds to `out` a line for each bit cell, numbered from 0.
 pub(crate) fn push_bit_cells(out: &mut Vec<u8>, cells: &[Cell]) -> Pushed
     ensures { OnOk result (out.new.items ≡ out.old.items ++ spec.bit_cell_lines cells.now) }
 {

@@ -1,4 +1,4 @@
-//! The words for kinds of actions, layers, reasons and verdicts.
+//! The names that pages give to kinds of bit actions, layers, reasons and verdicts.
 
 ghost use Rattle.std.specs.Prelude.{◌≡◌};
 ghost use Rattle.views.specs.page.Names as spec;
@@ -6,7 +6,7 @@ ghost use Rattle.views.specs.page.Names as spec;
 use frames::types::{ActionKind, FrameLayer, Layer, Reason};
 use frames::verdict::Verdict;
 
-/// The short name of a bit action.
+/// The short name of a kind of bit action, for example `ws` for the start of a write.
 pub(super) fn kind_name(kind: ActionKind) -> &'static str
     ensures { result.now ≡ spec.kind_name kind }
 {
@@ -18,7 +18,8 @@ pub(super) fn kind_name(kind: ActionKind) -> &'static str
     }
 }
 
-/// The name of a layer. Both phases of a matrix have the same name.
+/// The name of a frame's layer. A frame of a matrix is named `matrix` in both phases of an
+/// operation.
 pub(super) fn frame_name(layer: FrameLayer) -> &'static str
     ensures { result.now ≡ spec.frame_name layer }
 {
@@ -32,7 +33,7 @@ pub(super) fn frame_name(layer: FrameLayer) -> &'static str
     }
 }
 
-/// The name of a layer whose stamps or tags are used up.
+/// The name of the layer that refused an operation because its stamps or tags are used up.
 pub(super) fn layer_name(layer: Layer) -> &'static str
     ensures { result.now ≡ spec.layer_name layer }
 {
@@ -42,7 +43,7 @@ pub(super) fn layer_name(layer: Layer) -> &'static str
     }
 }
 
-/// Why a step wasn't enabled.
+/// The word for the reason why a step wasn't enabled: `busy`, `idle` or `stopped`.
 pub(super) fn reason_name(reason: Reason) -> &'static str
     ensures { result.now ≡ spec.reason_name reason }
 {
@@ -53,7 +54,7 @@ pub(super) fn reason_name(reason: Reason) -> &'static str
     }
 }
 
-/// The name of a verdict.
+/// The name of a verdict: `fresh`, `overlap` or `stray`.
 pub(super) fn verdict_name(verdict: Verdict) -> &'static str
     ensures { result.now ≡ spec.verdict_name verdict }
 {

@@ -1,4 +1,4 @@
-//! Pages of pending operations, as frames.
+//! The page that shows each pending operation as frames, one for each of its layers.
 
 ghost use Rattle.std.specs.Prelude.{◌≡◌, ◌++◌, IfOk, OnOk, decimal};
 ghost use Rattle.views.specs.page.Pending as spec;
@@ -13,7 +13,8 @@ use frames::types::{Frame, FrameLayer, Op};
 use std::alloc::{AllocError, Global};
 use words::text::{Pushed, push_labelled, push_text};
 
-/// What a process has pending, if anything, and whether the process has stopped.
+/// The operation that a process has pending, if any, as frames; and whether the process has
+/// stopped.
 #[derive(Clone, Drop)]
 pub struct PendingStatus {
     /// The frames of the process's operation, outermost first; `None` if nothing is pending.
@@ -22,7 +23,7 @@ pub struct PendingStatus {
     pub stopped: bool,
 }
 
-/// The pending operations of all processes.
+/// A page that shows the pending operation of each process, as frames.
 #[derive(Drop)]
 pub struct PendingPage {
     pub head: Head,
@@ -53,7 +54,7 @@ fn cloned(alloc: Global, statuses: &[PendingStatus]) -> Result<Listed<PendingSta
     Ok(Listed::new(all))
 }
 
-/// Adds the page of pending operations.
+/// Adds to `out` the text of a page of pending operations.
 pub(crate) fn push_pending(out: &mut Vec<u8>, session: u32, page: &PendingPage) -> Pushed
     ensures { OnOk result (out.new.items ≡ out.old.items ++ spec.pending_text session page.now) }
 {
@@ -61,7 +62,7 @@ pub(crate) fn push_pending(out: &mut Vec<u8>, session: u32, page: &PendingPage) 
     push_operations(out, page.processes.as_slice())
 }
 
-/// The pending operation of each process.
+/// For each process, in order: the operation it has pending, as frames, and whether it has stopped.
 pub(crate) fn pending<R: Register>(
     alloc: Global,
     config: &Config<R>,
@@ -178,7 +179,7 @@ fn push_frame_rest(out: &mut Vec<u8>, layer: FrameLayer, i: u32, x: u32) -> Push
     }
 }
 
-/// Adds the phase of a matrix, the part in use and the code.
+/// Adds the phase of a matrix's operation, the number of the part in use, and the code.
 fn push_part(out: &mut Vec<u8>, phase: &str, i: u32, x: u32) -> Pushed
     ensures { OnOk result (out.new.items ≡ out.old.items
         ++ phase.now ++ decimal i ++ spec.after_space x) }

@@ -1,4 +1,4 @@
-//! The page of one process, and the line of a process.
+//! The page that shows one process, and the lines of processes, which other pages have too.
 
 ghost use Rattle.std.specs.Prelude.{◌≡◌, ◌++◌, IfOk, None, OnOk, codes, decimal};
 ghost use Rattle.views.specs.Numbered.{numbered_lines};
@@ -15,7 +15,7 @@ use frames::types::{Action, Op};
 use std::alloc::{AllocError, Global};
 use words::text::{Pushed, push_labelled, push_text};
 
-/// What a process is doing.
+/// Whether a process has an operation pending, which one, and whether the process has stopped.
 #[derive(Clone, Copy, Debug, PartialEq, Eq)]
 pub enum ProcessStatus {
     /// It has nothing pending.
@@ -26,7 +26,8 @@ pub enum ProcessStatus {
     Stopped { op: Op },
 }
 
-/// One process; `status` is `None` if the register has no process with this number.
+/// A page that shows what one process is doing. `status` is `None` if the register has no process
+/// with the number `process`.
 #[derive(Clone, Copy, Debug, PartialEq, Eq)]
 pub struct ProcessPage {
     pub head: Head,
@@ -34,7 +35,7 @@ pub struct ProcessPage {
     pub status: Option<ProcessStatus>,
 }
 
-/// The page of one process.
+/// The page that shows what the process with the number `process` is doing in a configuration.
 pub(crate) fn process_page<R: Register>(
     head: &Head,
     process: u32,
@@ -50,7 +51,7 @@ pub(crate) fn process_page<R: Register>(
     }
 }
 
-/// Adds the page of one process.
+/// Adds to `out` the text of a page of one process.
 pub(crate) fn push_process(out: &mut Vec<u8>, session: u32, page: &ProcessPage) -> Pushed
     ensures { OnOk result (out.new.items ≡ out.old.items ++ spec.process_text session page.now) }
 {
@@ -58,7 +59,7 @@ pub(crate) fn push_process(out: &mut Vec<u8>, session: u32, page: &ProcessPage) 
     push_one(out, page.process, page.status)
 }
 
-/// The status of each process.
+/// What each process is doing in a configuration, in the order of the processes.
 pub(crate) fn statuses<R: Register>(
     alloc: Global,
     config: &Config<R>,
@@ -101,7 +102,7 @@ fn status_at<R: Register>(config: &Config<R>, p: u32) -> ProcessStatus
     ProcessStatus::Busy { op, next }
 }
 
-/// Adds a line for each process.
+/// Adds to `out` a line for each process: its number, counted from 0, and what it is doing.
 pub(crate) fn push_statuses(out: &mut Vec<u8>, statuses: &[ProcessStatus]) -> Pushed
     ensures { OnOk result (out.new.items ≡ out.old.items
         ++ numbered_lines spec.status_line 0 statuses.now) }
@@ -141,7 +142,8 @@ fn push_status(out: &mut Vec<u8>, p: usize, status: ProcessStatus) -> Pushed
     }
 }
 
-/// Adds the line of a process that is idle.
+/// Adds to `out` the line of process `p`, which has nothing pending; `stopped` says whether it has
+/// stopped.
 pub(crate) fn push_idle(out: &mut Vec<u8>, p: usize, stopped: bool) -> Pushed
     ensures { OnOk result (out.new.items ≡ out.old.items ++ spec.idle_line p stopped) }
 {
@@ -151,7 +153,7 @@ pub(crate) fn push_idle(out: &mut Vec<u8>, p: usize, stopped: bool) -> Pushed
     push_text(out, "\n")
 }
 
-/// The end of a process's line: ` stopped` if the process has stopped, else nothing.
+/// What a process's line ends with: ` stopped` if the process has stopped, else nothing.
 pub(crate) fn stopped_text(stopped: bool) -> &'static str
     ensures { result.now ≡ spec.stopped_text stopped }
 {
@@ -167,7 +169,8 @@ fn push_busy(out: &mut Vec<u8>, p: usize, op: Op, next: Action) -> Pushed
     push_next(out, next)
 }
 
-/// Adds the beginning of a process's line: an indented name, and a space.
+/// Adds to `out` the beginning of the line of process `p`: two spaces, the letter p and the number,
+/// a space.
 pub(super) fn push_name(out: &mut Vec<u8>, p: usize) -> Pushed
     ensures { OnOk result
         (out.new.items ≡ out.old.items ++ codes "  p" ++ decimal p ++ codes " ") }

@@ -12,7 +12,7 @@ use frames::register::Register;
 use std::alloc::{AllocError, Global};
 use words::text::Pushed;
 
-/// The processes, and the values of all bit cells and words.
+/// A page that shows what each process is doing, and the values of all bit cells and words.
 #[derive(Clone, Drop)]
 pub struct StatePage {
     pub head: Head,
@@ -21,7 +21,7 @@ pub struct StatePage {
     pub words: Listed<u32>,
 }
 
-/// The page of a configuration.
+/// The page that shows a configuration's processes, and the values of its bit cells and words.
 pub(crate) fn state_page<R: Register>(
     alloc: Global,
     head: &Head,
@@ -39,7 +39,7 @@ pub(crate) fn state_page<R: Register>(
     })
 }
 
-/// Adds the page of a configuration.
+/// Adds to `out` the text of a page of a configuration.
 pub(crate) fn push_state(out: &mut Vec<u8>, session: u32, page: &StatePage) -> Pushed
     ensures { OnOk result (out.new.items ≡ out.old.items ++ spec.state_text session page.now) }
 {

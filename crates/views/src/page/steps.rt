@@ -1,4 +1,4 @@
-//! The lines of a branch's steps.
+//! The page of a branch's steps, with a line for each step.
 
 ghost use Rattle.std.specs.Prelude.{◌≡◌, ◌++◌, IfOk, OnOk};
 ghost use Rattle.views.specs.page.Steps as spec;
@@ -11,14 +11,14 @@ use std::alloc::{AllocError, Global};
 use words::step::append_step;
 use words::text::{Pushed, push_labelled, push_number, push_text};
 
-/// The steps of a branch, in order.
+/// A page that shows all steps of a branch, in order.
 #[derive(Clone, Drop)]
 pub struct StepsPage {
     pub branch: Name,
     pub steps: Listed<Step>,
 }
 
-/// Adds the page of a branch's steps.
+/// Adds to `out` the text of a page of a branch's steps.
 pub(crate) fn push_steps(out: &mut Vec<u8>, session: u32, page: &StepsPage) -> Pushed
     ensures { OnOk result (out.new.items ≡ out.old.items ++ spec.steps_text session page.now) }
 {

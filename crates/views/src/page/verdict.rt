@@ -12,16 +12,16 @@ use frames::verdict::ReadVerdict;
 use std::alloc::{AllocError, Global};
 use words::text::{Pushed, push_labelled, push_text, push_word};
 
-/// The reads that returned up to a place, each with its verdict. `reads` is `None` on a tower with
-/// several writers, for which verdicts aren't defined.
+/// A page that shows each read that returned before a place, with the verdict on it. `reads` is
+/// `None` on a tower with several writers, for which verdicts aren't defined.
 #[derive(Clone, Drop)]
 pub struct VerdictPage {
     pub head: Head,
     pub reads: Option<Listed<ReadVerdict>>,
 }
 
-/// The page of the verdicts on the reads of a history, given the initial `value`. Without a value,
-/// the page has no verdicts.
+/// The page that shows the verdict on each read that returns in `events`, if the register's initial
+/// value is `value`. If `value` is `None`, the page's `reads` are `None`.
 pub(crate) fn verdict_page(
     alloc: Global,
     head: &Head,
@@ -38,7 +38,7 @@ pub(crate) fn verdict_page(
     Ok(VerdictPage { head, reads })
 }
 
-/// Adds the page of verdicts.
+/// Adds to `out` the text of a page of verdicts.
 pub(crate) fn push_verdict(out: &mut Vec<u8>, session: u32, page: &VerdictPage) -> Pushed
     ensures { OnOk result (out.new.items ≡ out.old.items ++ spec.verdict_text session page.now) }
 {

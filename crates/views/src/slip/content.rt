@@ -1,4 +1,4 @@
-//! What a slip holds.
+//! What a slip, the result of a look, holds until its page is made.
 
 ghost use Rattle.std.specs.Prelude.{◌≡◌, IfOk, false};
 ghost use Rattle.cutoff.specs.Fitting.{part_of};
@@ -28,14 +28,14 @@ use std::alloc::{AllocError, Global};
 use std::marker::Model;
 use std::sync::Arc;
 
-/// What was found at a place, or a page that was already made.
+/// What a slip holds: what a look found at a place, or a page that was made already.
 #[derive(Drop)]
 pub(super) enum Content<R: Register> {
     Place(PlaceSlip<R>),
     Ready(Page),
 }
 
-/// What was found at a place of a branch, for a page of the kind `kind`.
+/// What a look found at a place of a branch, from which a page of the kind `kind` is made later.
 #[derive(Drop)]
 pub(super) struct PlaceSlip<R: Register> {
     pub(super) kind: PlaceKind,
@@ -54,7 +54,7 @@ impl<R: Register> Model for PlaceSlip<R> {
     ghost invariant = { λ s. IsFor s.kind s.found };
 }
 
-/// What a look found at a place.
+/// What a look found at a place: only what its kind of page is made from.
 #[derive(Drop)]
 pub(super) enum Found<R: Register> {
     /// For a page without events, if no step precedes the place: the configuration at the place.
@@ -68,7 +68,8 @@ pub(super) enum Found<R: Register> {
 }
 
 impl<R: Register> PlaceSlip<R> {
-    /// The page, made from what was found.
+    /// The page that is made from what the look found. It doesn't depend on `lens`, which only
+    /// saves replaying steps.
     pub(super) fn page(&self, alloc: Global, lens: &mut Lens<R>) -> Result<Page, AllocError>
         ensures { IfOk result (λ page. page ≡ self.now) }
     {
@@ -80,8 +81,8 @@ impl<R: Register> PlaceSlip<R> {
     }
 }
 
-/// The page of the configuration after `count` steps of `run`. If the run has no more steps, its
-/// exit is shown without a copy; else the lens gives the configuration.
+/// The page of the configuration after the first `count` steps of `run`. If these are all of its
+/// steps, the run's exit is shown uncopied; otherwise the lens finds the configuration.
 fn part_page<R: Register>(
     alloc: Global,
     lens: &mut Lens<R>,
@@ -101,8 +102,8 @@ fn part_page<R: Register>(
     config_page(alloc, kind, head, &config)
 }
 
-/// The page of the events of successive runs, or of the verdicts on these events. Of each run, only
-/// the steps that precede the place count.
+/// The page of the events that successive runs record, or of the verdicts on the reads among these
+/// events. A run's steps after the place are left out.
 fn events_page<R: Register>(
     alloc: Global,
     kind: PlaceKind,
@@ -125,7 +126,7 @@ fn events_page<R: Register>(
     }
 }
 
-/// The page of events.
+/// The page of these events.
 fn history_page(head: &Head, events: Vec<(usize, Event)>) -> Page
     ensures { result ≡ spec_page.History (record { head = head.now; events = events.items }) }
 {
@@ -134,7 +135,7 @@ fn history_page(head: &Head, events: Vec<(usize, Event)>) -> Page
     Page::History(HistoryPage { head, events })
 }
 
-/// The page of a configuration.
+/// The page of a configuration, for the kinds of pages that show no events.
 fn config_page<R: Register>(
     alloc: Global,
     kind: PlaceKind,

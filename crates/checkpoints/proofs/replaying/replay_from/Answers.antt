@@ -9,27 +9,27 @@ use Rattle.checkpoints.proofs.replaying.replay_from.Goals as goal
 pub step-reported-requires : goal.step-reported-requires
 step-reported-requires g c =
     let is = g.R.Behaves.behaviour in
-    let at = c.loop-that in
+    let at = c.loop-item in
     let step_in = g.S.HasStep.step_in in
-    let those = c.args.those.now in
+    let items = c.args.items.now in
     let step = c.step-step.result in
-    let rest = map step_in (drop (at.that-index + 1) those) in
-    let first = left_at step_in those at.that-index c.that-item.result c.loop-that-test.true c.that-item.is ∙ ap (λ s. s ∷ rest) (sym c.step-step.ensures) in
-    let fits = step_fits step (map step_in (drop at.that-index those)) rest first (is c.args.entry.register) at.invariant.fit in
+    let rest = map step_in (drop (at.item-index + 1) items) in
+    let first = left_at step_in items at.item-index c.item-item.result c.loop-item-test.true c.item-item.is ∙ ap (λ s. s ∷ rest) (sym c.step-step.ensures) in
+    let fits = step_fits step (map step_in (drop at.item-index items)) rest first (is c.args.entry.register) at.invariant.fit in
     subst (λ r. fits_step (is r) step ≡ true) (sym at.invariant.register) fits
 
-pub loop-that-preserved : goal.loop-that-preserved
-loop-that-preserved g c =
+pub loop-item-preserved : goal.loop-item-preserved
+loop-item-preserved g c =
     let is = g.R.Behaves.behaviour in
     let b = is c.args.entry.register in
-    let at = c.loop-that in
+    let at = c.loop-item in
     let so_far = at.invariant in
     let step_in = g.S.HasStep.step_in in
-    let those = c.args.those.now in
+    let items = c.args.items.now in
     let step = c.step-step.result in
-    let left = map step_in (drop at.that-index those) in
-    let rest = map step_in (drop (at.that-index + 1) those) in
-    let first = left_at step_in those at.that-index c.that-item.result c.loop-that-test.true c.that-item.is ∙ ap (λ s. s ∷ rest) (sym c.step-step.ensures) in
+    let left = map step_in (drop at.item-index items) in
+    let rest = map step_in (drop (at.item-index + 1) items) in
+    let first = left_at step_in items at.item-index c.item-item.result c.loop-item-test.true c.item-item.is ∙ ap (λ s. s ∷ rest) (sym c.step-step.ensures) in
     let before = at.config in
     let behind = c.step-reported.new.self in
     let one = c.step-reported.result in
@@ -53,21 +53,21 @@ loop-that-preserved g c =
 
 pub returns-clause-steps : goal.returns-clause-steps
 returns-clause-steps g c =
-    let at = c.loop-that in
-    let none = none_left g.S.HasStep.step_in c.args.those.now at.that-index c.loop-that-test.false in
+    let at = c.loop-item in
+    let none = none_left g.S.HasStep.step_in c.args.items.now at.item-index c.loop-item-test.false in
     let made = at.steps.items in
     c.new-reported.ensures.steps ∙ sym (append-nil made) ∙ ap (λ l. made ++ l) (sym none) ∙ at.invariant.steps
 
 pub returns-clause-config : goal.returns-clause-config
 returns-clause-config g c =
-    let at = c.loop-that in
-    let none = none_left g.S.HasStep.step_in c.args.those.now at.that-index c.loop-that-test.false in
+    let at = c.loop-item in
+    let none = none_left g.S.HasStep.step_in c.args.items.now at.item-index c.loop-item-test.false in
     ap (replayed (g.R.Behaves.behaviour c.args.entry.register) at.config) (sym none) ∙ at.invariant.config
 
 pub returns-clause-events : goal.returns-clause-events
 returns-clause-events g c =
-    let at = c.loop-that in
-    let none = none_left g.S.HasStep.step_in c.args.those.now at.that-index c.loop-that-test.false in
+    let at = c.loop-item in
+    let none = none_left g.S.HasStep.step_in c.args.items.now at.item-index c.loop-item-test.false in
     let made = reported_events at.steps.items at.marks.items (kept_events at.events.items) in
     let later = history (g.R.Behaves.behaviour c.args.entry.register) at.config in
     c.new-reported.ensures.reported ∙ sym (append-nil made) ∙ ap (λ l. made ++ later l) (sym none) ∙ at.invariant.events

@@ -7,11 +7,11 @@ use Rattle.checkpoints.proofs.Tellings.{IsTold}
 use Rattle.checkpoints.proofs.replaying.replay_from.Given as goal
 
 -- the replay so far, and that of the steps still to be made, are together the whole replay
-abbrev pub invariant-loop-that : goal.invariant-loop-that
-invariant-loop-that g l =
+abbrev pub invariant-loop-item : goal.invariant-loop-item
+invariant-loop-item g l =
     let b = g.R.Behaves.behaviour l.fn.entry.register in
-    let all = map g.S.HasStep.step_in l.those in
-    let left = map g.S.HasStep.step_in (drop l.that-index l.those) in
+    let all = map g.S.HasStep.step_in l.items in
+    let left = map g.S.HasStep.step_in (drop l.item-index l.items) in
     record {
       register : l.config.register ≡ l.fn.entry.register;
       fit : AllFit b left;
@@ -19,8 +19,8 @@ invariant-loop-that g l =
       config : replayed b l.config left ≡ replayed b l.fn.entry all;
       are_told : IsTold l.steps.items l.marks.items (kept_events l.events.items);
       events : reported_events l.steps.items l.marks.items (kept_events l.events.items) ++ history b l.config left ≡ history b l.fn.entry all;
-      steps_room : vec_capacity l.steps ≡ length l.those;
-      made : vec_len l.steps ≡ l.that-index;
-      marks_room : vec_capacity l.marks ≡ length l.those;
-      marked : vec_len l.marks ≡ l.that-index;
+      steps_room : vec_capacity l.steps ≡ length l.items;
+      made : vec_len l.steps ≡ l.item-index;
+      marks_room : vec_capacity l.marks ≡ length l.items;
+      marked : vec_len l.marks ≡ l.item-index;
     }

@@ -17,32 +17,32 @@ returns-in_err-serve_at g c =
     stream_at (limits_of o.setup.options) (as_bench o.setup.bench) (is_reported c.args.reporting) _ _ _ _ c.from_residual-in_err-serve_at.result _ c.in_err-serve_at.field-0.0 c.from_residual-in_err-serve_at.ensures.1 (λ x h. h)
     (broken_at is o can (world_at is c.in_ok-seat.seat) c.in_ok-seat.ensures.opens _ _ _ _ c.in_ok-seat.ensures.room c.in_err-serve_at.field-0.0 (c.in_err-serve_at.ensures.fault c.in_ok-seat.ensures.alone))
 
-pub tell-requires-clause-alike : goal.tell-requires-clause-alike
-tell-requires-clause-alike g c =
+pub reported_bytes-requires-clause-alike : goal.reported_bytes-requires-clause-alike
+reported_bytes-requires-clause-alike g c =
     let is = g.B.Behaves.behaviour in
     let o = c.args.opening in
     let can : CanOpen is o = record { value = c.requires.value; limits = c.requires.limits; builds = c.requires.builds } in
     λ s. alike_at is o can (world_at is c.in_ok-seat.seat) c.in_ok-seat.ensures.opens _ _ _ _ c.in_ok-seat.ensures.room (world_at is c.serve_at.new.seat) (c.in_ok-serve_at.ensures.done c.in_ok-seat.ensures.alone) s
 
-pub tell-requires-clause-cells : goal.tell-requires-clause-cells
-tell-requires-clause-cells g c =
+pub reported_bytes-requires-clause-cells : goal.reported_bytes-requires-clause-cells
+reported_bytes-requires-clause-cells g c =
     let is = g.B.Behaves.behaviour in
     let o = c.args.opening in
     let can : CanOpen is o = record { value = c.requires.value; limits = c.requires.limits; builds = c.requires.builds } in
     cells_at is o can (world_at is c.in_ok-seat.seat) c.in_ok-seat.ensures.opens _ _ _ _ c.in_ok-seat.ensures.room (world_at is c.serve_at.new.seat) (c.in_ok-serve_at.ensures.done c.in_ok-seat.ensures.alone)
 
-pub tell-requires-clause-branches : goal.tell-requires-clause-branches
-tell-requires-clause-branches g c =
+pub reported_bytes-requires-clause-branches : goal.reported_bytes-requires-clause-branches
+reported_bytes-requires-clause-branches g c =
     let is = g.B.Behaves.behaviour in
     let o = c.args.opening in
     let can : CanOpen is o = record { value = c.requires.value; limits = c.requires.limits; builds = c.requires.builds } in
     branches_at is o can (world_at is c.in_ok-seat.seat) c.in_ok-seat.ensures.opens _ _ _ _ c.in_ok-seat.ensures.room (world_at is c.serve_at.new.seat) (c.in_ok-serve_at.ensures.done c.in_ok-seat.ensures.alone)
 
-pub tell-requires-clause-alone : goal.tell-requires-clause-alone
-tell-requires-clause-alone g c = c.in_ok-serve_at.ensures.alone c.in_ok-seat.ensures.alone
+pub reported_bytes-requires-clause-alone : goal.reported_bytes-requires-clause-alone
+reported_bytes-requires-clause-alone g c = c.in_ok-serve_at.ensures.alone c.in_ok-seat.ensures.alone
 
-pub tell-requires-clause-lawful : goal.tell-requires-clause-lawful
-tell-requires-clause-lawful g c = tower_is c.args.opening.setup.bench.spec c.args.opening.setup.bench.limbs c.args.opening.setup.bench.lawful
+pub reported_bytes-requires-clause-lawful : goal.reported_bytes-requires-clause-lawful
+reported_bytes-requires-clause-lawful g c = tower_is c.args.opening.setup.bench.spec c.args.opening.setup.bench.limbs c.args.opening.setup.bench.lawful
 
 pub returns-in-Ok : goal.returns-in-Ok
 returns-in-Ok g c =

@@ -1,7 +1,5 @@
-use Rattle.std.proofs.Common.{Some, drop, arith, ap, subst, sym, ◌∙◌, length-drop}
-use Rattle.frames.specs.Flat.{IsPointByFrames}
-use Rattle.frames.specs.SafeBit.{safe_behaviour, SafeReaches, safe_frame}
-use Rattle.frames.proofs.Frames.{not_one, one_frame}
+use Rattle.std.proofs.Common.{arith, length-drop}
+use Rattle.frames.proofs.Frames.{not_one}
 use Rattle.frames.proofs.safe.SafeRegister.pending.Goals as goal
 use Rattle.frames.proofs.safe.SafeRegister.pending.Goals.{then-first-len-via-then-first-len, then-first-len-via-else-first-len+then-len-first-ne1}
 
@@ -12,10 +10,3 @@ returns-then-first-len c = elim c.then-first-len.branch [
   | then-first-len-via-else-first-len+then-len-first-ne1 w ↦ not_one c.args.who c.args.first c.args.stack.now.items
       (λ e. omega (arith, e, length-drop c.args.first c.args.stack.now.items, w.len-else-first-len.ensures.value, w.if-len-first-ne1.true))
 ]
-
-pub returns-then-is : goal.returns-then-is
-returns-then-is c =
-    subst (λ p. IsPointByFrames safe_behaviour.frames SafeReaches c.args.who (drop c.args.first c.args.stack.now.items) (Some p)) (sym c.point_of-point.ensures)
-    (one_frame c.args.who c.args.first c.args.stack.now.items c.frame_at-frame.result c.frame_at-frame.ensures
-    (omega (arith, c.len-else-first-len.ensures.value, c.if-len-first-ne1.false)) (sym c.fits.ensures ∙ c.if-fits.true)
-    (c.is.ensures.0 c.if-is.true ∙ c.frame_of.ensures ∙ ap safe_frame c.point_of-point.ensures))

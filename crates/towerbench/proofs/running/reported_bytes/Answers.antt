@@ -1,6 +1,6 @@
 use Rattle.towerbench.specs.Seats.{world_at}
 use Rattle.towerbench.proofs.Benches.{have_fit, lawful_bench}
-use Rattle.towerbench.proofs.running.tell.Goals as goal
+use Rattle.towerbench.proofs.running.reported_bytes.Goals as goal
 
 pub of_lawful-left-requires : goal.of_lawful-left-requires
 of_lawful-left-requires g c =
